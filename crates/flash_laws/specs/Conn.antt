@@ -27,6 +27,7 @@ use Rattle.flash_laws.specs.declared.phase.Content.{Content}
 use Rattle.flash_laws.specs.declared.phase.Content.TheVariants.{Body, Bare, Error, Script}
 use Rattle.flash_laws.specs.declared.phase.Doing.{Doing}
 use Rattle.flash_laws.specs.declared.phase.Doing.TheVariants.{Rests, Got, Opens, Reads, Shuts, Picks, Spares, Heads, Joins, Sends, Cuts, Offers, Swaps, Sent, Breaks, Drops, Closes, Over}
+use Rattle.flash_laws.specs.Moves.{or_stay, or_else, on_done, on_agg, on_count, on_fd, on_refused, unless_blocked, if_broken}
 use Rattle.flash_laws.specs.Answers.{keeps, body_unless, file_text, script_text, error_text, unsatisfiable, Next}
 
 -- the aggregate to be sent after the current one, with its length
@@ -175,23 +176,19 @@ status_of (no.Denied p) = 403
 status_of (no.Fault f) = 500
 status_of x = 503
 
+abbrev pub heard_of_client : List ℕ → Answer → (agg : ℕ) → (heard : List ℕ) → Conn
+heard_of_client kept q n [] = record { kept = kept; q = q; doing = Drops n None }
+heard_of_client kept q n (b ∷ heard) = record { kept = kept ++ (b ∷ heard); q = q; doing = Got n }
+
 abbrev pub told_rests : List ℕ → Answer → Reply → (heard : List ℕ) → Conn
-told_rests kept q (reply.Agg n) [] = record { kept = kept; q = q; doing = Drops n None }
-told_rests kept q (reply.Agg n) (b ∷ heard) = record { kept = kept ++ (b ∷ heard); q = q; doing = Got n }
-told_rests kept q r heard = record { kept = kept; q = q; doing = Rests }
+told_rests kept q r heard = or_stay (record { kept = kept; q = q; doing = Rests }) (on_agg r (λ n. heard_of_client kept q n heard))
 
 abbrev pub told_opens : Reply → Doing
-told_opens (reply.Fd f) = Reads f
-told_opens (reply.Refused no.WouldBlock) = Opens
-told_opens (reply.Refused x) = Heads (Error (status_of x))
-told_opens r = Opens
+told_opens r = or_stay Opens (or_else (on_fd r Reads) (on_refused r (λ x. unless_blocked (Heads (Error (status_of x))) x)))
 
 abbrev pub told_reads : (file : ℕ) → Reply → (heard : List ℕ) → Doing
-told_reads f (reply.Agg n) heard = Shuts f (File n (count_of heard))
-told_reads f (reply.Count n) heard = Shuts f (Length n)
-told_reads f (reply.Refused no.WouldBlock) heard = Reads f
-told_reads f (reply.Refused x) heard = Shuts f (Fails (status_of x))
-told_reads f r heard = Reads f
+told_reads f r heard = or_stay (Reads f) (or_else (on_agg r (λ n. Shuts f (File n (count_of heard))))
+    (or_else (on_count r (λ n. Shuts f (Length n))) (on_refused r (λ x. unless_blocked (Shuts f (Fails (status_of x))) x))))
 
 -- the phase that sends the selected part of a file that was read
 abbrev pub sends_of : Selection → (agg len : ℕ) → Doing
@@ -212,16 +209,13 @@ settled q (Fails status) = Heads (Error status)
 settled q (Text a runs) = Spares a (put_out runs)
 
 abbrev pub told_shuts : Answer → (file : ℕ) → Learnt → Reply → Doing
-told_shuts q f k reply.Done = settled q k
-told_shuts q f k r = Shuts f k
+told_shuts q f k r = or_stay (Shuts f k) (on_done r (settled q k))
 
 abbrev pub told_picks : (agg from to len : ℕ) → Reply → Doing
-told_picks a from to len (reply.Agg n) = Spares a (Body n (to - from) len)
-told_picks a from to len r = Picks a from to len
+told_picks a from to len r = or_stay (Picks a from to len) (on_agg r (λ n. Spares a (Body n (to - from) len)))
 
 abbrev pub told_spares : (agg : ℕ) → Content → Reply → Doing
-told_spares a k reply.Done = Heads k
-told_spares a k r = Spares a k
+told_spares a k r = or_stay (Spares a k) (on_done r (Heads k))
 
 abbrev pub following : Content → Following
 following (Body b size len) = Some (b, size)
@@ -233,35 +227,31 @@ headed a size None = Sends a size 0 None
 headed a size (Some x) = if nat_le (size + x.1) MAX_AGGREGATE_BYTES then Joins a size x.0 x.1 else Sends a size 0 (Some x)
 
 abbrev pub told_heads : Content → Reply → (heard : List ℕ) → Doing
-told_heads k (reply.Agg n) heard = headed n (count_of heard) (following k)
-told_heads k r heard = Heads k
+told_heads k r heard = or_stay (Heads k) (on_agg r (λ n. headed n (count_of heard) (following k)))
 
 abbrev pub told_joins : (head size body len : ℕ) → Reply → Doing
-told_joins a size body len (reply.Agg n) = Sends n (size + len) 0 None
-told_joins a size body len r = Joins a size body len
+told_joins a size body len r = or_stay (Joins a size body len) (on_agg r (λ n. Sends n (size + len) 0 None))
 
 -- all is taken, or the rest is sent in pieces
 abbrev pub told_sends : (agg len taken : ℕ) → Following → Reply → Doing
-told_sends a len taken more (reply.Count n) = if nat_lt n len then Cuts a n len (taken + n) more else Sent a (taken + len) more
-told_sends a len taken more (reply.Refused no.BrokenPipe) = Drops a more
-told_sends a len taken more r = Sends a len taken more
+told_sends a len taken more r = or_stay (Sends a len taken more)
+    (or_else (on_count r (λ n. if nat_lt n len then Cuts a n len (taken + n) more else Sent a (taken + len) more))
+    (on_refused r (if_broken (Drops a more))))
 
 abbrev pub told_cuts : (agg from len taken : ℕ) → Following → Reply → Doing
-told_cuts a from len taken more (reply.Agg n) = Offers a from len n taken more
-told_cuts a from len taken more r = Cuts a from len taken more
+told_cuts a from len taken more r = or_stay (Cuts a from len taken more) (on_agg r (λ n. Offers a from len n taken more))
 
 -- count more bytes are taken
 abbrev pub moved_on : (agg from len piece taken : ℕ) → Following → (count : ℕ) → Doing
 moved_on a from len piece taken more count = Swaps a (from + count) len piece (taken + count) more
 
 abbrev pub told_offers : (agg from len piece taken : ℕ) → Following → Reply → Doing
-told_offers a from len piece taken more (reply.Count n) = moved_on a from len piece taken more (min n (len - from))
-told_offers a from len piece taken more (reply.Refused no.BrokenPipe) = Breaks piece a more
-told_offers a from len piece taken more r = Offers a from len piece taken more
+told_offers a from len piece taken more r = or_stay (Offers a from len piece taken more)
+    (or_else (on_count r (λ n. moved_on a from len piece taken more (min n (len - from)))) (on_refused r (if_broken (Breaks piece a more))))
 
 abbrev pub told_swaps : (agg from len piece taken : ℕ) → Following → Reply → Doing
-told_swaps a from len piece taken more reply.Done = if nat_lt from len then Cuts a from len taken more else Sent a taken more
-told_swaps a from len piece taken more r = Swaps a from len piece taken more
+told_swaps a from len piece taken more r =
+    or_stay (Swaps a from len piece taken more) (on_done r (if nat_lt from len then Cuts a from len taken more else Sent a taken more))
 
 -- the aggregate after it, or the end of the response
 abbrev pub goes_on : Answer → (taken : ℕ) → Following → Doing
@@ -269,28 +259,23 @@ goes_on q taken (Some x) = Sends x.0 x.1 taken None
 goes_on q taken None = if keeps q then Rests else Closes
 
 abbrev pub told_sent : Answer → (agg taken : ℕ) → Following → Reply → Doing
-told_sent q a taken more reply.Done = goes_on q taken more
-told_sent q a taken more r = Sent a taken more
+told_sent q a taken more r = or_stay (Sent a taken more) (on_done r (goes_on q taken more))
 
 abbrev pub told_breaks : (piece agg : ℕ) → Following → Reply → Doing
-told_breaks piece a more reply.Done = Drops a more
-told_breaks piece a more r = Breaks piece a more
+told_breaks piece a more r = or_stay (Breaks piece a more) (on_done r (Drops a more))
 
 abbrev pub drops_next : Following → Doing
 drops_next (Some x) = Drops x.0 None
 drops_next None = Closes
 
 abbrev pub told_drops : (agg : ℕ) → Following → Reply → Doing
-told_drops a more reply.Done = drops_next more
-told_drops a more r = Drops a more
+told_drops a more r = or_stay (Drops a more) (on_done r (drops_next more))
 
 abbrev pub told_got : (agg : ℕ) → Reply → Doing
-told_got a reply.Done = Rests
-told_got a r = Got a
+told_got a r = or_stay (Got a) (on_done r Rests)
 
 abbrev pub told_closes : Reply → Doing
-told_closes reply.Done = Over
-told_closes r = Closes
+told_closes r = or_stay Closes (on_done r Over)
 
 abbrev pub told : Conn → Reply → (heard : List ℕ) → Conn
 told x r heard = by x.doing

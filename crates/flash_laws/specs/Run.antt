@@ -15,6 +15,7 @@ use Rattle.iol_core.specs.declared.events.Call.TheVariants as call
 use Rattle.iol_core.specs.declared.events.Reply.{Reply}
 use Rattle.iol_core.specs.declared.events.Reply.TheVariants as reply
 use Rattle.flash_http.specs.Request.{serve, Wanted}
+use Rattle.flash_laws.specs.Moves.{or_stay, or_else, on_done, on_agg, on_count, on_fd, on_fds, on_refused, if_denied}
 use Rattle.flash_laws.specs.Conn as conn
 use Rattle.flash_laws.specs.Conn.{Following, Conn, has_followed, count_of}
 use Rattle.flash_laws.specs.Answers.Scripts.{script_text, frame_of, place_in_frame, end_around}
@@ -170,30 +171,25 @@ broken run = record run { broken = true }
 
 -- a free worker runs it
 abbrev pub told_awaits : (worker : ℕ) → Reply → Running
-told_awaits worker (reply.Fds from write) = Runs (record { worker = worker; from = from; broken = false }) (Gives write)
-told_awaits worker r = Awaits
+told_awaits worker r = or_stay Awaits
+    (on_fds r (λ from write. Runs (record { worker = worker; from = from; broken = false }) (Gives write)))
 
 abbrev pub told_gives : (write : ℕ) → Reply → Step
-told_gives write (reply.Fd f) = Makes f
-told_gives write (reply.Refused x) = if is_again x then Gives write else Returns write
-told_gives write r = Gives write
+told_gives write r = or_stay (Gives write)
+    (or_else (on_fd r Makes) (on_refused r (λ x. Some (if is_again x then Gives write else Returns write))))
 
 abbrev pub told_makes : (fd : ℕ) → Reply → Step
-told_makes f (reply.Agg n) = Hands n f
-told_makes f r = Makes f
+told_makes f r = or_stay (Makes f) (on_agg r (λ n. Hands n f))
 
 abbrev pub told_hands : (job fd : ℕ) → Reply → Step
-told_hands j f (reply.Count n) = Lets j
-told_hands j f (reply.Refused x) = if is_again x then Hands j f else Lapses j
-told_hands j f r = Hands j f
+told_hands j f r = or_stay (Hands j f)
+    (or_else (on_count r (λ n. Lets j)) (on_refused r (λ x. Some (if is_again x then Hands j f else Lapses j))))
 
 abbrev pub told_lets : (job : ℕ) → Reply → Step
-told_lets j reply.Done = Heads
-told_lets j r = Lets j
+told_lets j r = or_stay (Lets j) (on_done r Heads)
 
 abbrev pub told_heads : Reply → (heard : List ℕ) → Step
-told_heads (reply.Agg n) heard = Sending (doing.Sends n (count_of heard) 0 None) None
-told_heads r heard = Heads
+told_heads r heard = or_stay Heads (on_agg r (λ n. Sending (doing.Sends n (count_of heard) 0 None) None))
 
 -- a part is sent by the same phases as the response of a file
 abbrev pub told_part : Doing → Reply → Doing
@@ -230,44 +226,42 @@ abbrev pub unread : Following → (frame : Option ℕ) → Step
 unread None frame = Stops None frame
 unread (Some x) frame = Unholds x.0 frame
 
+-- no output is its end
+abbrev pub heard_of_script : Wanted → Run → Following → (frame : Option ℕ) → (agg : ℕ) → (heard : List ℕ) → Step
+heard_of_script w run held frame n [] = Ended n held frame
+heard_of_script w run held frame n (b ∷ heard) = hearing run.broken w.chunked held frame n (count_of (b ∷ heard))
+
 abbrev pub told_hears : Wanted → Run → Following → (frame : Option ℕ) → Reply → (heard : List ℕ) → Running
-told_hears w run held frame (reply.Agg n) [] = Runs run (Ended n held frame)
-told_hears w run held frame (reply.Agg n) (b ∷ heard) =
-    Runs run (hearing run.broken w.chunked held frame n (count_of (b ∷ heard)))
-told_hears w run held frame (reply.Refused (no.Denied p)) heard = Runs (broken run) (unread held frame)
-told_hears w run held frame r heard = Runs run (Hears held frame)
+told_hears w run held frame r heard = or_stay (Runs run (Hears held frame))
+    (or_else (on_agg r (λ n. Runs run (heard_of_script w run held frame n heard)))
+    (on_refused r (if_denied (Runs (broken run) (unread held frame)))))
 
 abbrev pub told_spills : (agg : ℕ) → (frame : Option ℕ) → Reply → Step
-told_spills a frame reply.Done = Hears None frame
-told_spills a frame r = Spills a frame
+told_spills a frame r = or_stay (Spills a frame) (on_done r (Hears None frame))
 
 -- the total length of two aggregates, as a 32-bit number
 abbrev pub both : (size len : ℕ) → ℕ
 both size len = min (size + len) 4294967295
 
 abbrev pub told_gathers : (held size piece len : ℕ) → (frame : Option ℕ) → Reply → Step
-told_gathers held size piece len frame (reply.Agg n) = holding n (both size len) frame
-told_gathers held size piece len frame r = Gathers held size piece len frame
+told_gathers held size piece len frame r =
+    or_stay (Gathers held size piece len frame) (on_agg r (λ n. holding n (both size len) frame))
 
 abbrev pub told_frames : (held : ℕ) → Reply → Step
-told_frames held (reply.Agg n) = Wraps held n
-told_frames held r = Frames held
+told_frames held r = or_stay (Frames held) (on_agg r (λ n. Wraps held n))
 
 abbrev pub told_wraps : (held frame : ℕ) → Reply → (heard : List ℕ) → Step
-told_wraps held frame (reply.Agg n) heard = Trims held n (count_of heard) frame
-told_wraps held frame r heard = Wraps held frame
+told_wraps held frame r heard = or_stay (Wraps held frame) (on_agg r (λ n. Trims held n (count_of heard) frame))
 
 abbrev pub told_trims : (held chunk len frame : ℕ) → Reply → Step
-told_trims held chunk len frame reply.Done = Sending (doing.Sends chunk len 0 None) (Some frame)
-told_trims held chunk len frame r = Trims held chunk len frame
+told_trims held chunk len frame r =
+    or_stay (Trims held chunk len frame) (on_done r (Sending (doing.Sends chunk len 0 None) (Some frame)))
 
 abbrev pub told_ended : (agg : ℕ) → Following → (frame : Option ℕ) → Reply → Step
-told_ended a held frame reply.Done = Stops held frame
-told_ended a held frame r = Ended a held frame
+told_ended a held frame r = or_stay (Ended a held frame) (on_done r (Stops held frame))
 
 abbrev pub told_unholds : (held : ℕ) → (frame : Option ℕ) → Reply → Step
-told_unholds held frame reply.Done = Stops None frame
-told_unholds held frame r = Unholds held frame
+told_unholds held frame r = or_stay (Unholds held frame) (on_done r (Stops None frame))
 
 -- the end of the body is made, if the body is in chunks and is still sent
 abbrev pub finishing : (broken chunked : Bool) → Run → Following → Running
@@ -279,12 +273,10 @@ stopped w run held (Some f) = Runs run (Unframes f held)
 stopped w run held None = finishing run.broken w.chunked run held
 
 abbrev pub told_stops : Wanted → Run → Following → (frame : Option ℕ) → Reply → Running
-told_stops w run held frame reply.Done = stopped w run held frame
-told_stops w run held frame r = Runs run (Stops held frame)
+told_stops w run held frame r = or_stay (Runs run (Stops held frame)) (on_done r (stopped w run held frame))
 
 abbrev pub told_unframes : Wanted → Run → (frame : ℕ) → Following → Reply → Running
-told_unframes w run f held reply.Done = finishing run.broken w.chunked run held
-told_unframes w run f held r = Runs run (Unframes f held)
+told_unframes w run f held r = or_stay (Runs run (Unframes f held)) (on_done r (finishing run.broken w.chunked run held))
 
 -- the end of the body is sent by itself, or is set around the buffered output
 abbrev pub ending : Run → Following → (agg len : ℕ) → Running
@@ -292,33 +284,28 @@ ending run None a len = Leaves (doing.Sends a len 0 None)
 ending run (Some x) a len = Runs run (WrapsLast x.0 x.1 a)
 
 abbrev pub told_lasts : Run → Following → Reply → (heard : List ℕ) → Running
-told_lasts run held (reply.Agg n) heard = ending run held n (count_of heard)
-told_lasts run held r heard = Runs run (Lasts held)
+told_lasts run held r heard = or_stay (Runs run (Lasts held)) (on_agg r (λ n. ending run held n (count_of heard)))
 
 abbrev pub told_wraps_last : (held size frame : ℕ) → Reply → (heard : List ℕ) → Step
-told_wraps_last held size frame (reply.Agg n) heard = TrimsLast held n (count_of heard) frame
-told_wraps_last held size frame r heard = WrapsLast held size frame
+told_wraps_last held size frame r heard =
+    or_stay (WrapsLast held size frame) (on_agg r (λ n. TrimsLast held n (count_of heard) frame))
 
 abbrev pub told_trims_last : (held chunk len frame : ℕ) → Reply → Step
-told_trims_last held chunk len frame reply.Done = Unwraps frame chunk len
-told_trims_last held chunk len frame r = TrimsLast held chunk len frame
+told_trims_last held chunk len frame r = or_stay (TrimsLast held chunk len frame) (on_done r (Unwraps frame chunk len))
 
 abbrev pub told_unwraps : Run → (frame chunk len : ℕ) → Reply → Running
-told_unwraps run frame chunk len reply.Done = Leaves (doing.Sends chunk len 0 None)
-told_unwraps run frame chunk len r = Runs run (Unwraps frame chunk len)
+told_unwraps run frame chunk len r =
+    or_stay (Runs run (Unwraps frame chunk len)) (on_done r (Leaves (doing.Sends chunk len 0 None)))
 
 abbrev pub told_returns : (write : ℕ) → Reply → Step
-told_returns write reply.Done = Fails
-told_returns write r = Returns write
+told_returns write r = or_stay (Returns write) (on_done r Fails)
 
 abbrev pub told_lapses : (job : ℕ) → Reply → Step
-told_lapses j reply.Done = Fails
-told_lapses j r = Lapses j
+told_lapses j r = or_stay (Lapses j) (on_done r Fails)
 
 -- a script that cannot run now gets an error response (RFC 9110, section 15.6.4)
 abbrev pub told_fails : Run → Reply → Running
-told_fails run reply.Done = Leaves (doing.Heads (Error 503))
-told_fails run r = Runs run Fails
+told_fails run r = or_stay (Runs run Fails) (on_done r (Leaves (doing.Heads (Error 503))))
 
 abbrev pub told_step : Wanted → Run → Step → Reply → (heard : List ℕ) → Running
 told_step w run (Gives write) r heard = Runs run (told_gives write r)

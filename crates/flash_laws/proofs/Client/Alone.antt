@@ -32,8 +32,8 @@ use Rattle.flash_laws.specs.Client.ResponseState.{Known, OfFile, OfScript, is_re
 use Rattle.flash_laws.specs.Conn.OfferedBytes as single
 use Rattle.flash_laws.specs.Run.Fits.{Progress, nothing_yet}
 use Rattle.flash_laws.specs.Site.{server}
+use Rattle.flash_laws.proofs.Conn.AnswerParts as having
 use Rattle.flash_laws.proofs.Forms.{at, of as client}
-use Rattle.flash_laws.proofs.Client.Phases as phases
 use Rattle.flash_laws.proofs.Client.Phases.{asks-told, unread-told, read-told}
 use Rattle.flash_laws.proofs.Lists.{clash}
 use Rattle.flash_laws.proofs.Conn.OfferedBytes as offering
@@ -161,7 +161,7 @@ module _ (steps : EachStepLeavesTheRest) (own : CallsServeTheirDomain) (files : 
 
     phase : (d : Doing) → Was d → is_closing d ≡ false → StepsTo m (event.Call server (conn.wants fd (at kept (serve w) d))) r n → Names n r heard
         → Has n (serve w) (script_text w) (conn.told (at kept (serve w) d) r heard).doing
-    phase d has busy step names = phases.phase steps own m n order kept fd c (serve w) d (script_text w) r heard open_on has.read busy has.has step names
+    phase d has busy step names = having.phase steps own m n order kept fd c (serve w) d (script_text w) r heard open_on has.read busy has.has step names
 
     -- with no text that is still to run
     plain-on : (d : Doing) → Was d → is_read d ≡ false → is_closing d ≡ false → StepsTo m (event.Call server (conn.wants fd (at kept (serve w) d))) r n

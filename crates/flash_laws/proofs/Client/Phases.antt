@@ -33,45 +33,7 @@ use Rattle.flash_laws.specs.Client.ResponseState.{is_read, is_opening}
 use Rattle.flash_laws.specs.Conn.OfferedBytes.{taken_of}
 use Rattle.flash_laws.specs.Site.{server}
 use Rattle.flash_laws.proofs.Forms.{at}
-use Rattle.flash_laws.proofs.Conn.AnswerParts as having
-
--- ---- what the machine has after a call, but for those that open and read
-
-module _ (steps : EachStepLeavesTheRest) (own : CallsServeTheirDomain) (m n : State) (order : IsOrderly m) (kept : List ℕ) where
-  rests : (q : Answer) (due : List ℕ) (r : Reply) (heard : List ℕ) → Names n r heard → Has n q due (told_rests kept q r heard).doing
-  rests q due (reply.Agg a) [] names = record { after = []; lent = ([], names); follows = refl; apart = refl }
-  rests q due (reply.Agg a) (b ∷ l) names = (b ∷ l, names)
-  rests q due r heard names = tt
-
-  got : (q : Answer) (due : List ℕ) (a : ℕ) (r : Reply) (heard : List ℕ) → Has m q due (Got a) → StepsTo m (event.Call server (call.AggDrop a)) r n
-      → Has n q due (told (at kept q (Got a)) r heard).doing
-  got q due a r heard has step = by r (own.drops m n server a r order step)
-    where
-      by : (r : Reply) → o.Drops m server a r n → Has n q due (told (at kept q (Got a)) r heard).doing
-      by reply.Done did = tt
-      by (reply.Refused y) did = subst (λ (s : State). Has s q due (Got a)) (sym did) has
-      by r did = absurd did
-
-  pub phase : (fd c : ℕ) (q : Answer) (d : Doing) (due : List ℕ) (r : Reply) (heard : List ℕ) → descriptor m server fd ≡ Some (on.Connection c)
-      → is_opening d ≡ false → is_closing d ≡ false → Has m q due d → StepsTo m (event.Call server (wants fd (at kept q d))) r n
-      → Names n r heard → Has n q due (told (at kept q d) r heard).doing
-  phase fd c q Rests due r heard open_on read busy has step names = rests q due r heard names
-  phase fd c q (Got a) due r heard open_on read busy has step names = got q due a r heard has step
-  phase fd c q (Shuts f k) due r heard open_on read busy has step names = having.shuts steps own m n order q f k due r has step
-  phase fd c q (Picks a first last len) due r heard open_on read busy has step names = having.picks steps own m n order q a first last len due r has step
-  phase fd c q (Spares a k) due r heard open_on read busy has step names = having.spares steps own m n order q a k due r has step
-  phase fd c q (Heads k) due r heard open_on read busy has step names = having.heads steps own m n order q k due r heard has step names
-  phase fd c q (Joins a size body len) due r heard open_on read busy has step names = having.joins steps own m n order q a size body len due r has step
-  phase fd c q (Sends a len taken more) due r heard open_on read busy has step names = having.sends steps own m n order q fd c a len taken more due r open_on has step
-  phase fd c q (Cuts a from len taken more) due r heard open_on read busy has step names = having.cuts steps own m n order q a from len taken more due r has step
-  phase fd c q (Offers a from len piece taken more) due r heard open_on read busy has step names = having.offers_piece steps own m n order q fd c a from len piece taken more due r open_on has step
-  phase fd c q (Swaps a from len piece taken more) due r heard open_on read busy has step names = having.swaps steps own m n order q a from len piece taken more due r has step
-  phase fd c q (Sent a taken more) due r heard open_on read busy has step names = having.sent_all steps own m n order q a taken more due r has step
-  phase fd c q (Breaks piece a more) due r heard open_on read busy has step names = having.breaks steps own m n order q piece a more due r has step
-  phase fd c q (Drops a more) due r heard open_on read busy has step names = having.drops steps own m n order q a more due r has step
-  phase fd c q Closes due r heard open_on read busy has step names = absurd (cc (busy))
-  phase fd c q Over due r heard open_on read busy has step names = absurd (cc (busy))
-  phase fd c q x due r heard open_on read busy has step names = absurd (cc (read))
+use Rattle.flash_laws.proofs.Moves.{after-done, after-agg, after-write, after-open, after-read}
 
 -- ---- what is offered
 
@@ -142,39 +104,28 @@ headed-unread : (n size : ℕ) (more : Following) → is_reading (headed n size 
 headed-unread n size None = refl
 headed-unread n size (Some x) = either-unread (nat_le (size + x.1) MAX_AGGREGATE_BYTES) _ _ refl refl
 
-apart-unread : (kept : List ℕ) (q : Answer) (d : Doing) (r : Reply) (heard : List ℕ) → is_apart d ≡ true → is_reading (told (at kept q d) r heard).doing ≡ false
+abbrev Unread : Doing → Type 0
+Unread d = is_reading d ≡ false
+
+apart-unread : (kept : List ℕ) (q : Answer) (d : Doing) (r : Reply) (heard : List ℕ) → is_apart d ≡ true → Unread (told (at kept q d) r heard).doing
 apart-unread kept q Rests (reply.Agg n) [] left = refl
 apart-unread kept q Rests (reply.Agg n) (b ∷ heard) left = refl
 apart-unread kept q Rests r heard left = refl
-apart-unread kept q (Got a) reply.Done heard left = refl
-apart-unread kept q (Got a) r heard left = refl
-apart-unread kept q (Picks a from to len) (reply.Agg n) heard left = refl
-apart-unread kept q (Picks a from to len) r heard left = refl
-apart-unread kept q Closes reply.Done heard left = refl
-apart-unread kept q Closes r heard left = refl
+apart-unread kept q (Got a) r heard left = after-done Unread r refl refl
+apart-unread kept q (Picks a from to len) r heard left = after-agg Unread r refl (λ n. refl)
+apart-unread kept q Closes r heard left = after-done Unread r refl refl
 apart-unread kept q Over r heard left = refl
-apart-unread kept q (Heads k) (reply.Agg n) heard left = headed-unread n (count_of heard) (following k)
-apart-unread kept q (Heads k) r heard left = refl
-apart-unread kept q (Joins a size body len) (reply.Agg n) heard left = refl
-apart-unread kept q (Joins a size body len) r heard left = refl
-apart-unread kept q (Sends a len taken more) (reply.Count n) heard left = either-unread (nat_lt n len) _ _ refl refl
-apart-unread kept q (Sends a len taken more) (reply.Refused no.BrokenPipe) heard left = refl
-apart-unread kept q (Sends a len taken more) r heard left = refl
-apart-unread kept q (Cuts a from len taken more) (reply.Agg n) heard left = refl
-apart-unread kept q (Cuts a from len taken more) r heard left = refl
-apart-unread kept q (Offers a from len piece taken more) (reply.Count n) heard left = refl
-apart-unread kept q (Offers a from len piece taken more) (reply.Refused no.BrokenPipe) heard left = refl
-apart-unread kept q (Offers a from len piece taken more) r heard left = refl
-apart-unread kept q (Swaps a from len piece taken more) reply.Done heard left = either-unread (nat_lt from len) _ _ refl refl
-apart-unread kept q (Swaps a from len piece taken more) r heard left = refl
-apart-unread kept q (Sent a taken (Some x)) reply.Done heard left = refl
-apart-unread kept q (Sent a taken None) reply.Done heard left = either-unread (keeps q) _ _ refl refl
-apart-unread kept q (Sent a taken more) r heard left = refl
-apart-unread kept q (Breaks piece a more) reply.Done heard left = refl
-apart-unread kept q (Breaks piece a more) r heard left = refl
-apart-unread kept q (Drops a (Some x)) reply.Done heard left = refl
-apart-unread kept q (Drops a None) reply.Done heard left = refl
-apart-unread kept q (Drops a more) r heard left = refl
+apart-unread kept q (Heads k) r heard left = after-agg Unread r refl (λ n. headed-unread n (count_of heard) (following k))
+apart-unread kept q (Joins a size body len) r heard left = after-agg Unread r refl (λ n. refl)
+apart-unread kept q (Sends a len taken more) r heard left = after-write Unread r refl refl (λ n. either-unread (nat_lt n len) _ _ refl refl)
+apart-unread kept q (Cuts a from len taken more) r heard left = after-agg Unread r refl (λ n. refl)
+apart-unread kept q (Offers a from len piece taken more) r heard left = after-write Unread r refl refl (λ n. refl)
+apart-unread kept q (Swaps a from len piece taken more) r heard left = after-done Unread r refl (either-unread (nat_lt from len) _ _ refl refl)
+apart-unread kept q (Sent a taken (Some x)) r heard left = after-done Unread r refl refl
+apart-unread kept q (Sent a taken None) r heard left = after-done Unread r refl (either-unread (keeps q) _ _ refl refl)
+apart-unread kept q (Breaks piece a more) r heard left = after-done Unread r refl refl
+apart-unread kept q (Drops a (Some x)) r heard left = after-done Unread r refl refl
+apart-unread kept q (Drops a None) r heard left = after-done Unread r refl refl
 apart-unread kept q d r heard left = absurd (cc (left))
 
 neither-true : (b c : Bool) → (b || c) ≡ false → (b ≡ false) × (c ≡ false)
@@ -199,22 +150,24 @@ settled-read (serve w) (File a len) = by (selected w.range len)
 settled-read (refuse status head_only close) (File a len) = refl
 settled-read q k = refl
 
+abbrev NotRead : Doing → Type 0
+NotRead d = is_read d ≡ false
+
 -- no script's text is read by a call for a file
 pub unread-told : (kept : List ℕ) (q : Answer) (d : Doing) (r : Reply) (heard : List ℕ) → is_read d ≡ false → is_read (told (at kept q d) r heard).doing ≡ false
-unread-told kept q Opens (reply.Fd f) heard was = refl
-unread-told kept q Opens (reply.Refused no.WouldBlock) heard was = refl
-unread-told kept q Opens (reply.Refused x) heard was = refl
-unread-told kept q Opens r heard was = refl
-unread-told kept q (Reading f) (reply.Agg n) heard was = refl
-unread-told kept q (Reading f) (reply.Count n) heard was = refl
-unread-told kept q (Reading f) (reply.Refused no.WouldBlock) heard was = refl
-unread-told kept q (Reading f) (reply.Refused x) heard was = refl
-unread-told kept q (Reading f) r heard was = refl
-unread-told kept q (Shuts f k) reply.Done heard was = settled-unread f q k was
-unread-told kept q (Shuts f k) r heard was = was
-unread-told kept q (Spares a k) reply.Done heard was = refl
-unread-told kept q (Spares a k) r heard was = was
+unread-told kept q Opens r heard was = after-open NotRead r refl (λ f. refl) (λ x. refl)
+unread-told kept q (Reading f) r heard was = after-read NotRead r refl (λ n. refl) (λ k. refl) (λ x. refl)
+unread-told kept q (Shuts f k) r heard was = after-done NotRead r was (settled-unread f q k was)
+unread-told kept q (Spares a k) r heard was = after-done NotRead r was refl
 unread-told kept q d r heard was = (neither-true (is_read (told (at kept q d) r heard).doing) (is_opening (told (at kept q d) r heard).doing) (apart-unread kept q d r heard refl)).0
+
+-- and what is read is not read again
+pub read-told : (kept : List ℕ) (q : Answer) (d : Doing) (r : Reply) (heard : List ℕ) → is_opening d ≡ false → is_opening (told (at kept q d) r heard).doing ≡ false
+read-told kept q Opens r heard was = absurd (cc (was))
+read-told kept q (Reading f) r heard was = absurd (cc (was))
+read-told kept q (Shuts f k) r heard was = after-done (λ d. is_opening d ≡ false) r refl (settled-read q k)
+read-told kept q (Spares a k) r heard was = after-done (λ d. is_opening d ≡ false) r refl refl
+read-told kept q d r heard was = (neither-true (is_read (told (at kept q d) r heard).doing) (is_opening (told (at kept q d) r heard).doing) (apart-unread kept q d r heard refl)).0
 
 -- and what is read is not read again
 pub read-told : (kept : List ℕ) (q : Answer) (d : Doing) (r : Reply) (heard : List ℕ) → is_opening d ≡ false → is_opening (told (at kept q d) r heard).doing ≡ false

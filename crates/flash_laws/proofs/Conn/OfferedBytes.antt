@@ -134,40 +134,15 @@ module _ (steps : EachStepLeavesTheRest) (own : CallsServeTheirDomain) (files : 
       which true is step = measured r is (files.measures m n server g i pos modes.Read r lives opened step)
       which false is step = whole r is (files.reads_file m n server g i pos most_read modes.Read r order lives may refl opened step) names
 
-  -- what is read of the stream is there to be dropped
-  rests : (q : Answer) (r : Reply) (heard : List ℕ) (o : Outcome) → Names n r heard
-      → HasAnswer n (told_rests kept q r heard) o
-  rests q (reply.Agg a) [] o names = record { after = []; lent = ([], names); follows = refl; apart = refl }
-  rests q (reply.Agg a) (b ∷ l) o names = (b ∷ l, names)
-  rests q r heard o names = tt
-
   -- any call of a connection but its last
   pub replied : (fd c : ℕ) (q : Answer) (d : Doing) (r : Reply) (heard : List ℕ) (before : Outcome)
       → HasAccess m → descriptor m server fd ≡ Some (on.Connection c) → is_closing d ≡ false
       → Has m q (response q before) d → StepsTo m (event.Call server (wants fd (at kept q d))) r n → Names n r heard → Told q d r heard before
-  replied fd c q Rests r heard before access open_on open_yet has step names = (before, refl, rests q r heard before names)
-  replied fd c q (Got x) r heard before access open_on open_yet has step names = (before, refl, got r (own.drops m n server x r order step))
-    where
-      got : (r : Reply) → o.Drops m server x r n → HasAnswer n (told (at kept q (Got x)) r heard) before
-      got reply.Done did = tt
-      got (reply.Refused y) did = subst (λ (s : State). Has s q (response q before) (Got x)) (sym did) has
-      got r did = absurd did
   replied fd c q Opens r heard before access open_on open_yet has step names = opens q r heard before has step
   replied fd c (refuse status head_only close) (Reading g) r heard before access open_on open_yet has step names = absurd has.0
   replied fd c (serve w) (Reading g) r heard before access open_on open_yet has step names = reads w g has.1.0 has.1.1 r heard before has.1.2 (access.fds server g has.1.0 has.1.1 modes.Read has.1.2) step names
-  replied fd c q (Shuts g k) r heard before access open_on open_yet has step names = (before, refl, having.shuts steps own m n order q g k (response q before) r has step)
-  replied fd c q (Picks x first last len) r heard before access open_on open_yet has step names = (before, refl, having.picks steps own m n order q x first last len (response q before) r has step)
-  replied fd c q (Spares x k) r heard before access open_on open_yet has step names = (before, refl, having.spares steps own m n order q x k (response q before) r has step)
-  replied fd c q (Heads k) r heard before access open_on open_yet has step names = (before, refl, having.heads steps own m n order q k (response q before) r heard has step names)
-  replied fd c q (Joins x size body len) r heard before access open_on open_yet has step names = (before, refl, having.joins steps own m n order q x size body len (response q before) r has step)
-  replied fd c q (Sends x len taken more) r heard before access open_on open_yet has step names = (before, refl, having.sends steps own m n order q fd c x len taken more (response q before) r open_on has step)
-  replied fd c q (Cuts x from len taken more) r heard before access open_on open_yet has step names = (before, refl, having.cuts steps own m n order q x from len taken more (response q before) r has step)
-  replied fd c q (Offers x from len piece taken more) r heard before access open_on open_yet has step names = (before, refl, having.offers_piece steps own m n order q fd c x from len piece taken more (response q before) r open_on has step)
-  replied fd c q (Swaps x from len piece taken more) r heard before access open_on open_yet has step names = (before, refl, having.swaps steps own m n order q x from len piece taken more (response q before) r has step)
-  replied fd c q (Sent x taken more) r heard before access open_on open_yet has step names = (before, refl, having.sent_all steps own m n order q x taken more (response q before) r has step)
-  replied fd c q (Breaks piece x more) r heard before access open_on open_yet has step names = (before, refl, having.breaks steps own m n order q piece x more (response q before) r has step)
-  replied fd c q (Drops x more) r heard before access open_on open_yet has step names = (before, refl, having.drops steps own m n order q x more (response q before) r has step)
-  replied fd c q other r heard before access open_on open_yet has step names = absurd (cc (open_yet))
+  replied fd c q d r heard before access open_on open_yet has step names =
+      (before, refl, having.phase steps own m n order kept fd c q d (response q before) r heard open_on refl open_yet has step names)
 
 -- where the response is sent all of it is taken
 whole : (m : State) (q : Answer) (due : List ℕ) (d : Doing) (a taken : ℕ) → d ≡ Sent a taken None → Has m q due d → drop taken due ≡ []

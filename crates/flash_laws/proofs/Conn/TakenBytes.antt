@@ -33,6 +33,7 @@ use Rattle.flash_laws.specs.declared.phase.Doing.{Doing}
 use Rattle.flash_laws.specs.declared.phase.Doing.TheVariants.{Rests, Got, Opens, Reads as Reading, Shuts, Picks, Spares, Heads, Joins, Sends, Cuts, Offers, Swaps, Sent, Breaks, Drops, Closes, Over}
 use Rattle.flash_laws.proofs.Forms.{at}
 use Rattle.flash_laws.proofs.Lists.{clash, self, few-taken}
+use Rattle.flash_laws.proofs.Moves.{after-done, after-agg, after-open, after-read}
 
 -- ---- before anything is sent nothing is taken
 
@@ -71,29 +72,15 @@ headed-begun a size (Some x) = by (nat_le (size + x.1) MAX_AGGREGATE_BYTES)
     by false = (refl, refl)
 
 begun : (kept : List ℕ) (q : Answer) (d : Doing) (r : Reply) (heard : List ℕ) → is_begun d ≡ true → IsBegun (told (at kept q d) r heard).doing
-begun kept q (Got a) reply.Done heard is = (refl, refl)
-begun kept q (Got a) r heard is = (refl, refl)
-begun kept q Opens (reply.Fd f) heard is = (refl, refl)
-begun kept q Opens (reply.Refused no.WouldBlock) heard is = (refl, refl)
-begun kept q Opens (reply.Refused z) heard is = (refl, refl)
-begun kept q Opens r heard is = (refl, refl)
-begun kept q (Reading f) (reply.Agg k) heard is = (refl, refl)
-begun kept q (Reading f) (reply.Count k) heard is = (refl, refl)
-begun kept q (Reading f) (reply.Refused no.WouldBlock) heard is = (refl, refl)
-begun kept q (Reading f) (reply.Refused z) heard is = (refl, refl)
-begun kept q (Reading f) r heard is = (refl, refl)
-begun kept q (Shuts f k) reply.Done heard is = settled-begun q k
-begun kept q (Shuts f k) r heard is = (refl, refl)
-begun kept q (Picks a first last len) (reply.Agg k) heard is = (refl, refl)
-begun kept q (Picks a first last len) r heard is = (refl, refl)
-begun kept q (Spares a k) reply.Done heard is = (refl, refl)
-begun kept q (Spares a k) r heard is = (refl, refl)
-begun kept q (Heads k) (reply.Agg a) heard is = headed-begun a (count_of heard) (following k)
-begun kept q (Heads k) r heard is = (refl, refl)
-begun kept q (Joins a size body len) (reply.Agg k) heard is = (refl, refl)
-begun kept q (Joins a size body len) r heard is = (refl, refl)
-begun kept q Closes reply.Done heard is = (refl, refl)
-begun kept q Closes r heard is = (refl, refl)
+begun kept q (Got a) r heard is = after-done IsBegun r (refl, refl) (refl, refl)
+begun kept q Opens r heard is = after-open IsBegun r (refl, refl) (λ f. (refl, refl)) (λ x. (refl, refl))
+begun kept q (Reading f) r heard is = after-read IsBegun r (refl, refl) (λ k. (refl, refl)) (λ k. (refl, refl)) (λ x. (refl, refl))
+begun kept q (Shuts f k) r heard is = after-done IsBegun r (refl, refl) (settled-begun q k)
+begun kept q (Picks a first last len) r heard is = after-agg IsBegun r (refl, refl) (λ k. (refl, refl))
+begun kept q (Spares a k) r heard is = after-done IsBegun r (refl, refl) (refl, refl)
+begun kept q (Heads k) r heard is = after-agg IsBegun r (refl, refl) (λ a. headed-begun a (count_of heard) (following k))
+begun kept q (Joins a size body len) r heard is = after-agg IsBegun r (refl, refl) (λ k. (refl, refl))
+begun kept q Closes r heard is = after-done IsBegun r (refl, refl) (refl, refl)
 begun kept q Over r heard is = (refl, refl)
 begun kept q d r heard is = absurd (cc (is))
 

@@ -31,6 +31,7 @@ use Rattle.flash_laws.specs.declared.script_run.Step.{Step}
 use Rattle.flash_laws.specs.declared.script_run.Step.TheVariants.{Gives, Makes, Hands, Lets, Heads, Sending, Hears, Spills, Gathers, Frames, Wraps, Trims, Ended, Unholds, Stops, Unframes, Lasts, WrapsLast, TrimsLast, Unwraps, Returns, Lapses, Fails}
 use Rattle.flash_laws.specs.declared.script_run.Running.{Running}
 use Rattle.flash_laws.specs.declared.script_run.Running.TheVariants.{Runs, Leaves}
+use Rattle.flash_laws.proofs.Moves.{after-done, after-agg}
 use Rattle.flash_laws.proofs.Conn.Holdings.{leaves-told}
 use Rattle.flash_laws.proofs.Lists.{clash, later_of, amid, bare, bare-none, former_by, former_of, swapped}
 use Rattle.flash_laws.proofs.Conn.Uses.{same-number}
@@ -189,36 +190,30 @@ module _ (job : ℕ → List ℕ) (m : State) (fd : ℕ) (w : Wanted) (o : Progr
   hands j f r heard u unused = absurd (clash (j == a) u unused)
 
   step-leaves : (s : Step) (r : Reply) (heard : List ℕ) → HasStep job m w o run s → LeavesAt s r (told_step w run s r heard)
+  step-leaves (Gives write) r heard has u unused = absurd (cc (u))
+  step-leaves (Makes f) r heard has u unused = absurd (cc (u))
+  step-leaves Heads r heard has u unused = absurd (cc (u))
+  step-leaves (Returns write) r heard has u unused = absurd (cc (u))
+  step-leaves Fails r heard has u unused = absurd (cc (u))
   step-leaves (Hands j f) r heard has u unused = hands j f r heard u unused
   step-leaves (Lets j) reply.Done heard has u unused = (u, refl)
-  step-leaves (Lets j) r heard has u unused = absurd (clash (j == a) u unused)
   step-leaves (Sending d frame) r heard has u unused = sending d frame r has u unused
   step-leaves (Hears held frame) r heard has u unused = hears held frame r heard has u unused
   step-leaves (Spills b frame) reply.Done heard has u unused = (former_by (b == a) (has_frame frame a) u unused, refl)
-  step-leaves (Spills b frame) r heard has u unused = absurd (clash (step_agg (Spills b frame) a) u unused)
   step-leaves (Gathers held size piece len frame) r heard has u unused = gathers held size piece len frame r heard u unused
   step-leaves (Frames held) (reply.Agg n) heard has u unused = absurd (clash (step_agg (Wraps held n) a) (former_of (held == a) (n == a) u) unused)
-  step-leaves (Frames held) r heard has u unused = absurd (clash (held == a) u unused)
   step-leaves (Wraps held frame) (reply.Agg n) heard has u unused = absurd (clash (step_agg (Trims held n (count_of heard) frame) a) (amid (held == a) (n == a) (frame == a) u) unused)
-  step-leaves (Wraps held frame) r heard has u unused = absurd (clash (step_agg (Wraps held frame) a) u unused)
   step-leaves (Trims held chunk len frame) reply.Done heard has u unused = (former_by (held == a) ((chunk == a) || (frame == a)) u (plain (chunk == a) (frame == a) unused), refl)
-  step-leaves (Trims held chunk len frame) r heard has u unused = absurd (clash (step_agg (Trims held chunk len frame) a) u unused)
   step-leaves (Ended b held frame) reply.Done heard has u unused = (former_by (b == a) (has_followed held a || has_frame frame a) u unused, refl)
-  step-leaves (Ended b held frame) r heard has u unused = absurd (clash (step_agg (Ended b held frame) a) u unused)
   step-leaves (Unholds held frame) reply.Done heard has u unused = (former_by (held == a) (has_frame frame a) u unused, refl)
-  step-leaves (Unholds held frame) r heard has u unused = absurd (clash (step_agg (Unholds held frame) a) u unused)
   step-leaves (Stops held frame) r heard has u unused = stops held frame r heard has.1 u unused
   step-leaves (Unframes f held) r heard has u unused = unframes f held r heard has u unused
   step-leaves (Lasts held) r heard has u unused = lasts held r heard u unused
   step-leaves (WrapsLast held size frame) (reply.Agg n) heard has u unused = absurd (clash (step_agg (TrimsLast held n (count_of heard) frame) a) (amid (held == a) (n == a) (frame == a) u) unused)
-  step-leaves (WrapsLast held size frame) r heard has u unused = absurd (clash (step_agg (WrapsLast held size frame) a) u unused)
   step-leaves (TrimsLast held chunk len frame) reply.Done heard has u unused = (former_by (held == a) ((chunk == a) || (frame == a)) u (swapped-none (chunk == a) (frame == a) unused), refl)
-  step-leaves (TrimsLast held chunk len frame) r heard has u unused = absurd (clash (step_agg (TrimsLast held chunk len frame) a) u unused)
   step-leaves (Unwraps frame chunk len) reply.Done heard has u unused = (former_by (frame == a) (chunk == a) u (bare-none (chunk == a) unused), refl)
-  step-leaves (Unwraps frame chunk len) r heard has u unused = absurd (clash (step_agg (Unwraps frame chunk len) a) u unused)
   step-leaves (Lapses j) reply.Done heard has u unused = (u, refl)
-  step-leaves (Lapses j) r heard has u unused = absurd (clash (j == a) u unused)
-  step-leaves s r heard has u unused = absurd (cc (u))
+  step-leaves s r heard has u unused = absurd (clash (step_agg s a) u unused)
 
 pub left : (come : AggregatesComeAndGo) (job : ℕ → List ℕ) (m n : State) (fd worker : ℕ) (w : Wanted) (x : Running) (o : Progress) (r : Reply) (heard : List ℕ) (a : ℕ)
     → IsOrderly m → HasRun job m w o x → StepsTo m (event.Call server (wants job fd w x)) r n
@@ -302,52 +297,9 @@ module _ (own : CallsServeTheirDomain) (job : ℕ → List ℕ) (m n : State) (f
       by false = refl
   hands-ends j f r heard = refl
 
-  abbrev Stays : Step → Reply → List ℕ → Type 0
-  Stays s r heard = has_end (told_step w run s r heard) g ≡ ((run.from == g) || false)
-
-  makes-ends : (f : ℕ) (r : Reply) (heard : List ℕ) → Stays (Makes f) r heard
-  makes-ends f (reply.Agg k) heard = refl
-  makes-ends f r heard = refl
-
-  lets-ends : (j : ℕ) (r : Reply) (heard : List ℕ) → Stays (Lets j) r heard
-  lets-ends j reply.Done heard = refl
-  lets-ends j r heard = refl
-
-  heads-ends : (r : Reply) (heard : List ℕ) → Stays Heads r heard
-  heads-ends (reply.Agg k) heard = refl
-  heads-ends r heard = refl
-
-  spills-ends : (b : ℕ) (frame : Option ℕ) (r : Reply) (heard : List ℕ) → Stays (Spills b frame) r heard
-  spills-ends b frame reply.Done heard = refl
-  spills-ends b frame r heard = refl
-
-  gathers-ends : (held size piece len : ℕ) (frame : Option ℕ) (r : Reply) (heard : List ℕ) → Stays (Gathers held size piece len frame) r heard
-  gathers-ends held size piece len frame (reply.Agg k) heard = holding-ends k (both size len) frame
-  gathers-ends held size piece len frame r heard = refl
-
-  frames-ends : (held : ℕ) (r : Reply) (heard : List ℕ) → Stays (Frames held) r heard
-  frames-ends held (reply.Agg k) heard = refl
-  frames-ends held r heard = refl
-
-  wraps-ends : (held frame : ℕ) (r : Reply) (heard : List ℕ) → Stays (Wraps held frame) r heard
-  wraps-ends held frame (reply.Agg k) heard = refl
-  wraps-ends held frame r heard = refl
-
-  trims-ends : (held chunk len frame : ℕ) (r : Reply) (heard : List ℕ) → Stays (Trims held chunk len frame) r heard
-  trims-ends held chunk len frame reply.Done heard = refl
-  trims-ends held chunk len frame r heard = refl
-
-  ended-ends : (b : ℕ) (held : Following) (frame : Option ℕ) (r : Reply) (heard : List ℕ) → Stays (Ended b held frame) r heard
-  ended-ends b held frame reply.Done heard = refl
-  ended-ends b held frame r heard = refl
-
-  unholds-ends : (held : ℕ) (frame : Option ℕ) (r : Reply) (heard : List ℕ) → Stays (Unholds held frame) r heard
-  unholds-ends held frame reply.Done heard = refl
-  unholds-ends held frame r heard = refl
-
-  lapses-ends : (j : ℕ) (r : Reply) (heard : List ℕ) → Stays (Lapses j) r heard
-  lapses-ends j reply.Done heard = refl
-  lapses-ends j r heard = refl
+  -- the read end stays, and the write end is not there
+  abbrev Stays : Step → Type 0
+  Stays t = has_end (Runs run t) g ≡ ((run.from == g) || false)
 
   kept : (s : Step) (r : Reply) (heard : List ℕ) → ends_of run s g ≡ true → has_end (told_step w run s r heard) g ≡ ends_of run s g
       → has_end (told_step w run s r heard) g ≡ false → descriptor n server g ≡ None
@@ -360,20 +312,20 @@ module _ (own : CallsServeTheirDomain) (job : ℕ → List ℕ) (m n : State) (f
   step-shuts (Stops held frame) r heard has step u unused = closed run.from (Stops held frame) r (λ k. told_step w run (Stops held frame) k heard) step (λ x. refl)
       (λ none. bare (run.from == g) u) u unused
   step-shuts Fails r heard has step u unused = closed run.from Fails r (λ k. told_step w run Fails k heard) step (λ x. refl) (λ none. bare (run.from == g) u) u unused
-  step-shuts (Makes f) r heard has step u unused = kept (Makes f) r heard u (makes-ends f r heard) unused
+  step-shuts (Makes f) r heard has step u unused = kept (Makes f) r heard u (after-agg Stays r refl (λ k. refl)) unused
   step-shuts (Hands j f) r heard has step u unused = kept (Hands j f) r heard u (hands-ends j f r heard) unused
-  step-shuts (Lets j) r heard has step u unused = kept (Lets j) r heard u (lets-ends j r heard) unused
-  step-shuts Heads r heard has step u unused = kept Heads r heard u (heads-ends r heard) unused
+  step-shuts (Lets j) r heard has step u unused = kept (Lets j) r heard u (after-done Stays r refl refl) unused
+  step-shuts Heads r heard has step u unused = kept Heads r heard u (after-agg Stays r refl (λ k. refl)) unused
   step-shuts (Sending d frame) r heard has step u unused = kept (Sending d frame) r heard u (sending-ends d frame r) unused
   step-shuts (Hears held frame) r heard has step u unused = kept (Hears held frame) r heard u (hears-ends held frame r heard) unused
-  step-shuts (Spills b frame) r heard has step u unused = kept (Spills b frame) r heard u (spills-ends b frame r heard) unused
-  step-shuts (Gathers held size piece len frame) r heard has step u unused = kept (Gathers held size piece len frame) r heard u (gathers-ends held size piece len frame r heard) unused
-  step-shuts (Frames held) r heard has step u unused = kept (Frames held) r heard u (frames-ends held r heard) unused
-  step-shuts (Wraps held frame) r heard has step u unused = kept (Wraps held frame) r heard u (wraps-ends held frame r heard) unused
-  step-shuts (Trims held chunk len frame) r heard has step u unused = kept (Trims held chunk len frame) r heard u (trims-ends held chunk len frame r heard) unused
-  step-shuts (Ended b held frame) r heard has step u unused = kept (Ended b held frame) r heard u (ended-ends b held frame r heard) unused
-  step-shuts (Unholds held frame) r heard has step u unused = kept (Unholds held frame) r heard u (unholds-ends held frame r heard) unused
-  step-shuts (Lapses j) r heard has step u unused = kept (Lapses j) r heard u (lapses-ends j r heard) unused
+  step-shuts (Spills b frame) r heard has step u unused = kept (Spills b frame) r heard u (after-done Stays r refl refl) unused
+  step-shuts (Gathers held size piece len frame) r heard has step u unused = kept (Gathers held size piece len frame) r heard u (after-agg Stays r refl (λ k. holding-ends k (both size len) frame)) unused
+  step-shuts (Frames held) r heard has step u unused = kept (Frames held) r heard u (after-agg Stays r refl (λ k. refl)) unused
+  step-shuts (Wraps held frame) r heard has step u unused = kept (Wraps held frame) r heard u (after-agg Stays r refl (λ k. refl)) unused
+  step-shuts (Trims held chunk len frame) r heard has step u unused = kept (Trims held chunk len frame) r heard u (after-done Stays r refl refl) unused
+  step-shuts (Ended b held frame) r heard has step u unused = kept (Ended b held frame) r heard u (after-done Stays r refl refl) unused
+  step-shuts (Unholds held frame) r heard has step u unused = kept (Unholds held frame) r heard u (after-done Stays r refl refl) unused
+  step-shuts (Lapses j) r heard has step u unused = kept (Lapses j) r heard u (after-done Stays r refl refl) unused
   step-shuts s r heard has step u unused = absurd (cc (u))
 
 pub shut : (own : CallsServeTheirDomain) (job : ℕ → List ℕ) (m n : State) (fd worker : ℕ) (w : Wanted) (x : Running) (o : Progress) (r : Reply) (heard : List ℕ) (g : ℕ)

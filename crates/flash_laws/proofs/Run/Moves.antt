@@ -8,7 +8,8 @@ use Rattle.iol_core.specs.declared.events.Reply.{Reply}
 use Rattle.iol_core.specs.declared.events.Reply.TheVariants as reply
 use Rattle.flash_http.specs.Request.{serve, Wanted}
 use Rattle.flash_laws.specs.Conn as conn
-use Rattle.flash_laws.specs.Conn.{Following, count_of, piece_end}
+use Rattle.flash_laws.specs.Conn.{Following, count_of}
+use Rattle.flash_laws.specs.Conn.Fits.{is_closing}
 use Rattle.flash_laws.specs.Run.Fits.{Progress, sent_agg, IsPart, IsSending, HasRun}
 use Rattle.flash_laws.specs.Conn.OfferedBytes.{taken_of, may_repeat}
 use Rattle.flash_laws.specs.Run.{both, worker_domain, job_pipe, held_size, in_phase, step_wants, wants, told_gives, told_makes, told_hands, told_lets, told_heads, told_sending, told_spills, told_gathers, told_frames, told_wraps, told_trims, told_ended, told_unholds, told_wraps_last, told_trims_last, told_returns, told_lapses, told_hears, told_stops, told_unframes, told_lasts, told_unwraps, told_fails, filled, holding, hearing, finishing, stopped, ending, told_step, told, is_left, is_over}
@@ -23,7 +24,8 @@ use Rattle.flash_laws.specs.declared.script_run.Step.{Step}
 use Rattle.flash_laws.specs.declared.script_run.Step.TheVariants.{Gives, Makes, Hands, Lets, Heads, Sending, Hears, Spills, Gathers, Frames, Wraps, Trims, Ended, Unholds, Stops, Unframes, Lasts, WrapsLast, TrimsLast, Unwraps, Returns, Lapses, Fails}
 use Rattle.flash_laws.specs.declared.script_run.Running.{Running}
 use Rattle.flash_laws.specs.declared.script_run.Running.TheVariants.{Awaits, Runs, Leaves, Closes}
-use Rattle.flash_laws.proofs.Conn.Repeats.{either, drops, closes, makes, cuts, joins, replaces, reads, gives, writes, pipes}
+use Rattle.flash_laws.proofs.Conn.DoneCalls.{moved}
+use Rattle.flash_laws.proofs.Conn.Repeats.{drops, closes, makes, joins, replaces, reads, gives, writes, pipes}
 use Rattle.flash_laws.proofs.Run.Rest.{is-rest}
 use Rattle.flash_laws.proofs.Lists.{not-false}
 
@@ -38,26 +40,12 @@ doing_of x = doing.Over
 phase : (m n : State) (w : Wanted) (fd : ℕ) (due : List ℕ) (d : Doing) (r : Reply) (heard : List ℕ) → IsSending m due d
     → StepsTo m (event.Call server (conn.wants fd (in_phase w d))) r n → (conn.told (in_phase w d) r heard).doing ≡ d
     → may_repeat (conn.wants fd (in_phase w d)) r ≡ true
-phase m n w fd due (doing.Heads (Error status)) r heard is step same =
-    makes m n (doing.Heads (Error status)) (λ z. conn.told_heads (Error status) z heard) (conn.text_of (serve w) (Error status)) r step (λ k e. cc (e)) same
-phase m n w fd due (doing.Sends a len taken None) r heard is step same =
-    writes m n (doing.Sends a len taken None) (λ z. conn.told_sends a len taken None z) fd a r step
-    (λ k. either (nat_lt k len) (doing.Cuts a k len (taken + k) None) (doing.Sent a (taken + len) None) (doing.Sends a len taken None) (λ e. cc (e)) (λ e. cc (e)))
-    (λ e. cc (e)) same
-phase m n w fd due (doing.Cuts a from len taken None) r heard is step same =
-    cuts m n (doing.Cuts a from len taken None) (λ z. conn.told_cuts a from len taken None z) a from (piece_end from len) r step (λ k e. cc (e)) same
-phase m n w fd due (doing.Offers a from len piece taken None) r heard is step same =
-    writes m n (doing.Offers a from len piece taken None) (λ z. conn.told_offers a from len piece taken None z) fd piece r step (λ k e. cc (e)) (λ e. cc (e)) same
-phase m n w fd due (doing.Swaps a from len piece taken None) r heard is step same =
-    drops m n (doing.Swaps a from len piece taken None) (λ z. conn.told_swaps a from len piece taken None z) piece r step
-    (either (nat_lt from len) (doing.Cuts a from len taken None) (doing.Sent a taken None) (doing.Swaps a from len piece taken None) (λ e. cc (e)) (λ e. cc (e))) same
-phase m n w fd due (doing.Sent a taken None) r heard is step same =
-    drops m n (doing.Sent a taken None) (λ z. conn.told_sent (serve w) a taken None z) a r step
-    (either w.keep doing.Rests doing.Closes (doing.Sent a taken None) (λ e. cc (e)) (λ e. cc (e))) same
-phase m n w fd due (doing.Breaks piece a None) r heard is step same =
-    drops m n (doing.Breaks piece a None) (λ z. conn.told_breaks piece a None z) piece r step (λ e. cc (e)) same
-phase m n w fd due (doing.Drops a None) r heard is step same = drops m n (doing.Drops a None) (λ z. conn.told_drops a None z) a r step (λ e. cc (e)) same
-phase m n w fd due d r heard is step same = absurd is.0
+phase m n w fd due d r heard is step same = moved m n fd [] (serve w) d r heard (open-yet d is) step same
+  where
+    open-yet : (d : Doing) → IsSending m due d → is_closing d ≡ false
+    open-yet doing.Closes is = absurd is.0
+    open-yet doing.Over is = absurd is.0
+    open-yet d is = refl
 
 sending : (m n : State) (w : Wanted) (fd : ℕ) (due : List ℕ) (run : Run) (d : Doing) (frame : Option ℕ) (r : Reply) → IsPart m (sent_agg d) due → taken_of d ≤ length due
     → StepsTo m (event.Call server (conn.wants fd (in_phase w d))) r n → told_sending run d frame r ≡ Runs run (Sending d frame)

@@ -24,7 +24,7 @@ use Rattle.flash_laws.specs.Conn.Fits.{Has, Names}
 use Rattle.flash_laws.specs.Conn.OfferedBytes.{taken_of}
 use Rattle.flash_laws.specs.Run.Fits.{Progress, Ran, Broken, NotRun, Follows, MayAnswer, Continues, IsLeft, HasJobPipe, HasPart, HasRest, HasLeft, HasRun}
 use Rattle.flash_laws.specs.Run.OfferedBytes.{takes_on, Learns, taken_by, past_of, IsNextOf, HasWorker, RunsOfferTheResponse}
-use Rattle.flash_laws.specs.Run.{worker_domain, job_pipe, held_size, in_phase, wants, broken, told_lets, told_sending, told_spills, told_trims, told_ended, told_unholds, told_trims_last, told_lapses, told_hears, told_stops, told_unframes, told_lasts, told_unwraps, told_fails, finishing, told, is_left, is_over}
+use Rattle.flash_laws.specs.Run.{worker_domain, job_pipe, held_size, in_phase, wants, broken, told_sending, told_hears, finishing, told, is_left, is_over, stopped, ending}
 use Rattle.flash_laws.specs.Answers.Scripts.{script_body, script_response}
 use Rattle.flash_laws.specs.Site.{server}
 use Rattle.flash_laws.specs.declared.phase.Doing.{Doing}
@@ -35,6 +35,7 @@ use Rattle.flash_laws.specs.declared.script_run.Step.{Step}
 use Rattle.flash_laws.specs.declared.script_run.Step.TheVariants.{Gives, Makes, Hands, Lets, Heads, Sending, Hears, Spills, Gathers, Frames, Wraps, Trims, Ended, Unholds, Stops, Unframes, Lasts, WrapsLast, TrimsLast, Unwraps, Returns, Lapses, Fails}
 use Rattle.flash_laws.specs.declared.script_run.Running.{Running}
 use Rattle.flash_laws.specs.declared.script_run.Running.TheVariants.{Awaits, Runs, Leaves, Closes}
+use Rattle.flash_laws.proofs.Moves.{after-done, after-agg}
 use Rattle.flash_laws.proofs.Client.Phases.{Next, written_fd, next-due}
 use Rattle.flash_laws.proofs.Run.Rest as left
 use Rattle.flash_laws.proofs.Run.Rest.{is-rest}
@@ -131,25 +132,25 @@ module _ (steps : EachStepLeavesTheRest) (own : CallsServeTheirDomain) (m n : St
   replied fd c worker (Runs run (Gives write)) r heard o open_on free going has step names = (o, refl, acts.gives steps own m n order job w run has.0 write r o has.1 step)
   replied fd c worker (Runs run (Makes f)) r heard o open_on free going has step names = (o, refl, acts.makes steps own m n order job w run has.0 f r o has.1 step)
   replied fd c worker (Runs run (Hands j f)) r heard o open_on free going has step names = (o, refl, acts.hands steps own m n order job w run has.0 j f r o has.1 step)
-  replied fd c worker (Runs run (Lets j)) r heard o open_on free going has step names = (o, refl, acts.drops steps own m n order job w run has.0 j (Lets j) Heads r o has refl (has.1.0, has.1.2) step (λ z. Runs run (told_lets j z)) refl (λ y. refl))
+  replied fd c worker (Runs run (Lets j)) r heard o open_on free going has step names = (o, refl, acts.drops steps own m n order job w run has.0 j (Lets j) Heads r o has refl (has.1.0, has.1.2) step)
   replied fd c worker (Runs run Heads) r heard o open_on free going has step names = (o, refl, acts.heads steps own m n order job w run has.0 r heard o has.1 step names)
   replied fd c worker (Runs run (Sending d frame)) r heard o open_on free going has step names = sending run has.0 fd c open_on frame d r heard o has.1 step
   replied fd c worker (Runs run (Hears held frame)) r heard o open_on free going has step names = acts.hears steps own m n order job w run has.0 held frame r heard o has.1 step names
-  replied fd c worker (Runs run (Spills a frame)) r heard o open_on free going has step names = (o, refl, acts.drops steps own m n order job w run has.0 a (Spills a frame) (Hears None frame) r o has has.1.0.1 has.1.1 step (λ z. Runs run (told_spills a frame z)) refl (λ y. refl))
+  replied fd c worker (Runs run (Spills a frame)) r heard o open_on free going has step names = (o, refl, acts.drops steps own m n order job w run has.0 a (Spills a frame) (Hears None frame) r o has has.1.0.1 has.1.1 step)
   replied fd c worker (Runs run (Gathers held size piece len frame)) r heard o open_on free going has step names = (o, refl, acts.gathers steps own m n order job w run has.0 held size piece len frame r o has.1 step)
   replied fd c worker (Runs run (Frames held)) r heard o open_on free going has step names = (o, refl, acts.frames steps own m n order job w run has.0 held r o has.1 step)
   replied fd c worker (Runs run (Wraps held frame)) r heard o open_on free going has step names = (o, refl, acts.wraps steps own m n order job w run has.0 held frame r heard o has.1 step names)
-  replied fd c worker (Runs run (Trims held chunk len frame)) r heard o open_on free going has step names = (o, refl, acts.drops steps own m n order job w run has.0 held (Trims held chunk len frame) (Sending (doing.Sends chunk len 0 None) (Some frame)) r o has has.1.0.1 has.1.1 step (λ z. Runs run (told_trims held chunk len frame z)) refl (λ y. refl))
-  replied fd c worker (Runs run (Ended a held frame)) r heard o open_on free going has step names = (o, refl, acts.drops steps own m n order job w run has.0 a (Ended a held frame) (Stops held frame) r o has has.1.0.1 (has.1.1, has.1.2) step (λ z. Runs run (told_ended a held frame z)) refl (λ y. refl))
-  replied fd c worker (Runs run (Unholds held frame)) r heard o open_on free going has step names = (o, refl, acts.drops steps own m n order job w run has.0 held (Unholds held frame) (Stops None frame) r o has has.1.0.1 (has.1.1, has.1.2) step (λ z. Runs run (told_unholds held frame z)) refl (λ y. refl))
+  replied fd c worker (Runs run (Trims held chunk len frame)) r heard o open_on free going has step names = (o, refl, acts.drops steps own m n order job w run has.0 held (Trims held chunk len frame) (Sending (doing.Sends chunk len 0 None) (Some frame)) r o has has.1.0.1 has.1.1 step)
+  replied fd c worker (Runs run (Ended a held frame)) r heard o open_on free going has step names = (o, refl, acts.drops steps own m n order job w run has.0 a (Ended a held frame) (Stops held frame) r o has has.1.0.1 (has.1.1, has.1.2) step)
+  replied fd c worker (Runs run (Unholds held frame)) r heard o open_on free going has step names = (o, refl, acts.drops steps own m n order job w run has.0 held (Unholds held frame) (Stops None frame) r o has has.1.0.1 (has.1.1, has.1.2) step)
   replied fd c worker (Runs run (Stops held frame)) r heard o open_on free going has step names = (o, refl, stopping.stops steps own m n order job w run has.0 held frame r o has.1 step)
   replied fd c worker (Runs run (Unframes f held)) r heard o open_on free going has step names = (o, refl, stopping.unframes steps own m n order job w run has.0 f held r o has.1 step)
   replied fd c worker (Runs run (Lasts held)) r heard o open_on free going has step names = (o, refl, stopping.lasts steps own m n order job w run has.0 held r heard o has.1 step names)
   replied fd c worker (Runs run (WrapsLast held size frame)) r heard o open_on free going has step names = (o, refl, stopping.wraps_last steps own m n order job w run has.0 held size frame r heard o has.1 step names)
-  replied fd c worker (Runs run (TrimsLast held chunk len frame)) r heard o open_on free going has step names = (o, refl, acts.drops steps own m n order job w run has.0 held (TrimsLast held chunk len frame) (Unwraps frame chunk len) r o has has.1.0.1 (has.1.1, has.1.2) step (λ z. Runs run (told_trims_last held chunk len frame z)) refl (λ y. refl))
+  replied fd c worker (Runs run (TrimsLast held chunk len frame)) r heard o open_on free going has step names = (o, refl, acts.drops steps own m n order job w run has.0 held (TrimsLast held chunk len frame) (Unwraps frame chunk len) r o has has.1.0.1 (has.1.1, has.1.2) step)
   replied fd c worker (Runs run (Unwraps frame chunk len)) r heard o open_on free going has step names = (o, refl, stopping.unwraps steps own m n order job w run has.0 frame chunk len r o has.1 step)
   replied fd c worker (Runs run (Returns write)) r heard o open_on free going has step names = (o, refl, stopping.returns steps own m n order job w run has.0 write r o has.1 step)
-  replied fd c worker (Runs run (Lapses j)) r heard o open_on free going has step names = (o, refl, acts.drops steps own m n order job w run has.0 j (Lapses j) Fails r o has refl (has.1.0, has.1.2) step (λ z. Runs run (told_lapses j z)) refl (λ y. refl))
+  replied fd c worker (Runs run (Lapses j)) r heard o open_on free going has step names = (o, refl, acts.drops steps own m n order job w run has.0 j (Lapses j) Fails r o has refl (has.1.0, has.1.2) step)
   replied fd c worker (Runs run Fails) r heard o open_on free going has step names = stopping.fails steps own m n order job w run has.0 r heard o has.1 step
 
 -- ---- what is offered
@@ -267,14 +268,9 @@ keeps-finishing false true run held = refl
 keeps-finishing false false run held = tt
 keeps-finishing true c run held = tt
 
-keeps-stops : (w : Wanted) (run : Run) (held : Following) (frame : Option ℕ) (r : Reply) → HasWorker run.worker (told_stops w run held frame r)
-keeps-stops w run held None reply.Done = keeps-finishing run.broken w.chunked run held
-keeps-stops w run held (Some f) reply.Done = refl
-keeps-stops w run held frame r = refl
-
-keeps-unframes : (w : Wanted) (run : Run) (f : ℕ) (held : Following) (r : Reply) → HasWorker run.worker (told_unframes w run f held r)
-keeps-unframes w run f held reply.Done = keeps-finishing run.broken w.chunked run held
-keeps-unframes w run f held r = refl
+keeps-stopped : (w : Wanted) (run : Run) (held : Following) (frame : Option ℕ) → HasWorker run.worker (stopped w run held frame)
+keeps-stopped w run held None = keeps-finishing run.broken w.chunked run held
+keeps-stopped w run held (Some f) = refl
 
 keeps-sending : (run : Run) (d : Doing) (frame : Option ℕ) (r : Reply) → HasWorker run.worker (told_sending run d frame r)
 keeps-sending run (doing.Sent a taken None) frame reply.Done = refl
@@ -287,27 +283,18 @@ keeps-hears w run held frame (reply.Agg n) (b ∷ heard) = refl
 keeps-hears w run held frame (reply.Refused (no.Denied p)) heard = refl
 keeps-hears w run held frame r heard = refl
 
-keeps-lasts : (run : Run) (held : Following) (r : Reply) (heard : List ℕ) → HasWorker run.worker (told_lasts run held r heard)
-keeps-lasts run None (reply.Agg n) heard = tt
-keeps-lasts run (Some x) (reply.Agg n) heard = refl
-keeps-lasts run held r heard = refl
-
-keeps-unwraps : (run : Run) (frame chunk len : ℕ) (r : Reply) → HasWorker run.worker (told_unwraps run frame chunk len r)
-keeps-unwraps run frame chunk len reply.Done = tt
-keeps-unwraps run frame chunk len r = refl
-
-keeps-fails : (run : Run) (r : Reply) → HasWorker run.worker (told_fails run r)
-keeps-fails run reply.Done = tt
-keeps-fails run r = refl
+keeps-ending : (run : Run) (held : Following) (n len : ℕ) → HasWorker run.worker (ending run held n len)
+keeps-ending run None n len = tt
+keeps-ending run (Some x) n len = refl
 
 pub keeps : (worker : ℕ) (w : Wanted) (run : Run) (step : Step) (r : Reply) (heard : List ℕ) → HasWorker run.worker (told worker w (Runs run step) r heard)
 keeps worker w run (Sending d frame) r heard = keeps-sending run d frame r
 keeps worker w run (Hears held frame) r heard = keeps-hears w run held frame r heard
-keeps worker w run (Stops held frame) r heard = keeps-stops w run held frame r
-keeps worker w run (Unframes frame held) r heard = keeps-unframes w run frame held r
-keeps worker w run (Lasts held) r heard = keeps-lasts run held r heard
-keeps worker w run (Unwraps frame chunk len) r heard = keeps-unwraps run frame chunk len r
-keeps worker w run Fails r heard = keeps-fails run r
+keeps worker w run (Stops held frame) r heard = after-done (HasWorker run.worker) r refl (keeps-stopped w run held frame)
+keeps worker w run (Unframes frame held) r heard = after-done (HasWorker run.worker) r refl (keeps-finishing run.broken w.chunked run held)
+keeps worker w run (Lasts held) r heard = after-agg (HasWorker run.worker) r refl (λ n. keeps-ending run held n (conn.count_of heard))
+keeps worker w run (Unwraps frame chunk len) r heard = after-done (HasWorker run.worker) r refl tt
+keeps worker w run Fails r heard = after-done (HasWorker run.worker) r refl tt
 keeps worker w run step r heard = refl
 
 pub runs_offer : EachStepLeavesTheRest → CallsServeTheirDomain → RefusalsTellWhy → RefusalsThatAreLeft → RunsOfferTheResponse

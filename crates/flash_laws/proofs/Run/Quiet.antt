@@ -7,7 +7,8 @@ use Rattle.iol_core.specs.declared.events.Reply.TheVariants as reply
 use Rattle.flash_http.specs.Request.{Wanted}
 use Rattle.flash_laws.specs.Conn.{Following, count_of}
 use Rattle.flash_laws.specs.Run.OfferedBytes.{taken_by, breaks_off, is_failing, is_handing, ComesAfter}
-use Rattle.flash_laws.specs.Run.{both, is_again, told_gives, told_makes, told_hands, told_lets, told_heads, told_spills, told_gathers, told_frames, told_wraps, told_trims, told_ended, told_unholds, told_wraps_last, told_trims_last, told_returns, told_lapses, told_hears, told_stops, told_unframes, told_lasts, told_unwraps, told_fails, filled, holding, hearing, finishing, told_step}
+use Rattle.flash_laws.specs.Run.{both, is_again, told_gives, told_makes, told_hands, told_lets, told_hears, filled, holding, hearing, finishing, stopped, ending, told_step}
+use Rattle.flash_laws.proofs.Moves.{after-done, after-agg}
 use Rattle.flash_laws.specs.declared.script_run.TheConstants.{CHUNK_BYTES}
 use Rattle.flash_laws.specs.declared.script_run.Run.{Run}
 use Rattle.flash_laws.specs.declared.script_run.Step.{Step}
@@ -69,9 +70,13 @@ module _ (w : Wanted) (run : Run) where
   lets j reply.Done = (refl, λ b. inl b, λ z. absurd (cc (z)), inr (j, refl, refl))
   lets j r = (refl, λ b. inl b, λ z. absurd (cc (z)), inl refl)
 
-  heads : (r : Reply) (heard : List ℕ) → Quiet run Heads r (Runs run (told_heads r heard))
-  heads (reply.Agg n) heard = (refl, λ b. absurd (cc (b)), λ z. absurd (cc (z)), inr refl)
-  heads r heard = (refl, λ b. inl b, λ z. absurd (cc (z)), inl refl)
+  -- as it stays
+  stays : (s : Step) (r : Reply) → is_part s ≡ false → Quiet run s r (Runs run s)
+  stays (Sending d frame) r plain = absurd (cc (plain))
+  stays s r plain = (refl, λ b. inl b, λ z. cc (z), inl refl)
+
+  abbrev Then : Step → Reply → Step → Type 0
+  Then s r t = Quiet run s r (Runs run t)
 
   holds : (s : Step) (r : Reply) (held size : ℕ) (frame : Option ℕ) → Quiet run s r (Runs run (holding held size frame))
   holds s r held size frame = by (nat_lt size CHUNK_BYTES) frame
@@ -95,98 +100,40 @@ module _ (w : Wanted) (run : Run) where
   hears (Some x) frame (reply.Refused (no.Denied p)) heard = (refl, λ b. inr tt, λ z. absurd (cc (z)), inr tt)
   hears held frame r heard = (refl, λ b. inl b, λ z. absurd (cc (z)), inl refl)
 
-  spills : (a : ℕ) (frame : Option ℕ) (r : Reply) → Quiet run (Spills a frame) r (Runs run (told_spills a frame r))
-  spills a frame reply.Done = (refl, λ b. inl b, λ z. absurd (cc (z)), inr tt)
-  spills a frame r = (refl, λ b. inl b, λ z. absurd (cc (z)), inl refl)
-
-  gathers : (held size piece len : ℕ) (frame : Option ℕ) (r : Reply) → Quiet run (Gathers held size piece len frame) r (Runs run (told_gathers held size piece len frame r))
-  gathers held size piece len frame (reply.Agg n) = holds (Gathers held size piece len frame) (reply.Agg n) n (both size len) frame
-  gathers held size piece len frame r = (refl, λ b. inl b, λ z. absurd (cc (z)), inl refl)
-
-  frames : (held : ℕ) (r : Reply) → Quiet run (Frames held) r (Runs run (told_frames held r))
-  frames held (reply.Agg n) = (refl, λ b. inl b, λ z. absurd (cc (z)), inr tt)
-  frames held r = (refl, λ b. inl b, λ z. absurd (cc (z)), inl refl)
-
-  wraps : (held frame : ℕ) (r : Reply) (heard : List ℕ) → Quiet run (Wraps held frame) r (Runs run (told_wraps held frame r heard))
-  wraps held frame (reply.Agg n) heard = (refl, λ b. inl b, λ z. absurd (cc (z)), inr tt)
-  wraps held frame r heard = (refl, λ b. inl b, λ z. absurd (cc (z)), inl refl)
-
-  trims : (held chunk len frame : ℕ) (r : Reply) → Quiet run (Trims held chunk len frame) r (Runs run (told_trims held chunk len frame r))
-  trims held chunk len frame reply.Done = (refl, λ b. absurd (cc (b)), λ z. absurd (cc (z)), inr refl)
-  trims held chunk len frame r = (refl, λ b. inl b, λ z. absurd (cc (z)), inl refl)
-
-  ended : (a : ℕ) (held : Following) (frame : Option ℕ) (r : Reply) → Quiet run (Ended a held frame) r (Runs run (told_ended a held frame r))
-  ended a held frame reply.Done = (refl, λ b. inl b, λ z. absurd (cc (z)), inr tt)
-  ended a held frame r = (refl, λ b. inl b, λ z. absurd (cc (z)), inl refl)
-
-  unholds : (held : ℕ) (frame : Option ℕ) (r : Reply) → Quiet run (Unholds held frame) r (Runs run (told_unholds held frame r))
-  unholds held frame reply.Done = (refl, λ b. inl b, λ z. absurd (cc (z)), inr tt)
-  unholds held frame r = (refl, λ b. inl b, λ z. absurd (cc (z)), inl refl)
-
   finishes : (s : Step) (r : Reply) (b c : Bool) (held : Following) → Quiet run s r (finishing b c run held)
   finishes s r false true held = (refl, λ b. inl b, λ z. absurd (cc (z)), inr tt)
   finishes s r false false held = (refl, λ b. absurd (cc (b)), λ z. absurd (cc (z)), inr tt)
   finishes s r true c held = (refl, λ b. absurd (cc (b)), λ z. absurd (cc (z)), inr tt)
 
-  stops : (held : Following) (frame : Option ℕ) (r : Reply) → Quiet run (Stops held frame) r (told_stops w run held frame r)
-  stops held None reply.Done = finishes (Stops held None) reply.Done run.broken w.chunked held
-  stops held (Some f) reply.Done = (refl, λ b. inl b, λ z. absurd (cc (z)), inr tt)
-  stops held frame r = (refl, λ b. inl b, λ z. absurd (cc (z)), inl refl)
+  stops : (held : Following) (frame : Option ℕ) (r : Reply) → Quiet run (Stops held frame) r (stopped w run held frame)
+  stops held None r = finishes (Stops held None) r run.broken w.chunked held
+  stops held (Some f) r = (refl, λ b. inl b, λ z. absurd (cc (z)), inr tt)
 
-  unframes : (f : ℕ) (held : Following) (r : Reply) → Quiet run (Unframes f held) r (told_unframes w run f held r)
-  unframes f held reply.Done = finishes (Unframes f held) reply.Done run.broken w.chunked held
-  unframes f held r = (refl, λ b. inl b, λ z. absurd (cc (z)), inl refl)
-
-  lasts : (held : Following) (r : Reply) (heard : List ℕ) → Quiet run (Lasts held) r (told_lasts run held r heard)
-  lasts None (reply.Agg n) heard = (refl, λ b. absurd (cc (b)), λ z. absurd (cc (z)), inr tt)
-  lasts (Some x) (reply.Agg n) heard = (refl, λ b. inl b, λ z. absurd (cc (z)), inr tt)
-  lasts held r heard = (refl, λ b. inl b, λ z. absurd (cc (z)), inl refl)
-
-  wraps_last : (held size frame : ℕ) (r : Reply) (heard : List ℕ) → Quiet run (WrapsLast held size frame) r (Runs run (told_wraps_last held size frame r heard))
-  wraps_last held size frame (reply.Agg n) heard = (refl, λ b. inl b, λ z. absurd (cc (z)), inr tt)
-  wraps_last held size frame r heard = (refl, λ b. inl b, λ z. absurd (cc (z)), inl refl)
-
-  trims_last : (held chunk len frame : ℕ) (r : Reply) → Quiet run (TrimsLast held chunk len frame) r (Runs run (told_trims_last held chunk len frame r))
-  trims_last held chunk len frame reply.Done = (refl, λ b. inl b, λ z. absurd (cc (z)), inr tt)
-  trims_last held chunk len frame r = (refl, λ b. inl b, λ z. absurd (cc (z)), inl refl)
-
-  unwraps : (frame chunk len : ℕ) (r : Reply) → Quiet run (Unwraps frame chunk len) r (told_unwraps run frame chunk len r)
-  unwraps frame chunk len reply.Done = (refl, λ b. absurd (cc (b)), λ z. absurd (cc (z)), inr tt)
-  unwraps frame chunk len r = (refl, λ b. inl b, λ z. absurd (cc (z)), inl refl)
-
-  returns : (write : ℕ) (r : Reply) → Quiet run (Returns write) r (Runs run (told_returns write r))
-  returns write reply.Done = (refl, λ b. inl b, λ z. refl, inr tt)
-  returns write r = (refl, λ b. inl b, λ z. refl, inl refl)
-
-  lapses : (j : ℕ) (r : Reply) → Quiet run (Lapses j) r (Runs run (told_lapses j r))
-  lapses j reply.Done = (refl, λ b. inl b, λ z. refl, inr tt)
-  lapses j r = (refl, λ b. inl b, λ z. refl, inl refl)
-
-  failed : (r : Reply) → Quiet run Fails r (told_fails run r)
-  failed reply.Done = (refl, λ b. absurd (cc (b)), λ z. refl, inr tt)
-  failed r = (refl, λ b. inl b, λ z. refl, inl refl)
+  lasts : (held : Following) (r : Reply) (n len : ℕ) → Quiet run (Lasts held) r (ending run held n len)
+  lasts None r n len = (refl, λ b. absurd (cc (b)), λ z. absurd (cc (z)), inr tt)
+  lasts (Some x) r n len = (refl, λ b. inl b, λ z. absurd (cc (z)), inr tt)
 
   pub quiet : (s : Step) (r : Reply) (heard : List ℕ) → is_part s ≡ false → Quiet run s r (told_step w run s r heard)
   quiet (Gives write) r heard plain = gives write r
   quiet (Makes f) r heard plain = makes f r
   quiet (Hands j f) r heard plain = hands j f r
   quiet (Lets j) r heard plain = lets j r
-  quiet Heads r heard plain = heads r heard
+  quiet Heads r heard plain = after-agg (Then Heads r) r (stays Heads r refl) (λ n. (refl, λ b. absurd (cc (b)), λ z. absurd (cc (z)), inr refl))
   quiet (Sending d frame) r heard plain = absurd (cc (plain))
   quiet (Hears held frame) r heard plain = hears held frame r heard
-  quiet (Spills a frame) r heard plain = spills a frame r
-  quiet (Gathers held size piece len frame) r heard plain = gathers held size piece len frame r
-  quiet (Frames held) r heard plain = frames held r
-  quiet (Wraps held frame) r heard plain = wraps held frame r heard
-  quiet (Trims held chunk len frame) r heard plain = trims held chunk len frame r
-  quiet (Ended a held frame) r heard plain = ended a held frame r
-  quiet (Unholds held frame) r heard plain = unholds held frame r
-  quiet (Stops held frame) r heard plain = stops held frame r
-  quiet (Unframes f held) r heard plain = unframes f held r
-  quiet (Lasts held) r heard plain = lasts held r heard
-  quiet (WrapsLast held size frame) r heard plain = wraps_last held size frame r heard
-  quiet (TrimsLast held chunk len frame) r heard plain = trims_last held chunk len frame r
-  quiet (Unwraps frame chunk len) r heard plain = unwraps frame chunk len r
-  quiet (Returns write) r heard plain = returns write r
-  quiet (Lapses j) r heard plain = lapses j r
-  quiet Fails r heard plain = failed r
+  quiet (Spills a frame) r heard plain = after-done (Then (Spills a frame) r) r (stays (Spills a frame) r refl) (refl, λ b. inl b, λ z. absurd (cc (z)), inr tt)
+  quiet (Gathers held size piece len frame) r heard plain = let s = Gathers held size piece len frame in after-agg (Then s r) r (stays s r refl) (λ n. holds s r n (both size len) frame)
+  quiet (Frames held) r heard plain = after-agg (Then (Frames held) r) r (stays (Frames held) r refl) (λ n. (refl, λ b. inl b, λ z. absurd (cc (z)), inr tt))
+  quiet (Wraps held frame) r heard plain = after-agg (Then (Wraps held frame) r) r (stays (Wraps held frame) r refl) (λ n. (refl, λ b. inl b, λ z. absurd (cc (z)), inr tt))
+  quiet (Trims held chunk len frame) r heard plain = after-done (Then (Trims held chunk len frame) r) r (stays (Trims held chunk len frame) r refl) (refl, λ b. absurd (cc (b)), λ z. absurd (cc (z)), inr refl)
+  quiet (Ended a held frame) r heard plain = after-done (Then (Ended a held frame) r) r (stays (Ended a held frame) r refl) (refl, λ b. inl b, λ z. absurd (cc (z)), inr tt)
+  quiet (Unholds held frame) r heard plain = after-done (Then (Unholds held frame) r) r (stays (Unholds held frame) r refl) (refl, λ b. inl b, λ z. absurd (cc (z)), inr tt)
+  quiet (Stops held frame) r heard plain = after-done (Quiet run (Stops held frame) r) r (stays (Stops held frame) r refl) (stops held frame r)
+  quiet (Unframes f held) r heard plain = after-done (Quiet run (Unframes f held) r) r (stays (Unframes f held) r refl) (finishes (Unframes f held) r run.broken w.chunked held)
+  quiet (Lasts held) r heard plain = after-agg (Quiet run (Lasts held) r) r (stays (Lasts held) r refl) (λ n. lasts held r n (count_of heard))
+  quiet (WrapsLast held size frame) r heard plain = after-agg (Then (WrapsLast held size frame) r) r (stays (WrapsLast held size frame) r refl) (λ n. (refl, λ b. inl b, λ z. absurd (cc (z)), inr tt))
+  quiet (TrimsLast held chunk len frame) r heard plain = after-done (Then (TrimsLast held chunk len frame) r) r (stays (TrimsLast held chunk len frame) r refl) (refl, λ b. inl b, λ z. absurd (cc (z)), inr tt)
+  quiet (Unwraps frame chunk len) r heard plain = after-done (Quiet run (Unwraps frame chunk len) r) r (stays (Unwraps frame chunk len) r refl) (refl, λ b. absurd (cc (b)), λ z. absurd (cc (z)), inr tt)
+  quiet (Returns write) r heard plain = after-done (Then (Returns write) r) r (stays (Returns write) r refl) (refl, λ b. inl b, λ z. refl, inr tt)
+  quiet (Lapses j) r heard plain = after-done (Then (Lapses j) r) r (stays (Lapses j) r refl) (refl, λ b. inl b, λ z. refl, inr tt)
+  quiet Fails r heard plain = after-done (Quiet run Fails r) r (stays Fails r refl) (refl, λ b. absurd (cc (b)), λ z. refl, inr tt)

@@ -7,7 +7,7 @@ use Rattle.iol_core.specs.declared.events.Reply.TheVariants as reply
 use Rattle.flash_http.specs.Request.{Wanted}
 use Rattle.flash_laws.specs.Conn.{Following, count_of}
 use Rattle.flash_laws.specs.Run.OfferedBytes.{is_stopping, StopsBy}
-use Rattle.flash_laws.specs.Run.{both, is_again, told_gives, told_makes, told_hands, told_lets, told_heads, told_sending, told_spills, told_gathers, told_frames, told_wraps, told_trims, told_returns, told_lapses, told_hears, told_fails, filled, holding, hearing, told}
+use Rattle.flash_laws.specs.Run.{both, is_again, told_gives, told_hands, told_sending, told_hears, filled, holding, hearing, told}
 use Rattle.flash_laws.specs.declared.phase.Doing.{Doing}
 use Rattle.flash_laws.specs.declared.phase.Doing.TheVariants as doing
 use Rattle.flash_laws.specs.declared.script_run.TheConstants.{CHUNK_BYTES}
@@ -16,8 +16,12 @@ use Rattle.flash_laws.specs.declared.script_run.Step.{Step}
 use Rattle.flash_laws.specs.declared.script_run.Step.TheVariants.{Gives, Makes, Hands, Lets, Heads, Sending, Hears, Spills, Gathers, Frames, Wraps, Trims, Returns, Lapses, Fails}
 use Rattle.flash_laws.specs.declared.script_run.Running.{Running}
 use Rattle.flash_laws.specs.declared.script_run.Running.TheVariants.{Awaits, Runs}
+use Rattle.flash_laws.proofs.Moves.{after-done, after-agg}
 
 module _ (run : Run) where
+  abbrev Going : Step → Type 0
+  Going t = is_stopping (Runs run t) ≡ true → ⊥
+
   gives : (write : ℕ) (r : Reply) → is_stopping (Runs run (told_gives write r)) ≡ true → ⊥
   gives write (reply.Fd f) z = cc (z)
   gives write (reply.Refused x) z = by (is_again x) z
@@ -26,10 +30,6 @@ module _ (run : Run) where
       by true z = cc (z)
       by false z = cc (z)
   gives write r z = cc (z)
-
-  makes : (f : ℕ) (r : Reply) → is_stopping (Runs run (told_makes f r)) ≡ true → ⊥
-  makes f (reply.Agg n) z = cc (z)
-  makes f r z = cc (z)
 
   hands : (j f : ℕ) (r : Reply) → is_stopping (Runs run (told_hands j f r)) ≡ true → ⊥
   hands j f (reply.Count k) z = cc (z)
@@ -40,22 +40,10 @@ module _ (run : Run) where
       by false z = cc (z)
   hands j f r z = cc (z)
 
-  lets : (j : ℕ) (r : Reply) → is_stopping (Runs run (told_lets j r)) ≡ true → ⊥
-  lets j reply.Done z = cc (z)
-  lets j r z = cc (z)
-
-  heads : (r : Reply) (heard : List ℕ) → is_stopping (Runs run (told_heads r heard)) ≡ true → ⊥
-  heads (reply.Agg n) heard z = cc (z)
-  heads r heard z = cc (z)
-
   sending : (d : Doing) (frame : Option ℕ) (r : Reply) → is_stopping (told_sending run d frame r) ≡ true → ⊥
   sending (doing.Sent a taken None) frame reply.Done z = cc (z)
   sending (doing.Drops a None) frame reply.Done z = cc (z)
   sending d frame r z = cc (z)
-
-  spills : (a : ℕ) (frame : Option ℕ) (r : Reply) → is_stopping (Runs run (told_spills a frame r)) ≡ true → ⊥
-  spills a frame reply.Done z = cc (z)
-  spills a frame r z = cc (z)
 
   holds : (held size : ℕ) (frame : Option ℕ) → is_stopping (Runs run (holding held size frame)) ≡ true → ⊥
   holds held size frame z = by (nat_lt size CHUNK_BYTES) frame z
@@ -64,34 +52,6 @@ module _ (run : Run) where
       by true frame z = cc (z)
       by false None z = cc (z)
       by false (Some f) z = cc (z)
-
-  gathers : (held size piece len : ℕ) (frame : Option ℕ) (r : Reply) → is_stopping (Runs run (told_gathers held size piece len frame r)) ≡ true → ⊥
-  gathers held size piece len frame (reply.Agg n) z = holds n (both size len) frame z
-  gathers held size piece len frame r z = cc (z)
-
-  frames : (held : ℕ) (r : Reply) → is_stopping (Runs run (told_frames held r)) ≡ true → ⊥
-  frames held (reply.Agg n) z = cc (z)
-  frames held r z = cc (z)
-
-  wraps : (held frame : ℕ) (r : Reply) (heard : List ℕ) → is_stopping (Runs run (told_wraps held frame r heard)) ≡ true → ⊥
-  wraps held frame (reply.Agg n) heard z = cc (z)
-  wraps held frame r heard z = cc (z)
-
-  trims : (held chunk len frame : ℕ) (r : Reply) → is_stopping (Runs run (told_trims held chunk len frame r)) ≡ true → ⊥
-  trims held chunk len frame reply.Done z = cc (z)
-  trims held chunk len frame r z = cc (z)
-
-  returns : (write : ℕ) (r : Reply) → is_stopping (Runs run (told_returns write r)) ≡ true → ⊥
-  returns write reply.Done z = cc (z)
-  returns write r z = cc (z)
-
-  lapses : (j : ℕ) (r : Reply) → is_stopping (Runs run (told_lapses j r)) ≡ true → ⊥
-  lapses j reply.Done z = cc (z)
-  lapses j r z = cc (z)
-
-  fails : (r : Reply) → is_stopping (told_fails run r) ≡ true → ⊥
-  fails reply.Done z = cc (z)
-  fails r z = cc (z)
 
   hearing-on : (b c : Bool) (held : Following) (frame : Option ℕ) (a len : ℕ) → is_stopping (Runs run (hearing b c held frame a len)) ≡ true → ⊥
   hearing-on true c held frame a len z = cc (z)
@@ -109,20 +69,20 @@ module _ (run : Run) where
   steps : (worker : ℕ) (w : Wanted) (s : Step) (r : Reply) (heard : List ℕ) → is_stopping (Runs run s) ≡ false
       → is_stopping (told worker w (Runs run s) r heard) ≡ true → StopsBy (Runs run s) r heard
   steps worker w (Gives write) r heard on z = absurd (gives write r z)
-  steps worker w (Makes f) r heard on z = absurd (makes f r z)
+  steps worker w (Makes f) r heard on z = absurd (after-agg Going r (λ z. cc (z)) (λ n z. cc (z)) z)
   steps worker w (Hands j f) r heard on z = absurd (hands j f r z)
-  steps worker w (Lets j) r heard on z = absurd (lets j r z)
-  steps worker w Heads r heard on z = absurd (heads r heard z)
+  steps worker w (Lets j) r heard on z = absurd (after-done Going r (λ z. cc (z)) (λ z. cc (z)) z)
+  steps worker w Heads r heard on z = absurd (after-agg Going r (λ z. cc (z)) (λ n z. cc (z)) z)
   steps worker w (Sending d frame) r heard on z = absurd (sending d frame r z)
   steps worker w (Hears held frame) r heard on z = hears w held frame r heard z
-  steps worker w (Spills a frame) r heard on z = absurd (spills a frame r z)
-  steps worker w (Gathers held size piece len frame) r heard on z = absurd (gathers held size piece len frame r z)
-  steps worker w (Frames held) r heard on z = absurd (frames held r z)
-  steps worker w (Wraps held frame) r heard on z = absurd (wraps held frame r heard z)
-  steps worker w (Trims held chunk len frame) r heard on z = absurd (trims held chunk len frame r z)
-  steps worker w (Returns write) r heard on z = absurd (returns write r z)
-  steps worker w (Lapses j) r heard on z = absurd (lapses j r z)
-  steps worker w Fails r heard on z = absurd (fails r z)
+  steps worker w (Spills a frame) r heard on z = absurd (after-done Going r (λ z. cc (z)) (λ z. cc (z)) z)
+  steps worker w (Gathers held size piece len frame) r heard on z = absurd (after-agg Going r (λ z. cc (z)) (λ n. holds n (both size len) frame) z)
+  steps worker w (Frames held) r heard on z = absurd (after-agg Going r (λ z. cc (z)) (λ n z. cc (z)) z)
+  steps worker w (Wraps held frame) r heard on z = absurd (after-agg Going r (λ z. cc (z)) (λ n z. cc (z)) z)
+  steps worker w (Trims held chunk len frame) r heard on z = absurd (after-done Going r (λ z. cc (z)) (λ z. cc (z)) z)
+  steps worker w (Returns write) r heard on z = absurd (after-done Going r (λ z. cc (z)) (λ z. cc (z)) z)
+  steps worker w (Lapses j) r heard on z = absurd (after-done Going r (λ z. cc (z)) (λ z. cc (z)) z)
+  steps worker w Fails r heard on z = absurd (after-done (λ y. is_stopping y ≡ true → ⊥) r (λ z. cc (z)) (λ z. cc (z)) z)
   steps worker w s r heard on z = absurd (cc (on))
 
 pub reads_on : (worker : ℕ) (w : Wanted) (x : Running) (r : Reply) (heard : List ℕ) → is_stopping x ≡ false

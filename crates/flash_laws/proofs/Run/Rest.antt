@@ -22,6 +22,7 @@ use Rattle.flash_laws.specs.Answers.{error_text}
 use Rattle.flash_laws.specs.Conn as conn
 use Rattle.flash_laws.specs.Conn.{piece_end}
 use Rattle.flash_laws.specs.Conn.Fits.{Has, Names}
+use Rattle.flash_laws.specs.Conn.Progress.{is_busy}
 use Rattle.flash_laws.specs.Run.Fits.{Progress, Ran, Broken, NotRun, IsLeft, HasNone, sent_agg, IsPart, IsSending, HasRest, HasLeft}
 use Rattle.flash_laws.specs.Conn.OfferedBytes.{taken_of, newly_taken, is_dropping}
 use Rattle.flash_laws.specs.Run.OfferedBytes.{takes_on, PartLearns}
@@ -32,7 +33,9 @@ use Rattle.flash_laws.specs.declared.phase.Doing.{Doing}
 use Rattle.flash_laws.specs.declared.phase.Doing.TheVariants as doing
 use Rattle.flash_laws.proofs.Conn.AnswerParts as having
 use Rattle.flash_laws.proofs.Conn.LentBytes.{lent-stays}
-use Rattle.flash_laws.proofs.Lists.{self, turned, few-taken}
+use Rattle.flash_laws.proofs.Lists.{turned, few-taken}
+use Rattle.flash_laws.proofs.Moves.{after-done, after-agg, after-write}
+use Rattle.flash_laws.proofs.Conn.TakenBytes.{takes}
 
 -- what a phase that sends all that is due has
 abbrev pub SendsAll : State → Wanted → (due : List ℕ) → Doing → Type 0
@@ -72,6 +75,12 @@ pub part-sends : (m : State) (due : List ℕ) (d : Doing) → IsPart m (sent_agg
 part-sends m due (doing.Heads (Error status)) is within = tt
 part-sends m due d is within = (is, within)
 
+pub busy : (m : State) (due : List ℕ) (d : Doing) → IsSending m due d → is_busy d ≡ true
+busy m due doing.Rests is = absurd is.0
+busy m due doing.Closes is = absurd is.0
+busy m due doing.Over is = absurd is.0
+busy m due d is = refl
+
 -- what is to be sent yet is the rest
 pub is-rest : (m : State) (w : Wanted) (o : Progress) (d : Doing) → is_left d ≡ true → HasLeft m w o d → HasRest m w o d
 is-rest m w o doing.Rests is has = absurd (cc (is))
@@ -88,67 +97,31 @@ module _ (steps : EachStepLeavesTheRest) (own : CallsServeTheirDomain) (m n : St
 
   -- ---- how much is taken
 
-  counts-sends : (fd c a len taken : ℕ) (r : Reply) → descriptor m server fd ≡ Some (on.Connection c) → Sends m (doing.Sends a len taken None)
-      → StepsTo m (event.Call server (call.IolWrite fd a)) r n → is_dropping (conn.told_sends a len taken None r) ≡ false
-      → taken_of (conn.told_sends a len taken None r) ≡ taken + newly_taken fd (call.IolWrite fd a) r
-  counts-sends fd c a len taken r open_on has step on = by r (own.write_conn m n server fd c a has.0.bytes r order open_on has.0.lends step) on
-    where
-      by : (r : Reply) → caller.WritesConn m c has.0.bytes r n → is_dropping (conn.told_sends a len taken None r) ≡ false
-          → taken_of (conn.told_sends a len taken None r) ≡ taken + newly_taken fd (call.IolWrite fd a) r
-      by (reply.Count k) puts on = all (nat_lt k len) refl
-        where
-          new : (if fd == fd then k else 0) ≡ k
-          new = ap (λ b. if b then k else 0) (self fd)
+  -- a part that is not sent whole is sent on
+  abbrev Sending : Doing → Type 0
+  Sending e = is_busy e ≡ true
 
-          all : (b : Bool) → nat_lt k len ≡ b
-              → taken_of (if b then doing.Cuts a k len (taken + k) None else doing.Sent a (taken + len) None) ≡ taken + (if fd == fd then k else 0)
-          all true is = ap (λ z. taken + z) (sym new)
-          all false is = (let size = has.0.size in let within = puts.within in let le : len ≤ k = grind (arith, nat_tests, is) in omega (arith, new, size, within, le))
-      by (reply.Refused no.BrokenPipe) did on = absurd (cc (on))
-      by (reply.Refused y) did on = omega arith
-      by r did on = absurd did
+  either : (b : Bool) (d e : Doing) → Sending d → Sending e → Sending (if b then d else e)
+  either true d e one two = one
+  either false d e one two = two
 
-  counts-offers : (fd c a from len piece taken : ℕ) (r : Reply) → descriptor m server fd ≡ Some (on.Connection c) → Sends m (doing.Offers a from len piece taken None)
-      → StepsTo m (event.Call server (call.IolWrite fd piece)) r n → is_dropping (conn.told_offers a from len piece taken None r) ≡ false
-      → taken_of (conn.told_offers a from len piece taken None r) ≡ taken + newly_taken fd (call.IolWrite fd piece) r
-  counts-offers fd c a from len piece taken r open_on has step on =
-      by r (own.write_conn m n server fd c piece (slice_range has.0.whole.bytes from (piece_end from len)) r order open_on has.0.lends step) on
-    where
-      by : (r : Reply) → caller.WritesConn m c (slice_range has.0.whole.bytes from (piece_end from len)) r n → is_dropping (conn.told_offers a from len piece taken None r) ≡ false
-          → taken_of (conn.told_offers a from len piece taken None r) ≡ taken + newly_taken fd (call.IolWrite fd piece) r
-      by (reply.Count k) puts on =
-          let new : (if fd == fd then k else 0) ≡ k = ap (λ b. if b then k else 0) (self fd) in
-          let few = (few-taken k from len has.0.whole.bytes has.0.whole.size puts.within).1 in
-          ap (λ z. taken + z) (few ∙ sym new)
-      by (reply.Refused no.BrokenPipe) did on = absurd (cc (on))
-      by (reply.Refused y) did on = omega arith
-      by r did on = absurd did
-
-  counts-cuts : (fd a from len taken : ℕ) (r : Reply) → taken_of (conn.told_cuts a from len taken None r) ≡ taken + newly_taken fd (call.AggCut a from (piece_end from len)) r
-  counts-cuts fd a from len taken (reply.Agg x) = omega arith
-  counts-cuts fd a from len taken r = omega arith
-
-  counts-swaps : (fd a from len piece taken : ℕ) (r : Reply) → taken_of (conn.told_swaps a from len piece taken None r) ≡ taken + newly_taken fd (call.AggDrop piece) r
-  counts-swaps fd a from len piece taken reply.Done = by (nat_lt from len)
-    where
-      by : (b : Bool) → taken_of (if b then doing.Cuts a from len taken None else doing.Sent a taken None) ≡ taken + newly_taken fd (call.AggDrop piece) reply.Done
-      by true = omega arith
-      by false = omega arith
-  counts-swaps fd a from len piece taken r = omega arith
+  goes-on-busy : (d : Doing) (r : Reply) (heard : List ℕ) → Sends m d → is_sent d ≡ false → is_dropping d ≡ false → Sending (conn.told (in_phase w d) r heard).doing
+  goes-on-busy (doing.Sends a len taken None) r heard has unsent at = after-write Sending r refl refl (λ k. either (nat_lt k len) _ _ refl refl)
+  goes-on-busy (doing.Cuts a from len taken None) r heard has unsent at = after-agg Sending r refl (λ x. refl)
+  goes-on-busy (doing.Offers a from len piece taken None) r heard has unsent at = after-write Sending r refl refl (λ k. refl)
+  goes-on-busy (doing.Swaps a from len piece taken None) r heard has unsent at = after-done Sending r refl (either (nat_lt from len) _ _ refl refl)
+  goes-on-busy (doing.Sent a taken None) r heard has unsent at = absurd (cc (unsent))
+  goes-on-busy (doing.Breaks piece a None) r heard has unsent at = absurd (cc (at))
+  goes-on-busy (doing.Drops a None) r heard has unsent at = absurd (cc (at))
+  goes-on-busy d r heard has unsent at = absurd has.1
 
   -- a part that is sent, of which nothing is dropped
   pub counts : (fd c : ℕ) (d : Doing) (r : Reply) (heard : List ℕ) → descriptor m server fd ≡ Some (on.Connection c) → Sends m d
       → StepsTo m (event.Call server (conn.wants fd (in_phase w d))) r n → is_sent d ≡ false → is_dropping d ≡ false
       → is_dropping (conn.told (in_phase w d) r heard).doing ≡ false
       → taken_of (conn.told (in_phase w d) r heard).doing ≡ taken_of d + newly_taken fd (conn.wants fd (in_phase w d)) r
-  counts fd c (doing.Sends a len taken None) r heard open_on has step unsent at on = counts-sends fd c a len taken r open_on has step on
-  counts fd c (doing.Cuts a from len taken None) r heard open_on has step unsent at on = counts-cuts fd a from len taken r
-  counts fd c (doing.Offers a from len piece taken None) r heard open_on has step unsent at on = counts-offers fd c a from len piece taken r open_on has step on
-  counts fd c (doing.Swaps a from len piece taken None) r heard open_on has step unsent at on = counts-swaps fd a from len piece taken r
-  counts fd c (doing.Sent a taken None) r heard open_on has step unsent at on = absurd (cc (unsent))
-  counts fd c (doing.Breaks piece a None) r heard open_on has step unsent at on = absurd (cc (at))
-  counts fd c (doing.Drops a None) r heard open_on has step unsent at on = absurd (cc (at))
-  counts fd c d r heard open_on has step unsent at on = absurd has.1
+  counts fd c d r heard open_on has step unsent at on =
+      takes own m n order fd c open_on (serve w) due [] d r heard has.0 step at on (goes-on-busy d r heard has unsent at)
 
   -- ---- what a phase has after the reply to its call
 

@@ -21,7 +21,7 @@ use Rattle.iol_laws.specs.Reasons.{RefusalsTellWhy}
 use Rattle.iol_laws.specs.RefusalsLeft.{RefusalsThatAreLeft, CannotPut}
 use Rattle.flash_http.specs.Request.{serve, Wanted}
 use Rattle.flash_laws.specs.Conn as conn
-use Rattle.flash_laws.specs.Conn.{Following}
+use Rattle.flash_laws.specs.Conn.Progress.{is_busy}
 use Rattle.flash_laws.specs.Run.Fits.{Progress, Ran, Broken, NotRun, IsLeft, Continues, HasPart, HasRest, HasStep, HasRun}
 use Rattle.flash_laws.specs.Conn.OfferedBytes.{taken_of, newly_taken, is_dropping}
 use Rattle.flash_laws.specs.Run.OfferedBytes.{hears_on, takes_on, PartLearns, StepLearns, Learns, taken_by, past_of, breaks_off, IsCutOff, is_failing, IsLost, ComesAfter}
@@ -41,6 +41,7 @@ use Rattle.flash_laws.proofs.Lists.{clash, not-equal, not-false}
 use Rattle.flash_laws.proofs.Run.Rest as left
 use Rattle.flash_laws.proofs.Run.Rest.{SendsAll, is_sent, is-rest, whole-taken}
 use Rattle.flash_laws.proofs.Run.Quiet.{is_part, Bars, quiet}
+use Rattle.flash_laws.proofs.Conn.TakenBytes.{breaks as conn-breaks}
 
 -- ---- how much was taken before
 
@@ -214,65 +215,22 @@ barred why job m n fd c w o run s r bars has step = absurd bars
 
 -- a part is dropped only where nobody takes it
 module _ (why : RefusalsTellWhy) (m n : State) (fd c : ℕ) (open_on : descriptor m server fd ≡ Some (on.Connection c)) where
-  sends-drops : (a len taken : ℕ) (more : Following) (r : Reply) → StepsTo m (event.Call server (call.IolWrite fd a)) r n
-      → is_dropping (conn.told_sends a len taken more r) ≡ true → is_gone (conn_at m c).peer ≡ true
-  sends-drops a len taken more (reply.Count k) step off = absurd (by (nat_lt k len) off)
-    where
-      by : (b : Bool) → is_dropping (if b then doing.Cuts a k len (taken + k) more else doing.Sent a (taken + len) more) ≡ true → ⊥
-      by true off = cc (off)
-      by false off = cc (off)
-  sends-drops a len taken more (reply.Refused no.BrokenPipe) step off = why.peer_is_gone m n server fd c a open_on step
-  sends-drops a len taken more r step off = absurd (cc (off))
-
-  offers-drops : (a from len piece taken : ℕ) (more : Following) (r : Reply) → StepsTo m (event.Call server (call.IolWrite fd piece)) r n
-      → is_dropping (conn.told_offers a from len piece taken more r) ≡ true → is_gone (conn_at m c).peer ≡ true
-  offers-drops a from len piece taken more (reply.Count k) step off = absurd (cc (off))
-  offers-drops a from len piece taken more (reply.Refused no.BrokenPipe) step off = why.peer_is_gone m n server fd c piece open_on step
-  offers-drops a from len piece taken more r step off = absurd (cc (off))
-
-  cuts-drops : (a from len taken : ℕ) (more : Following) (r : Reply) → is_dropping (conn.told_cuts a from len taken more r) ≡ true → ⊥
-  cuts-drops a from len taken more (reply.Agg x) off = cc (off)
-  cuts-drops a from len taken more r off = cc (off)
-
-  swaps-drops : (a from len piece taken : ℕ) (more : Following) (r : Reply) → is_dropping (conn.told_swaps a from len piece taken more r) ≡ true → ⊥
-  swaps-drops a from len piece taken more reply.Done off = by (nat_lt from len) off
-    where
-      by : (b : Bool) → is_dropping (if b then doing.Cuts a from len taken more else doing.Sent a taken more) ≡ true → ⊥
-      by true off = cc (off)
-      by false off = cc (off)
-  swaps-drops a from len piece taken more r off = cc (off)
-
-  heads-drops : (status : ℕ) (r : Reply) (heard : List ℕ) → is_dropping (conn.told_heads (Error status) r heard) ≡ true → ⊥
-  heads-drops status (reply.Agg x) heard off = cc (off)
-  heads-drops status r heard off = cc (off)
-
-  sent-drops : (w : Wanted) (a taken : ℕ) (r : Reply) → is_dropping (conn.told_sent (serve w) a taken None r) ≡ true → ⊥
-  sent-drops w a taken reply.Done off = by w.keep off
-    where
-      by : (b : Bool) → is_dropping (if b then doing.Rests else doing.Closes) ≡ true → ⊥
-      by true off = cc (off)
-      by false off = cc (off)
-  sent-drops w a taken r off = cc (off)
+  -- any phase of a response: as that of a file
+  aborts : (w : Wanted) (d : Doing) (r : Reply) (heard : List ℕ) → is_busy d ≡ true → StepsTo m (event.Call server (conn.wants fd (in_phase w d))) r n
+      → is_dropping d ≡ false → is_dropping (conn.told (in_phase w d) r heard).doing ≡ true → is_gone (conn_at m c).peer ≡ true
+  aborts w d r heard busy step at off = conn-breaks why m n fd c open_on [] (serve w) heard d r busy step at off
 
   rest-drops : (w : Wanted) (o : Progress) (d : Doing) (r : Reply) (heard : List ℕ) → HasRest m w o d → StepsTo m (event.Call server (conn.wants fd (in_phase w d))) r n
       → is_dropping d ≡ false → is_dropping (conn.told (in_phase w d) r heard).doing ≡ true → is_gone (conn_at m c).peer ≡ true
-  rest-drops w o (doing.Heads (Error status)) r heard h step at off = absurd (heads-drops status r heard off)
-  rest-drops w o (doing.Sends a len taken None) r heard h step at off = sends-drops a len taken None r step off
-  rest-drops w o (doing.Cuts a from len taken None) r heard h step at off = absurd (cuts-drops a from len taken None r off)
-  rest-drops w o (doing.Offers a from len piece taken None) r heard h step at off = offers-drops a from len piece taken None r step off
-  rest-drops w o (doing.Swaps a from len piece taken None) r heard h step at off = absurd (swaps-drops a from len piece taken None r off)
-  rest-drops w o (doing.Sent a taken None) r heard h step at off = absurd (sent-drops w a taken r off)
-  rest-drops w o (doing.Breaks piece a None) r heard h step at off = absurd (cc (at))
-  rest-drops w o (doing.Drops a None) r heard h step at off = absurd (cc (at))
-  rest-drops w o d r heard h step at off = absurd h.sends.0
+  rest-drops w o d r heard h step at off = aborts w d r heard (left.busy m h.due d h.sends) step at off
 
   sending-drops : (w : Wanted) (o : Progress) (run : Run) (d : Doing) (frame : Option ℕ) (r : Reply) → HasPart m w o run d frame
       → StepsTo m (event.Call server (conn.wants fd (in_phase w d))) r n → is_dropping d ≡ false
       → breaks_off (told_sending run d frame r) ≡ true → is_gone (conn_at m c).peer ≡ true
-  sending-drops w o run (doing.Sends a len taken None) frame r h step at off = sends-drops a len taken None r step off
-  sending-drops w o run (doing.Cuts a from len taken None) frame r h step at off = absurd (cuts-drops a from len taken None r off)
-  sending-drops w o run (doing.Offers a from len piece taken None) frame r h step at off = offers-drops a from len piece taken None r step off
-  sending-drops w o run (doing.Swaps a from len piece taken None) frame r h step at off = absurd (swaps-drops a from len piece taken None r off)
+  sending-drops w o run (doing.Sends a len taken None) frame r h step at off = aborts w (doing.Sends a len taken None) r [] refl step at off
+  sending-drops w o run (doing.Cuts a from len taken None) frame r h step at off = aborts w (doing.Cuts a from len taken None) r [] refl step at off
+  sending-drops w o run (doing.Offers a from len piece taken None) frame r h step at off = aborts w (doing.Offers a from len piece taken None) r [] refl step at off
+  sending-drops w o run (doing.Swaps a from len piece taken None) frame r h step at off = aborts w (doing.Swaps a from len piece taken None) r [] refl step at off
   sending-drops w o run (doing.Sent a taken None) frame reply.Done h step at off = absurd (clash run.broken off h.whole)
   sending-drops w o run (doing.Sent a taken None) frame r h step at off = absurd (cc (off))
   sending-drops w o run (doing.Breaks piece a None) frame r h step at off = absurd (cc (at))

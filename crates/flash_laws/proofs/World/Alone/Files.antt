@@ -33,6 +33,7 @@ use Rattle.flash_laws.specs.Client.ResponseState as known
 use Rattle.flash_laws.specs.Client.ResponseState.{OfFile, OfScript, is_read, is_opening}
 use Rattle.flash_laws.specs.Run.Fits.{nothing_yet}
 use Rattle.flash_laws.specs.Shelf.{Shelf, due_to, MayBeDue, IsAmong}
+use Rattle.flash_laws.proofs.Conn.AnswerParts as having
 use Rattle.flash_laws.proofs.Site.Due.{due-may, error-may}
 use Rattle.flash_laws.specs.Site.{server, found_in, IsFixed}
 use Rattle.flash_laws.specs.declared.phase.Learnt.TheVariants.{File, Length, Text as TextOf}
@@ -95,7 +96,7 @@ module _ (shelf : Shelf) (crew : Crew) (laws : AllLaws crew) (m n : State) (came
       → Has n q (due_in f.due q (conn.told (at kept q d) r heard).doing) (conn.told (at kept q d) r heard).doing
   has_told q d r heard f un busy unread step names =
       subst (λ (l : List ℕ). Has n q l (conn.told (at kept q d) r heard).doing) (sym (due-is f.due q (conn.told (at kept q d) r heard).doing (phases.unread-told kept q d r heard unread)))
-      (phases.phase laws.the.steps laws.the.own m n order kept fd c q d f.due r heard f.open_on un busy (subst (λ (l : List ℕ). Has m q l d) (due-is f.due q d unread) f.has) step names)
+      (having.phase laws.the.steps laws.the.own m n order kept fd c q d f.due r heard f.open_on un busy (subst (λ (l : List ℕ). Has m q l d) (due-is f.due q d unread) f.has) step names)
 
   pub finds_told : (q : Answer) (d : Doing) (r : Reply) (heard : List ℕ) → is_opening d ≡ false → is_read d ≡ false
       → Finds shelf m q script d → Finds shelf n q script (conn.told (at kept q d) r heard).doing

@@ -46,6 +46,7 @@ use Rattle.flash_laws.specs.declared.phase.Doing.{Doing}
 use Rattle.flash_laws.specs.declared.phase.Doing.TheVariants.{Rests, Got, Opens, Reads as Reading, Shuts, Picks, Spares, Heads, Joins, Sends, Cuts, Offers, Swaps, Sent, Breaks, Drops, Closes, Over}
 use Rattle.flash_laws.specs.declared.script_run.Running.TheVariants.{Awaits}
 use Rattle.flash_laws.proofs.Forms.{at}
+use Rattle.flash_laws.proofs.Moves.{after-done, after-agg}
 use Rattle.flash_laws.proofs.Conn.AnswerParts as having
 use Rattle.flash_laws.proofs.Lists.{clash}
 use Rattle.flash_laws.proofs.World.AllLaws.{AllLaws}
@@ -98,14 +99,23 @@ module _ (shelf : Shelf) (crew : Crew) (laws : AllLaws crew) (m n : State) (came
 
   -- ---- each phase that opens and reads no file
 
-  got : (q : Answer) (a : ℕ) (r : Reply) (heard : List ℕ) → Fitting m q (Got a) → StepsTo m (event.Call server (call.AggDrop a)) r n → Names n r heard
-      → Fitting n q (told_got a r)
-  got q a r heard f step names =
-      moves_to script q (Got a) (told_got a r) (call.AggDrop a) r f.due f.may f step refl refl (ties r) (has_told q (Got a) r heard f refl refl refl step names) (finds_told q (Got a) r heard refl refl f.finds)
-    where
-      ties : (r : Reply) → TiesOn shelf kept script f.due f.due q (Got a) (told_got a r)
-      ties reply.Done = tie_on shelf kept script f.due f.due q (Got a) Rests refl refl refl refl
-      ties r = tie_on shelf kept script f.due f.due q (Got a) (Got a) refl refl refl refl
+  -- where its tie stays
+  on-tie : (q : Answer) (d : Doing) (r : Reply) (heard : List ℕ) (f : Fitting m q d) → is_opening d ≡ false → is_closing d ≡ false → is_read d ≡ false
+      → StepsTo m (event.Call server (conn.wants fd (at kept q d))) r n → Names n r heard
+      → touches_conn m (event.Call server (conn.wants fd (at kept q d))) c ≡ false → touches_fd m (event.Call server (conn.wants fd (at kept q d))) server fd ≡ false
+      → TiesOn shelf kept script f.due f.due q d (conn.told (at kept q d) r heard).doing → Fitting n q (conn.told (at kept q d) r heard).doing
+  on-tie q d r heard f un busy unread step names un_conn un_fd ties =
+      moves_to script q d (conn.told (at kept q d) r heard).doing (conn.wants fd (at kept q d)) r f.due f.may f step un_conn un_fd ties
+      (has_told q d r heard f un busy unread step names) (finds_told q d r heard un unread f.finds)
+
+  -- where it goes on with the request
+  on : (part : List ℕ) (q : Answer) (d : Doing) (r : Reply) (heard : List ℕ) (f : Fitting m q d) → is_opening d ≡ false → is_closing d ≡ false → is_read d ≡ false
+      → StepsTo m (event.Call server (conn.wants fd (at kept q d))) r n → Names n r heard
+      → touches_conn m (event.Call server (conn.wants fd (at kept q d))) c ≡ false → touches_fd m (event.Call server (conn.wants fd (at kept q d))) server fd ≡ false
+      → Stands f.due q part d → Stands f.due q part (conn.told (at kept q d) r heard).doing → Fitting n q (conn.told (at kept q d) r heard).doing
+  on part q d r heard f un busy unread step names un_conn un_fd was stands =
+      goes q part d (conn.told (at kept q d) r heard).doing (conn.wants fd (at kept q d)) r f step un_conn un_fd was stands
+      (has_told q d r heard f un busy unread step names) (finds_told q d r heard un unread f.finds)
 
   settled-stands : (due : List ℕ) (q : Answer) (k : Learnt) → Stands due q [] (settled q k)
   settled-stands due (serve w) (File a len) = by (selected w.range len)
@@ -117,14 +127,12 @@ module _ (shelf : Shelf) (crew : Crew) (laws : AllLaws crew) (m n : State) (came
   settled-stands due q k = (refl, refl, refl)
 
   shuts-stands : (due : List ℕ) (q : Answer) (g : ℕ) (k : Learnt) (r : Reply) → Stands due q [] (told_shuts q g k r)
-  shuts-stands due q g k reply.Done = settled-stands due q k
-  shuts-stands due q g k r = (refl, refl, refl)
+  shuts-stands due q g k r = after-done (Stands due q []) r (refl, refl, refl) (settled-stands due q k)
 
   shuts : (q : Answer) (g : ℕ) (k : Learnt) (r : Reply) (heard : List ℕ) → is_read (Shuts g k) ≡ false → Fitting m q (Shuts g k)
       → StepsTo m (event.Call server (call.Close g)) r n → Names n r heard → Fitting n q (told_shuts q g k r)
   shuts q g k r heard unread f step names =
-      goes q [] (Shuts g k) (told_shuts q g k r) (call.Close g) r f step (unused g f.has.0.0 f.has.0.1 f.has.0.2) (differ-fds g f.has.0.0 f.has.0.1 f.has.0.2 f.open_on) (refl, refl, refl) (shuts-stands f.due q g k r)
-      (has_told q (Shuts g k) r heard f refl refl unread step names) (finds_told q (Shuts g k) r heard refl unread f.finds)
+      on [] q (Shuts g k) r heard f refl refl unread step names (unused g f.has.0.0 f.has.0.1 f.has.0.2) (differ-fds g f.has.0.0 f.has.0.1 f.has.0.2 f.open_on) (refl, refl, refl) (shuts-stands f.due q g k r)
 
   -- the text of a script was read
   shuts_text : (q : Answer) (g a : ℕ) (r : Reply) → Fitting m q (Shuts g (TextOf a true)) → StepsTo m (event.Call server (call.Close g)) r n
@@ -139,26 +147,6 @@ module _ (shelf : Shelf) (crew : Crew) (laws : AllLaws crew) (m n : State) (came
       still (serve w) reply.Done has text = (has, text)
       still (refuse status head_only close) reply.Done has text = (has, text)
       still q r has text = (has, text)
-
-  picks : (q : Answer) (a first to len : ℕ) (r : Reply) (heard : List ℕ) → Fitting m q (Picks a first to len)
-      → StepsTo m (event.Call server (call.AggCut a first to)) r n → Names n r heard → Fitting n q (told_picks a first to len r)
-  picks q a first to len r heard f step names =
-      goes q [] (Picks a first to len) (told_picks a first to len r) (call.AggCut a first to) r f step refl refl (refl, refl, refl) (stands r)
-      (has_told q (Picks a first to len) r heard f refl refl refl step names) (finds_told q (Picks a first to len) r heard refl refl f.finds)
-    where
-      stands : (r : Reply) → Stands f.due q [] (told_picks a first to len r)
-      stands (reply.Agg x) = (refl, refl, refl)
-      stands r = (refl, refl, refl)
-
-  spares : (q : Answer) (a : ℕ) (k : Content) (r : Reply) (heard : List ℕ) → is_read (Spares a k) ≡ false → Fitting m q (Spares a k)
-      → StepsTo m (event.Call server (call.AggDrop a)) r n → Names n r heard → Fitting n q (told_spares a k r)
-  spares q a k r heard unread f step names =
-      goes q [] (Spares a k) (told_spares a k r) (call.AggDrop a) r f step refl refl (refl, refl, refl) (stands r)
-      (has_told q (Spares a k) r heard f refl refl unread step names) (finds_told q (Spares a k) r heard refl unread f.finds)
-    where
-      stands : (r : Reply) → Stands f.due q [] (told_spares a k r)
-      stands reply.Done = (refl, refl, refl)
-      stands r = (refl, refl, refl)
 
   -- the text that was read is dropped: but for HEAD the script begins to run
   runs : (seats : List (Seat crew.Worker)) (q : Answer) (a : ℕ) (r : Reply) (heard : List ℕ) → Fitting m q (Spares a Script)
@@ -222,79 +210,19 @@ module _ (shelf : Shelf) (crew : Crew) (laws : AllLaws crew) (m n : State) (came
       by true = (refl, refl, refl)
       by false = (refl, refl, refl)
 
-  heads : (q : Answer) (k : Content) (r : Reply) (heard : List ℕ) → Fitting m q (Heads k)
-      → StepsTo m (event.Call server (call.AggMake (text_of q k))) r n → Names n r heard → Fitting n q (told_heads k r heard)
-  heads q k r heard f step names =
-      goes q [] (Heads k) (told_heads k r heard) (call.AggMake (text_of q k)) r f step refl refl (refl, refl, refl) (stands r)
-      (has_told q (Heads k) r heard f refl refl refl step names) (finds_told q (Heads k) r heard refl refl f.finds)
+  swaps-stands : (due : List ℕ) (q : Answer) (a from len taken : ℕ) (more : Following) → Stands due q (take taken due) (if nat_lt from len then Cuts a from len taken more else Sent a taken more)
+  swaps-stands due q a from len taken more = by (nat_lt from len)
     where
-      stands : (r : Reply) → Stands f.due q [] (told_heads k r heard)
-      stands (reply.Agg x) = headed-stands f.due q x (count_of heard) (following k)
-      stands r = (refl, refl, refl)
+      by : (b : Bool) → Stands due q (take taken due) (if b then Cuts a from len taken more else Sent a taken more)
+      by true = (refl, refl, refl)
+      by false = (refl, refl, refl)
 
-  joins : (q : Answer) (a size b len : ℕ) (r : Reply) (heard : List ℕ) → Fitting m q (Joins a size b len)
-      → StepsTo m (event.Call server (call.AggJoin a b)) r n → Names n r heard → Fitting n q (told_joins a size b len r)
-  joins q a size b len r heard f step names =
-      goes q [] (Joins a size b len) (told_joins a size b len r) (call.AggJoin a b) r f step refl refl (refl, refl, refl) (stands r)
-      (has_told q (Joins a size b len) r heard f refl refl refl step names) (finds_told q (Joins a size b len) r heard refl refl f.finds)
-    where
-      stands : (r : Reply) → Stands f.due q [] (told_joins a size b len r)
-      stands (reply.Agg x) = (refl, refl, refl)
-      stands r = (refl, refl, refl)
+  drops-quit : (more : Following) → quits (drops_next more) ≡ true
+  drops-quit None = refl
+  drops-quit (Some x) = refl
 
-  cuts : (q : Answer) (a from len taken : ℕ) (more : Following) (r : Reply) (heard : List ℕ) → Fitting m q (Cuts a from len taken more)
-      → StepsTo m (event.Call server (call.AggCut a from (piece_end from len))) r n → Names n r heard → Fitting n q (told_cuts a from len taken more r)
-  cuts q a from len taken more r heard f step names =
-      goes q (take taken f.due) (Cuts a from len taken more) (told_cuts a from len taken more r) (call.AggCut a from (piece_end from len)) r f step refl refl (refl, refl, refl) (stands r)
-      (has_told q (Cuts a from len taken more) r heard f refl refl refl step names) (finds_told q (Cuts a from len taken more) r heard refl refl f.finds)
-    where
-      stands : (r : Reply) → Stands f.due q (take taken f.due) (told_cuts a from len taken more r)
-      stands (reply.Agg x) = (refl, refl, refl)
-      stands r = (refl, refl, refl)
-
-  swaps : (q : Answer) (a from len piece taken : ℕ) (more : Following) (r : Reply) (heard : List ℕ) → Fitting m q (Swaps a from len piece taken more)
-      → StepsTo m (event.Call server (call.AggDrop piece)) r n → Names n r heard → Fitting n q (told_swaps a from len piece taken more r)
-  swaps q a from len piece taken more r heard f step names =
-      goes q (take taken f.due) (Swaps a from len piece taken more) (told_swaps a from len piece taken more r) (call.AggDrop piece) r f step refl refl (refl, refl, refl) (stands r)
-      (has_told q (Swaps a from len piece taken more) r heard f refl refl refl step names) (finds_told q (Swaps a from len piece taken more) r heard refl refl f.finds)
-    where
-      stands : (r : Reply) → Stands f.due q (take taken f.due) (told_swaps a from len piece taken more r)
-      stands reply.Done = by (nat_lt from len)
-        where
-          by : (b : Bool) → Stands f.due q (take taken f.due) (if b then Cuts a from len taken more else Sent a taken more)
-          by true = (refl, refl, refl)
-          by false = (refl, refl, refl)
-      stands r = (refl, refl, refl)
-
-  breaks : (q : Answer) (piece a : ℕ) (more : Following) (r : Reply) (heard : List ℕ) → Fitting m q (Breaks piece a more)
-      → StepsTo m (event.Call server (call.AggDrop piece)) r n → Names n r heard → Fitting n q (told_breaks piece a more r)
-  breaks q piece a more r heard f step names =
-      moves_to script q (Breaks piece a more) (told_breaks piece a more r) (call.AggDrop piece) r f.due f.may f step refl refl (hush shelf kept script f.due f.due q (Breaks piece a more) (told_breaks piece a more r) refl (ending r))
-      (has_told q (Breaks piece a more) r heard f refl refl refl step names) (finds_told q (Breaks piece a more) r heard refl refl f.finds)
-    where
-      ending : (r : Reply) → quits (told_breaks piece a more r) ≡ true
-      ending reply.Done = refl
-      ending r = refl
-
-  drops : (q : Answer) (a : ℕ) (more : Following) (r : Reply) (heard : List ℕ) → Fitting m q (Drops a more)
-      → StepsTo m (event.Call server (call.AggDrop a)) r n → Names n r heard → Fitting n q (told_drops a more r)
-  drops q a more r heard f step names =
-      moves_to script q (Drops a more) (told_drops a more r) (call.AggDrop a) r f.due f.may f step refl refl (hush shelf kept script f.due f.due q (Drops a more) (told_drops a more r) refl (ending r))
-      (has_told q (Drops a more) r heard f refl refl refl step names) (finds_told q (Drops a more) r heard refl refl f.finds)
-    where
-      next : (more : Following) → quits (drops_next more) ≡ true
-      next None = refl
-      next (Some x) = refl
-
-      ending : (r : Reply) → quits (told_drops a more r) ≡ true
-      ending reply.Done = next more
-      ending r = refl
-
-  sent_all : (q : Answer) (a taken : ℕ) (more : Following) (r : Reply) (heard : List ℕ) → Fitting m q (Sent a taken more)
-      → StepsTo m (event.Call server (call.AggDrop a)) r n → Names n r heard → Fitting n q (told_sent q a taken more r)
-  sent_all q a taken more r heard f step names =
-      moves_to script q (Sent a taken more) (told_sent q a taken more r) (call.AggDrop a) r f.due f.may f step refl refl (ties r)
-      (has_told q (Sent a taken more) r heard f refl refl refl step names) (finds_told q (Sent a taken more) r heard refl refl f.finds)
+  sent-ties : (q : Answer) (a taken : ℕ) (more : Following) (f : Fitting m q (Sent a taken more)) → TiesOn shelf kept script f.due f.due q (Sent a taken more) (goes_on q taken more)
+  sent-ties q a taken more f = after more f.has
     where
       ended : (b : Bool) → keeps q ≡ b → drop taken f.due ≡ [] → TiesOn shelf kept script f.due f.due q (Sent a taken None) (if b then Rests else Closes)
       ended true keep none = ends shelf kept script f.due q f.may a taken keep none
@@ -303,10 +231,6 @@ module _ (shelf : Shelf) (crew : Crew) (laws : AllLaws crew) (m n : State) (came
       after : (more : Following) → HoldsMore m f.due a taken more → TiesOn shelf kept script f.due f.due q (Sent a taken more) (goes_on q taken more)
       after (Some x) h = tie_on shelf kept script f.due f.due q (Sent a taken (Some x)) (Sends x.0 x.1 taken None) refl refl refl refl
       after None h = ended (keeps q) refl (sym h.next ∙ h.follows)
-
-      ties : (r : Reply) → TiesOn shelf kept script f.due f.due q (Sent a taken more) (told_sent q a taken more r)
-      ties reply.Done = after more f.has
-      ties r = tie_on shelf kept script f.due f.due q (Sent a taken more) (Sent a taken more) refl refl refl refl
 
   -- ---- any call of it but the last
 
@@ -320,25 +244,37 @@ module _ (shelf : Shelf) (crew : Crew) (laws : AllLaws crew) (m n : State) (came
       → conn.IsAwaiting (at kept q d) → is_closing d ≡ false → IsAmong shelf.refuses.of_server r
       → StepsTo m (event.Call server (conn.wants fd (at kept q d))) r n → Names n r heard → FitsAlone shelf n came sent fd c (conn_told (alone kept script q d) r heard)
   phase q Rests r heard plain fixed f waits busy calm step names = rests shelf laws.the m n came sent fd c kept script order q r heard f waits step names
-  phase q (Got a) r heard plain fixed f waits busy calm step names = got q a r heard f step names
+  phase q (Got a) r heard plain fixed f waits busy calm step names =
+      on-tie q (Got a) r heard f refl refl refl step names refl refl
+      (after-done (TiesOn shelf kept script f.due f.due q (Got a)) r (tie_on shelf kept script f.due f.due q (Got a) (Got a) refl refl refl refl) (tie_on shelf kept script f.due f.due q (Got a) Rests refl refl refl refl))
   phase q Opens r heard plain fixed f waits busy calm step names = files.opens shelf crew laws m n came sent fd c kept script order q r heard fixed f calm step
   phase q (Reading g) r heard plain fixed f waits busy calm step names = absurd (cc (plain))
   phase q (Shuts g (TextOf a true)) r heard plain fixed f waits busy calm step names = shuts_text q g a r f step
   phase q (Shuts g k) r heard plain fixed f waits busy calm step names = shuts q g k r heard refl f step names
-  phase q (Picks a first last len) r heard plain fixed f waits busy calm step names = picks q a first last len r heard f step names
+  phase q (Picks a first last len) r heard plain fixed f waits busy calm step names =
+      on [] q (Picks a first last len) r heard f refl refl refl step names refl refl (refl, refl, refl) (after-agg (Stands f.due q []) r (refl, refl, refl) (λ x. (refl, refl, refl)))
   phase q (Spares a Script) r heard plain fixed f waits busy calm step names = absurd (cc (plain))
-  phase q (Spares a k) r heard plain fixed f waits busy calm step names = spares q a k r heard refl f step names
-  phase q (Heads k) r heard plain fixed f waits busy calm step names = heads q k r heard f step names
-  phase q (Joins a size body len) r heard plain fixed f waits busy calm step names = joins q a size body len r heard f step names
+  phase q (Spares a k) r heard plain fixed f waits busy calm step names =
+      on [] q (Spares a k) r heard f refl refl refl step names refl refl (refl, refl, refl) (after-done (Stands f.due q []) r (refl, refl, refl) (refl, refl, refl))
+  phase q (Heads k) r heard plain fixed f waits busy calm step names =
+      on [] q (Heads k) r heard f refl refl refl step names refl refl (refl, refl, refl) (after-agg (Stands f.due q []) r (refl, refl, refl) (λ x. headed-stands f.due q x (count_of heard) (following k)))
+  phase q (Joins a size body len) r heard plain fixed f waits busy calm step names =
+      on [] q (Joins a size body len) r heard f refl refl refl step names refl refl (refl, refl, refl) (after-agg (Stands f.due q []) r (refl, refl, refl) (λ x. (refl, refl, refl)))
   phase q (Sends a len taken more) r heard plain fixed f waits busy calm step names =
       sends shelf laws.the m n came sent fd c kept script order q a len taken more r f step (has_told q (Sends a len taken more) r heard f refl refl refl step names) (finds_told q (Sends a len taken more) r heard refl refl f.finds)
-  phase q (Cuts a from len taken more) r heard plain fixed f waits busy calm step names = cuts q a from len taken more r heard f step names
+  phase q (Cuts a from len taken more) r heard plain fixed f waits busy calm step names =
+      on (take taken f.due) q (Cuts a from len taken more) r heard f refl refl refl step names refl refl (refl, refl, refl) (after-agg (Stands f.due q (take taken f.due)) r (refl, refl, refl) (λ x. (refl, refl, refl)))
   phase q (Offers a from len piece taken more) r heard plain fixed f waits busy calm step names =
       offers shelf laws.the m n came sent fd c kept script order q a from len piece taken more r f step (has_told q (Offers a from len piece taken more) r heard f refl refl refl step names) (finds_told q (Offers a from len piece taken more) r heard refl refl f.finds)
-  phase q (Swaps a from len piece taken more) r heard plain fixed f waits busy calm step names = swaps q a from len piece taken more r heard f step names
-  phase q (Sent a taken more) r heard plain fixed f waits busy calm step names = sent_all q a taken more r heard f step names
-  phase q (Breaks piece a more) r heard plain fixed f waits busy calm step names = breaks q piece a more r heard f step names
-  phase q (Drops a more) r heard plain fixed f waits busy calm step names = drops q a more r heard f step names
+  phase q (Swaps a from len piece taken more) r heard plain fixed f waits busy calm step names =
+      on (take taken f.due) q (Swaps a from len piece taken more) r heard f refl refl refl step names refl refl (refl, refl, refl) (after-done (Stands f.due q (take taken f.due)) r (refl, refl, refl) (swaps-stands f.due q a from len taken more))
+  phase q (Sent a taken more) r heard plain fixed f waits busy calm step names =
+      on-tie q (Sent a taken more) r heard f refl refl refl step names refl refl
+      (after-done (TiesOn shelf kept script f.due f.due q (Sent a taken more)) r (tie_on shelf kept script f.due f.due q (Sent a taken more) (Sent a taken more) refl refl refl refl) (sent-ties q a taken more f))
+  phase q (Breaks piece a more) r heard plain fixed f waits busy calm step names =
+      on-tie q (Breaks piece a more) r heard f refl refl refl step names refl refl (hush shelf kept script f.due f.due q (Breaks piece a more) _ refl (after-done (λ e. quits e ≡ true) r refl refl))
+  phase q (Drops a more) r heard plain fixed f waits busy calm step names =
+      on-tie q (Drops a more) r heard f refl refl refl step names refl refl (hush shelf kept script f.due f.due q (Drops a more) _ refl (after-done (λ e. quits e ≡ true) r refl (drops-quit more)))
   phase q Closes r heard plain fixed f waits busy calm step names = absurd (cc (busy))
   phase q Over r heard plain fixed f waits busy calm step names = absurd (cc (busy))
 
