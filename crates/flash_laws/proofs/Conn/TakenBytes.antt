@@ -190,34 +190,29 @@ module _ (own : CallsServeTheirDomain) (m n : State) (order : IsOrderly m) (fd c
 
 -- ---- where it is broken off
 
+abbrev Kept : Doing → Type 0
+Kept d = is_dropping d ≡ false
+
+either-kept : (b : Bool) (d e : Doing) → Kept d → Kept e → Kept (if b then d else e)
+either-kept true d e one two = one
+either-kept false d e one two = two
+
+never : {A : Type 0} (d : Doing) → is_dropping d ≡ true → Kept d → A
+never d off kept = absurd (clash (is_dropping d) off kept)
+
 module _ (why : RefusalsTellWhy) (m n : State) (fd c : ℕ) (open_on : descriptor m server fd ≡ Some (on.Connection c)) (kept : List ℕ) (q : Answer) (heard : List ℕ) where
   pub breaks : (d : Doing) (r : Reply) → is_busy d ≡ true → StepsTo m (event.Call server (wants fd (at kept q d))) r n → is_dropping d ≡ false
       → is_dropping (told (at kept q d) r heard).doing ≡ true → is_gone (conn_at m c).peer ≡ true
   breaks (Sends a len taken more) (reply.Refused no.BrokenPipe) busy step at_is off = why.peer_is_gone m n server fd c a open_on step
-  breaks (Sends a len taken more) (reply.Count k) busy step at_is off = absurd (by (nat_lt k len) off)
-    where
-      by : (b : Bool) → is_dropping (if b then Cuts a k len (taken + k) more else Sent a (taken + len) more) ≡ true → ⊥
-      by true off = cc (off)
-      by false off = cc (off)
+  breaks (Sends a len taken more) (reply.Count k) busy step at_is off = never _ off (either-kept (nat_lt k len) _ _ refl refl)
   breaks (Sends a len taken more) r busy step at_is off = absurd (cc (off))
-  breaks (Cuts a from len taken more) (reply.Agg k) busy step at_is off = absurd (cc (off))
-  breaks (Cuts a from len taken more) r busy step at_is off = absurd (cc (off))
   breaks (Offers a from len piece taken more) (reply.Refused no.BrokenPipe) busy step at_is off = why.peer_is_gone m n server fd c piece open_on step
   breaks (Offers a from len piece taken more) (reply.Count k) busy step at_is off = absurd (cc (off))
   breaks (Offers a from len piece taken more) r busy step at_is off = absurd (cc (off))
-  breaks (Swaps a from len piece taken more) reply.Done busy step at_is off = absurd (by (nat_lt from len) off)
-    where
-      by : (b : Bool) → is_dropping (if b then Cuts a from len taken more else Sent a taken more) ≡ true → ⊥
-      by true off = cc (off)
-      by false off = cc (off)
-  breaks (Swaps a from len piece taken more) r busy step at_is off = absurd (cc (off))
-  breaks (Sent a taken (Some x)) reply.Done busy step at_is off = absurd (cc (off))
-  breaks (Sent a taken None) reply.Done busy step at_is off = absurd (by (keeps q) off)
-    where
-      by : (b : Bool) → is_dropping (if b then Rests else Closes) ≡ true → ⊥
-      by true off = cc (off)
-      by false off = cc (off)
-  breaks (Sent a taken more) r busy step at_is off = absurd (cc (off))
+  breaks (Cuts a from len taken more) r busy step at_is off = never _ off (after-agg Kept r refl (λ k. refl))
+  breaks (Swaps a from len piece taken more) r busy step at_is off = never _ off (after-done Kept r refl (either-kept (nat_lt from len) _ _ refl refl))
+  breaks (Sent a taken (Some x)) r busy step at_is off = never _ off (after-done Kept r refl refl)
+  breaks (Sent a taken None) r busy step at_is off = never _ off (after-done Kept r refl (either-kept (keeps q) _ _ refl refl))
   breaks (Breaks piece a more) r busy step at_is off = absurd (cc (at_is))
   breaks (Drops a more) r busy step at_is off = absurd (cc (at_is))
   breaks Rests r busy step at_is off = absurd (cc (busy))

@@ -137,10 +137,6 @@ module _ (steps : EachStepLeavesTheRest) (own : CallsServeTheirDomain) (m n : St
       let is = ap (λ (o : Progress). past_of o) learns in
       let none = taken-headed status r heard in
       omega (arith, is, none)
-  rest (doing.Sends a len taken None) r heard before after h step learns at on = part h.due (doing.Sends a len taken None) r heard before after (h.has, h.sends.0, h.sends.1) step refl refl on learns
-  rest (doing.Cuts a from len taken None) r heard before after h step learns at on = part h.due (doing.Cuts a from len taken None) r heard before after (h.has, h.sends.0, h.sends.1) step refl refl on learns
-  rest (doing.Offers a from len piece taken None) r heard before after h step learns at on = part h.due (doing.Offers a from len piece taken None) r heard before after (h.has, h.sends.0, h.sends.1) step refl refl on learns
-  rest (doing.Swaps a from len piece taken None) r heard before after h step learns at on = part h.due (doing.Swaps a from len piece taken None) r heard before after (h.has, h.sends.0, h.sends.1) step refl refl on learns
   rest (doing.Sent a taken None) r heard before after h step learns at on = by r (own.drops m n server a r order step) learns
     where
       by : (r : Reply) → caller.Drops m server a r n → PartLearns m (doing.Sent a taken None) r before after
@@ -151,9 +147,9 @@ module _ (steps : EachStepLeavesTheRest) (own : CallsServeTheirDomain) (m n : St
           omega (arith, all, none)
       by (reply.Refused y) did learns = let is = ap (λ (o : Progress). past_of o) learns in omega (arith, is)
       by r did learns = absurd did
-  rest (doing.Breaks piece a None) r heard before after h step learns at on = absurd (cc (at))
+  rest (doing.Sent a taken (Some x)) r heard before after h step learns at on = absurd h.sends.0
   rest (doing.Drops a None) r heard before after h step learns at on = absurd (cc (at))
-  rest d r heard before after h step learns at on = absurd h.sends.0
+  rest d r heard before after h step learns at on = part h.due d r heard before after (h.has, h.sends.0, h.sends.1) step refl at on learns
 
   -- a part
   sending : (run : Run) (d : Doing) (frame : Option ℕ) (r : Reply) (before after : Progress) (h : HasPart m w before run d frame)
