@@ -1,6 +1,6 @@
 -- After a call that was refused a phase has what it had, since nothing has changed. After another reply the next phase has its data:
 -- one lemma for each effect of a call.
-use Rattle.std.proofs.Common.{◌≡◌, ℕ, List, ◌∙◌, refl, sym, Some, None}
+use Rattle.std.proofs.Common.{◌≡◌, ℕ, List, ◌∙◌, refl, sym, Some, None, true, false, Bool, if◌then◌else◌}
 use Rattle.iol_core.specs.State.{State}
 use Rattle.iol_core.specs.declared.refusals.Refusal.{Refusal}
 use Rattle.iol_core.specs.declared.refusals.Refusal.TheVariants as no
@@ -47,6 +47,10 @@ module _ (m n : State) {A : Type 0} (P : A → Type 0) where
   written c bytes r did same broken puts = absurd did
 
 -- ---- what holds of a phase, and of each phase to which a reply moves it
+
+pub either-way : {A : Type 0} (P : A → Type 0) (b : Bool) {d e : A} → P d → P e → P (if b then d else e)
+either-way P true one two = one
+either-way P false one two = two
 
 module _ {A : Type 0} (P : A → Type 0) where
   pub after-done : {d e : A} (r : Reply) → P d → P e → P (or_stay d (on_done r e))

@@ -47,6 +47,7 @@ use Rattle.flash_laws.proofs.Site.OpenDescriptors.{no-true, held-open}
 use Rattle.flash_laws.proofs.World.AllLaws.{AllLaws}
 use Rattle.flash_laws.proofs.World.Calls.{CallsAlone, calls-alone, opens-on, there-fd}
 use Rattle.flash_laws.proofs.World.OwnAlone.{alone_step}
+use Rattle.flash_laws.proofs.Moves.{either-way}
 
 -- ---- sums
 
@@ -124,11 +125,7 @@ HasRoom m = (q : Answer) (k : Content) → IsProper q → ContentIsShort k → H
 pub can-make : (shelf : Shelf) (m : State) (fd : ℕ) (kept : List ℕ) (q : Answer) (script : List ℕ) (d : Doing) → IsProper q → Finds shelf m q script d
     → HasRoom m → CanMake m (conn.wants fd (at kept q d))
 can-make shelf m fd kept q script (doing.Heads k) fine finds room = room q k fine finds
-can-make shelf m fd kept q script (doing.Reads f) fine finds room = by (conn.is_head_only q)
-  where
-    by : (b : Bool) → CanMake m (if b then call.Length f else call.IolRead f conn.most_read)
-    by true = tt
-    by false = tt
+can-make shelf m fd kept q script (doing.Reads f) fine finds room = either-way (λ (k : Call). CanMake m k) (conn.is_head_only q) tt tt
 can-make shelf m fd kept q script d fine finds room = tt
 
 pub due-short : (shelf : Shelf) (longest : ℕ) (q : Answer) (due : List ℕ) (d : Doing) → IsProper q → AreShort shelf longest → MayBeDue shelf q due → length (due_in due q d) ≤ longest

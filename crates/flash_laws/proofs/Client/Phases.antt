@@ -33,7 +33,7 @@ use Rattle.flash_laws.specs.Client.ResponseState.{is_read, is_opening}
 use Rattle.flash_laws.specs.Conn.OfferedBytes.{taken_of}
 use Rattle.flash_laws.specs.Site.{server}
 use Rattle.flash_laws.proofs.Forms.{at}
-use Rattle.flash_laws.proofs.Moves.{after-done, after-agg, after-write, after-open, after-read}
+use Rattle.flash_laws.proofs.Moves.{after-done, after-agg, after-write, after-open, after-read, either-way}
 
 -- ---- what is offered
 
@@ -96,16 +96,12 @@ is_apart d = true
 abbrev is_reading : Doing → Bool
 is_reading d = is_read d || is_opening d
 
-either-unread : (t : Bool) (x y : Doing) → is_reading x ≡ false → is_reading y ≡ false → is_reading (if t then x else y) ≡ false
-either-unread true x y one two = one
-either-unread false x y one two = two
+abbrev Unread : Doing → Type 0
+Unread d = is_reading d ≡ false
 
 headed-unread : (n size : ℕ) (more : Following) → is_reading (headed n size more) ≡ false
 headed-unread n size None = refl
-headed-unread n size (Some x) = either-unread (nat_le (size + x.1) MAX_AGGREGATE_BYTES) _ _ refl refl
-
-abbrev Unread : Doing → Type 0
-Unread d = is_reading d ≡ false
+headed-unread n size (Some x) = either-way Unread (nat_le (size + x.1) MAX_AGGREGATE_BYTES) refl refl
 
 apart-unread : (kept : List ℕ) (q : Answer) (d : Doing) (r : Reply) (heard : List ℕ) → is_apart d ≡ true → Unread (told (at kept q d) r heard).doing
 apart-unread kept q Rests (reply.Agg n) [] left = refl
@@ -117,12 +113,12 @@ apart-unread kept q Closes r heard left = after-done Unread r refl refl
 apart-unread kept q Over r heard left = refl
 apart-unread kept q (Heads k) r heard left = after-agg Unread r refl (λ n. headed-unread n (count_of heard) (following k))
 apart-unread kept q (Joins a size body len) r heard left = after-agg Unread r refl (λ n. refl)
-apart-unread kept q (Sends a len taken more) r heard left = after-write Unread r refl refl (λ n. either-unread (nat_lt n len) _ _ refl refl)
+apart-unread kept q (Sends a len taken more) r heard left = after-write Unread r refl refl (λ n. either-way Unread (nat_lt n len) refl refl)
 apart-unread kept q (Cuts a from len taken more) r heard left = after-agg Unread r refl (λ n. refl)
 apart-unread kept q (Offers a from len piece taken more) r heard left = after-write Unread r refl refl (λ n. refl)
-apart-unread kept q (Swaps a from len piece taken more) r heard left = after-done Unread r refl (either-unread (nat_lt from len) _ _ refl refl)
+apart-unread kept q (Swaps a from len piece taken more) r heard left = after-done Unread r refl (either-way Unread (nat_lt from len) refl refl)
 apart-unread kept q (Sent a taken (Some x)) r heard left = after-done Unread r refl refl
-apart-unread kept q (Sent a taken None) r heard left = after-done Unread r refl (either-unread (keeps q) _ _ refl refl)
+apart-unread kept q (Sent a taken None) r heard left = after-done Unread r refl (either-way Unread (keeps q) refl refl)
 apart-unread kept q (Breaks piece a more) r heard left = after-done Unread r refl refl
 apart-unread kept q (Drops a (Some x)) r heard left = after-done Unread r refl refl
 apart-unread kept q (Drops a None) r heard left = after-done Unread r refl refl

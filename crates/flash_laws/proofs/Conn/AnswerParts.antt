@@ -37,7 +37,7 @@ use Rattle.flash_laws.specs.Site.{server}
 use Rattle.flash_laws.proofs.Forms.{at}
 use Rattle.flash_laws.proofs.Conn.Responses.{some-inj}
 use Rattle.flash_laws.proofs.Counts.{counted, made-short}
-use Rattle.flash_laws.proofs.Moves.{dropped, closed, made, made-heard, written}
+use Rattle.flash_laws.proofs.Moves.{dropped, closed, made, made-heard, written, either-way}
 use Rattle.flash_laws.proofs.Conn.LentBytes.{text-same, lent-stays, new-other, new-follows, follows-stay, content-on}
 use Rattle.flash_laws.proofs.Lists.{not-equal, turned, next-rest, none-left, both-long, few-taken, length-part}
 use Rattle.flash_http.proofs.SelectionLaws.{selected-within}
@@ -255,11 +255,7 @@ module _ (steps : EachStepLeavesTheRest) (own : CallsServeTheirDomain) (m n : St
       after : (more : Following) (rest : List ℕ) → LendsMore n more rest → rest ≡ drop taken due
           → Has n q due (goes_on q taken more)
       after (Some x) rest lends next = record { bytes = rest; after = []; lends = lends.0; size = lends.1; follows = refl; next = append-nil rest ∙ next; apart = refl }
-      after None rest lends next = cases (keeps q)
-        where
-          cases : (b : Bool) → Has n q due (if b then Rests else Closes)
-          cases true = tt
-          cases false = tt
+      after None rest lends next = either-way (λ (e : Doing). Has n q due e) (keeps q) tt tt
 
   pub drops : (q : Answer) (a : ℕ) (more : Following) (due : List ℕ) (r : Reply)
       → Has m q due (Drops a more) → StepsTo m (event.Call server (call.AggDrop a)) r n

@@ -25,7 +25,7 @@ use Rattle.flash_laws.specs.declared.phase.Content.TheVariants.{Script}
 use Rattle.flash_laws.specs.declared.phase.Doing.{Doing}
 use Rattle.flash_laws.specs.declared.phase.Doing.TheVariants.{Rests, Got, Opens, Reads as ReadsFile, Shuts, Picks, Spares, Heads, Joins, Sends, Cuts, Offers, Swaps, Sent, Breaks, Drops, Closes, Over}
 use Rattle.flash_laws.proofs.Forms.{at}
-use Rattle.flash_laws.proofs.Moves.{after-done, after-agg, after-write}
+use Rattle.flash_laws.proofs.Moves.{after-done, after-agg, after-write, either-way}
 
 -- ---- statuses
 
@@ -89,18 +89,13 @@ settled-short shelf n q script f (Fails status) unread short = short
 settled-short shelf n q script f (TextOf a true) unread short = absurd (cc (unread))
 settled-short shelf n q script f (TextOf a false) unread short = refl
 
-either-finds : (shelf : Shelf) (n : State) (q : Answer) (script : List ℕ) (b : Bool) (d e : Doing) → Finds shelf n q script d → Finds shelf n q script e
-    → Finds shelf n q script (if b then d else e)
-either-finds shelf n q script true d e one two = one
-either-finds shelf n q script false d e one two = two
-
 headed-finds : (shelf : Shelf) (n : State) (q : Answer) (script : List ℕ) (a size : ℕ) (more : Following) → Finds shelf n q script (headed a size more)
 headed-finds shelf n q script a size None = tt
-headed-finds shelf n q script a size (Some x) = either-finds shelf n q script (nat_le (size + x.1) MAX_AGGREGATE_BYTES) _ _ tt tt
+headed-finds shelf n q script a size (Some x) = either-way (Finds shelf n q script) (nat_le (size + x.1) MAX_AGGREGATE_BYTES) tt tt
 
 goes-finds : (shelf : Shelf) (n : State) (q : Answer) (script : List ℕ) (taken : ℕ) (more : Following) → Finds shelf n q script (goes_on q taken more)
 goes-finds shelf n q script taken (Some x) = tt
-goes-finds shelf n q script taken None = either-finds shelf n q script (keeps q) _ _ tt tt
+goes-finds shelf n q script taken None = either-way (Finds shelf n q script) (keeps q) tt tt
 
 drops-finds : (shelf : Shelf) (n : State) (q : Answer) (script : List ℕ) (more : Following) → Finds shelf n q script (drops_next more)
 drops-finds shelf n q script None = tt
@@ -122,10 +117,10 @@ finds-told shelf m n kept q script (Spares a Script) r heard un unread h = absur
 finds-told shelf m n kept q script (Spares a k) r heard un unread h = after-done (Finds shelf n q script) r h h
 finds-told shelf m n kept q script (Heads k) r heard un unread h = after-agg (Finds shelf n q script) r h (λ x. headed-finds shelf n q script x (count_of heard) (following k))
 finds-told shelf m n kept q script (Joins a size body len) r heard un unread h = after-agg (Finds shelf n q script) r tt (λ x. tt)
-finds-told shelf m n kept q script (Sends a len taken more) r heard un unread h = after-write (Finds shelf n q script) r tt tt (λ k. either-finds shelf n q script (nat_lt k len) _ _ tt tt)
+finds-told shelf m n kept q script (Sends a len taken more) r heard un unread h = after-write (Finds shelf n q script) r tt tt (λ k. either-way (Finds shelf n q script) (nat_lt k len) tt tt)
 finds-told shelf m n kept q script (Cuts a from len taken more) r heard un unread h = after-agg (Finds shelf n q script) r tt (λ x. tt)
 finds-told shelf m n kept q script (Offers a from len piece taken more) r heard un unread h = after-write (Finds shelf n q script) r tt tt (λ k. tt)
-finds-told shelf m n kept q script (Swaps a from len piece taken more) r heard un unread h = after-done (Finds shelf n q script) r tt (either-finds shelf n q script (nat_lt from len) _ _ tt tt)
+finds-told shelf m n kept q script (Swaps a from len piece taken more) r heard un unread h = after-done (Finds shelf n q script) r tt (either-way (Finds shelf n q script) (nat_lt from len) tt tt)
 finds-told shelf m n kept q script (Sent a taken more) r heard un unread h = after-done (Finds shelf n q script) r tt (goes-finds shelf n q script taken more)
 finds-told shelf m n kept q script (Breaks piece a more) r heard un unread h = after-done (Finds shelf n q script) r tt tt
 finds-told shelf m n kept q script (Drops a more) r heard un unread h = after-done (Finds shelf n q script) r tt (drops-finds shelf n q script more)

@@ -33,7 +33,8 @@ use Rattle.flash_laws.specs.declared.phase.Doing.{Doing}
 use Rattle.flash_laws.specs.declared.phase.Doing.TheVariants.{Rests, Got, Opens, Reads as Reading, Shuts, Picks, Spares, Heads, Joins, Sends, Cuts, Offers, Swaps, Sent, Breaks, Drops, Closes, Over}
 use Rattle.flash_laws.proofs.Forms.{at}
 use Rattle.flash_laws.proofs.Lists.{clash, self, few-taken}
-use Rattle.flash_laws.proofs.Moves.{after-done, after-agg, after-open, after-read}
+use Rattle.iol_core.specs.declared.events.Call.{Call}
+use Rattle.flash_laws.proofs.Moves.{after-done, after-agg, after-open, after-read, either-way}
 
 -- ---- before anything is sent nothing is taken
 
@@ -65,11 +66,7 @@ settled-begun q k = (refl, refl)
 
 headed-begun : (a size : ℕ) (more : Following) → IsBegun (headed a size more)
 headed-begun a size None = (refl, refl)
-headed-begun a size (Some x) = by (nat_le (size + x.1) MAX_AGGREGATE_BYTES)
-  where
-    by : (b : Bool) → IsBegun (if b then Joins a size x.0 x.1 else Sends a size 0 (Some x))
-    by true = (refl, refl)
-    by false = (refl, refl)
+headed-begun a size (Some x) = either-way (λ (e : Doing). IsBegun e) (nat_le (size + x.1) MAX_AGGREGATE_BYTES) (refl, refl) (refl, refl)
 
 begun : (kept : List ℕ) (q : Answer) (d : Doing) (r : Reply) (heard : List ℕ) → is_begun d ≡ true → IsBegun (told (at kept q d) r heard).doing
 begun kept q (Got a) r heard is = after-done IsBegun r (refl, refl) (refl, refl)
@@ -95,11 +92,7 @@ none-taken d is = refl
 none-newly : (fd : ℕ) (kept : List ℕ) (q : Answer) (d : Doing) (r : Reply) → is_begun d ≡ true → newly_taken fd (wants fd (at kept q d)) r ≡ 0
 none-newly fd kept q (Sends a len taken more) r is = absurd (cc (is))
 none-newly fd kept q (Offers a from len piece taken more) r is = absurd (cc (is))
-none-newly fd kept q (Reading f) r is = by (is_head_only q)
-  where
-    by : (b : Bool) → newly_taken fd (if b then call.Length f else call.IolRead f most_read) r ≡ 0
-    by true = refl
-    by false = refl
+none-newly fd kept q (Reading f) r is = either-way (λ (k : Call). newly_taken fd k r ≡ 0) (is_head_only q) refl refl
 none-newly fd kept q d r is = refl
 
 -- ---- what counts as taken
@@ -136,11 +129,7 @@ module _ (own : CallsServeTheirDomain) (m n : State) (order : IsOrderly m) (fd c
       by r did on = absurd did
 
   swaps : (a from len piece taken : ℕ) (more : Following) (r : Reply) → taken_of (told_swaps a from len piece taken more r) ≡ taken + newly_taken fd (call.AggDrop piece) r
-  swaps a from len piece taken more reply.Done = by (nat_lt from len)
-    where
-      by : (b : Bool) → taken_of (if b then Cuts a from len taken more else Sent a taken more) ≡ taken + newly_taken fd (call.AggDrop piece) reply.Done
-      by true = omega arith
-      by false = omega arith
+  swaps a from len piece taken more reply.Done = either-way (λ (e : Doing). taken_of e ≡ taken + newly_taken fd (call.AggDrop piece) reply.Done) (nat_lt from len) (omega arith) (omega arith)
   swaps a from len piece taken more r = omega arith
 
   cuts : (a from len taken : ℕ) (more : Following) (r : Reply) → taken_of (told_cuts a from len taken more r) ≡ taken + newly_taken fd (call.AggCut a from (piece_end from len)) r
@@ -149,11 +138,7 @@ module _ (own : CallsServeTheirDomain) (m n : State) (order : IsOrderly m) (fd c
 
   sent : (a taken : ℕ) (more : Following) (r : Reply) → is_busy (told_sent q a taken more r) ≡ true → taken_of (told_sent q a taken more r) ≡ taken + newly_taken fd (call.AggDrop a) r
   sent a taken (Some x) reply.Done busy = omega arith
-  sent a taken None reply.Done busy = absurd (by (keeps q) busy)
-    where
-      by : (b : Bool) → is_busy (if b then Rests else Closes) ≡ true → ⊥
-      by true busy = cc (busy)
-      by false busy = cc (busy)
+  sent a taken None reply.Done busy = absurd (either-way (λ (e : Doing). is_busy e ≡ true → ⊥) (keeps q) (λ busy. cc (busy)) (λ busy. cc (busy)) busy)
   sent a taken more r busy = omega arith
 
   rests : (kept : List ℕ) (r : Reply) (heard : List ℕ) → is_dropping (told_rests kept q r heard).doing ≡ false → is_busy (told_rests kept q r heard).doing ≡ true
@@ -193,10 +178,6 @@ module _ (own : CallsServeTheirDomain) (m n : State) (order : IsOrderly m) (fd c
 abbrev Kept : Doing → Type 0
 Kept d = is_dropping d ≡ false
 
-either-kept : (b : Bool) (d e : Doing) → Kept d → Kept e → Kept (if b then d else e)
-either-kept true d e one two = one
-either-kept false d e one two = two
-
 never : {A : Type 0} (d : Doing) → is_dropping d ≡ true → Kept d → A
 never d off kept = absurd (clash (is_dropping d) off kept)
 
@@ -204,15 +185,15 @@ module _ (why : RefusalsTellWhy) (m n : State) (fd c : ℕ) (open_on : descripto
   pub breaks : (d : Doing) (r : Reply) → is_busy d ≡ true → StepsTo m (event.Call server (wants fd (at kept q d))) r n → is_dropping d ≡ false
       → is_dropping (told (at kept q d) r heard).doing ≡ true → is_gone (conn_at m c).peer ≡ true
   breaks (Sends a len taken more) (reply.Refused no.BrokenPipe) busy step at_is off = why.peer_is_gone m n server fd c a open_on step
-  breaks (Sends a len taken more) (reply.Count k) busy step at_is off = never _ off (either-kept (nat_lt k len) _ _ refl refl)
+  breaks (Sends a len taken more) (reply.Count k) busy step at_is off = never _ off (either-way Kept (nat_lt k len) refl refl)
   breaks (Sends a len taken more) r busy step at_is off = absurd (cc (off))
   breaks (Offers a from len piece taken more) (reply.Refused no.BrokenPipe) busy step at_is off = why.peer_is_gone m n server fd c piece open_on step
   breaks (Offers a from len piece taken more) (reply.Count k) busy step at_is off = absurd (cc (off))
   breaks (Offers a from len piece taken more) r busy step at_is off = absurd (cc (off))
   breaks (Cuts a from len taken more) r busy step at_is off = never _ off (after-agg Kept r refl (λ k. refl))
-  breaks (Swaps a from len piece taken more) r busy step at_is off = never _ off (after-done Kept r refl (either-kept (nat_lt from len) _ _ refl refl))
+  breaks (Swaps a from len piece taken more) r busy step at_is off = never _ off (after-done Kept r refl (either-way Kept (nat_lt from len) refl refl))
   breaks (Sent a taken (Some x)) r busy step at_is off = never _ off (after-done Kept r refl refl)
-  breaks (Sent a taken None) r busy step at_is off = never _ off (after-done Kept r refl (either-kept (keeps q) _ _ refl refl))
+  breaks (Sent a taken None) r busy step at_is off = never _ off (after-done Kept r refl (either-way Kept (keeps q) refl refl))
   breaks (Breaks piece a more) r busy step at_is off = absurd (cc (at_is))
   breaks (Drops a more) r busy step at_is off = absurd (cc (at_is))
   breaks Rests r busy step at_is off = absurd (cc (busy))

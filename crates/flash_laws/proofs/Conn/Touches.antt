@@ -21,6 +21,8 @@ use Rattle.flash_laws.specs.Site.{server}
 use Rattle.flash_laws.proofs.Forms.{at}
 use Rattle.flash_laws.proofs.Conn.Uses.{same-number}
 use Rattle.flash_laws.proofs.Lists.{clash}
+use Rattle.iol_core.specs.declared.events.Call.{Call}
+use Rattle.flash_laws.proofs.Moves.{either-way}
 
 not-file : (m : State) (fd c g : ℕ) → descriptor m server fd ≡ Some (on.Connection c)
     → ((fd == g) && is_file (descriptor m server fd)) ≡ false
@@ -85,11 +87,7 @@ no-file-end m g f pos p is = ap (λ (d : Option Descriptor). list_any (is_end p)
 pub pipes-wants : (m : State) (fd c : ℕ) (kept : List ℕ) (q : Answer) (due : List ℕ) (d : Doing) (p : ℕ) → descriptor m server fd ≡ Some (on.Connection c) → Has m q due d
     → touches_pipe m (event.Call server (wants fd (at kept q d))) p ≡ false
 pipes-wants m fd c kept q due Rests p is has = no-end m fd c p is
-pipes-wants m fd c kept q due (Reading f) p is has = by (is_head_only q)
-  where
-    by : (b : Bool) → touches_pipe m (event.Call server (if b then call.Length f else call.IolRead f most_read)) p ≡ false
-    by true = refl
-    by false = no-file-end m f has.1.0 has.1.1 p has.1.2
+pipes-wants m fd c kept q due (Reading f) p is has = either-way (λ (k : Call). touches_pipe m (event.Call server k) p ≡ false) (is_head_only q) refl (no-file-end m f has.1.0 has.1.1 p has.1.2)
 pipes-wants m fd c kept q due (Shuts f x) p is has = no-file-end m f has.0.0 has.0.1 p has.0.2
 pipes-wants m fd c kept q due (Sends b len taken more) p is has = no-end m fd c p is
 pipes-wants m fd c kept q due (Offers b from len piece taken more) p is has = no-end m fd c p is
@@ -101,11 +99,7 @@ pipes-wants m fd c kept q due d p is has = refl
 pub files-wants : (m : State) (fd c : ℕ) (kept : List ℕ) (q : Answer) (d : Doing)
     → descriptor m server fd ≡ Some (on.Connection c)
     → changes_files m (event.Call server (wants fd (at kept q d))) ≡ false
-files-wants m fd c kept q (Reading f) is = by (is_head_only q)
-  where
-    by : (b : Bool) → changes_files m (event.Call server (if b then call.Length f else call.IolRead f most_read)) ≡ false
-    by true = refl
-    by false = refl
+files-wants m fd c kept q (Reading f) is = either-way (λ (k : Call). changes_files m (event.Call server k) ≡ false) (is_head_only q) refl refl
 files-wants m fd c kept q (Sends b len taken more) is = ap is_file is
 files-wants m fd c kept q (Offers b from len piece taken more) is = ap is_file is
 files-wants m fd c kept q d is = refl
@@ -113,9 +107,5 @@ files-wants m fd c kept q d is = refl
 -- it admits nobody to a pool
 pub admits-wants : (fd : ℕ) (kept : List ℕ) (q : Answer) (d : Doing) (p : ℕ)
     → admits_to (event.Call server (wants fd (at kept q d))) p ≡ false
-admits-wants fd kept q (Reading f) p = by (is_head_only q)
-  where
-    by : (b : Bool) → admits_to (event.Call server (if b then call.Length f else call.IolRead f most_read)) p ≡ false
-    by true = refl
-    by false = refl
+admits-wants fd kept q (Reading f) p = either-way (λ (k : Call). admits_to (event.Call server k) p ≡ false) (is_head_only q) refl refl
 admits-wants fd kept q d p = refl

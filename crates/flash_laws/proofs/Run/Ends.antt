@@ -20,6 +20,7 @@ use Rattle.flash_laws.specs.declared.script_run.Step.TheVariants.{Gives, Makes, 
 use Rattle.flash_laws.specs.declared.script_run.Running.{Running}
 use Rattle.flash_laws.specs.declared.script_run.Running.TheVariants.{Awaits, Runs, Leaves, Closes}
 use Rattle.flash_laws.proofs.Lists.{clash, not-true}
+use Rattle.flash_laws.proofs.Moves.{either-way}
 
 -- ---- it ends where the connection rests, or is to be closed
 
@@ -94,11 +95,7 @@ step-forgets : (w : Wanted) (run : Run) (s : Step) (r : Reply) (heard : List ℕ
 step-forgets w run (Gives write) r heard was = absurd (cc (was))
 step-forgets w run (Makes f) r heard was = absurd (cc (was))
 step-forgets w run (Hands j f) (reply.Count n) heard was = refl
-step-forgets w run (Hands j f) (reply.Refused x) heard was = by (is_again x)
-  where
-    by : (t : Bool) → Forgets (Runs run (if t then Hands j f else Lapses j))
-    by true = refl
-    by false = refl
+step-forgets w run (Hands j f) (reply.Refused x) heard was = either-way (λ (s : Step). Forgets (Runs run s)) (is_again x) refl refl
 step-forgets w run (Lets j) reply.Done heard was = refl
 step-forgets w run Heads (reply.Agg n) heard was = refl
 step-forgets w run (Sending (doing.Sent a taken None) frame) reply.Done heard was = refl

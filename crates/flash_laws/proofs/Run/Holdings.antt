@@ -31,7 +31,7 @@ use Rattle.flash_laws.specs.declared.script_run.Step.{Step}
 use Rattle.flash_laws.specs.declared.script_run.Step.TheVariants.{Gives, Makes, Hands, Lets, Heads, Sending, Hears, Spills, Gathers, Frames, Wraps, Trims, Ended, Unholds, Stops, Unframes, Lasts, WrapsLast, TrimsLast, Unwraps, Returns, Lapses, Fails}
 use Rattle.flash_laws.specs.declared.script_run.Running.{Running}
 use Rattle.flash_laws.specs.declared.script_run.Running.TheVariants.{Runs, Leaves}
-use Rattle.flash_laws.proofs.Moves.{after-done, after-agg}
+use Rattle.flash_laws.proofs.Moves.{after-done, after-agg, either-way}
 use Rattle.flash_laws.proofs.Conn.Holdings.{leaves-told}
 use Rattle.flash_laws.proofs.Lists.{clash, later_of, amid, bare, bare-none, former_by, former_of, swapped}
 use Rattle.flash_laws.proofs.Conn.Uses.{same-number}
@@ -182,11 +182,7 @@ module _ (job : ℕ → List ℕ) (m : State) (fd : ℕ) (w : Wanted) (o : Progr
 
   hands : (j f : ℕ) (r : Reply) (heard : List ℕ) → LeavesAt (Hands j f) r (told_step w run (Hands j f) r heard)
   hands j f (reply.Count n) heard u unused = absurd (clash (j == a) u unused)
-  hands j f (reply.Refused x) heard u unused = absurd (by (is_again x) unused)
-    where
-      by : (b : Bool) → step_agg (if b then Hands j f else Lapses j) a ≡ false → ⊥
-      by true unused = clash (j == a) u unused
-      by false unused = clash (j == a) u unused
+  hands j f (reply.Refused x) heard u unused = absurd (either-way (λ (s : Step). step_agg s a ≡ false → ⊥) (is_again x) (λ unused. clash (j == a) u unused) (λ unused. clash (j == a) u unused) unused)
   hands j f r heard u unused = absurd (clash (j == a) u unused)
 
   step-leaves : (s : Step) (r : Reply) (heard : List ℕ) → HasStep job m w o run s → LeavesAt s r (told_step w run s r heard)
@@ -290,11 +286,7 @@ module _ (own : CallsServeTheirDomain) (job : ℕ → List ℕ) (m n : State) (f
 
   hands-ends : (j f : ℕ) (r : Reply) (heard : List ℕ) → has_end (told_step w run (Hands j f) r heard) g ≡ ((run.from == g) || false)
   hands-ends j f (reply.Count k) heard = refl
-  hands-ends j f (reply.Refused x) heard = by (is_again x)
-    where
-      by : (b : Bool) → has_end (Runs run (if b then Hands j f else Lapses j)) g ≡ ((run.from == g) || false)
-      by true = refl
-      by false = refl
+  hands-ends j f (reply.Refused x) heard = either-way (λ (s : Step). has_end (Runs run s) g ≡ ((run.from == g) || false)) (is_again x) refl refl
   hands-ends j f r heard = refl
 
   -- the read end stays, and the write end is not there

@@ -36,6 +36,7 @@ use Rattle.flash_laws.proofs.Lists.{not-equal, turned}
 use Rattle.flash_laws.proofs.Run.Rest as left
 use Rattle.flash_laws.proofs.Run.Rest.{SendsAll}
 use Rattle.flash_laws.proofs.Run.Stays.{frame-on, reading-on}
+use Rattle.flash_laws.proofs.Moves.{either-way}
 
 -- another number than one that is used is not used
 pub other : (uses : ℕ → Bool) (b a : ℕ) → uses b ≡ false → uses a ≡ true → (b == a) ≡ false
@@ -108,11 +109,7 @@ module _ (steps : EachStepLeavesTheRest) (own : CallsServeTheirDomain) (m n : St
       free e same = sends-none (doing.Sends a len taken None) e frame (λ f is. same f ∙ is) h.apart
 
       apart : (r : Reply) → sends_frame (conn.told_sends a len taken None r) frame ≡ false
-      apart (reply.Count k) = by (nat_lt k len)
-        where
-          by : (b : Bool) → sends_frame (if b then doing.Cuts a k len (taken + k) None else doing.Sent a (taken + len) None) frame ≡ false
-          by true = free (doing.Cuts a k len (taken + k) None) (λ f. refl)
-          by false = free (doing.Sent a (taken + len) None) (λ f. refl)
+      apart (reply.Count k) = either-way (λ (e : Doing). sends_frame e frame ≡ false) (nat_lt k len) (free (doing.Cuts a k len (taken + k) None) (λ f. refl)) (free (doing.Sent a (taken + len) None) (λ f. refl))
       apart (reply.Refused no.BrokenPipe) = free (doing.Drops a None) (λ f. refl)
       apart r = h.apart
 
@@ -163,11 +160,7 @@ module _ (steps : EachStepLeavesTheRest) (own : CallsServeTheirDomain) (m n : St
       free e same = sends-none (doing.Swaps a from len piece taken None) e frame (λ f is. same f ∙ (or_parts (piece == f) ((a == f) || false) is).1) h.apart
 
       apart : (r : Reply) → sends_frame (conn.told_swaps a from len piece taken None r) frame ≡ false
-      apart reply.Done = by (nat_lt from len)
-        where
-          by : (b : Bool) → sends_frame (if b then doing.Cuts a from len taken None else doing.Sent a taken None) frame ≡ false
-          by true = free (doing.Cuts a from len taken None) (λ f. refl)
-          by false = free (doing.Sent a taken None) (λ f. refl)
+      apart reply.Done = either-way (λ (e : Doing). sends_frame e frame ≡ false) (nat_lt from len) (free (doing.Cuts a from len taken None) (λ f. refl)) (free (doing.Sent a taken None) (λ f. refl))
       apart r = h.apart
 
   pub breaks : (piece a : ℕ) (r : Reply) → HasPart m w o run (doing.Breaks piece a None) frame

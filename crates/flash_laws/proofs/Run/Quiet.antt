@@ -8,7 +8,7 @@ use Rattle.flash_http.specs.Request.{Wanted}
 use Rattle.flash_laws.specs.Conn.{Following, count_of}
 use Rattle.flash_laws.specs.Run.OfferedBytes.{taken_by, breaks_off, is_failing, is_handing, ComesAfter}
 use Rattle.flash_laws.specs.Run.{both, is_again, told_gives, told_makes, told_hands, told_lets, told_hears, filled, holding, hearing, finishing, stopped, ending, told_step}
-use Rattle.flash_laws.proofs.Moves.{after-done, after-agg}
+use Rattle.flash_laws.proofs.Moves.{after-done, after-agg, either-way}
 use Rattle.flash_laws.specs.declared.script_run.TheConstants.{CHUNK_BYTES}
 use Rattle.flash_laws.specs.declared.script_run.Run.{Run}
 use Rattle.flash_laws.specs.declared.script_run.Step.{Step}
@@ -46,11 +46,7 @@ Quiet run s r y = (taken_by y ≡ 0)
 module _ (w : Wanted) (run : Run) where
   gives : (write : ℕ) (r : Reply) → Quiet run (Gives write) r (Runs run (told_gives write r))
   gives write (reply.Fd f) = (refl, λ b. inl b, λ z. refl, inr (write, refl, refl))
-  gives write (reply.Refused x) = by (is_again x)
-    where
-      by : (b : Bool) → Quiet run (Gives write) (reply.Refused x) (Runs run (if b then Gives write else Returns write))
-      by true = (refl, λ b. inl b, λ z. refl, inl refl)
-      by false = (refl, λ b. inl b, λ z. refl, inr tt)
+  gives write (reply.Refused x) = either-way (λ (s : Step). Quiet run (Gives write) (reply.Refused x) (Runs run s)) (is_again x) (refl, λ b. inl b, λ z. refl, inl refl) (refl, λ b. inl b, λ z. refl, inr tt)
   gives write r = (refl, λ b. inl b, λ z. refl, inl refl)
 
   makes : (f : ℕ) (r : Reply) → Quiet run (Makes f) r (Runs run (told_makes f r))
@@ -59,11 +55,7 @@ module _ (w : Wanted) (run : Run) where
 
   hands : (j f : ℕ) (r : Reply) → Quiet run (Hands j f) r (Runs run (told_hands j f r))
   hands j f (reply.Count k) = (refl, λ b. inl b, λ z. refl, inr (f, k, refl, refl))
-  hands j f (reply.Refused x) = by (is_again x)
-    where
-      by : (b : Bool) → Quiet run (Hands j f) (reply.Refused x) (Runs run (if b then Hands j f else Lapses j))
-      by true = (refl, λ b. inl b, λ z. refl, inl refl)
-      by false = (refl, λ b. inl b, λ z. refl, inr tt)
+  hands j f (reply.Refused x) = either-way (λ (s : Step). Quiet run (Hands j f) (reply.Refused x) (Runs run s)) (is_again x) (refl, λ b. inl b, λ z. refl, inl refl) (refl, λ b. inl b, λ z. refl, inr tt)
   hands j f r = (refl, λ b. inl b, λ z. refl, inl refl)
 
   lets : (j : ℕ) (r : Reply) → Quiet run (Lets j) r (Runs run (told_lets j r))

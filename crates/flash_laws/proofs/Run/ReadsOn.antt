@@ -16,7 +16,7 @@ use Rattle.flash_laws.specs.declared.script_run.Step.{Step}
 use Rattle.flash_laws.specs.declared.script_run.Step.TheVariants.{Gives, Makes, Hands, Lets, Heads, Sending, Hears, Spills, Gathers, Frames, Wraps, Trims, Returns, Lapses, Fails}
 use Rattle.flash_laws.specs.declared.script_run.Running.{Running}
 use Rattle.flash_laws.specs.declared.script_run.Running.TheVariants.{Awaits, Runs}
-use Rattle.flash_laws.proofs.Moves.{after-done, after-agg}
+use Rattle.flash_laws.proofs.Moves.{after-done, after-agg, either-way}
 
 module _ (run : Run) where
   abbrev Going : Step → Type 0
@@ -24,20 +24,12 @@ module _ (run : Run) where
 
   gives : (write : ℕ) (r : Reply) → is_stopping (Runs run (told_gives write r)) ≡ true → ⊥
   gives write (reply.Fd f) z = cc (z)
-  gives write (reply.Refused x) z = by (is_again x) z
-    where
-      by : (b : Bool) → is_stopping (Runs run (if b then Gives write else Returns write)) ≡ true → ⊥
-      by true z = cc (z)
-      by false z = cc (z)
+  gives write (reply.Refused x) z = either-way (λ (s : Step). is_stopping (Runs run s) ≡ true → ⊥) (is_again x) (λ z. cc (z)) (λ z. cc (z)) z
   gives write r z = cc (z)
 
   hands : (j f : ℕ) (r : Reply) → is_stopping (Runs run (told_hands j f r)) ≡ true → ⊥
   hands j f (reply.Count k) z = cc (z)
-  hands j f (reply.Refused x) z = by (is_again x) z
-    where
-      by : (b : Bool) → is_stopping (Runs run (if b then Hands j f else Lapses j)) ≡ true → ⊥
-      by true z = cc (z)
-      by false z = cc (z)
+  hands j f (reply.Refused x) z = either-way (λ (s : Step). is_stopping (Runs run s) ≡ true → ⊥) (is_again x) (λ z. cc (z)) (λ z. cc (z)) z
   hands j f r z = cc (z)
 
   sending : (d : Doing) (frame : Option ℕ) (r : Reply) → is_stopping (told_sending run d frame r) ≡ true → ⊥

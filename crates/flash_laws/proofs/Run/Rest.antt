@@ -34,7 +34,7 @@ use Rattle.flash_laws.specs.declared.phase.Doing.TheVariants as doing
 use Rattle.flash_laws.proofs.Conn.AnswerParts as having
 use Rattle.flash_laws.proofs.Conn.LentBytes.{lent-stays}
 use Rattle.flash_laws.proofs.Lists.{turned, few-taken}
-use Rattle.flash_laws.proofs.Moves.{after-done, after-agg, after-write}
+use Rattle.flash_laws.proofs.Moves.{after-done, after-agg, after-write, either-way}
 use Rattle.flash_laws.proofs.Conn.TakenBytes.{takes}
 
 -- what a phase that sends all that is due has
@@ -101,15 +101,11 @@ module _ (steps : EachStepLeavesTheRest) (own : CallsServeTheirDomain) (m n : St
   abbrev Sending : Doing → Type 0
   Sending e = is_busy e ≡ true
 
-  either : (b : Bool) (d e : Doing) → Sending d → Sending e → Sending (if b then d else e)
-  either true d e one two = one
-  either false d e one two = two
-
   goes-on-busy : (d : Doing) (r : Reply) (heard : List ℕ) → Sends m d → is_sent d ≡ false → is_dropping d ≡ false → Sending (conn.told (in_phase w d) r heard).doing
   goes-on-busy (doing.Sends a len taken None) r heard has unsent at = after-write Sending r refl refl (λ k. either (nat_lt k len) _ _ refl refl)
   goes-on-busy (doing.Cuts a from len taken None) r heard has unsent at = after-agg Sending r refl (λ x. refl)
   goes-on-busy (doing.Offers a from len piece taken None) r heard has unsent at = after-write Sending r refl refl (λ k. refl)
-  goes-on-busy (doing.Swaps a from len piece taken None) r heard has unsent at = after-done Sending r refl (either (nat_lt from len) _ _ refl refl)
+  goes-on-busy (doing.Swaps a from len piece taken None) r heard has unsent at = after-done Sending r refl (either-way Sending (nat_lt from len) refl refl)
   goes-on-busy (doing.Sent a taken None) r heard has unsent at = absurd (cc (unsent))
   goes-on-busy (doing.Breaks piece a None) r heard has unsent at = absurd (cc (at))
   goes-on-busy (doing.Drops a None) r heard has unsent at = absurd (cc (at))

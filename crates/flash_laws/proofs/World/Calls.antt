@@ -35,6 +35,7 @@ use Rattle.flash_laws.proofs.Conn.Uses.{gives-wants, has-agg, has-fd}
 use Rattle.flash_laws.proofs.World.AllLaws.{AllLaws}
 use Rattle.flash_laws.proofs.World.OwnRun.{wants-run}
 use Rattle.flash_laws.proofs.World.RunUses.{IsEnd, run-there, run-end}
+use Rattle.flash_laws.proofs.Moves.{either-way}
 
 -- the pipe that it may touch: with a run one of that, and else none
 abbrev pub MayTouchPipe : State → Option Running → (p : ℕ) → Type 0
@@ -79,11 +80,7 @@ kind-admits k p is = refl
 -- ---- alone
 
 wants-kind : (fd : ℕ) (kept : List ℕ) (q : Answer) (d : Doing) → is_client_call (conn.wants fd (record { kept = kept; q = q; doing = d })) ≡ true
-wants-kind fd kept q (doing.Reads f) = by (is_head_only q)
-  where
-    by : (b : Bool) → is_client_call (if b then call.Length f else call.IolRead f most_read) ≡ true
-    by true = refl
-    by false = refl
+wants-kind fd kept q (doing.Reads f) = either-way (λ (k : Call). is_client_call k ≡ true) (is_head_only q) refl refl
 wants-kind fd kept q d = refl
 
 module _ (m : State) (fd c : ℕ) (script : List ℕ) (kept : List ℕ) (q : Answer) (due : List ℕ) (open_on : descriptor m server fd ≡ Some (on.Connection c)) where

@@ -46,7 +46,7 @@ use Rattle.flash_laws.specs.declared.phase.Doing.{Doing}
 use Rattle.flash_laws.specs.declared.phase.Doing.TheVariants.{Rests, Got, Opens, Reads as Reading, Shuts, Picks, Spares, Heads, Joins, Sends, Cuts, Offers, Swaps, Sent, Breaks, Drops, Closes, Over}
 use Rattle.flash_laws.specs.declared.script_run.Running.TheVariants.{Awaits}
 use Rattle.flash_laws.proofs.Forms.{at}
-use Rattle.flash_laws.proofs.Moves.{after-done, after-agg}
+use Rattle.flash_laws.proofs.Moves.{after-done, after-agg, either-way}
 use Rattle.flash_laws.proofs.Conn.AnswerParts as having
 use Rattle.flash_laws.proofs.Lists.{clash}
 use Rattle.flash_laws.proofs.World.AllLaws.{AllLaws}
@@ -204,18 +204,10 @@ module _ (shelf : Shelf) (crew : Crew) (laws : AllLaws crew) (m n : State) (came
 
   headed-stands : (due : List ℕ) (q : Answer) (a size : ℕ) (more : Following) → Stands due q [] (headed a size more)
   headed-stands due q a size None = (refl, refl, refl)
-  headed-stands due q a size (Some x) = by (nat_le (size + x.1) MAX_AGGREGATE_BYTES)
-    where
-      by : (b : Bool) → Stands due q [] (if b then Joins a size x.0 x.1 else Sends a size 0 (Some x))
-      by true = (refl, refl, refl)
-      by false = (refl, refl, refl)
+  headed-stands due q a size (Some x) = either-way (λ (e : Doing). Stands due q [] e) (nat_le (size + x.1) MAX_AGGREGATE_BYTES) (refl, refl, refl) (refl, refl, refl)
 
   swaps-stands : (due : List ℕ) (q : Answer) (a from len taken : ℕ) (more : Following) → Stands due q (take taken due) (if nat_lt from len then Cuts a from len taken more else Sent a taken more)
-  swaps-stands due q a from len taken more = by (nat_lt from len)
-    where
-      by : (b : Bool) → Stands due q (take taken due) (if b then Cuts a from len taken more else Sent a taken more)
-      by true = (refl, refl, refl)
-      by false = (refl, refl, refl)
+  swaps-stands due q a from len taken more = either-way (λ (e : Doing). Stands due q (take taken due) e) (nat_lt from len) (refl, refl, refl) (refl, refl, refl)
 
   drops-quit : (more : Following) → quits (drops_next more) ≡ true
   drops-quit None = refl
