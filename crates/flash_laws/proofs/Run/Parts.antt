@@ -9,7 +9,6 @@ use Rattle.iol_core.specs.Run.{StepsTo}
 use Rattle.iol_core.specs.Values.{gives_up}
 use Rattle.iol_core.specs.declared.descriptors.Descriptor.{Descriptor}
 use Rattle.iol_core.specs.declared.descriptors.Descriptor.TheVariants as on
-use Rattle.iol_core.specs.declared.refusals.Refusal.TheVariants as no
 use Rattle.iol_core.specs.declared.events.Call.{Call}
 use Rattle.iol_core.specs.declared.events.Call.TheVariants as call
 use Rattle.iol_core.specs.declared.events.Event.TheVariants as event
@@ -36,7 +35,7 @@ use Rattle.flash_laws.proofs.Lists.{not-equal, turned}
 use Rattle.flash_laws.proofs.Run.Rest as left
 use Rattle.flash_laws.proofs.Run.Rest.{SendsAll}
 use Rattle.flash_laws.proofs.Run.Stays.{frame-on, reading-on}
-use Rattle.flash_laws.proofs.Moves.{either-way}
+use Rattle.flash_laws.proofs.Moves.{made, after-done, after-write, either-way}
 
 -- another number than one that is used is not used
 pub other : (uses : ℕ → Bool) (b a : ℕ) → uses b ≡ false → uses a ≡ true → (b == a) ≡ false
@@ -81,6 +80,9 @@ module _ (steps : EachStepLeavesTheRest) (own : CallsServeTheirDomain) (m n : St
       → gives_up (event.Call server k) server a ≡ false → lent_at m server a ≡ Some bytes → lent_at n server a ≡ Some bytes
   lends k r step a bytes un is = lent-stays steps m n (event.Call server k) r step a bytes is un
 
+  abbrev Apart : Doing → Type 0
+  Apart e = sends_frame e frame ≡ false
+
   -- the read end and the frame stay
   fits : (k : Call) (r : Reply) → StepsTo m (event.Call server k) r n
       → touches_fd m (event.Call server k) server run.from ≡ false
@@ -103,15 +105,11 @@ module _ (steps : EachStepLeavesTheRest) (own : CallsServeTheirDomain) (m n : St
       → HasPart n w o run (conn.told_sends a len taken None r) frame
   sends fd c a len taken r open_on h step =
       fits (call.IolWrite fd a) r step (no-position m fd run.from (on.Connection c) open_on refl) (λ f u. refl) (doing.Sends a len taken None) (conn.told_sends a len taken None r) h
-      (left.sends steps own m n order w h.part fd c a len taken r open_on (h.has, h.is_part, h.within) step) (apart r)
+      (left.sends steps own m n order w h.part fd c a len taken r open_on (h.has, h.is_part, h.within) step)
+      (after-write Apart r h.apart (fewer _ (λ f is. is)) (λ k. either-way Apart (nat_lt k len) (fewer _ (λ f is. is)) (fewer _ (λ f is. is))))
     where
-      free : (e : Doing) → ((f : ℕ) → conn.uses_agg e f ≡ conn.uses_agg (doing.Sends a len taken None) f) → sends_frame e frame ≡ false
-      free e same = sends-none (doing.Sends a len taken None) e frame (λ f is. same f ∙ is) h.apart
-
-      apart : (r : Reply) → sends_frame (conn.told_sends a len taken None r) frame ≡ false
-      apart (reply.Count k) = either-way (λ (e : Doing). sends_frame e frame ≡ false) (nat_lt k len) (free (doing.Cuts a k len (taken + k) None) (λ f. refl)) (free (doing.Sent a (taken + len) None) (λ f. refl))
-      apart (reply.Refused no.BrokenPipe) = free (doing.Drops a None) (λ f. refl)
-      apart r = h.apart
+      fewer : (e : Doing) → ((f : ℕ) → conn.uses_agg (doing.Sends a len taken None) f ≡ false → conn.uses_agg e f ≡ false) → Apart e
+      fewer e of = sends-none (doing.Sends a len taken None) e frame of h.apart
 
   pub cuts : (a from len taken : ℕ) (r : Reply) → HasPart m w o run (doing.Cuts a from len taken None) frame
       → StepsTo m (event.Call server (call.AggCut a from (piece_end from len))) r n
@@ -119,11 +117,8 @@ module _ (steps : EachStepLeavesTheRest) (own : CallsServeTheirDomain) (m n : St
   cuts a from len taken r h step =
       fits (call.AggCut a from (piece_end from len)) r step refl (λ f u. refl) (doing.Cuts a from len taken None) (conn.told_cuts a from len taken None r) h
       (left.cuts steps own m n order w h.part a from len taken r (h.has, h.is_part, h.within) step)
-      (apart r (own.cut m n server a from (piece_end from len) h.part r order h.is_part step))
-    where
-      apart : (r : Reply) → caller.Makes m server (slice_range h.part from (piece_end from len)) r n → sends_frame (conn.told_cuts a from len taken None r) frame ≡ false
-      apart (reply.Agg x) did = with-piece m x (doing.Cuts a from len taken None) (doing.Offers a from len x taken None) frame (λ f new is. or_from (x == f) ((a == f) || false) new is) (new-frame m frame x h.frames did.1) h.apart
-      apart r did = h.apart
+      (made m n Apart (slice_range h.part from (piece_end from len)) r (own.cut m n server a from (piece_end from len) h.part r order h.is_part step) (λ same. h.apart)
+      (λ x lent new. with-piece m x (doing.Cuts a from len taken None) (doing.Offers a from len x taken None) frame (λ f new is. or_from (x == f) ((a == f) || false) new is) (new-frame m frame x h.frames new) h.apart))
 
   pub offers : (fd c a from len piece taken : ℕ) (r : Reply) → descriptor m server fd ≡ Some (on.Connection c)
       → HasPart m w o run (doing.Offers a from len piece taken None) frame
@@ -131,12 +126,8 @@ module _ (steps : EachStepLeavesTheRest) (own : CallsServeTheirDomain) (m n : St
       → HasPart n w o run (conn.told_offers a from len piece taken None r) frame
   offers fd c a from len piece taken r open_on h step =
       fits (call.IolWrite fd piece) r step (no-position m fd run.from (on.Connection c) open_on refl) (λ f u. refl) (doing.Offers a from len piece taken None) (conn.told_offers a from len piece taken None r) h
-      (left.offers steps own m n order w h.part fd c a from len piece taken r open_on (h.has, h.is_part, h.within) step) (apart r)
-    where
-      apart : (r : Reply) → sends_frame (conn.told_offers a from len piece taken None r) frame ≡ false
-      apart (reply.Count k) = sends-none (doing.Offers a from len piece taken None) (conn.moved_on a from len piece taken None (min k (len - from))) frame (λ f is. is) h.apart
-      apart (reply.Refused no.BrokenPipe) = sends-none (doing.Offers a from len piece taken None) (doing.Breaks piece a None) frame (λ f is. is) h.apart
-      apart r = h.apart
+      (left.offers steps own m n order w h.part fd c a from len piece taken r open_on (h.has, h.is_part, h.within) step)
+      (after-write Apart r h.apart (sends-none (doing.Offers a from len piece taken None) _ frame (λ f is. is) h.apart) (λ k. sends-none (doing.Offers a from len piece taken None) _ frame (λ f is. is) h.apart))
 
   -- what is dropped is not the frame
   not-frame : (b : ℕ) (d : Doing) → ((f : ℕ) → conn.uses_agg d f ≡ false → (b == f) ≡ false) → sends_frame d frame ≡ false
@@ -154,14 +145,11 @@ module _ (steps : EachStepLeavesTheRest) (own : CallsServeTheirDomain) (m n : St
   swaps a from len piece taken r h step =
       fits (call.AggDrop piece) r step refl (not-frame piece (doing.Swaps a from len piece taken None) (λ f is. (or_parts (piece == f) ((a == f) || false) is).0) h.apart)
       (doing.Swaps a from len piece taken None) (conn.told_swaps a from len piece taken None r) h
-      (left.swaps steps own m n order w h.part a from len piece taken r (h.has, h.is_part, h.within) step) (apart r)
+      (left.swaps steps own m n order w h.part a from len piece taken r (h.has, h.is_part, h.within) step)
+      (after-done Apart r h.apart (either-way Apart (nat_lt from len) (less _ (λ f is. is)) (less _ (λ f is. is))))
     where
-      free : (e : Doing) → ((f : ℕ) → conn.uses_agg e f ≡ ((a == f) || false)) → sends_frame e frame ≡ false
-      free e same = sends-none (doing.Swaps a from len piece taken None) e frame (λ f is. same f ∙ (or_parts (piece == f) ((a == f) || false) is).1) h.apart
-
-      apart : (r : Reply) → sends_frame (conn.told_swaps a from len piece taken None r) frame ≡ false
-      apart reply.Done = either-way (λ (e : Doing). sends_frame e frame ≡ false) (nat_lt from len) (free (doing.Cuts a from len taken None) (λ f. refl)) (free (doing.Sent a taken None) (λ f. refl))
-      apart r = h.apart
+      less : (e : Doing) → ((f : ℕ) → ((a == f) || false) ≡ false → conn.uses_agg e f ≡ false) → Apart e
+      less e of = sends-none (doing.Swaps a from len piece taken None) e frame (λ f is. of f (or_parts (piece == f) ((a == f) || false) is).1) h.apart
 
   pub breaks : (piece a : ℕ) (r : Reply) → HasPart m w o run (doing.Breaks piece a None) frame
       → StepsTo m (event.Call server (call.AggDrop piece)) r n
@@ -169,11 +157,8 @@ module _ (steps : EachStepLeavesTheRest) (own : CallsServeTheirDomain) (m n : St
   breaks piece a r h step =
       fits (call.AggDrop piece) r step refl (not-frame piece (doing.Breaks piece a None) (λ f is. (or_parts (piece == f) ((a == f) || false) is).0) h.apart)
       (doing.Breaks piece a None) (conn.told_breaks piece a None r) h
-      (left.breaks steps own m n order w h.part piece a r (h.has, h.is_part, h.within) step) (apart r)
-    where
-      apart : (r : Reply) → sends_frame (conn.told_breaks piece a None r) frame ≡ false
-      apart reply.Done = sends-none (doing.Breaks piece a None) (doing.Drops a None) frame (λ f is. (or_parts (piece == f) ((a == f) || false) is).1) h.apart
-      apart r = h.apart
+      (left.breaks steps own m n order w h.part piece a r (h.has, h.is_part, h.within) step)
+      (after-done Apart r h.apart (sends-none (doing.Breaks piece a None) _ frame (λ f is. (or_parts (piece == f) ((a == f) || false) is).1) h.apart))
 
   -- the frame stays where the part is dropped, and output is read
   pub hears-again : (a : ℕ) (d : Doing) (after : Progress) (next : Run) → StepsTo m (event.Call server (call.AggDrop a)) reply.Done n

@@ -7,7 +7,6 @@ use Rattle.iol_core.specs.State.{State, descriptor}
 use Rattle.iol_core.specs.Run.{StepsTo}
 use Rattle.iol_core.specs.Values.{gives_up}
 use Rattle.iol_core.specs.declared.descriptors.Descriptor.TheVariants as on
-use Rattle.iol_core.specs.declared.refusals.Refusal.TheVariants as no
 use Rattle.iol_core.specs.declared.events.Call.{Call}
 use Rattle.iol_core.specs.declared.events.Call.TheVariants as call
 use Rattle.iol_core.specs.declared.events.Event.TheVariants as event
@@ -34,7 +33,7 @@ use Rattle.flash_laws.specs.declared.phase.Doing.TheVariants as doing
 use Rattle.flash_laws.proofs.Conn.AnswerParts as having
 use Rattle.flash_laws.proofs.Conn.LentBytes.{lent-stays}
 use Rattle.flash_laws.proofs.Lists.{turned, few-taken}
-use Rattle.flash_laws.proofs.Moves.{after-done, after-agg, after-write, either-way}
+use Rattle.flash_laws.proofs.Moves.{written, after-done, after-agg, after-write, either-way}
 use Rattle.flash_laws.proofs.Conn.TakenBytes.{takes}
 
 -- what a phase that sends all that is due has
@@ -102,7 +101,7 @@ module _ (steps : EachStepLeavesTheRest) (own : CallsServeTheirDomain) (m n : St
   Sending e = is_busy e ≡ true
 
   goes-on-busy : (d : Doing) (r : Reply) (heard : List ℕ) → Sends m d → is_sent d ≡ false → is_dropping d ≡ false → Sending (conn.told (in_phase w d) r heard).doing
-  goes-on-busy (doing.Sends a len taken None) r heard has unsent at = after-write Sending r refl refl (λ k. either (nat_lt k len) _ _ refl refl)
+  goes-on-busy (doing.Sends a len taken None) r heard has unsent at = after-write Sending r refl refl (λ k. either-way Sending (nat_lt k len) refl refl)
   goes-on-busy (doing.Cuts a from len taken None) r heard has unsent at = after-agg Sending r refl (λ x. refl)
   goes-on-busy (doing.Offers a from len piece taken None) r heard has unsent at = after-write Sending r refl refl (λ k. refl)
   goes-on-busy (doing.Swaps a from len piece taken None) r heard has unsent at = after-done Sending r refl (either-way Sending (nat_lt from len) refl refl)
@@ -121,83 +120,48 @@ module _ (steps : EachStepLeavesTheRest) (own : CallsServeTheirDomain) (m n : St
 
   -- ---- what a phase has after the reply to its call
 
+  abbrev Goes : Doing → Type 0
+  Goes e = IsPart n (sent_agg e) due × (taken_of e ≤ length due)
+
   pub sends : (fd c a len taken : ℕ) (r : Reply) → descriptor m server fd ≡ Some (on.Connection c) → Sends m (doing.Sends a len taken None)
       → StepsTo m (event.Call server (call.IolWrite fd a)) r n → Sends n (conn.told_sends a len taken None r)
-  sends fd c a len taken r open_on has step = by r (own.write_conn m n server fd c a has.0.bytes r order open_on has.0.lends step)
-      (having.sends steps own m n order (serve w) fd c a len taken None due r open_on has.0 step) (lends (call.IolWrite fd a) r step a refl has.1)
-    where
-      most : taken + length has.0.bytes ≤ length due
-      most = most-left has.0.bytes has.0.after due taken has.0.next has.2
-
-      by : (r : Reply) → caller.WritesConn m c has.0.bytes r n → Has n (serve w) due (conn.told_sends a len taken None r) → lent_at n server a ≡ Some due
-          → Sends n (conn.told_sends a len taken None r)
-      by (reply.Count k) puts next here = all (nat_lt k len) refl next
-        where
-          all : (b : Bool) → nat_lt k len ≡ b → Has n (serve w) due (if b then doing.Cuts a k len (taken + k) None else doing.Sent a (taken + len) None)
-              → Sends n (if b then doing.Cuts a k len (taken + k) None else doing.Sent a (taken + len) None)
-          all true is next = (next, here, (let size = has.0.size in let le = most in let lt : k ≤ len = grind (arith, nat_tests, is) in omega (arith, size, le, lt)))
-          all false is next = (next, here, (let size = has.0.size in let le = most in omega (arith, size, le)))
-      by (reply.Refused no.BrokenPipe) did next here = (next, here, omega arith)
-      by (reply.Refused y) did next here = (next, here, has.2)
-      by r did next here = absurd did
+  sends fd c a len taken r open_on has step =
+      let here = lends (call.IolWrite fd a) r step a refl has.1 in
+      let size = has.0.size in
+      let most = most-left has.0.bytes has.0.after due taken has.0.next has.2 in (
+        having.sends steps own m n order (serve w) fd c a len taken None due r open_on has.0 step,
+        written m n Goes c has.0.bytes r (own.write_conn m n server fd c a has.0.bytes r order open_on has.0.lends step) (λ same. (here, has.2)) (λ same. (here, omega arith))
+            (λ k puts. let within = puts.within in either-way Goes (nat_lt k len) (here, omega (arith, within, most)) (here, omega (arith, size, most))),
+      )
 
   pub cuts : (a from len taken : ℕ) (r : Reply) → Sends m (doing.Cuts a from len taken None)
       → StepsTo m (event.Call server (call.AggCut a from (piece_end from len))) r n → Sends n (conn.told_cuts a from len taken None r)
-  cuts a from len taken r has step = by r (own.cut m n server a from (piece_end from len) due r order has.1 step)
-      (having.cuts steps own m n order (serve w) a from len taken None due r has.0 step) (lends (call.AggCut a from (piece_end from len)) r step a refl has.1)
-    where
-      by : (r : Reply) → caller.Makes m server (slice_range due from (piece_end from len)) r n → Has n (serve w) due (conn.told_cuts a from len taken None r) → lent_at n server a ≡ Some due
-          → Sends n (conn.told_cuts a from len taken None r)
-      by (reply.Agg x) did next here = (next, here, has.2)
-      by (reply.Refused y) did next here = (next, here, has.2)
-      by r did next here = absurd did
+  cuts a from len taken r has step =
+      let here = lends (call.AggCut a from (piece_end from len)) r step a refl has.1 in
+      (having.cuts steps own m n order (serve w) a from len taken None due r has.0 step, after-agg Goes r (here, has.2) (λ x. (here, has.2)))
 
   pub offers : (fd c a from len piece taken : ℕ) (r : Reply) → descriptor m server fd ≡ Some (on.Connection c) → Sends m (doing.Offers a from len piece taken None)
       → StepsTo m (event.Call server (call.IolWrite fd piece)) r n → Sends n (conn.told_offers a from len piece taken None r)
   offers fd c a from len piece taken r open_on has step =
-      by r (own.write_conn m n server fd c piece (slice_range has.0.whole.bytes from (piece_end from len)) r order open_on has.0.lends step)
-      (having.offers_piece steps own m n order (serve w) fd c a from len piece taken None due r open_on has.0 step) (lends (call.IolWrite fd piece) r step a refl has.1)
-    where
-      by : (r : Reply) → caller.WritesConn m c (slice_range has.0.whole.bytes from (piece_end from len)) r n → Has n (serve w) due (conn.told_offers a from len piece taken None r) → lent_at n server a ≡ Some due
-          → Sends n (conn.told_offers a from len piece taken None r)
-      by (reply.Count k) puts next here =
-          let few = few-taken k from len has.0.whole.bytes has.0.whole.size puts.within in
-          let most = most-left (drop from has.0.whole.bytes) has.0.whole.after due taken has.0.whole.next has.2 in
-          let le = few.0 in
-          let same = few.1 in
-          (next, here, omega (arith, most, le, same))
-      by (reply.Refused no.BrokenPipe) did next here = (next, here, omega arith)
-      by (reply.Refused y) did next here = (next, here, has.2)
-      by r did next here = absurd did
+      let here = lends (call.IolWrite fd piece) r step a refl has.1 in
+      let bytes = slice_range has.0.whole.bytes from (piece_end from len) in
+      let most = most-left (drop from has.0.whole.bytes) has.0.whole.after due taken has.0.whole.next has.2 in (
+        having.offers_piece steps own m n order (serve w) fd c a from len piece taken None due r open_on has.0 step,
+        written m n Goes c bytes r (own.write_conn m n server fd c piece bytes r order open_on has.0.lends step) (λ same. (here, has.2)) (λ same. (here, omega arith))
+            (λ k puts. let few = few-taken k from len has.0.whole.bytes has.0.whole.size puts.within in let le = few.0 in let same = few.1 in (here, omega (arith, most, le, same))),
+      )
 
   pub swaps : (a from len piece taken : ℕ) (r : Reply) → Sends m (doing.Swaps a from len piece taken None)
       → StepsTo m (event.Call server (call.AggDrop piece)) r n → Sends n (conn.told_swaps a from len piece taken None r)
-  swaps a from len piece taken r has step = by r (own.drops m n server piece r order step)
-      (having.swaps steps own m n order (serve w) a from len piece taken None due r has.0 step)
-      (lends (call.AggDrop piece) r step a (turned a piece (or_parts (a == piece) false has.0.1).0) has.1)
-    where
-      by : (r : Reply) → caller.Drops m server piece r n → Has n (serve w) due (conn.told_swaps a from len piece taken None r) → lent_at n server a ≡ Some due
-          → Sends n (conn.told_swaps a from len piece taken None r)
-      by reply.Done did next here = all (nat_lt from len) next
-        where
-          all : (b : Bool) → Has n (serve w) due (if b then doing.Cuts a from len taken None else doing.Sent a taken None)
-              → Sends n (if b then doing.Cuts a from len taken None else doing.Sent a taken None)
-          all true next = (next, here, has.2)
-          all false next = (next, here, has.2)
-      by (reply.Refused y) did next here = (next, here, has.2)
-      by r did next here = absurd did
+  swaps a from len piece taken r has step =
+      let here = lends (call.AggDrop piece) r step a (turned a piece (or_parts (a == piece) false has.0.1).0) has.1 in
+      (having.swaps steps own m n order (serve w) a from len piece taken None due r has.0 step, after-done Goes r (here, has.2) (either-way Goes (nat_lt from len) (here, has.2) (here, has.2)))
 
   pub breaks : (piece a : ℕ) (r : Reply) → Sends m (doing.Breaks piece a None)
       → StepsTo m (event.Call server (call.AggDrop piece)) r n → Sends n (conn.told_breaks piece a None r)
-  breaks piece a r has step = by r (own.drops m n server piece r order step)
-      (having.breaks steps own m n order (serve w) piece a None due r has.0 step)
-      (lends (call.AggDrop piece) r step a (turned a piece (or_parts (a == piece) false has.0.1).0) has.1)
-    where
-      by : (r : Reply) → caller.Drops m server piece r n → Has n (serve w) due (conn.told_breaks piece a None r) → lent_at n server a ≡ Some due
-          → Sends n (conn.told_breaks piece a None r)
-      by reply.Done did next here = (next, here, omega arith)
-      by (reply.Refused y) did next here = (next, here, has.2)
-      by r did next here = absurd did
+  breaks piece a r has step =
+      let here = lends (call.AggDrop piece) r step a (turned a piece (or_parts (a == piece) false has.0.1).0) has.1 in
+      (having.breaks steps own m n order (serve w) piece a None due r has.0 step, after-done Goes r (here, has.2) (here, omega arith))
 
   -- ---- what is left
 
