@@ -109,11 +109,11 @@ module _ (shelf : Shelf) (crew : Crew) (laws : AllLaws crew) (m n : State) (came
       (has_told q d r heard f un busy unread step names) (finds_told q d r heard un unread f.finds)
 
   -- where it goes on with the request
-  on : (part : List ℕ) (q : Answer) (d : Doing) (r : Reply) (heard : List ℕ) (f : Fitting m q d) → is_opening d ≡ false → is_closing d ≡ false → is_read d ≡ false
+  on-stands : (part : List ℕ) (q : Answer) (d : Doing) (r : Reply) (heard : List ℕ) (f : Fitting m q d) → is_opening d ≡ false → is_closing d ≡ false → is_read d ≡ false
       → StepsTo m (event.Call server (conn.wants fd (at kept q d))) r n → Names n r heard
       → touches_conn m (event.Call server (conn.wants fd (at kept q d))) c ≡ false → touches_fd m (event.Call server (conn.wants fd (at kept q d))) server fd ≡ false
       → Stands f.due q part d → Stands f.due q part (conn.told (at kept q d) r heard).doing → Fitting n q (conn.told (at kept q d) r heard).doing
-  on part q d r heard f un busy unread step names un_conn un_fd was stands =
+  on-stands part q d r heard f un busy unread step names un_conn un_fd was stands =
       goes q part d (conn.told (at kept q d) r heard).doing (conn.wants fd (at kept q d)) r f step un_conn un_fd was stands
       (has_told q d r heard f un busy unread step names) (finds_told q d r heard un unread f.finds)
 
@@ -132,7 +132,7 @@ module _ (shelf : Shelf) (crew : Crew) (laws : AllLaws crew) (m n : State) (came
   shuts : (q : Answer) (g : ℕ) (k : Learnt) (r : Reply) (heard : List ℕ) → is_read (Shuts g k) ≡ false → Fitting m q (Shuts g k)
       → StepsTo m (event.Call server (call.Close g)) r n → Names n r heard → Fitting n q (told_shuts q g k r)
   shuts q g k r heard unread f step names =
-      on [] q (Shuts g k) r heard f refl refl unread step names (unused g f.has.0.0 f.has.0.1 f.has.0.2) (differ-fds g f.has.0.0 f.has.0.1 f.has.0.2 f.open_on) (refl, refl, refl) (shuts-stands f.due q g k r)
+      on-stands [] q (Shuts g k) r heard f refl refl unread step names (unused g f.has.0.0 f.has.0.1 f.has.0.2) (differ-fds g f.has.0.0 f.has.0.1 f.has.0.2 f.open_on) (refl, refl, refl) (shuts-stands f.due q g k r)
 
   -- the text of a script was read
   shuts_text : (q : Answer) (g a : ℕ) (r : Reply) → Fitting m q (Shuts g (TextOf a true)) → StepsTo m (event.Call server (call.Close g)) r n
@@ -244,22 +244,22 @@ module _ (shelf : Shelf) (crew : Crew) (laws : AllLaws crew) (m n : State) (came
   phase q (Shuts g (TextOf a true)) r heard plain fixed f waits busy calm step names = shuts_text q g a r f step
   phase q (Shuts g k) r heard plain fixed f waits busy calm step names = shuts q g k r heard refl f step names
   phase q (Picks a first last len) r heard plain fixed f waits busy calm step names =
-      on [] q (Picks a first last len) r heard f refl refl refl step names refl refl (refl, refl, refl) (after-agg (Stands f.due q []) r (refl, refl, refl) (λ x. (refl, refl, refl)))
+      on-stands [] q (Picks a first last len) r heard f refl refl refl step names refl refl (refl, refl, refl) (after-agg (Stands f.due q []) r (refl, refl, refl) (λ x. (refl, refl, refl)))
   phase q (Spares a Script) r heard plain fixed f waits busy calm step names = absurd (cc (plain))
   phase q (Spares a k) r heard plain fixed f waits busy calm step names =
-      on [] q (Spares a k) r heard f refl refl refl step names refl refl (refl, refl, refl) (after-done (Stands f.due q []) r (refl, refl, refl) (refl, refl, refl))
+      on-stands [] q (Spares a k) r heard f refl refl refl step names refl refl (refl, refl, refl) (after-done (Stands f.due q []) r (refl, refl, refl) (refl, refl, refl))
   phase q (Heads k) r heard plain fixed f waits busy calm step names =
-      on [] q (Heads k) r heard f refl refl refl step names refl refl (refl, refl, refl) (after-agg (Stands f.due q []) r (refl, refl, refl) (λ x. headed-stands f.due q x (count_of heard) (following k)))
+      on-stands [] q (Heads k) r heard f refl refl refl step names refl refl (refl, refl, refl) (after-agg (Stands f.due q []) r (refl, refl, refl) (λ x. headed-stands f.due q x (count_of heard) (following k)))
   phase q (Joins a size body len) r heard plain fixed f waits busy calm step names =
-      on [] q (Joins a size body len) r heard f refl refl refl step names refl refl (refl, refl, refl) (after-agg (Stands f.due q []) r (refl, refl, refl) (λ x. (refl, refl, refl)))
+      on-stands [] q (Joins a size body len) r heard f refl refl refl step names refl refl (refl, refl, refl) (after-agg (Stands f.due q []) r (refl, refl, refl) (λ x. (refl, refl, refl)))
   phase q (Sends a len taken more) r heard plain fixed f waits busy calm step names =
       sends shelf laws.the m n came sent fd c kept script order q a len taken more r f step (has_told q (Sends a len taken more) r heard f refl refl refl step names) (finds_told q (Sends a len taken more) r heard refl refl f.finds)
   phase q (Cuts a from len taken more) r heard plain fixed f waits busy calm step names =
-      on (take taken f.due) q (Cuts a from len taken more) r heard f refl refl refl step names refl refl (refl, refl, refl) (after-agg (Stands f.due q (take taken f.due)) r (refl, refl, refl) (λ x. (refl, refl, refl)))
+      on-stands (take taken f.due) q (Cuts a from len taken more) r heard f refl refl refl step names refl refl (refl, refl, refl) (after-agg (Stands f.due q (take taken f.due)) r (refl, refl, refl) (λ x. (refl, refl, refl)))
   phase q (Offers a from len piece taken more) r heard plain fixed f waits busy calm step names =
       offers shelf laws.the m n came sent fd c kept script order q a from len piece taken more r f step (has_told q (Offers a from len piece taken more) r heard f refl refl refl step names) (finds_told q (Offers a from len piece taken more) r heard refl refl f.finds)
   phase q (Swaps a from len piece taken more) r heard plain fixed f waits busy calm step names =
-      on (take taken f.due) q (Swaps a from len piece taken more) r heard f refl refl refl step names refl refl (refl, refl, refl) (after-done (Stands f.due q (take taken f.due)) r (refl, refl, refl) (swaps-stands f.due q a from len taken more))
+      on-stands (take taken f.due) q (Swaps a from len piece taken more) r heard f refl refl refl step names refl refl (refl, refl, refl) (after-done (Stands f.due q (take taken f.due)) r (refl, refl, refl) (swaps-stands f.due q a from len taken more))
   phase q (Sent a taken more) r heard plain fixed f waits busy calm step names =
       on-tie q (Sent a taken more) r heard f refl refl refl step names refl refl
       (after-done (TiesOn shelf kept script f.due f.due q (Sent a taken more)) r (tie_on shelf kept script f.due f.due q (Sent a taken more) (Sent a taken more) refl refl refl refl) (sent-ties q a taken more f))
