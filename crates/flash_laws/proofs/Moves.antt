@@ -52,6 +52,10 @@ pub either-way : {A : Type 0} (P : A → Type 0) (b : Bool) {d e : A} → P d �
 either-way P true one two = one
 either-way P false one two = two
 
+pub either-of : {A : Type 0} (P : A → Type 0) (b : Bool) (d e : A) → P d → P e → P (if b then d else e)
+either-of P true d e one two = one
+either-of P false d e one two = two
+
 module _ {A : Type 0} (P : A → Type 0) where
   pub after-done : {d e : A} (r : Reply) → P d → P e → P (or_stay d (on_done r e))
   after-done reply.Done same next = next

@@ -25,7 +25,7 @@ use Rattle.flash_laws.specs.declared.phase.Doing.TheVariants.{Rests, Got, Opens,
 use Rattle.flash_laws.proofs.Forms.{at}
 use Rattle.flash_laws.proofs.Lists.{self}
 use Rattle.flash_laws.proofs.Conn.Repeats.{either, drops, closes, makes, cuts, joins, reads, writes, opens, lengths}
-use Rattle.flash_laws.proofs.Moves.{either-way}
+use Rattle.flash_laws.proofs.Moves.{either-of}
 
 rests-not : (kept : List ℕ) (q : Answer) (heard : List ℕ) (k : ℕ) → (told_rests kept q (reply.Agg k) heard).doing ≡ Rests → ⊥
 rests-not kept q [] k same = cc (same)
@@ -42,7 +42,7 @@ settled-not x f k same = cc (same)
 
 headed-not : (n size : ℕ) (more : Following) (d : Doing) → ((a b c e : ℕ) → Joins a b c e ≡ d → ⊥) → ((a b c : ℕ) (f : Following) → Sends a b c f ≡ d → ⊥) → headed n size more ≡ d → ⊥
 headed-not n size None d joins sends same = sends n size 0 None same
-headed-not n size (Some x) d joins sends same = either-way (λ (e : Doing). e ≡ d → ⊥) (nat_le (size + x.1) MAX_AGGREGATE_BYTES) (λ same. joins n size x.0 x.1 same) (λ same. sends n size 0 (Some x) same) same
+headed-not n size (Some x) d joins sends same = either-of (λ (e : Doing). e ≡ d → ⊥) (nat_le (size + x.1) MAX_AGGREGATE_BYTES) (Joins n size x.0 x.1) (Sends n size 0 (Some x)) (λ same. joins n size x.0 x.1 same) (λ same. sends n size 0 (Some x) same) same
 
 goes_on-not : (q : Answer) (a taken : ℕ) (more : Following) → goes_on q taken more ≡ Sent a taken more → ⊥
 goes_on-not q a taken (Some x) same = cc (same)

@@ -38,7 +38,7 @@ use Rattle.flash_laws.proofs.Conn.LentBytes.{lent-stays, has-stays}
 use Rattle.flash_laws.proofs.Conn.DoneCalls.{conn-moves}
 use Rattle.flash_laws.proofs.Conn.Progress.{rank, conn-nears, conn-reads}
 use Rattle.flash_laws.proofs.Conn.TakenBytes.{takes, breaks, closes}
-use Rattle.flash_laws.proofs.Moves.{either-way}
+use Rattle.flash_laws.proofs.Moves.{written, either-of}
 
 starts : (m : State) (fd : ℕ) (kept : List ℕ) (q : Answer) (o : Outcome)
     → FirstCall q (wants fd (at kept q (begins q))) × HasAnswer m (at kept q (begins q)) o
@@ -64,7 +64,7 @@ next-of m fd a kept q (Offers b from len piece taken more) o has is =
       next = sym (append_assoc (slice_range has.whole.bytes from (piece_end from len)) (drop (piece_end from len - from) (drop from has.whole.bytes)) has.whole.after)
           ∙ (ap (λ (l : List ℕ). l ++ has.whole.after) (take-append-drop (piece_end from len - from) (drop from has.whole.bytes)) ∙ has.whole.next);
     }
-next-of m fd a kept q (Reading f) o has is = absurd (either-way (λ (k : Call). k ≡ call.IolWrite fd a → ⊥) (is_head_only q) (λ is. cc) (λ is. cc) is)
+next-of m fd a kept q (Reading f) o has is = absurd (either-of (λ (k : Call). k ≡ call.IolWrite fd a → ⊥) (is_head_only q) (call.Length f) (call.IolRead f most_read) (λ is. cc) (λ is. cc) is)
 next-of m fd a kept q d o has is = absurd (cc (is))
 
 module _ (steps : EachStepLeavesTheRest) (own : CallsServeTheirDomain) (files : FileCallsServeTheirDomain)

@@ -34,7 +34,7 @@ use Rattle.flash_laws.specs.declared.phase.Doing.TheVariants.{Rests, Got, Opens,
 use Rattle.flash_laws.proofs.Forms.{at}
 use Rattle.flash_laws.proofs.Lists.{clash, self, few-taken}
 use Rattle.iol_core.specs.declared.events.Call.{Call}
-use Rattle.flash_laws.proofs.Moves.{after-done, after-agg, after-open, after-read, either-way}
+use Rattle.flash_laws.proofs.Moves.{dropped, after-done, after-agg, after-open, after-read, either-way, either-of}
 
 -- ---- before anything is sent nothing is taken
 
@@ -138,7 +138,7 @@ module _ (own : CallsServeTheirDomain) (m n : State) (order : IsOrderly m) (fd c
 
   sent : (a taken : ℕ) (more : Following) (r : Reply) → is_busy (told_sent q a taken more r) ≡ true → taken_of (told_sent q a taken more r) ≡ taken + newly_taken fd (call.AggDrop a) r
   sent a taken (Some x) reply.Done busy = omega arith
-  sent a taken None reply.Done busy = absurd (either-way (λ (e : Doing). is_busy e ≡ true → ⊥) (keeps q) (λ busy. cc (busy)) (λ busy. cc (busy)) busy)
+  sent a taken None reply.Done busy = absurd (either-of (λ (e : Doing). is_busy e ≡ true → ⊥) (keeps q) Rests Closes (λ busy. cc (busy)) (λ busy. cc (busy)) busy)
   sent a taken more r busy = omega arith
 
   rests : (kept : List ℕ) (r : Reply) (heard : List ℕ) → is_dropping (told_rests kept q r heard).doing ≡ false → is_busy (told_rests kept q r heard).doing ≡ true

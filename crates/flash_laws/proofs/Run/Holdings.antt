@@ -31,7 +31,7 @@ use Rattle.flash_laws.specs.declared.script_run.Step.{Step}
 use Rattle.flash_laws.specs.declared.script_run.Step.TheVariants.{Gives, Makes, Hands, Lets, Heads, Sending, Hears, Spills, Gathers, Frames, Wraps, Trims, Ended, Unholds, Stops, Unframes, Lasts, WrapsLast, TrimsLast, Unwraps, Returns, Lapses, Fails}
 use Rattle.flash_laws.specs.declared.script_run.Running.{Running}
 use Rattle.flash_laws.specs.declared.script_run.Running.TheVariants.{Runs, Leaves}
-use Rattle.flash_laws.proofs.Moves.{after-done, after-agg, either-way}
+use Rattle.flash_laws.proofs.Moves.{closed, made, after-done, after-agg, either-way, either-of}
 use Rattle.flash_laws.proofs.Conn.Holdings.{leaves-told}
 use Rattle.flash_laws.proofs.Lists.{clash, later_of, amid, bare, bare-none, former_by, former_of, swapped}
 use Rattle.flash_laws.proofs.Conn.Uses.{same-number}
@@ -182,7 +182,7 @@ module _ (job : ℕ → List ℕ) (m : State) (fd : ℕ) (w : Wanted) (o : Progr
 
   hands : (j f : ℕ) (r : Reply) (heard : List ℕ) → LeavesAt (Hands j f) r (told_step w run (Hands j f) r heard)
   hands j f (reply.Count n) heard u unused = absurd (clash (j == a) u unused)
-  hands j f (reply.Refused x) heard u unused = absurd (either-way (λ (s : Step). step_agg s a ≡ false → ⊥) (is_again x) (λ unused. clash (j == a) u unused) (λ unused. clash (j == a) u unused) unused)
+  hands j f (reply.Refused x) heard u unused = absurd (either-of (λ (s : Step). step_agg s a ≡ false → ⊥) (is_again x) (Hands j f) (Lapses j) (λ unused. clash (j == a) u unused) (λ unused. clash (j == a) u unused) unused)
   hands j f r heard u unused = absurd (clash (j == a) u unused)
 
   step-leaves : (s : Step) (r : Reply) (heard : List ℕ) → HasStep job m w o run s → LeavesAt s r (told_step w run s r heard)

@@ -16,65 +16,68 @@ use Rattle.flash_laws.specs.declared.script_run.Step.{Step}
 use Rattle.flash_laws.specs.declared.script_run.Step.TheVariants.{Gives, Makes, Hands, Lets, Heads, Sending, Hears, Spills, Gathers, Frames, Wraps, Trims, Returns, Lapses, Fails}
 use Rattle.flash_laws.specs.declared.script_run.Running.{Running}
 use Rattle.flash_laws.specs.declared.script_run.Running.TheVariants.{Awaits, Runs}
+use Rattle.flash_laws.proofs.Lists.{clash}
 use Rattle.flash_laws.proofs.Moves.{after-done, after-agg, either-way}
 
 module _ (run : Run) where
+  abbrev Goes : Running → Type 0
+  Goes y = is_stopping y ≡ false
+
   abbrev Going : Step → Type 0
-  Going t = is_stopping (Runs run t) ≡ true → ⊥
+  Going t = Goes (Runs run t)
 
-  gives : (write : ℕ) (r : Reply) → is_stopping (Runs run (told_gives write r)) ≡ true → ⊥
-  gives write (reply.Fd f) z = cc (z)
-  gives write (reply.Refused x) z = either-way (λ (s : Step). is_stopping (Runs run s) ≡ true → ⊥) (is_again x) (λ z. cc (z)) (λ z. cc (z)) z
-  gives write r z = cc (z)
+  gives : (write : ℕ) (r : Reply) → Going (told_gives write r)
+  gives write (reply.Fd f) = refl
+  gives write (reply.Refused x) = either-way Going (is_again x) refl refl
+  gives write r = refl
 
-  hands : (j f : ℕ) (r : Reply) → is_stopping (Runs run (told_hands j f r)) ≡ true → ⊥
-  hands j f (reply.Count k) z = cc (z)
-  hands j f (reply.Refused x) z = either-way (λ (s : Step). is_stopping (Runs run s) ≡ true → ⊥) (is_again x) (λ z. cc (z)) (λ z. cc (z)) z
-  hands j f r z = cc (z)
+  hands : (j f : ℕ) (r : Reply) → Going (told_hands j f r)
+  hands j f (reply.Count k) = refl
+  hands j f (reply.Refused x) = either-way Going (is_again x) refl refl
+  hands j f r = refl
 
-  sending : (d : Doing) (frame : Option ℕ) (r : Reply) → is_stopping (told_sending run d frame r) ≡ true → ⊥
-  sending (doing.Sent a taken None) frame reply.Done z = cc (z)
-  sending (doing.Drops a None) frame reply.Done z = cc (z)
-  sending d frame r z = cc (z)
+  sending : (d : Doing) (frame : Option ℕ) (r : Reply) → Goes (told_sending run d frame r)
+  sending (doing.Sent a taken None) frame reply.Done = refl
+  sending (doing.Drops a None) frame reply.Done = refl
+  sending d frame r = refl
 
-  holds : (held size : ℕ) (frame : Option ℕ) → is_stopping (Runs run (holding held size frame)) ≡ true → ⊥
-  holds held size frame z = by (nat_lt size CHUNK_BYTES) frame z
-    where
-      by : (b : Bool) (frame : Option ℕ) → is_stopping (Runs run (if b then Hears (Some (held, size)) frame else filled held frame)) ≡ true → ⊥
-      by true frame z = cc (z)
-      by false None z = cc (z)
-      by false (Some f) z = cc (z)
+  holds : (held size : ℕ) (frame : Option ℕ) → Going (holding held size frame)
+  holds held size None = either-way Going (nat_lt size CHUNK_BYTES) refl refl
+  holds held size (Some f) = either-way Going (nat_lt size CHUNK_BYTES) refl refl
 
-  hearing-on : (b c : Bool) (held : Following) (frame : Option ℕ) (a len : ℕ) → is_stopping (Runs run (hearing b c held frame a len)) ≡ true → ⊥
-  hearing-on true c held frame a len z = cc (z)
-  hearing-on false false held frame a len z = cc (z)
-  hearing-on false true None frame a len z = holds a len frame z
-  hearing-on false true (Some x) frame a len z = cc (z)
+  hearing-on : (b c : Bool) (held : Following) (frame : Option ℕ) (a len : ℕ) → Going (hearing b c held frame a len)
+  hearing-on true c held frame a len = refl
+  hearing-on false false held frame a len = refl
+  hearing-on false true None frame a len = holds a len frame
+  hearing-on false true (Some x) frame a len = refl
+
+  never : {A : Type 0} (y : Running) → is_stopping y ≡ true → Goes y → A
+  never y z on = absurd (clash (is_stopping y) z on)
 
   hears : (w : Wanted) (held : Following) (frame : Option ℕ) (r : Reply) (heard : List ℕ) → is_stopping (told_hears w run held frame r heard) ≡ true
       → StopsBy (Runs run (Hears held frame)) r heard
   hears w held frame (reply.Agg n) [] z = refl
-  hears w held frame (reply.Agg n) (b ∷ heard) z = absurd (hearing-on run.broken w.chunked held frame n (count_of (b ∷ heard)) z)
+  hears w held frame (reply.Agg n) (b ∷ heard) z = never _ z (hearing-on run.broken w.chunked held frame n (count_of (b ∷ heard)))
   hears w held frame (reply.Refused (no.Denied p)) heard z = tt
   hears w held frame r heard z = absurd (cc (z))
 
   steps : (worker : ℕ) (w : Wanted) (s : Step) (r : Reply) (heard : List ℕ) → is_stopping (Runs run s) ≡ false
       → is_stopping (told worker w (Runs run s) r heard) ≡ true → StopsBy (Runs run s) r heard
-  steps worker w (Gives write) r heard on z = absurd (gives write r z)
-  steps worker w (Makes f) r heard on z = absurd (after-agg Going r (λ z. cc (z)) (λ n z. cc (z)) z)
-  steps worker w (Hands j f) r heard on z = absurd (hands j f r z)
-  steps worker w (Lets j) r heard on z = absurd (after-done Going r (λ z. cc (z)) (λ z. cc (z)) z)
-  steps worker w Heads r heard on z = absurd (after-agg Going r (λ z. cc (z)) (λ n z. cc (z)) z)
-  steps worker w (Sending d frame) r heard on z = absurd (sending d frame r z)
+  steps worker w (Gives write) r heard on z = never _ z (gives write r)
+  steps worker w (Makes f) r heard on z = never _ z (after-agg Going r refl (λ n. refl))
+  steps worker w (Hands j f) r heard on z = never _ z (hands j f r)
+  steps worker w (Lets j) r heard on z = never _ z (after-done Going r refl refl)
+  steps worker w Heads r heard on z = never _ z (after-agg Going r refl (λ n. refl))
+  steps worker w (Sending d frame) r heard on z = never _ z (sending d frame r)
   steps worker w (Hears held frame) r heard on z = hears w held frame r heard z
-  steps worker w (Spills a frame) r heard on z = absurd (after-done Going r (λ z. cc (z)) (λ z. cc (z)) z)
-  steps worker w (Gathers held size piece len frame) r heard on z = absurd (after-agg Going r (λ z. cc (z)) (λ n. holds n (both size len) frame) z)
-  steps worker w (Frames held) r heard on z = absurd (after-agg Going r (λ z. cc (z)) (λ n z. cc (z)) z)
-  steps worker w (Wraps held frame) r heard on z = absurd (after-agg Going r (λ z. cc (z)) (λ n z. cc (z)) z)
-  steps worker w (Trims held chunk len frame) r heard on z = absurd (after-done Going r (λ z. cc (z)) (λ z. cc (z)) z)
-  steps worker w (Returns write) r heard on z = absurd (after-done Going r (λ z. cc (z)) (λ z. cc (z)) z)
-  steps worker w (Lapses j) r heard on z = absurd (after-done Going r (λ z. cc (z)) (λ z. cc (z)) z)
-  steps worker w Fails r heard on z = absurd (after-done (λ y. is_stopping y ≡ true → ⊥) r (λ z. cc (z)) (λ z. cc (z)) z)
+  steps worker w (Spills a frame) r heard on z = never _ z (after-done Going r refl refl)
+  steps worker w (Gathers held size piece len frame) r heard on z = never _ z (after-agg Going r refl (λ n. holds n (both size len) frame))
+  steps worker w (Frames held) r heard on z = never _ z (after-agg Going r refl (λ n. refl))
+  steps worker w (Wraps held frame) r heard on z = never _ z (after-agg Going r refl (λ n. refl))
+  steps worker w (Trims held chunk len frame) r heard on z = never _ z (after-done Going r refl refl)
+  steps worker w (Returns write) r heard on z = never _ z (after-done Going r refl refl)
+  steps worker w (Lapses j) r heard on z = never _ z (after-done Going r refl refl)
+  steps worker w Fails r heard on z = never _ z (after-done Goes r refl refl)
   steps worker w s r heard on z = absurd (cc (on))
 
 pub reads_on : (worker : ℕ) (w : Wanted) (x : Running) (r : Reply) (heard : List ℕ) → is_stopping x ≡ false

@@ -25,7 +25,7 @@ use Rattle.flash_laws.specs.declared.script_run.Running.{Running}
 use Rattle.flash_laws.specs.declared.script_run.Running.TheVariants.{Awaits, Runs, Leaves}
 use Rattle.flash_laws.proofs.Lists.{later_of, bare, former_of, swapped}
 use Rattle.flash_laws.proofs.Conn.Uses.{same-number, uses-told, has-agg, one-of}
-use Rattle.flash_laws.proofs.Moves.{either-way}
+use Rattle.flash_laws.proofs.Moves.{made, either-of}
 
 -- it was used, or is new
 abbrev New : Reply → (a : ℕ) → (was : Bool) → Type 0
@@ -94,12 +94,12 @@ module _ (worker : ℕ) (w : Wanted) (run : Run) (a : ℕ) where
 
   step-new : (s : Step) (r : Reply) (heard : List ℕ) → UsesNew s r (told_step w run s r heard)
   step-new (Gives write) (reply.Fd f) heard u = absurd (cc (u))
-  step-new (Gives write) (reply.Refused x) heard u = absurd (either-way (λ (s : Step). step_agg s a ≡ true → ⊥) (is_again x) (λ u. cc (u)) (λ u. cc (u)) u)
+  step-new (Gives write) (reply.Refused x) heard u = absurd (either-of (λ (s : Step). step_agg s a ≡ true → ⊥) (is_again x) (Gives write) (Returns write) (λ u. cc (u)) (λ u. cc (u)) u)
   step-new (Gives write) r heard u = absurd (cc (u))
   step-new (Makes f) (reply.Agg n) heard u = inr u
   step-new (Makes f) r heard u = absurd (cc (u))
   step-new (Hands j f) (reply.Count n) heard u = inl u
-  step-new (Hands j f) (reply.Refused x) heard u = inl (either-way (λ (s : Step). step_agg s a ≡ true → (j == a) ≡ true) (is_again x) (λ u. u) (λ u. u) u)
+  step-new (Hands j f) (reply.Refused x) heard u = inl (either-of (λ (s : Step). step_agg s a ≡ true → (j == a) ≡ true) (is_again x) (Hands j f) (Lapses j) (λ u. u) (λ u. u) u)
   step-new (Lets j) reply.Done heard u = absurd (cc (u))
   step-new Heads (reply.Agg n) heard u = inr (bare (n == a) (bare ((n == a) || false) u))
   step-new Heads r heard u = absurd (cc (u))
@@ -201,10 +201,10 @@ module _ (w : Wanted) (run : Run) (g : ℕ) where
 
   pub step-has : (s : Step) (r : Reply) (heard : List ℕ) → Has s (told_step w run s r heard)
   step-has (Gives write) (reply.Fd f) heard u = on-reading (Gives write) refl (only-from (Makes f) (λ h. refl) u)
-  step-has (Gives write) (reply.Refused x) heard u = either-way (λ (s : Step). ends_of run s g ≡ true → ends_of run (Gives write) g ≡ true) (is_again x) (λ u. u) (λ u. u) u
+  step-has (Gives write) (reply.Refused x) heard u = either-of (λ (s : Step). ends_of run s g ≡ true → ends_of run (Gives write) g ≡ true) (is_again x) (Gives write) (Returns write) (λ u. u) (λ u. u) u
   step-has (Makes f) (reply.Agg n) heard u = u
   step-has (Hands j f) (reply.Count n) heard u = u
-  step-has (Hands j f) (reply.Refused x) heard u = either-way (λ (s : Step). ends_of run s g ≡ true → ends_of run (Hands j f) g ≡ true) (is_again x) (λ u. u) (λ u. u) u
+  step-has (Hands j f) (reply.Refused x) heard u = either-of (λ (s : Step). ends_of run s g ≡ true → ends_of run (Hands j f) g ≡ true) (is_again x) (Hands j f) (Lapses j) (λ u. u) (λ u. u) u
   step-has Heads (reply.Agg n) heard u = u
   step-has (Sending d frame) r heard u = sending-has d frame r u
   step-has (Hears held frame) r heard u = hears-has held frame r heard u

@@ -28,7 +28,7 @@ use Rattle.flash_laws.proofs.Conn.Responses.{order-all}
 use Rattle.flash_laws.proofs.Lists.{clash}
 use Rattle.flash_laws.proofs.World.AllLaws.{AllLaws}
 use Rattle.flash_laws.proofs.World.Alone.Ties.{alone}
-use Rattle.flash_laws.proofs.Moves.{either-way}
+use Rattle.flash_laws.proofs.Moves.{either-of}
 
 -- all that came on a connection is answered, and its peer may ask for more
 pub record IsAnsweredSoFar (shelf : Shelf) (m : State) (came sent : List ℕ) (c : ℕ) : Type 0 where
@@ -89,7 +89,7 @@ module _ (shelf : Shelf) (crew : Crew) (laws : AllLaws crew) (m : State) (order 
   by-phase came sent fd c kept script q (Offers a from len piece taken more) f waits step = inr (laws.the.reasons.conn_is_full m m server fd c piece f.open_on step)
   by-phase came sent fd c kept script q (Got a) f waits step = absurd (goes crew laws m (call.AggDrop a) refl step)
   by-phase came sent fd c kept script q Opens f waits step = absurd (goes crew laws m (call.OpenFile (name_of q) modes.Read) refl step)
-  by-phase came sent fd c kept script q (Reading g) f waits step = absurd (either-way (λ (k : Call). WouldWait m server k → ⊥) (is_head_only q) (λ step. goes crew laws m (call.Length g) refl step) (λ step. reads-on came sent fd c g kept q script f step) step)
+  by-phase came sent fd c kept script q (Reading g) f waits step = absurd (either-of (λ (k : Call). WouldWait m server k → ⊥) (is_head_only q) (call.Length g) (call.IolRead g most_read) (λ step. goes crew laws m (call.Length g) refl step) (λ step. reads-on came sent fd c g kept q script f step) step)
   by-phase came sent fd c kept script q (Shuts g k) f waits step = absurd (goes crew laws m (call.Close g) refl step)
   by-phase came sent fd c kept script q (Picks a first last len) f waits step = absurd (goes crew laws m (call.AggCut a first last) refl step)
   by-phase came sent fd c kept script q (Spares a k) f waits step = absurd (goes crew laws m (call.AggDrop a) refl step)
