@@ -33,7 +33,7 @@ use Rattle.flash_laws.specs.Client.ResponseState.{is_read, is_opening}
 use Rattle.flash_laws.specs.Conn.OfferedBytes.{taken_of}
 use Rattle.flash_laws.specs.Site.{server}
 use Rattle.flash_laws.proofs.Forms.{at}
-use Rattle.flash_laws.proofs.Moves.{dropped, written, after-done, after-agg, after-write, after-open, after-read, either-way}
+use Rattle.flash_laws.proofs.Moves.{after-done, after-agg, after-write, after-open, after-read, either-way}
 
 -- ---- what is offered
 

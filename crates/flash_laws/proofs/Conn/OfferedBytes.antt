@@ -38,7 +38,7 @@ use Rattle.flash_laws.proofs.Conn.LentBytes.{lent-stays, has-stays}
 use Rattle.flash_laws.proofs.Conn.DoneCalls.{conn-moves}
 use Rattle.flash_laws.proofs.Conn.Progress.{rank, conn-nears, conn-reads}
 use Rattle.flash_laws.proofs.Conn.TakenBytes.{takes, breaks, closes}
-use Rattle.flash_laws.proofs.Moves.{written, either-of}
+use Rattle.flash_laws.proofs.Moves.{either-of}
 
 starts : (m : State) (fd : ℕ) (kept : List ℕ) (q : Answer) (o : Outcome)
     → FirstCall q (wants fd (at kept q (begins q))) × HasAnswer m (at kept q (begins q)) o

@@ -43,7 +43,7 @@ use Rattle.flash_laws.proofs.Forms.{at}
 use Rattle.flash_laws.proofs.Conn.Responses.{some-inj}
 use Rattle.flash_laws.proofs.Conn.LentBytes.{text-same}
 use Rattle.flash_laws.proofs.Lists.{turned, differ, within-part}
-use Rattle.flash_laws.proofs.Moves.{dropped, either-way}
+use Rattle.flash_laws.proofs.Moves.{either-way}
 
 -- ---- how far it is
 

@@ -34,7 +34,7 @@ use Rattle.flash_laws.specs.declared.phase.Doing.TheVariants.{Rests, Got, Opens,
 use Rattle.flash_laws.proofs.Forms.{at}
 use Rattle.flash_laws.proofs.Lists.{clash, self, few-taken}
 use Rattle.iol_core.specs.declared.events.Call.{Call}
-use Rattle.flash_laws.proofs.Moves.{dropped, after-done, after-agg, after-open, after-read, either-way, either-of}
+use Rattle.flash_laws.proofs.Moves.{after-done, after-agg, after-open, after-read, either-way, either-of}
 
 -- ---- before anything is sent nothing is taken
 

@@ -20,7 +20,7 @@ use Rattle.flash_laws.specs.declared.script_run.Step.TheVariants.{Gives, Makes, 
 use Rattle.flash_laws.specs.declared.script_run.Running.{Running}
 use Rattle.flash_laws.specs.declared.script_run.Running.TheVariants.{Awaits, Runs, Leaves, Closes}
 use Rattle.flash_laws.proofs.Lists.{clash, not-true}
-use Rattle.flash_laws.proofs.Moves.{closed, made, either-way}
+use Rattle.flash_laws.proofs.Moves.{either-way}
 
 -- ---- it ends where the connection rests, or is to be closed
 

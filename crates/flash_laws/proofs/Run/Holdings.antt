@@ -31,7 +31,7 @@ use Rattle.flash_laws.specs.declared.script_run.Step.{Step}
 use Rattle.flash_laws.specs.declared.script_run.Step.TheVariants.{Gives, Makes, Hands, Lets, Heads, Sending, Hears, Spills, Gathers, Frames, Wraps, Trims, Ended, Unholds, Stops, Unframes, Lasts, WrapsLast, TrimsLast, Unwraps, Returns, Lapses, Fails}
 use Rattle.flash_laws.specs.declared.script_run.Running.{Running}
 use Rattle.flash_laws.specs.declared.script_run.Running.TheVariants.{Runs, Leaves}
-use Rattle.flash_laws.proofs.Moves.{closed, made, after-done, after-agg, either-way, either-of}
+use Rattle.flash_laws.proofs.Moves.{after-done, after-agg, either-way, either-of}
 use Rattle.flash_laws.proofs.Conn.Holdings.{leaves-told}
 use Rattle.flash_laws.proofs.Lists.{clash, later_of, amid, bare, bare-none, former_by, former_of, swapped}
 use Rattle.flash_laws.proofs.Conn.Uses.{same-number}

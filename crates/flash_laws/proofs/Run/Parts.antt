@@ -35,7 +35,7 @@ use Rattle.flash_laws.proofs.Lists.{not-equal, turned}
 use Rattle.flash_laws.proofs.Run.Rest as left
 use Rattle.flash_laws.proofs.Run.Rest.{SendsAll}
 use Rattle.flash_laws.proofs.Run.Stays.{frame-on, reading-on}
-use Rattle.flash_laws.proofs.Moves.{dropped, made, after-done, after-write, either-way}
+use Rattle.flash_laws.proofs.Moves.{made, after-done, after-write, either-way}
 
 -- another number than one that is used is not used
 pub other : (uses : ℕ → Bool) (b a : ℕ) → uses b ≡ false → uses a ≡ true → (b == a) ≡ false

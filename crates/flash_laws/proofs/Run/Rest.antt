@@ -33,7 +33,7 @@ use Rattle.flash_laws.specs.declared.phase.Doing.TheVariants as doing
 use Rattle.flash_laws.proofs.Conn.AnswerParts as having
 use Rattle.flash_laws.proofs.Conn.LentBytes.{lent-stays}
 use Rattle.flash_laws.proofs.Lists.{turned, few-taken}
-use Rattle.flash_laws.proofs.Moves.{dropped, written, after-done, after-agg, after-write, either-way}
+use Rattle.flash_laws.proofs.Moves.{written, after-done, after-agg, after-write, either-way}
 use Rattle.flash_laws.proofs.Conn.TakenBytes.{takes}
 
 -- what a phase that sends all that is due has

@@ -35,7 +35,7 @@ use Rattle.flash_laws.proofs.Conn.Uses.{gives-wants, has-agg, has-fd}
 use Rattle.flash_laws.proofs.World.AllLaws.{AllLaws}
 use Rattle.flash_laws.proofs.World.OwnRun.{wants-run}
 use Rattle.flash_laws.proofs.World.RunUses.{IsEnd, run-there, run-end}
-use Rattle.flash_laws.proofs.Moves.{made, either-way}
+use Rattle.flash_laws.proofs.Moves.{either-way}
 
 -- the pipe that it may touch: with a run one of that, and else none
 abbrev pub MayTouchPipe : State → Option Running → (p : ℕ) → Type 0
