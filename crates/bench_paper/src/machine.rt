@@ -1,40 +1,21 @@
-//! A system, behind a value that says nothing of it.
+//! The system that is measured.
 use crate::counting::Counting;
 use iol_agg::Parts;
 use iol_core::configuration::Config;
 use iol_core::events::{Call, Event, Reply};
 use iol_core::numbers::{AggId, ConnId, DomainId};
 use iol_core::refusals::Refusal;
-use iol_system::system::System;
 use std::alloc::{AllocError, Global};
 use std::io;
-use std::marker::Model;
+use test_worlds::systems::{TestSystem, call_of};
 
-/// A call of a domain.
-pub fn call_of(by: u32, call: Call) -> Event {
-    let by = DomainId::new(by);
-    Event::Call { by, call }
-}
-
-/// The system that is measured.
+/// A system over a store that counts its reads.
 #[derive(Drop)]
 pub struct Machine<'a> {
-    system: System<Counting<'a>>,
-}
-
-impl<'a> Model for Machine<'a> {
-    ghost Value = { Unit {0} };
-
-    ghost view = { λ _. tt };
+    system: TestSystem<Counting<'a>>,
 }
 
 impl<'a> Machine<'a> {
-    /// A system with domain 1 and nothing else.
-    pub fn new(alloc: Global, config: Config, store: Counting<'a>) -> Result<Machine<'a>, Refusal> {
-        let system = System::new(alloc, config, store)?;
-        Ok(Machine { system })
-    }
-
     /// A system in which these events were carried out, none of which was refused.
     pub fn begun(
         alloc: Global,
@@ -42,26 +23,13 @@ impl<'a> Machine<'a> {
         store: Counting<'a>,
         lists: &[&[Event]],
     ) -> Result<Machine<'a>, Refusal> {
-        let mut machine = Machine::new(alloc, config, store)?;
-        match machine.carry_out_lists(lists) {
-            Ok(()) => Ok(machine),
-            Err(refusal) => {
-                drop(machine);
-                Err(refusal)
-            }
-        }
-    }
-
-    fn carry_out_lists(&mut self, lists: &[&[Event]]) -> Result<(), Refusal> {
-        for list in lists {
-            self.carry_out_all(list)?;
-        }
-        Ok(())
+        let system = TestSystem::begun(alloc, config, store, lists)?;
+        Ok(Machine { system })
     }
 
     /// Carries out an event.
     pub fn step(&mut self, event: &Event) -> Reply {
-        self.system.step_ref(event)
+        self.system.step(event)
     }
 
     /// A call of a domain.
@@ -73,14 +41,6 @@ impl<'a> Machine<'a> {
     pub fn carry_out(&mut self, event: &Event) -> Result<(), Refusal> {
         if let Reply::Refused(refusal) = self.step(event) {
             return Err(refusal);
-        }
-        Ok(())
-    }
-
-    /// Carries out events, up to the first that is refused.
-    pub fn carry_out_all(&mut self, events: &[Event]) -> Result<(), Refusal> {
-        for event in events {
-            self.carry_out(event)?;
         }
         Ok(())
     }
@@ -100,11 +60,6 @@ impl<'a> Machine<'a> {
 
     /// The pages of the first pool that are not free.
     pub fn used_pages(&self) -> Result<u32, AllocError> {
-        let report = self.system.report()?;
-        let mut used = 0u32;
-        if let Some(pool) = report.pools.first() {
-            used = pool.pages.saturating_sub(pool.free);
-        }
-        Ok(used)
+        self.system.used_pages()
     }
 }

@@ -1,5 +1,5 @@
 //! Pieces of bytes, passed on by reference or by copying.
-use crate::machine::{Machine, call_of};
+use crate::machine::Machine;
 use iol_core::events::{Call, Reply};
 use iol_core::lists::Bytes;
 use iol_core::numbers::{AggId, Fd};

@@ -1,5 +1,5 @@
 //! Programs in domains of one system, which pass on a file piece by piece.
-use crate::machine::{Machine, call_of};
+use crate::machine::Machine;
 use crate::permute::Orders;
 use crate::piece::{End, PIECE, Passing, consume, made, pass, put};
 use crate::scans::{Counts, Search};

@@ -1,6 +1,6 @@
 //! Three domains, a file, two pipes and two connections.
 use crate::counting::Counting;
-use crate::machine::{Machine, call_of};
+use crate::machine::Machine;
 use crate::piece::End;
 use iol_core::configuration::Config;
 use iol_core::descriptors::Mode;

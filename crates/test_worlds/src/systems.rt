@@ -1,8 +1,9 @@
 //! A system, as a type without contracts.
+use iol_agg::Parts;
 use iol_back::backing::Backing;
 use iol_core::configuration::Config;
 use iol_core::events::{Call, Event, Reply};
-use iol_core::numbers::{ConnId, DomainId};
+use iol_core::numbers::{AggId, ConnId, DomainId};
 use iol_core::refusals::Refusal;
 use iol_sock::{Arrived, Drained};
 use iol_system::system::System;
@@ -98,6 +99,21 @@ impl<B: Backing + Drop> TestSystem<B> {
     pub fn buffers(&self) -> Result<u32, AllocError> {
         let report = self.system.report()?;
         Ok(report.buffers)
+    }
+
+    /// The pages of the first pool that are not free.
+    pub fn used_pages(&self) -> Result<u32, AllocError> {
+        let report = self.system.report()?;
+        let mut used = 0u32;
+        if let Some(pool) = report.pools.first() {
+            used = pool.pages.saturating_sub(pool.free);
+        }
+        Ok(used)
+    }
+
+    /// The bytes of an aggregate, at their places.
+    pub fn parts(&self, by: DomainId, agg: AggId) -> Result<Parts<'_>, Refusal> {
+        self.system.parts(by, agg)
     }
 
     /// The system, for callers that pass it on.
