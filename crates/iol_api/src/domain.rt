@@ -3,6 +3,7 @@ ghost use Rattle.std.specs.Prelude.{◌≡◌, IfOk};
 ghost use Rattle.iol_core.specs.declared.events.Call.TheVariants as call;
 ghost use Rattle.iol_core.specs.declared.events.Event.TheVariants as event;
 ghost use Rattle.iol_core.specs.declared.events.Reply.TheVariants as reply;
+ghost use Rattle.iol_system.specs.BorrowedMemory.{ReadsTo, ShowsTo};
 ghost use Rattle.iol_system.specs.Promises.{Promises};
 ghost use Rattle.iol_api.specs.Typed as spec;
 ghost use Rattle.iol_api.specs.Typed.{Answers, AnswersIfHeld};
@@ -94,10 +95,9 @@ impl<'a, B: Backing> Domain<'a, B> {
 
     /// Makes an aggregate of these bytes, at most 2^24, in the default pool.
     pub fn agg_make(&mut self, bytes: &[u8]) -> Result<AggId, Refusal>
-        ensures { AnswersIfHeld reply.Agg self.old (call.AggMake bytes.now) result self.new }
+        ensures { Answers reply.Agg self.old (call.AggMake bytes.now) result self.new }
     {
-        let bytes = held(self.alloc, bytes)?;
-        self.make_agg(bytes)
+        replies::agg(self.system.make_agg(self.by, bytes))
     }
 
     /// Makes a second aggregate of the same bytes. No byte is copied.
@@ -167,6 +167,15 @@ impl<'a, B: Backing> Domain<'a, B> {
         ensures { Answers reply.Bytes self.old (call.Show agg) result self.new }
     {
         replies::bytes(self.call(Call::Show { agg }))
+    }
+
+    /// Shows an aggregate in borrowed memory, and returns the number of its bytes. If `out` has room
+    /// for all of them they are at its front, and the rest of it is unchanged; otherwise all of it
+    /// is. No memory is requested.
+    pub fn show_into(&self, agg: AggId, out: &mut [u8]) -> Result<u32, Refusal>
+        ensures { ShowsTo self.now.by agg out.old out.new self.now.system.now result }
+    {
+        self.system.show_into(self.by, agg, out)
     }
 
     /// Gives the next slot of the store a name of 1 to 255 bytes, and a pool for its bytes.
@@ -250,13 +259,24 @@ impl<'a, B: Backing> Domain<'a, B> {
         replies::bytes(self.call(Call::Read { fd, count }))
     }
 
+    /// Reads by copying into borrowed memory, at most `out.len()` bytes and fewer than 2^32, and
+    /// returns their number. They are at the front of `out`. The rest of it is unchanged; after a
+    /// refusal all of it is.
+    pub fn read_into(&mut self, fd: Fd, out: &mut [u8]) -> Result<u32, Refusal>
+        ensures same_reference { self.new.system.ghost_name ≡ self.old.system.ghost_name }
+        ensures by { self.new.by ≡ self.old.by }
+        ensures reads { ReadsTo self.old.by fd out.old out.new self.old.system.now result
+            self.new.system.now }
+    {
+        self.system.read_into(self.by, fd, out)
+    }
+
     /// Writes these bytes by copying them: to a queue as many as fit, to a file all. Returns the
     /// number of bytes taken.
     pub fn write(&mut self, fd: Fd, bytes: &[u8]) -> Result<u32, Refusal>
-        ensures { AnswersIfHeld reply.Count self.old (call.Write fd bytes.now) result self.new }
+        ensures { Answers reply.Count self.old (call.Write fd bytes.now) result self.new }
     {
-        let bytes = held(self.alloc, bytes)?;
-        self.write_held(fd, bytes)
+        replies::count(self.system.write_bytes(self.by, fd, bytes))
     }
 
     /// Accepts the waiting connection of the lowest number whose pool this domain may read.
@@ -274,13 +294,6 @@ impl<'a, B: Backing> Domain<'a, B> {
         replies::pool(self.call(Call::PoolCreate { chunks, domains }))
     }
 
-    // [`Domain::agg_make`] of owned bytes.
-    fn make_agg(&mut self, bytes: Bytes) -> Result<AggId, Refusal>
-        ensures { Answers reply.Agg self.old (call.AggMake bytes) result self.new }
-    {
-        replies::agg(self.call(Call::AggMake { bytes }))
-    }
-
     // [`Domain::file_new`] of an owned name.
     fn new_file(&mut self, name: Bytes, pool: PoolId) -> Result<FileId, Refusal>
         ensures { Answers reply.File self.old (call.FileNew name pool) result self.new }
@@ -293,13 +306,6 @@ impl<'a, B: Backing> Domain<'a, B> {
         ensures { Answers reply.Fd self.old (call.OpenFile name mode) result self.new }
     {
         replies::fd(self.call(Call::OpenFile { name, mode }))
-    }
-
-    // [`Domain::write`] of owned bytes.
-    fn write_held(&mut self, fd: Fd, bytes: Bytes) -> Result<u32, Refusal>
-        ensures { Answers reply.Count self.old (call.Write fd bytes) result self.new }
-    {
-        replies::count(self.call(Call::Write { fd, bytes }))
     }
 }
 

@@ -29,6 +29,23 @@ fn receive(alloc: Global, system: &mut System<MemoryBacking>, read: Fd) -> Resul
     second.show(front)
 }
 
+// Domain 2 reads one byte into borrowed memory. Returns whether it is "l".
+fn reads_into(alloc: Global, system: &mut System<MemoryBacking>, read: Fd) -> bool {
+    let mut second = Domain::new(alloc, system, DomainId::new(2));
+    let mut memory = *b"....";
+    second.read_into(read, &mut memory[..1]) == Ok(1) && memory.as_slice() == b"l...".as_slice()
+}
+
+// Domain 1 shows an aggregate in memory with room for it, and without.
+fn shows_into(alloc: Global, system: &mut System<MemoryBacking>) -> Result<bool, Refusal> {
+    let mut first = Domain::new(alloc, system, DomainId::new(1));
+    let last = first.agg_make(b"last")?;
+    let mut large = *b"......";
+    let mut small = *b"..";
+    let fits = first.show_into(last, &mut large)? == 4 && large.as_slice() == b"last..".as_slice();
+    Ok(fits && first.show_into(last, &mut small)? == 4 && small.as_slice() == b"..".as_slice())
+}
+
 // The refusal of domain 2 when it drops an aggregate that it does not have.
 fn drops_nothing(alloc: Global, system: &mut System<MemoryBacking>) -> bool {
     let mut second = Domain::new(alloc, system, DomainId::new(2));
@@ -41,10 +58,12 @@ fn passes(alloc: Global, system: &mut System<MemoryBacking>) -> bool {
         return false;
     };
     let is_refused = drops_nothing(alloc, system);
-    match receive(alloc, system, read) {
-        Ok(bytes) => is_refused && bytes.as_slice() == b"hel".as_slice(),
+    let is_received = match receive(alloc, system, read) {
+        Ok(bytes) => bytes.as_slice() == b"hel".as_slice(),
         Err(_) => false,
-    }
+    };
+    let is_borrowed = reads_into(alloc, system, read) && shows_into(alloc, system) == Ok(true);
+    is_refused && is_received && is_borrowed
 }
 
 fn run(alloc: Global) -> Result<bool, Refusal> {
