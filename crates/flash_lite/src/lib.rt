@@ -20,6 +20,7 @@ mod heard;
 mod held;
 pub mod host;
 pub mod laws;
+pub mod layout;
 mod pick;
 mod place_list;
 mod request_calls;
