@@ -70,7 +70,7 @@ take_part : (n : ℕ) (xs first rest : List ℕ) → xs ≡ first ++ rest → n 
 take_part n xs first rest split count = ap (λ k. take k xs) count ∙ (ap (λ (l : List ℕ). take (length first) l) split ∙ (take-append-le (length first) first rest (omega arith) ∙ take-length first))
 
 -- of the first `asked` bytes, after the first `given` some more are followed by a rest
-given_more : (asked given now : ℕ) (bytes more rest : List ℕ) → asked ≤ length bytes → given ≤ asked → drop given (take asked bytes) ≡ more ++ rest → now ≡ asked - length rest
+pub given_more : (asked given now : ℕ) (bytes more rest : List ℕ) → asked ≤ length bytes → given ≤ asked → drop given (take asked bytes) ≡ more ++ rest → now ≡ asked - length rest
     → take now bytes ≡ take given bytes ++ more
 given_more asked given now bytes more rest within less split place = sym (take_front now asked bytes (omega (arith, place)) within) ∙ take_part now (take asked bytes) (take given bytes ++ more) rest whole count
   where

@@ -68,14 +68,17 @@ impl Input {
 
     /// The socket was reported readable, or at its peer's end.
     pub fn note(&mut self, reads: bool, ends: bool)
-        ensures { IsSameInput self.old self.new }
+        ensures same { IsSameInput self.old self.new }
+        ensures ended { self.new.ended ≡ self.old.ended }
     {
         self.readable |= reads;
         self.ending |= ends;
     }
 
     /// Whether the peer's end was read.
-    pub fn is_ended(&self) -> bool {
+    pub fn is_ended(&self) -> bool
+        ensures { result ≡ self.now.ended }
+    {
         self.ended
     }
 

@@ -18,6 +18,7 @@
 
 pub mod accept;
 pub mod client;
+pub mod places;
 pub mod deadlines;
 pub mod engine;
 pub mod exchange;
@@ -27,6 +28,7 @@ pub mod host;
 pub mod input;
 pub mod limits;
 pub mod links;
+pub mod marks;
 pub mod outbox;
 pub mod output;
 pub mod reactor;

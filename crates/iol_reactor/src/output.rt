@@ -1,5 +1,5 @@
 //! The bytes of a response that the world sent and that a client has not accepted yet.
-ghost use Rattle.std.specs.Prelude.{◌≡◌, ◌≢◌, ◌≤◌, [], length};
+ghost use Rattle.std.specs.Prelude.{◌≡◌, ◌≢◌, ◌≤◌, [], length, true};
 ghost use Rattle.std.specs.Io.KnownBytes.{Keeps};
 ghost use Rattle.iol_reactor.specs.Bytes.{Passes, PassesSome, unsent_of};
 
@@ -78,6 +78,13 @@ impl Output {
         was_blocked
     }
 
+    /// Whether the socket accepted all bytes.
+    pub fn is_flushed(&self) -> bool
+        ensures { result ≡ true → unsent_of self.now ≡ [] }
+    {
+        self.at >= self.left.len()
+    }
+
     /// The first bytes of the response.
     pub fn head(&self) -> &[u8] {
         &self.head
@@ -135,10 +142,14 @@ impl Output {
     }
 
     /// The number of bytes that may be collected from the world: there is memory for them, should
-    /// the socket accept none. 0: there is no memory. Nothing is left from before.
+    /// the socket accept none. 0: there is no memory, or bytes are left from before.
     pub fn room(&mut self) -> u32
-        ensures { unsent_of self.new ≡ unsent_of self.old }
+        ensures same { unsent_of self.new ≡ unsent_of self.old }
+        ensures none { result ≢ 0 → unsent_of self.old ≡ [] }
     {
+        if !self.is_flushed() {
+            return 0;
+        }
         let least = if self.produced == 0 {
             MIN_KEPT_BYTES
         } else {

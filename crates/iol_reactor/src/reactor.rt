@@ -279,7 +279,7 @@ where
             return;
         }
         match service.renew(worlds.is_worn()) {
-            Some(world) => worlds.renew(world),
+            Some(world) => self.engine.renew(world),
             None => {}
         }
     }

@@ -1,5 +1,5 @@
 //! The world for new requests, and the one in which earlier requests finish.
-ghost use Rattle.std.specs.Prelude.{◌≡◌, Bool, ◌++◌, ◌∷◌, ◌+◌, ◌==◌, List, ℕ, [], None, Some, true, false, IfSome, IsNone, set, OnErr, OnOk};
+ghost use Rattle.std.specs.Prelude.{◌≡◌, Bool, ◌++◌, ◌∷◌, ◌+◌, ◌==◌, List, ℕ, [], None, Some, true, false, IfSome, IsNone, is_some, set, OnErr, OnOk};
 ghost use Rattle.std.proofs.Props.{props};
 ghost use Rattle.iol_reactor.specs.Connections.{link_at};
 ghost use Rattle.iol_reactor.specs.Visits.{HasVisited};
@@ -82,7 +82,9 @@ impl<B: Backing + Drop, P: Process, V: Service<B, P>> Worlds<B, P, V> {
     }
 
     /// Whether the client in this place has a connection.
-    pub fn has_link(&self, slot: usize) -> bool {
+    pub fn has_link(&self, slot: usize) -> bool
+        ensures { result ≡ is_some (link_at self.now.links.table.items slot) }
+    {
         self.links.get(slot).is_some()
     }
 
