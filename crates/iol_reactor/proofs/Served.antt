@@ -91,9 +91,9 @@ waiting_handed : (input next : Input) (more rest : List ℕ) → input.asked ≤
     → IsGiven (length rest) input next → waiting_of input ≡ more ++ waiting_of next
 waiting_handed input next more rest within less split is = append_cancel_left (take input.given input.bytes.items) (waiting_of input) (more ++ waiting_of next) (
     take-append-drop input.given input.bytes.items ∙ (sym (take-append-drop next.given input.bytes.items)
-        ∙ (ap (λ (l : List ℕ). l ++ drop next.given input.bytes.items) (given_more input.asked input.given next.given input.bytes.items more rest within less split is.given)
-            ∙ (append_assoc (take input.given input.bytes.items) more (drop next.given input.bytes.items)
-                ∙ ap (λ (l : List ℕ). take input.given input.bytes.items ++ (more ++ drop next.given l)) (sym is.bytes)))))
+    ∙ (ap (λ (l : List ℕ). l ++ drop next.given input.bytes.items) (given_more input.asked input.given next.given input.bytes.items more rest within less split is.given)
+    ∙ (append_assoc (take input.given input.bytes.items) more (drop next.given input.bytes.items)
+    ∙ ap (λ (l : List ℕ). take input.given input.bytes.items ++ (more ++ drop next.given l)) (sym is.bytes)))))
 
 -- ---- lists of places
 
@@ -191,15 +191,25 @@ module _ {P : Type 0} (turns : Account P) (starts : Stage SystemState P → Type
   between_kept : (s after : Serving P) (o : Option Link) (input : Input) (unsent supplied accepted : List ℕ) → Stays s after o → IsBetween turns starts frames pool s o input unsent supplied accepted
       → IsBetween turns starts frames pool after o input unsent supplied accepted
   between_kept s after o input unsent supplied accepted stay b = record {
-    past_came = b.past_came; past_sent = b.past_sent; were = b.were; came = b.came; sent = b.sent;
+    past_came = b.past_came;
+    past_sent = b.past_sent;
+    were = b.were;
+    came = b.came;
+    sent = b.sent;
     is = open_at_kept s after o b.came b.sent stay b.is;
-    asked = b.asked; given = b.given; holds = b.holds;
+    asked = b.asked;
+    given = b.given;
+    holds = b.holds;
   }
 
   within_kept : (s after : Serving P) (o : Option Link) (is_last : Bool) (input : Input) (unsent supplied accepted : List ℕ) → Stays s after o → IsWithin turns starts frames pool s o is_last input unsent supplied accepted
       → IsWithin turns starts frames pool after o is_last input unsent supplied accepted
   within_kept s after o is_last input unsent supplied accepted stay w = record {
-    past_came = w.past_came; past_sent = w.past_sent; were = w.were; came = w.came; sent = w.sent;
+    past_came = w.past_came;
+    past_sent = w.past_sent;
+    were = w.were;
+    came = w.came;
+    sent = w.sent;
     is = asking_at_kept s after o is_last input w.came w.sent stay w.is;
     holds = w.holds;
   }
@@ -243,7 +253,15 @@ module _ {P : Type 0} (turns : Account P) (starts : Stage SystemState P → Type
   served_by : (pc ps came sent waiting unsent supplied accepted : List ℕ) (v : Option (Visit P)) → WereLeft turns starts frames pool pc ps → IsLast turns starts frames pool v came sent
       → Holds pc ps came sent waiting unsent supplied accepted → IsServed turns starts frames pool unsent supplied accepted
   served_by pc ps came sent waiting unsent supplied accepted v were last holds = record {
-    past_came = pc; past_sent = ps; were = were; visit = v; came = came; sent = sent; last = last; waiting = waiting; holds = holds;
+    past_came = pc;
+    past_sent = ps;
+    were = were;
+    visit = v;
+    came = came;
+    sent = sent;
+    last = last;
+    waiting = waiting;
+    holds = holds;
   }
 
   served_between : (s : Serving P) (o : Option Link) (input : Input) (unsent supplied accepted : List ℕ) → IsBetween turns starts frames pool s o input unsent supplied accepted → IsServed turns starts frames pool unsent supplied accepted
@@ -275,7 +293,12 @@ module _ {P : Type 0} (turns : Account P) (starts : Stage SystemState P → Type
 
   close_read : (unsent supplied accepted more : List ℕ) → IsServedToClose turns starts frames pool unsent supplied accepted → IsServedToClose turns starts frames pool unsent (supplied ++ more) accepted
   close_read unsent supplied accepted more v = record {
-    past_came = v.past_came; past_sent = v.past_sent; were = v.were; visit = v.visit; closed = v.closed; waiting = v.waiting ++ more;
+    past_came = v.past_came;
+    past_sent = v.past_sent;
+    were = v.were;
+    visit = v.visit;
+    closed = v.closed;
+    waiting = v.waiting ++ more;
     holds = bytes_move.read v.past_came v.past_sent v.visit.came v.visit.sent v.waiting unsent supplied accepted more v.holds;
   }
 
@@ -336,8 +359,14 @@ module _ {P : Type 0} (turns : Account P) (starts : Stage SystemState P → Type
   between_read : (s : Serving P) (o : Option Link) (input after : Input) (unsent supplied accepted more : List ℕ) → after.bytes.items ≡ input.bytes.items ++ more → after.asked ≡ input.asked → after.given ≡ input.given
       → IsBetween turns starts frames pool s o input unsent supplied accepted → IsBetween turns starts frames pool s o after unsent (supplied ++ more) accepted
   between_read s o input after unsent supplied accepted more grown asked given b = record {
-    past_came = b.past_came; past_sent = b.past_sent; were = b.were; came = b.came; sent = b.sent; is = b.is;
-    asked = asked ∙ b.asked; given = given ∙ b.given;
+    past_came = b.past_came;
+    past_sent = b.past_sent;
+    were = b.were;
+    came = b.came;
+    sent = b.sent;
+    is = b.is;
+    asked = asked ∙ b.asked;
+    given = given ∙ b.given;
     holds = subst (λ (k : List ℕ). Holds b.past_came b.past_sent b.came b.sent k unsent (supplied ++ more) accepted) (sym grown)
         (bytes_move.read b.past_came b.past_sent b.came b.sent input.bytes.items unsent supplied accepted more b.holds);
   }
@@ -345,8 +374,14 @@ module _ {P : Type 0} (turns : Account P) (starts : Stage SystemState P → Type
   between_flushed : (s : Serving P) (o : Option Link) (input : Input) (unsent left supplied accepted more : List ℕ) → unsent ≡ more ++ left
       → IsBetween turns starts frames pool s o input unsent supplied accepted → IsBetween turns starts frames pool s o input left supplied (accepted ++ more)
   between_flushed s o input unsent left supplied accepted more split b = record {
-    past_came = b.past_came; past_sent = b.past_sent; were = b.were; came = b.came; sent = b.sent; is = b.is;
-    asked = b.asked; given = b.given;
+    past_came = b.past_came;
+    past_sent = b.past_sent;
+    were = b.were;
+    came = b.came;
+    sent = b.sent;
+    is = b.is;
+    asked = b.asked;
+    given = b.given;
     holds = bytes_move.flushed b.past_came b.past_sent b.came b.sent input.bytes.items left supplied accepted more
         (subst (λ (k : List ℕ). Holds b.past_came b.past_sent b.came b.sent input.bytes.items k supplied accepted) split b.holds);
   }
@@ -354,7 +389,12 @@ module _ {P : Type 0} (turns : Account P) (starts : Stage SystemState P → Type
   within_flushed : (s : Serving P) (o : Option Link) (is_last : Bool) (input : Input) (unsent left supplied accepted more : List ℕ) → unsent ≡ more ++ left
       → IsWithin turns starts frames pool s o is_last input unsent supplied accepted → IsWithin turns starts frames pool s o is_last input left supplied (accepted ++ more)
   within_flushed s o is_last input unsent left supplied accepted more split b = record {
-    past_came = b.past_came; past_sent = b.past_sent; were = b.were; came = b.came; sent = b.sent; is = b.is;
+    past_came = b.past_came;
+    past_sent = b.past_sent;
+    were = b.were;
+    came = b.came;
+    sent = b.sent;
+    is = b.is;
     holds = bytes_move.flushed b.past_came b.past_sent b.came b.sent (waiting_of input) left supplied accepted more
         (subst (λ (k : List ℕ). Holds b.past_came b.past_sent b.came b.sent (waiting_of input) k supplied accepted) split b.holds);
   }
@@ -362,12 +402,17 @@ module _ {P : Type 0} (turns : Account P) (starts : Stage SystemState P → Type
   served_flushed : (unsent left supplied accepted more : List ℕ) → unsent ≡ more ++ left → IsServed turns starts frames pool unsent supplied accepted → IsServed turns starts frames pool left supplied (accepted ++ more)
   served_flushed unsent left supplied accepted more split v = served_by _ _ _ _ v.waiting left supplied (accepted ++ more) v.visit v.were v.last
       (bytes_move.flushed v.past_came v.past_sent v.came v.sent v.waiting left supplied accepted more
-          (subst (λ (k : List ℕ). Holds v.past_came v.past_sent v.came v.sent v.waiting k supplied accepted) split v.holds))
+      (subst (λ (k : List ℕ). Holds v.past_came v.past_sent v.came v.sent v.waiting k supplied accepted) split v.holds))
 
   close_flushed : (unsent left supplied accepted more : List ℕ) → unsent ≡ more ++ left → IsServedToClose turns starts frames pool unsent supplied accepted
       → IsServedToClose turns starts frames pool left supplied (accepted ++ more)
   close_flushed unsent left supplied accepted more split v = record {
-    past_came = v.past_came; past_sent = v.past_sent; were = v.were; visit = v.visit; closed = v.closed; waiting = v.waiting;
+    past_came = v.past_came;
+    past_sent = v.past_sent;
+    were = v.were;
+    visit = v.visit;
+    closed = v.closed;
+    waiting = v.waiting;
     holds = bytes_move.flushed v.past_came v.past_sent v.visit.came v.visit.sent v.waiting left supplied accepted more
         (subst (λ (k : List ℕ). Holds v.past_came v.past_sent v.visit.came v.visit.sent v.waiting k supplied accepted) split v.holds);
   }
@@ -375,7 +420,12 @@ module _ {P : Type 0} (turns : Account P) (starts : Stage SystemState P → Type
   end_flushed : (is_ended : Bool) (unsent left supplied accepted more : List ℕ) → unsent ≡ more ++ left → IsServedToEnd turns starts frames pool is_ended unsent supplied accepted
       → IsServedToEnd turns starts frames pool is_ended left supplied (accepted ++ more)
   end_flushed is_ended unsent left supplied accepted more split v = record {
-    past_came = v.past_came; past_sent = v.past_sent; were = v.were; waiting = v.waiting; none = v.none; ended = v.ended;
+    past_came = v.past_came;
+    past_sent = v.past_sent;
+    were = v.were;
+    waiting = v.waiting;
+    none = v.none;
+    ended = v.ended;
     holds = bytes_move.flushed v.past_came v.past_sent [] [] v.waiting left supplied accepted more
         (subst (λ (k : List ℕ). Holds v.past_came v.past_sent [] [] v.waiting k supplied accepted) split v.holds);
   }
@@ -400,9 +450,14 @@ module _ {P : Type 0} (turns : Account P) (starts : Stage SystemState P → Type
   between_linked : (s after : Serving P) (l : Link) (input : Input) (unsent supplied accepted : List ℕ) → HasLinkVisited turns starts pool after l [] [] false
       → IsBetween turns starts frames pool s None input unsent supplied accepted → IsBetween turns starts frames pool after (Some l) input unsent supplied accepted
   between_linked s after l input unsent supplied accepted begun b = record {
-    past_came = b.past_came; past_sent = b.past_sent; were = b.were; came = []; sent = [];
+    past_came = b.past_came;
+    past_sent = b.past_sent;
+    were = b.were;
+    came = [];
+    sent = [];
     is = (connections_follow turns starts frames pool).first after l begun;
-    asked = b.asked; given = b.given;
+    asked = b.asked;
+    given = b.given;
     holds = subst (λ (k : List ℕ). Holds b.past_came b.past_sent k [] input.bytes.items unsent supplied accepted) b.is.0
         (subst (λ (k : List ℕ). Holds b.past_came b.past_sent b.came k input.bytes.items unsent supplied accepted) b.is.1 b.holds);
   }
@@ -423,7 +478,11 @@ module _ {P : Type 0} (turns : Account P) (starts : Stage SystemState P → Type
       → frames (drop input.asked input.bytes.items) (frame_as is_last size) → IsBegun size input after
       → IsBetween turns starts frames pool s (Some l) input unsent supplied accepted → IsWithin turns starts frames pool s (Some l) is_last after unsent supplied accepted
   within_begun s l is_last input after unsent supplied accepted size framed is b = record {
-    past_came = b.past_came; past_sent = b.past_sent; were = b.were; came = b.came; sent = b.sent;
+    past_came = b.past_came;
+    past_sent = b.past_sent;
+    were = b.were;
+    came = b.came;
+    sent = b.sent;
     is = (connections_follow turns starts frames pool).begun s l is_last input after b.came b.sent size
         (subst (λ k. frames (drop k input.bytes.items) (frame_as is_last size)) b.asked framed) is b.is;
     holds = subst (λ (k : List ℕ). Holds b.past_came b.past_sent b.came b.sent k unsent supplied accepted)
@@ -436,18 +495,26 @@ module _ {P : Type 0} (turns : Account P) (starts : Stage SystemState P → Type
       → IsWithin turns starts frames pool s o is_last input unsent supplied accepted → IsWithin turns starts frames pool after o is_last next unsent supplied accepted
   within_handed s after None is_last input next unsent supplied accepted more rest split is goes w = absurd w.is
   within_handed s after (Some l) is_last input next unsent supplied accepted more rest split is goes w = record {
-    past_came = w.past_came; past_sent = w.past_sent; were = w.were; came = w.came ++ more; sent = w.sent;
+    past_came = w.past_came;
+    past_sent = w.past_sent;
+    were = w.were;
+    came = w.came ++ more;
+    sent = w.sent;
     is = (connections_follow turns starts frames pool).handed s after l is_last input next w.came w.sent more rest split is goes w.is;
     holds = bytes_move.handed w.past_came w.past_sent w.came w.sent (waiting_of next) unsent supplied accepted more
         (subst (λ (k : List ℕ). Holds w.past_came w.past_sent w.came w.sent k unsent supplied accepted)
-            (waiting_handed input next more rest w.is.within w.is.given split is) w.holds);
+        (waiting_handed input next more rest w.is.within w.is.given split is) w.holds);
   }
 
   within_read : (s : Serving P) (o : Option Link) (is_last : Bool) (input after : Input) (unsent supplied accepted more : List ℕ) → after.bytes.items ≡ input.bytes.items ++ more → after.asked ≡ input.asked → after.given ≡ input.given
       → IsWithin turns starts frames pool s o is_last input unsent supplied accepted → IsWithin turns starts frames pool s o is_last after unsent (supplied ++ more) accepted
   within_read s None is_last input after unsent supplied accepted more grown asked given w = absurd w.is
   within_read s (Some l) is_last input after unsent supplied accepted more grown asked given w = record {
-    past_came = w.past_came; past_sent = w.past_sent; were = w.were; came = w.came; sent = w.sent;
+    past_came = w.past_came;
+    past_sent = w.past_sent;
+    were = w.were;
+    came = w.came;
+    sent = w.sent;
     is = (connections_follow turns starts frames pool).read s l is_last input after w.came w.sent more grown asked given w.is;
     holds = subst (λ (k : List ℕ). Holds w.past_came w.past_sent w.came w.sent k unsent (supplied ++ more) accepted)
         (sym (waiting_read input after more grown given (omega (arith, w.is.given, w.is.within))))
@@ -485,9 +552,14 @@ module _ {P : Type 0} (turns : Account P) (starts : Stage SystemState P → Type
   between_sent : (s after : Serving P) (l : Link) (input : Input) (unsent left supplied accepted more : List ℕ) → unsent ≡ [] → SlotGoesOn turns starts pool (Some l) [] (more ++ left) false s after
       → IsBetween turns starts frames pool s (Some l) input unsent supplied accepted → IsBetween turns starts frames pool after (Some l) input left supplied (accepted ++ more)
   between_sent s after l input unsent left supplied accepted more none goes b = record {
-    past_came = b.past_came; past_sent = b.past_sent; were = b.were; came = b.came; sent = b.sent ++ (more ++ left);
+    past_came = b.past_came;
+    past_sent = b.past_sent;
+    were = b.were;
+    came = b.came;
+    sent = b.sent ++ (more ++ left);
     is = (connections_follow turns starts frames pool).open_sends s after l b.came b.sent (more ++ left) goes b.is;
-    asked = b.asked; given = b.given;
+    asked = b.asked;
+    given = b.given;
     holds = bytes_move.sent b.past_came b.past_sent b.came b.sent input.bytes.items left supplied accepted more
         (subst (λ (k : List ℕ). Holds b.past_came b.past_sent b.came b.sent input.bytes.items k supplied accepted) none b.holds);
   }
@@ -496,7 +568,11 @@ module _ {P : Type 0} (turns : Account P) (starts : Stage SystemState P → Type
       → IsWithin turns starts frames pool s o is_last input unsent supplied accepted → IsWithin turns starts frames pool after o is_last input left supplied (accepted ++ more)
   within_sent s after None is_last input unsent left supplied accepted more none goes w = absurd w.is
   within_sent s after (Some l) is_last input unsent left supplied accepted more none goes w = record {
-    past_came = w.past_came; past_sent = w.past_sent; were = w.were; came = w.came; sent = w.sent ++ (more ++ left);
+    past_came = w.past_came;
+    past_sent = w.past_sent;
+    were = w.were;
+    came = w.came;
+    sent = w.sent ++ (more ++ left);
     is = (connections_follow turns starts frames pool).sends s after l is_last input w.came w.sent (more ++ left) goes w.is;
     holds = bytes_move.sent w.past_came w.past_sent w.came w.sent (waiting_of input) left supplied accepted more
         (subst (λ (k : List ℕ). Holds w.past_came w.past_sent w.came w.sent (waiting_of input) k supplied accepted) none w.holds);
@@ -507,9 +583,14 @@ module _ {P : Type 0} (turns : Account P) (starts : Stage SystemState P → Type
       → IsWithin turns starts frames pool s o is_last input unsent supplied accepted → IsBetween turns starts frames pool s o after unsent supplied accepted
   between_answered s None is_last input after unsent supplied accepted keeps all is w = absurd w.is
   between_answered s (Some l) is_last input after unsent supplied accepted keeps all is w = record {
-    past_came = w.past_came; past_sent = w.past_sent; were = w.were; came = w.came; sent = w.sent;
+    past_came = w.past_came;
+    past_sent = w.past_sent;
+    were = w.were;
+    came = w.came;
+    sent = w.sent;
     is = (connections_follow turns starts frames pool).answered s l input w.came w.sent all (subst (λ (k : Bool). IsAsking turns starts frames pool s l k input w.came w.sent) keeps w.is);
-    asked = is.asked; given = is.given;
+    asked = is.asked;
+    given = is.given;
     holds = subst (λ (k : List ℕ). Holds w.past_came w.past_sent w.came w.sent k unsent supplied accepted)
         (sym (is.bytes ∙ ap (λ k. drop k input.bytes.items) (omega (arith, all, w.is.given)))) w.holds;
   }
@@ -518,12 +599,26 @@ module _ {P : Type 0} (turns : Account P) (starts : Stage SystemState P → Type
   between_told : (s after : Serving P) (o : Option Link) (input : Input) (unsent supplied accepted : List ℕ) → SlotGoesOn turns starts pool o [] [] false s after → IsBetween turns starts frames pool s o input unsent supplied accepted
       → IsBetween turns starts frames pool after o input unsent supplied accepted
   between_told s after None input unsent supplied accepted goes b = record {
-    past_came = b.past_came; past_sent = b.past_sent; were = b.were; came = b.came; sent = b.sent; is = b.is; asked = b.asked; given = b.given; holds = b.holds;
+    past_came = b.past_came;
+    past_sent = b.past_sent;
+    were = b.were;
+    came = b.came;
+    sent = b.sent;
+    is = b.is;
+    asked = b.asked;
+    given = b.given;
+    holds = b.holds;
   }
   between_told s after (Some l) input unsent supplied accepted goes b = record {
-    past_came = b.past_came; past_sent = b.past_sent; were = b.were; came = b.came; sent = b.sent;
+    past_came = b.past_came;
+    past_sent = b.past_sent;
+    were = b.were;
+    came = b.came;
+    sent = b.sent;
     is = subst (λ (k : List ℕ). IsOpen turns starts frames pool after l b.came k) (append-nil b.sent) ((connections_follow turns starts frames pool).open_sends s after l b.came b.sent [] goes b.is);
-    asked = b.asked; given = b.given; holds = b.holds;
+    asked = b.asked;
+    given = b.given;
+    holds = b.holds;
   }
 
   -- the connection was left
@@ -533,9 +628,14 @@ module _ {P : Type 0} (turns : Account P) (starts : Stage SystemState P → Type
   between_left s after (Some l) input unsent supplied accepted over b = (
       let v = (connections_follow turns starts frames pool).left s l b.came b.sent over b.is in
       record {
-        past_came = b.past_came ++ b.came; past_sent = b.past_sent ++ b.sent;
+        past_came = b.past_came ++ b.came;
+        past_sent = b.past_sent ++ b.sent;
         were = (connections_follow turns starts frames pool).more b.past_came b.past_sent (record { world = v.0; conn = l.conn; came = b.came; sent = b.sent }) b.were v.1;
-        came = []; sent = []; is = (refl, refl); asked = b.asked; given = b.given;
+        came = [];
+        sent = [];
+        is = (refl, refl);
+        asked = b.asked;
+        given = b.given;
         holds = bytes_move.left b.past_came b.past_sent b.came b.sent input.bytes.items unsent supplied accepted b.holds;
       })
 
@@ -546,8 +646,13 @@ module _ {P : Type 0} (turns : Account P) (starts : Stage SystemState P → Type
   served_closed s (Some l) is_last input unsent supplied accepted last all over w = (
       let v = (connections_follow turns starts frames pool).closed s l input w.came w.sent all over (subst (λ (k : Bool). IsAsking turns starts frames pool s l k input w.came w.sent) last w.is) in
       record {
-        past_came = w.past_came; past_sent = w.past_sent; were = w.were; visit = record { world = v.0; conn = l.conn; came = w.came; sent = w.sent };
-        closed = v.1; waiting = waiting_of input; holds = w.holds;
+        past_came = w.past_came;
+        past_sent = w.past_sent;
+        were = w.were;
+        visit = record { world = v.0; conn = l.conn; came = w.came; sent = w.sent };
+        closed = v.1;
+        waiting = waiting_of input;
+        holds = w.holds;
       })
 
   -- ---- one client
@@ -560,12 +665,15 @@ module _ {P : Type 0} (turns : Account P) (starts : Stage SystemState P → Type
         → gives c.socket ≡ Some from → takes c.socket ≡ Some to → c.phase ≡ at → c.is_last ≡ is_last → c.is_whole ≡ is_whole → c.input ≡ input → unsent_of c.output ≡ unsent
         → IsInPhase turns starts frames pool s o at is_last is_whole input unsent from to → Followed s o c
     followed_as s o c from to at is_last is_whole input unsent supplies accepts kind last whole same left is = record {
-      from = from; to = to; supplies = supplies; accepts = accepts;
+      from = from;
+      to = to;
+      supplies = supplies;
+      accepts = accepts;
       is = subst (λ k. IsInPhase turns starts frames pool s o k c.is_last c.is_whole c.input (unsent_of c.output) from to) (sym kind)
           (subst (λ k. IsInPhase turns starts frames pool s o at k c.is_whole c.input (unsent_of c.output) from to) (sym last)
-              (subst (λ k. IsInPhase turns starts frames pool s o at is_last k c.input (unsent_of c.output) from to) (sym whole)
-                  (subst (λ k. IsInPhase turns starts frames pool s o at is_last is_whole k (unsent_of c.output) from to) (sym same)
-                      (subst (λ k. IsInPhase turns starts frames pool s o at is_last is_whole input k from to) (sym left) is))));
+          (subst (λ k. IsInPhase turns starts frames pool s o at is_last k c.input (unsent_of c.output) from to) (sym whole)
+          (subst (λ k. IsInPhase turns starts frames pool s o at is_last is_whole k (unsent_of c.output) from to) (sym same)
+          (subst (λ k. IsInPhase turns starts frames pool s o at is_last is_whole input k from to) (sym left) is))));
     }
 
     pub new_followed : (s : Serving P) (o : Option Link) (c : Client S) → o ≡ None → AreKnown gives takes → IsEmpty (gives c.socket) → IsEmpty (takes c.socket) → c.phase ≡ phase.Parked
@@ -573,9 +681,14 @@ module _ {P : Type 0} (turns : Account P) (starts : Stage SystemState P → Type
     new_followed s o c none known no_supply no_accepted at bytes asked given unsent = followed_as s o c [] [] phase.Parked c.is_last c.is_whole c.input []
         (empty_known (gives c.socket) (known.supplies c.socket) no_supply) (empty_known (takes c.socket) (known.accepts c.socket) no_accepted) at refl refl refl unsent
         (in_free s o phase.Parked c.is_last c.is_whole c.input [] [] [] refl (record {
-          past_came = []; past_sent = []; were = (connections_follow turns starts frames pool).none; came = []; sent = [];
+          past_came = [];
+          past_sent = [];
+          were = (connections_follow turns starts frames pool).none;
+          came = [];
+          sent = [];
           is = subst (λ (k : Option Link). IsOpenAt turns starts frames pool s k [] []) (sym none) (refl, refl);
-          asked = asked; given = given;
+          asked = asked;
+          given = given;
           holds = subst (λ (k : List ℕ). Holds [] [] [] [] k [] [] []) (sym bytes) bytes_move.none;
         }))
 
@@ -596,15 +709,15 @@ module _ {P : Type 0} (turns : Account P) (starts : Stage SystemState P → Type
     over_followed s after o p c n came sent at h =
         let v = served_of s o c.phase c.is_last c.is_whole c.input (unsent_of c.output) h.from h.to h.is in
         followed_as after p n (h.from ++ came.0) h.to phase.Over n.is_last n.is_whole n.input (unsent_of n.output)
-            (appends_known (gives c.socket) (gives n.socket) h.from came.0 h.supplies came.1) (keeps_known (takes c.socket) (takes n.socket) h.to h.accepts sent) at refl refl refl refl
-            (in_over after p phase.Over n.is_last n.is_whole n.input (unsent_of n.output) v.0 (h.from ++ came.0) h.to refl (served_read v.0 h.from h.to came.0 v.1))
+        (appends_known (gives c.socket) (gives n.socket) h.from came.0 h.supplies came.1) (keeps_known (takes c.socket) (takes n.socket) h.to h.accepts sent) at refl refl refl refl
+        (in_over after p phase.Over n.is_last n.is_whole n.input (unsent_of n.output) v.0 (h.from ++ came.0) h.to refl (served_read v.0 h.from h.to came.0 v.1))
 
     -- the connection of a client that is over does not matter
     pub over_anywhere : (s after : Serving P) (o p : Option Link) (c : Client S) → c.phase ≡ phase.Over → Followed s o c → Followed after p c
     over_anywhere s after o p c at h =
         let v = h.is.over at in
         followed_as after p c h.from h.to phase.Over c.is_last c.is_whole c.input (unsent_of c.output) h.supplies h.accepts at refl refl refl refl
-            (in_over after p phase.Over c.is_last c.is_whole c.input (unsent_of c.output) v.0 h.from h.to refl v.1)
+        (in_over after p phase.Over c.is_last c.is_whole c.input (unsent_of c.output) v.0 h.from h.to refl v.1)
 
     -- from one phase between requests to another
     pub free_followed : (s : Serving P) (o : Option Link) (at : Phase) (c n : Client S) → is_free c.phase ≡ true → is_free at ≡ true → n.phase ≡ at → n.socket ≡ c.socket → n.input ≡ c.input → n.output ≡ c.output
@@ -624,7 +737,7 @@ module _ {P : Type 0} (turns : Account P) (starts : Stage SystemState P → Type
     begun_followed s (Some l) size is_last c n some free framed is last unsent socket at h = followed_as s (Some l) n h.from h.to phase.Answering is_last n.is_whole n.input (unsent_of c.output)
         (ap (λ k. gives k) socket ∙ h.supplies) (ap (λ k. takes k) socket ∙ h.accepts) at last refl refl unsent
         (in_answering s (Some l) phase.Answering is_last n.is_whole n.input (unsent_of c.output) h.from h.to refl
-            (within_begun s l is_last c.input n.input (unsent_of c.output) h.from h.to size framed is (h.is.between free)))
+        (within_begun s l is_last c.input n.input (unsent_of c.output) h.from h.to size framed is (h.is.between free)))
 
     pub handed_followed : (s after : Serving P) (o : Option Link) (left : ℕ) (bytes rest : List ℕ) (c n : Client S) → c.phase ≡ phase.Answering
         → bytes ≡ drop c.input.given (take c.input.asked c.input.bytes.items) → left ≡ length rest
@@ -633,7 +746,7 @@ module _ {P : Type 0} (turns : Account P) (starts : Stage SystemState P → Type
     handed_followed s after o left bytes rest c n at is count goes given socket same output last h = followed_as after o n h.from h.to phase.Answering c.is_last n.is_whole n.input (unsent_of c.output)
         (ap (λ k. gives k) socket ∙ h.supplies) (ap (λ k. takes k) socket ∙ h.accepts) (same ∙ at) last refl refl (ap (λ k. unsent_of k) output)
         (in_answering after o phase.Answering c.is_last n.is_whole n.input (unsent_of c.output) h.from h.to refl
-            (within_handed s after o c.is_last c.input n.input (unsent_of c.output) h.from h.to goes.0 rest (sym is ∙ goes.1) (subst (λ k. IsGiven k c.input n.input) count given) goes.2 (h.is.within at)))
+        (within_handed s after o c.is_last c.input n.input (unsent_of c.output) h.from h.to goes.0 rest (sym is ∙ goes.1) (subst (λ k. IsGiven k c.input n.input) count given) goes.2 (h.is.within at)))
 
     -- a client between requests whose connection receives its end
     pub leaves_followed : (s after : Serving P) (o : Option Link) (c n : Client S) → is_free c.phase ≡ true → SlotGoesOn turns starts pool o [] [] false s after → n.phase ≡ phase.Leaving → n.socket ≡ c.socket → n.input ≡ c.input
@@ -649,16 +762,20 @@ module _ {P : Type 0} (turns : Account P) (starts : Stage SystemState P → Type
     ends_followed s None f c n none free ended framed whole at socket input output h =
         let b : IsBetween turns starts frames pool s None c.input (unsent_of c.output) h.from h.to = h.is.between free in
         let holds : Holds b.past_came b.past_sent [] [] c.input.bytes.items (unsent_of c.output) h.from h.to = subst (λ (k : List ℕ). Holds b.past_came b.past_sent k [] c.input.bytes.items (unsent_of c.output) h.from h.to) b.is.0
-            (subst (λ (k : List ℕ). Holds b.past_came b.past_sent b.came k c.input.bytes.items (unsent_of c.output) h.from h.to) b.is.1 b.holds) in
+        (subst (λ (k : List ℕ). Holds b.past_came b.past_sent b.came k c.input.bytes.items (unsent_of c.output) h.from h.to) b.is.1 b.holds) in
         followed_as s None n h.from h.to phase.Flushing n.is_last n.is_whole c.input (unsent_of c.output)
-            (ap (λ k. gives k) socket ∙ h.supplies) (ap (λ k. takes k) socket ∙ h.accepts) at refl refl input (ap (λ k. unsent_of k) output)
-            (in_ending s None phase.Flushing n.is_last n.is_whole c.input (unsent_of c.output) h.from h.to refl (served_between s None c.input (unsent_of c.output) h.from h.to b)
-                (λ w. inr (record {
-                  past_came = b.past_came; past_sent = b.past_sent; were = b.were; waiting = c.input.bytes.items;
-                  none = subst (λ k. frames k frame.Incomplete) (ap (λ k. drop k c.input.bytes.items) b.asked) (subst (λ k. frames (drop c.input.asked c.input.bytes.items) k) (whole w) framed);
-                  ended = ended; holds = holds;
-                }))
-                (λ e. absurd (cc e)))
+        (ap (λ k. gives k) socket ∙ h.supplies) (ap (λ k. takes k) socket ∙ h.accepts) at refl refl input (ap (λ k. unsent_of k) output)
+        (in_ending s None phase.Flushing n.is_last n.is_whole c.input (unsent_of c.output) h.from h.to refl (served_between s None c.input (unsent_of c.output) h.from h.to b)
+        (λ w. inr (record {
+          past_came = b.past_came;
+          past_sent = b.past_sent;
+          were = b.were;
+          waiting = c.input.bytes.items;
+          none = subst (λ k. frames k frame.Incomplete) (ap (λ k. drop k c.input.bytes.items) b.asked) (subst (λ k. frames (drop c.input.asked c.input.bytes.items) k) (whole w) framed);
+          ended = ended;
+          holds = holds;
+        }))
+        (λ e. absurd (cc e)))
 
     pub flushed_followed : (s : Serving P) (o : Option Link) (c n : Client S) → c.phase ≢ phase.Over → Passes (takes c.socket) (takes n.socket) (unsent_of c.output) (unsent_of n.output) → Keeps (gives c.socket) (gives n.socket)
         → n.phase ≡ c.phase → n.input ≡ c.input → n.is_last ≡ c.is_last → n.is_whole ≡ c.is_whole → Followed s o c → Followed s o n
@@ -683,7 +800,7 @@ module _ {P : Type 0} (turns : Account P) (starts : Stage SystemState P → Type
     sent_followed s after o sent c n is some none goes passes came at input last whole h = followed_as after o n h.from (h.to ++ passes.accepted) c.phase c.is_last c.is_whole c.input (unsent_of n.output)
         (keeps_known (gives c.socket) (gives n.socket) h.from h.supplies came) (appends_known (takes c.socket) (takes n.socket) h.to passes.accepted h.accepts passes.taken) at last whole input refl
         (sent_in s after o c.phase c.is_last c.is_whole c.input (unsent_of c.output) (unsent_of n.output) h.from h.to passes.accepted is some none
-            (subst (λ (k : List ℕ). SlotGoesOn turns starts pool o [] k false s after) passes.left goes) h.is)
+        (subst (λ (k : List ℕ). SlotGoesOn turns starts pool o [] k false s after) passes.left goes) h.is)
 
     -- the same where the socket failed
     pub lost_followed : (s after : Serving P) (o : Option Link) (sent : List ℕ) (c n : Client S) → (c.phase ≡ phase.Answering) ⊎ (c.phase ≡ phase.Leaving) → is_some o ≡ true → unsent_of c.output ≡ []
@@ -692,18 +809,18 @@ module _ {P : Type 0} (turns : Account P) (starts : Stage SystemState P → Type
     lost_followed s after o sent c n is some none goes passes came at h =
         let p : Passes (takes c.socket) (takes n.socket) sent passes.0 = passes.1 in
         let v = served_of after o c.phase c.is_last c.is_whole c.input passes.0 h.from (h.to ++ p.accepted)
-            (sent_in s after o c.phase c.is_last c.is_whole c.input (unsent_of c.output) passes.0 h.from h.to p.accepted is some none
-                (subst (λ (k : List ℕ). SlotGoesOn turns starts pool o [] k false s after) p.left goes) h.is) in
+        (sent_in s after o c.phase c.is_last c.is_whole c.input (unsent_of c.output) passes.0 h.from h.to p.accepted is some none
+        (subst (λ (k : List ℕ). SlotGoesOn turns starts pool o [] k false s after) p.left goes) h.is) in
         followed_as after o n h.from (h.to ++ p.accepted) phase.Over n.is_last n.is_whole n.input (unsent_of n.output)
-            (keeps_known (gives c.socket) (gives n.socket) h.from h.supplies came) (appends_known (takes c.socket) (takes n.socket) h.to p.accepted h.accepts p.taken) at refl refl refl refl
-            (in_over after o phase.Over n.is_last n.is_whole n.input (unsent_of n.output) v.0 h.from (h.to ++ p.accepted) refl v.1)
+        (keeps_known (gives c.socket) (gives n.socket) h.from h.supplies came) (appends_known (takes c.socket) (takes n.socket) h.to p.accepted h.accepts p.taken) at refl refl refl refl
+        (in_over after o phase.Over n.is_last n.is_whole n.input (unsent_of n.output) v.0 h.from (h.to ++ p.accepted) refl v.1)
 
     pub answered_followed : (s : Serving P) (o : Option Link) (c n : Client S) → c.phase ≡ phase.Answering → c.input.asked ≤ c.input.given → c.is_last ≡ false → IsFinished c.input n.input → n.socket ≡ c.socket
         → n.phase ≡ phase.Quiet → n.output ≡ c.output → Followed s o c → Followed s o n
     answered_followed s o c n at all keeps is socket now output h = followed_as s o n h.from h.to phase.Quiet n.is_last n.is_whole n.input (unsent_of c.output)
         (ap (λ k. gives k) socket ∙ h.supplies) (ap (λ k. takes k) socket ∙ h.accepts) now refl refl refl (ap (λ k. unsent_of k) output)
         (in_free s o phase.Quiet n.is_last n.is_whole n.input (unsent_of c.output) h.from h.to refl
-            (between_answered s o c.is_last c.input n.input (unsent_of c.output) h.from h.to keeps all is (h.is.within at)))
+        (between_answered s o c.is_last c.input n.input (unsent_of c.output) h.from h.to keeps all is (h.is.within at)))
 
     pub completed_followed : (s : Serving P) (o : Option Link) (done : Bool) (c n : Client S) → (done ≡ false → n ≡ c) → (done ≡ true → IsCompleted c n) → Followed s o c → Followed s o n
     completed_followed s o false c n waits is h = subst (λ (k : Client S). IsFollowed turns starts frames pool gives takes s o k) (sym (waits refl)) h
@@ -728,17 +845,17 @@ module _ {P : Type 0} (turns : Account P) (starts : Stage SystemState P → Type
         → n.phase ≡ m.phase → n.input ≡ m.input → n.is_last ≡ m.is_last → n.is_whole ≡ m.is_whole → Followed s o c → Followed after p n
     sent_at s after o p sent c m n is some none unsent socket kind input last whole goes same passes came now after_input after_last after_whole h =
         subst (λ (k : Option Link). IsFollowed turns starts frames pool gives takes after k n) (sym same)
-            (sent_followed s after o sent c n is some none goes (subst (λ k. Passes (takes k) (takes n.socket) sent (unsent_of n.output)) socket passes) (subst (λ k. Keeps (gives k) (gives n.socket)) socket came)
-                (now ∙ kind) (after_input ∙ input) (after_last ∙ last) (after_whole ∙ whole) h)
+        (sent_followed s after o sent c n is some none goes (subst (λ k. Passes (takes k) (takes n.socket) sent (unsent_of n.output)) socket passes) (subst (λ k. Keeps (gives k) (gives n.socket)) socket came)
+        (now ∙ kind) (after_input ∙ input) (after_last ∙ last) (after_whole ∙ whole) h)
 
     pub lost_at : (s after : Serving P) (o p : Option Link) (sent : List ℕ) (c m d n : Client S) → (c.phase ≡ phase.Answering) ⊎ (c.phase ≡ phase.Leaving) → is_some o ≡ true → unsent_of c.output ≡ []
         → m.socket ≡ c.socket → SlotGoesOn turns starts pool o [] sent false s after → p ≡ o → PassesSome (takes m.socket) (takes d.socket) sent → Keeps (gives m.socket) (gives d.socket)
         → n.socket ≡ d.socket → n.phase ≡ phase.Over → Followed s o c → Followed after p n
     lost_at s after o p sent c m d n is some none socket goes same passes came last at h =
         subst (λ (k : Option Link). IsFollowed turns starts frames pool gives takes after k n) (sym same)
-            (lost_followed s after o sent c n is some none goes
-                (subst (λ k. PassesSome (takes c.socket) (takes k) sent) (sym last) (subst (λ k. PassesSome (takes k) (takes d.socket) sent) socket passes))
-                (subst (λ k. Keeps (gives c.socket) (gives k)) (sym last) (subst (λ k. Keeps (gives k) (gives d.socket)) socket came)) at h)
+        (lost_followed s after o sent c n is some none goes
+        (subst (λ k. PassesSome (takes c.socket) (takes k) sent) (sym last) (subst (λ k. PassesSome (takes k) (takes d.socket) sent) socket passes))
+        (subst (λ k. Keeps (gives c.socket) (gives k)) (sym last) (subst (λ k. Keeps (gives k) (gives d.socket)) socket came)) at h)
 
     -- memory was reserved
     pub room_followed : (s : Serving P) (o : Option Link) (c n : Client S) → unsent_of n.output ≡ unsent_of c.output → n.socket ≡ c.socket → n.phase ≡ c.phase → n.input ≡ c.input → n.is_last ≡ c.is_last → n.is_whole ≡ c.is_whole
@@ -752,10 +869,10 @@ module _ {P : Type 0} (turns : Account P) (starts : Stage SystemState P → Type
     left_followed s after o p c n at over none now socket input unsent h =
         let free : is_free c.phase ≡ true = ap (λ k. is_free k) at in
         followed_as after p n h.from h.to phase.Parked n.is_last n.is_whole c.input (unsent_of c.output)
-            (ap (λ k. gives k) socket ∙ h.supplies) (ap (λ k. takes k) socket ∙ h.accepts) now refl refl input unsent
-            (in_free after p phase.Parked n.is_last n.is_whole c.input (unsent_of c.output) h.from h.to refl
-                (subst (λ (k : Option Link). IsBetween turns starts frames pool after k c.input (unsent_of c.output) h.from h.to) (sym none)
-                    (between_left s after o c.input (unsent_of c.output) h.from h.to over (h.is.between free))))
+        (ap (λ k. gives k) socket ∙ h.supplies) (ap (λ k. takes k) socket ∙ h.accepts) now refl refl input unsent
+        (in_free after p phase.Parked n.is_last n.is_whole c.input (unsent_of c.output) h.from h.to refl
+        (subst (λ (k : Option Link). IsBetween turns starts frames pool after k c.input (unsent_of c.output) h.from h.to) (sym none)
+        (between_left s after o c.input (unsent_of c.output) h.from h.to over (h.is.between free))))
 
     -- they closed that of a client with a request in progress
     pub closed_followed : (s after : Serving P) (o p : Option Link) (c n : Client S) → c.phase ≡ phase.Answering → IsOver o s → (n.is_whole ≡ true → c.is_last ≡ true) → (n.is_whole ≡ true → c.input.asked ≤ c.input.given)
@@ -763,9 +880,9 @@ module _ {P : Type 0} (turns : Account P) (starts : Stage SystemState P → Type
     closed_followed s after o p c n at over last all now socket unsent h = followed_as after p n h.from h.to phase.Flushing n.is_last n.is_whole n.input (unsent_of c.output)
         (ap (λ k. gives k) socket ∙ h.supplies) (ap (λ k. takes k) socket ∙ h.accepts) now refl refl refl unsent
         (in_ending after p phase.Flushing n.is_last n.is_whole n.input (unsent_of c.output) h.from h.to refl
-            (served_within s o c.is_last c.input (unsent_of c.output) h.from h.to (h.is.within at))
-            (λ w. inl (served_closed s o c.is_last c.input (unsent_of c.output) h.from h.to (last w) (all w) over (h.is.within at)))
-            (λ e. absurd (cc e)))
+        (served_within s o c.is_last c.input (unsent_of c.output) h.from h.to (h.is.within at))
+        (λ w. inl (served_closed s o c.is_last c.input (unsent_of c.output) h.from h.to (last w) (all w) over (h.is.within at)))
+        (λ e. absurd (cc e)))
 
     -- its output was ended
     pub closing_followed : (s : Serving P) (o : Option Link) (c n : Client S) → c.phase ≡ phase.Flushing → unsent_of c.output ≡ [] → n.phase ≡ phase.Closing → Keeps (gives c.socket) (gives n.socket) → Keeps (takes c.socket) (takes n.socket)
@@ -773,8 +890,8 @@ module _ {P : Type 0} (turns : Account P) (starts : Stage SystemState P → Type
     closing_followed s o c n at none now came sent input output whole h =
         let ending : is_ending c.phase ≡ true = ap (λ k. is_ending k) at in
         followed_as s o n h.from h.to phase.Closing n.is_last c.is_whole c.input (unsent_of c.output)
-            (keeps_known (gives c.socket) (gives n.socket) h.from h.supplies came) (keeps_known (takes c.socket) (takes n.socket) h.to h.accepts sent) now refl whole input (ap (λ k. unsent_of k) output)
-            (in_ending s o phase.Closing n.is_last c.is_whole c.input (unsent_of c.output) h.from h.to refl (h.is.served ending) (h.is.whole ending) (λ e. none))
+        (keeps_known (gives c.socket) (gives n.socket) h.from h.supplies came) (keeps_known (takes c.socket) (takes n.socket) h.to h.accepts sent) now refl whole input (ap (λ k. unsent_of k) output)
+        (in_ending s o phase.Closing n.is_last c.is_whole c.input (unsent_of c.output) h.from h.to refl (h.is.served ending) (h.is.whole ending) (λ e. none))
 
     -- input behind it is dropped
     pub drained_followed : (s : Serving P) (o : Option Link) (c n : Client S) → c.phase ≡ phase.Closing → c.input.ended ≡ false → Grows (gives c.socket) (gives n.socket) → Keeps (takes c.socket) (takes n.socket)
@@ -782,17 +899,22 @@ module _ {P : Type 0} (turns : Account P) (starts : Stage SystemState P → Type
     drained_followed s o c n at still came sent same output whole h =
         let ending : is_ending c.phase ≡ true = ap (λ k. is_ending k) at in
         followed_as s o n (h.from ++ came.0) h.to phase.Closing n.is_last c.is_whole n.input (unsent_of c.output)
-            (appends_known (gives c.socket) (gives n.socket) h.from came.0 h.supplies came.1) (keeps_known (takes c.socket) (takes n.socket) h.to h.accepts sent) (same ∙ at) refl whole refl (ap (λ k. unsent_of k) output)
-            (in_ending s o phase.Closing n.is_last c.is_whole n.input (unsent_of c.output) (h.from ++ came.0) h.to refl
-                (served_read (unsent_of c.output) h.from h.to came.0 (h.is.served ending))
-                (λ w. whole_read c.input.ended n.input.ended (unsent_of c.output) h.from h.to came.0 still (h.is.whole ending w))
-                (λ e. h.is.all at))
+        (appends_known (gives c.socket) (gives n.socket) h.from came.0 h.supplies came.1) (keeps_known (takes c.socket) (takes n.socket) h.to h.accepts sent) (same ∙ at) refl whole refl (ap (λ k. unsent_of k) output)
+        (in_ending s o phase.Closing n.is_last c.is_whole n.input (unsent_of c.output) (h.from ++ came.0) h.to refl
+        (served_read (unsent_of c.output) h.from h.to came.0 (h.is.served ending))
+        (λ w. whole_read c.input.ended n.input.ended (unsent_of c.output) h.from h.to came.0 still (h.is.whole ending w))
+        (λ e. h.is.all at))
 
     history_of : (s : Serving P) (o : Option Link) (c : Client S) → Followed s o c → HasHistory turns starts frames pool gives takes c
     history_of s o c h =
         let v = served_of s o c.phase c.is_last c.is_whole c.input (unsent_of c.output) h.from h.to h.is in
         record {
-          from = h.from; to = h.to; supplies = h.supplies; accepts = h.accepts; unsent = v.0; served = v.1;
+          from = h.from;
+          to = h.to;
+          supplies = h.supplies;
+          accepts = h.accepts;
+          unsent = v.0;
+          served = v.1;
           whole = λ e w. subst (λ (k : List ℕ). IsServedWhole turns starts frames pool c.input.ended k h.from h.to) (h.is.all e)
               (h.is.whole (subst (λ (k : Phase). is_ending k ≡ true) (sym e) refl) w);
         }
@@ -806,7 +928,10 @@ module _ {P : Type 0} (turns : Account P) (starts : Stage SystemState P → Type
 
     followed_kept : (s after : Serving P) (o p : Option Link) (c : Client S) → Stays s after o → p ≡ o → Followed s o c → Followed after p c
     followed_kept s after o p c stay same h = record {
-      from = h.from; to = h.to; supplies = h.supplies; accepts = h.accepts;
+      from = h.from;
+      to = h.to;
+      supplies = h.supplies;
+      accepts = h.accepts;
       is = subst (λ (k : Option Link). IsInPhase turns starts frames pool after k c.phase c.is_last c.is_whole c.input (unsent_of c.output) h.from h.to) (sym same)
           (phase_kept s after o c.phase c.is_last c.is_whole c.input (unsent_of c.output) h.from h.to stay h.is);
     }
@@ -821,7 +946,7 @@ module _ {P : Type 0} (turns : Account P) (starts : Stage SystemState P → Type
         → ((j : ℕ) → link_at next j ≡ link_at table j) → AreFollowed turns starts frames pool gives takes s table clients → AreFollowed turns starts frames q gives takes after next clients
     all_stay q s after table next last clients same come stay rest all = subst (λ k. AreFollowed turns starts frames k gives takes after next clients) (sym same)
         (λ known j c at. ∥∥₁_map (all known j c at)
-            (λ h. followed_kept s after (link_at table j) (link_at next j) c (λ l is more sent v. stay l more sent false (up_to s.number last l (come j l is)) v) (rest j) h))
+        (λ h. followed_kept s after (link_at table j) (link_at next j) c (λ l is more sent v. stay l more sent false (up_to s.number last l (come j l is)) v) (rest j) h))
 
     -- a client in its place, which has not changed
     pub all_same : (s : Serving P) (table : List (Option Link)) (clients : List (Option (Client S))) (slot : ℕ) (place : Option (Client S)) → slot < length clients → place ≡ get_or clients slot place
@@ -837,8 +962,8 @@ module _ {P : Type 0} (turns : Account P) (starts : Stage SystemState P → Type
         (λ known j m at. elim (cases_eq j slot) [
           | inl e ↦ subst (λ k. ∥ IsFollowed turns starts frames pool gives takes after (link_at next k) m ∥₁) (sym e)
               (subst (λ (k : Client S). ∥ IsFollowed turns starts frames pool gives takes after (link_at next slot) k ∥₁)
-                  (some_same n m (sym (get_or-set_same clients slot (Some n) None within) ∙ (ap (λ k. get_or (set clients slot (Some n)) k None) (sym e) ∙ at)))
-                  (∥∥₁_map (all known slot c (at_place clients slot place c within is here)) own))
+              (some_same n m (sym (get_or-set_same clients slot (Some n) None within) ∙ (ap (λ k. get_or (set clients slot (Some n)) k None) (sym e) ∙ at)))
+              (∥∥₁_map (all known slot c (at_place clients slot place c within is here)) own))
           | inr other ↦ ∥∥₁_map (all known j m (sym (get_or-set_other clients slot j (Some n) None other) ∙ at))
               (λ h. others_kept s after table next last slot j m apart come others other (rest j other) h)
         ])
@@ -850,8 +975,8 @@ module _ {P : Type 0} (turns : Account P) (starts : Stage SystemState P → Type
     one_moves s table clients slot place c n within is here own all = λ known j m at. elim (cases_eq j slot) [
       | inl e ↦ subst (λ k. ∥ IsFollowed turns starts frames pool gives takes s (link_at table k) m ∥₁) (sym e)
           (subst (λ (k : Client S). ∥ IsFollowed turns starts frames pool gives takes s (link_at table slot) k ∥₁)
-              (some_same n m (sym (get_or-set_same clients slot (Some n) None within) ∙ (ap (λ k. get_or (set clients slot (Some n)) k None) (sym e) ∙ at)))
-              (∥∥₁_map (all known slot c (at_place clients slot place c within is here)) own))
+          (some_same n m (sym (get_or-set_same clients slot (Some n) None within) ∙ (ap (λ k. get_or (set clients slot (Some n)) k None) (sym e) ∙ at)))
+          (∥∥₁_map (all known slot c (at_place clients slot place c within is here)) own))
       | inr other ↦ all known j m (sym (get_or-set_other clients slot j (Some n) None other) ∙ at)
     ]
 
@@ -864,7 +989,7 @@ module _ {P : Type 0} (turns : Account P) (starts : Stage SystemState P → Type
         (λ known j c at. elim (cases_eq j slot) [
           | inl e ↦ ∥∥₁_map₂ begun (all known j c at) (λ b h.
               subst (λ (k : Option Link). IsFollowed turns starts frames pool gives takes after k c) (sym (ap (λ k. link_at next k) e ∙ linked))
-                  (linked_followed s after (link_at table j) l c (ap (λ k. is_some (link_at table k)) e ∙ none) b h))
+              (linked_followed s after (link_at table j) l c (ap (λ k. is_some (link_at table k)) e ∙ none) b h))
           | inr other ↦ ∥∥₁_map (all known j c at) (λ h. others_kept s after table next last slot j c apart come others other (rest j other) h)
         ])
 
@@ -886,8 +1011,8 @@ module _ {P : Type 0} (turns : Account P) (starts : Stage SystemState P → Type
         (λ known j m at. elim (cases_eq j slot) [
           | inl e ↦ subst (λ k. ∥ IsFollowed turns starts frames pool gives takes after (link_at next k) m ∥₁) (sym e)
               (subst (λ (k : Client S). ∥ IsFollowed turns starts frames pool gives takes after (link_at next slot) k ∥₁)
-                  (some_same n m (sym (get_or-set_same clients slot (Some n) None within) ∙ (ap (λ k. get_or (set clients slot (Some n)) k None) (sym e) ∙ at)))
-                  ∣ own known ∣₁)
+              (some_same n m (sym (get_or-set_same clients slot (Some n) None within) ∙ (ap (λ k. get_or (set clients slot (Some n)) k None) (sym e) ∙ at)))
+              ∣ own known ∣₁)
           | inr other ↦ ∥∥₁_map (all known j m (sym (get_or-set_other clients slot j (Some n) None other) ∙ at))
               (λ h. others_kept s after table next last slot j m apart come others other (rest j other) h)
         ])
@@ -925,8 +1050,8 @@ module _ {P : Type 0} (turns : Account P) (starts : Stage SystemState P → Type
         let b = begun refl in
         let l : Link = record { conn = b.0; generation = n } in
         all_linked q s after table next last clients slot l same apart come (others_stay s after (link_at table slot) stay)
-            (λ j other. set_rest table next slot (Some (record { conn = (given refl).0; generation = n })) (given refl).1 j other) none b.1
-            (∥∥₁_map b.2 (λ (v : HasVisited turns starts pool b.0 [] [] false after.current). visited_current after l [] [] number v)) all
+        (λ j other. set_rest table next slot (Some (record { conn = (given refl).0; generation = n })) (given refl).1 j other) none b.1
+        (∥∥₁_map b.2 (λ (v : HasVisited turns starts pool b.0 [] [] false after.current). visited_current after l [] [] number v)) all
 
     pub all_set_none : (s : Serving P) (table : List (Option Link)) (clients : List (Option (Client S))) (slot : ℕ) (place : Option (Client S)) → slot < length clients → place ≡ None
         → AreFollowed turns starts frames pool gives takes s table clients → AreFollowed turns starts frames pool gives takes s table (set clients slot place)

@@ -3,10 +3,10 @@ ghost use Rattle.std.specs.Prelude.{◌≡◌, [], get_or, None, Some, IfOk, IfS
 ghost use Rattle.iol_reactor.specs.Served.{HasKnownHistory, IsEmpty};
 
 use crate::client::Client;
-use crate::places::Places;
 use crate::limits::{Limits, ROOM_MILLIS};
 use crate::marks::Marks;
 use crate::outbox::Outbox;
+use crate::places::Places;
 use crate::room::Room;
 use crate::service::Service;
 use crate::socket::Socket;

@@ -7,9 +7,9 @@ ghost use Rattle.iol_reactor.specs.LinkVisits.{IsOver, serving};
 ghost use Rattle.iol_reactor.specs.Served.{IsCompleted};
 
 use crate::client::{Client, Phase};
-use crate::places::Places;
 use crate::outbox::Outbox;
 use crate::output::Sending;
+use crate::places::Places;
 use crate::service::{Progress, Service};
 use crate::socket::Socket;
 use crate::worlds::Collected;

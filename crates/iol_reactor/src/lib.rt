@@ -18,7 +18,6 @@
 
 pub mod accept;
 pub mod client;
-pub mod places;
 pub mod deadlines;
 pub mod engine;
 pub mod exchange;
@@ -31,6 +30,7 @@ pub mod links;
 pub mod marks;
 pub mod outbox;
 pub mod output;
+pub mod places;
 pub mod reactor;
 pub mod requests;
 pub mod room;

@@ -182,8 +182,7 @@ impl<S: Socket + Drop, B: Backing + Drop, P: Process, V: Service<B, P>> Engine<S
     // A client rests: the deadline of its phase is set.
     fn watch(&mut self, slot: usize) {
         let now = self.now();
-        let (Some(client), Some(Some(marks))) =
-            (self.places.get(slot), self.marks.get_mut(slot))
+        let (Some(client), Some(Some(marks))) = (self.places.get(slot), self.marks.get_mut(slot))
         else {
             return;
         };

@@ -9,8 +9,8 @@ invariant_of-self g c = record {
   followed = all_admit g.P.Process.turns g.V.Service.starts g.V.Service.frames _ g.S.Socket.supplied g.S.Socket.accepted _ _ _ _ _ _ _ _ c.new.result c.release.ensures.pool c.args.self.now.worlds.links.apart c.args.self.now.worlds.links.came
       (others_stay g.P.Process.turns g.V.Service.starts g.V.Service.frames _ _ _ _ c.release.ensures.visits) (λ j other. set_rest _ _ _ _ c.release.ensures.table j other) (omega (arith, c.if-slot-len.true, c.len.ensures))
       (λ known. new_followed g.P.Process.turns g.V.Service.starts g.V.Service.frames _ g.S.Socket.supplied g.S.Socket.accepted _ _ c.new.result (released_at _ _ _ c.release.ensures.table) known
-          (subst (λ k. IsEmpty (g.S.Socket.supplied k)) (sym c.new.ensures.socket) c.requires.supplied) (subst (λ k. IsEmpty (g.S.Socket.accepted k)) (sym c.new.ensures.socket) c.requires.accepted)
-          c.new.ensures.phase c.new.ensures.bytes c.new.ensures.asked c.new.ensures.given c.new.ensures.unsent)
+      (subst (λ k. IsEmpty (g.S.Socket.supplied k)) (sym c.new.ensures.socket) c.requires.supplied) (subst (λ k. IsEmpty (g.S.Socket.accepted k)) (sym c.new.ensures.socket) c.requires.accepted)
+      c.new.ensures.phase c.new.ensures.bytes c.new.ensures.asked c.new.ensures.given c.new.ensures.unsent)
       c.args.self.now.followed;
 }
 

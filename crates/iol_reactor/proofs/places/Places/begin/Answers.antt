@@ -16,8 +16,8 @@ invariant_of-self-in-Complete g c = record {
   followed = one_moves g.P.Process.turns g.V.Service.starts g.V.Service.frames _ g.S.Socket.supplied g.S.Socket.accepted _ _ _ _ _ c.in-Some.client c.begin.new.self
       (omega (arith, c.if-slot-len.false, c.len.ensures)) c.index_mut.ensures.value c.in-Some.is
       (λ h. begun_followed g.P.Process.turns g.V.Service.starts g.V.Service.frames _ g.S.Socket.supplied g.S.Socket.accepted _ _ _ false c.in-Some.client c.begin.new.self (sym c.has_link.ensures ∙ (grind (arith, c.if-not-has_link.false))) (subst (λ k. is_free k ≡ true) c.phase.ensures (c.is_between.ensures c.if-is_between.true))
-          (subst (λ k. g.V.Service.frames (drop c.in-Some.client.input.asked c.in-Some.client.input.bytes.items) k) c.in-Complete.is (c.requires c.in-Some.client (at_place c.args.self.now.clients.items c.args.slot c.index_mut.result.now c.in-Some.client (omega (arith, c.if-slot-len.false, c.len.ensures)) c.index_mut.ensures.value c.in-Some.is)))
-          c.begin.ensures.begun c.begin.ensures.last c.begin.ensures.unsent c.begin.ensures.socket c.begin.ensures.phase h)
+      (subst (λ k. g.V.Service.frames (drop c.in-Some.client.input.asked c.in-Some.client.input.bytes.items) k) c.in-Complete.is (c.requires c.in-Some.client (at_place c.args.self.now.clients.items c.args.slot c.index_mut.result.now c.in-Some.client (omega (arith, c.if-slot-len.false, c.len.ensures)) c.index_mut.ensures.value c.in-Some.is)))
+      c.begin.ensures.begun c.begin.ensures.last c.begin.ensures.unsent c.begin.ensures.socket c.begin.ensures.phase h)
       c.args.self.now.followed;
 }
 
@@ -26,8 +26,8 @@ invariant_of-self-in-Last g c = record {
   followed = one_moves g.P.Process.turns g.V.Service.starts g.V.Service.frames _ g.S.Socket.supplied g.S.Socket.accepted _ _ _ _ _ c.in-Some.client c.begin-in-Last.new.self
       (omega (arith, c.if-slot-len.false, c.len.ensures)) c.index_mut.ensures.value c.in-Some.is
       (λ h. begun_followed g.P.Process.turns g.V.Service.starts g.V.Service.frames _ g.S.Socket.supplied g.S.Socket.accepted _ _ _ true c.in-Some.client c.begin-in-Last.new.self (sym c.has_link.ensures ∙ (grind (arith, c.if-not-has_link.false))) (subst (λ k. is_free k ≡ true) c.phase.ensures (c.is_between.ensures c.if-is_between.true))
-          (subst (λ k. g.V.Service.frames (drop c.in-Some.client.input.asked c.in-Some.client.input.bytes.items) k) c.in-Last.is (c.requires c.in-Some.client (at_place c.args.self.now.clients.items c.args.slot c.index_mut.result.now c.in-Some.client (omega (arith, c.if-slot-len.false, c.len.ensures)) c.index_mut.ensures.value c.in-Some.is)))
-          c.begin-in-Last.ensures.begun c.begin-in-Last.ensures.last c.begin-in-Last.ensures.unsent c.begin-in-Last.ensures.socket c.begin-in-Last.ensures.phase h)
+      (subst (λ k. g.V.Service.frames (drop c.in-Some.client.input.asked c.in-Some.client.input.bytes.items) k) c.in-Last.is (c.requires c.in-Some.client (at_place c.args.self.now.clients.items c.args.slot c.index_mut.result.now c.in-Some.client (omega (arith, c.if-slot-len.false, c.len.ensures)) c.index_mut.ensures.value c.in-Some.is)))
+      c.begin-in-Last.ensures.begun c.begin-in-Last.ensures.last c.begin-in-Last.ensures.unsent c.begin-in-Last.ensures.socket c.begin-in-Last.ensures.phase h)
       c.args.self.now.followed;
 }
 

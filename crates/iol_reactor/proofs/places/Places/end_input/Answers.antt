@@ -24,8 +24,8 @@ invariant_of-self-in-Some g c = record {
   followed = one_moves g.P.Process.turns g.V.Service.starts g.V.Service.frames _ g.S.Socket.supplied g.S.Socket.accepted _ _ _ _ _ c.in-Some.client c.end.new.self
       (omega (arith, c.if-slot-len.false, c.len.ensures)) c.index_mut.ensures.value c.in-Some.is
       (λ h. ends_followed g.P.Process.turns g.V.Service.starts g.V.Service.frames _ g.S.Socket.supplied g.S.Socket.accepted _ _ _ c.in-Some.client c.end.new.self (sym c.has_link.ensures ∙ c.if-has_link.false) (subst (λ k. is_free k ≡ true) c.phase.ensures (c.is_between.ensures (grind (arith, c.if-not-is_between.false)))) (sym c.is_ended.ensures ∙ (grind (arith, c.if-not-is_ended.false)))
-          (c.requires c.in-Some.client (at_place c.args.self.now.clients.items c.args.slot c.index_mut.result.now c.in-Some.client (omega (arith, c.if-slot-len.false, c.len.ensures)) c.index_mut.ensures.value c.in-Some.is)) (λ e. c.is_incomplete.ensures (sym c.end.ensures.whole ∙ e))
-          c.end.ensures.phase c.end.ensures.socket c.end.ensures.input c.end.ensures.output h)
+      (c.requires c.in-Some.client (at_place c.args.self.now.clients.items c.args.slot c.index_mut.result.now c.in-Some.client (omega (arith, c.if-slot-len.false, c.len.ensures)) c.index_mut.ensures.value c.in-Some.is)) (λ e. c.is_incomplete.ensures (sym c.end.ensures.whole ∙ e))
+      c.end.ensures.phase c.end.ensures.socket c.end.ensures.input c.end.ensures.output h)
       c.args.self.now.followed;
 }
 

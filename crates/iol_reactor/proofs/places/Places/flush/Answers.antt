@@ -18,7 +18,7 @@ invariant_of-self-in-Some g c = record {
   followed = one_moves g.P.Process.turns g.V.Service.starts g.V.Service.frames _ g.S.Socket.supplied g.S.Socket.accepted _ _ _ _ _ c.in-Some.client c.flush.new.self
       (omega (arith, c.if-slot-len.false, c.len.ensures)) c.index_mut.ensures.value c.in-Some.is
       (λ h. flushed_followed g.P.Process.turns g.V.Service.starts g.V.Service.frames _ g.S.Socket.supplied g.S.Socket.accepted _ _ c.in-Some.client c.flush.new.self (subst (λ k. k ≢ phase.Over) c.phase.ensures (c.is_there.ensures (grind (arith, c.if-not-is_there.false)))) c.flush.ensures.passes c.flush.ensures.came
-          c.flush.ensures.phase c.flush.ensures.input c.flush.ensures.last c.flush.ensures.whole h)
+      c.flush.ensures.phase c.flush.ensures.input c.flush.ensures.last c.flush.ensures.whole h)
       c.args.self.now.followed;
 }
 

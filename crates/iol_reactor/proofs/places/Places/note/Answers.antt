@@ -7,7 +7,7 @@ invariant_of-self g c = record {
   followed = one_moves g.P.Process.turns g.V.Service.starts g.V.Service.frames _ g.S.Socket.supplied g.S.Socket.accepted _ _ _ _ _ c.in-Some.client c.note.new.self
       (omega (arith, c.if-slot-len.false, c.len.ensures)) c.index_mut.ensures.value c.in-Some.is
       (λ h. note_followed g.P.Process.turns g.V.Service.starts g.V.Service.frames _ g.S.Socket.supplied g.S.Socket.accepted _ _ _ _ c.note.ensures.input.bytes c.note.ensures.input.asked c.note.ensures.input.given c.note.ensures.ended
-          c.note.ensures.unsent c.note.ensures.socket c.note.ensures.phase c.note.ensures.last c.note.ensures.whole h)
+      c.note.ensures.unsent c.note.ensures.socket c.note.ensures.phase c.note.ensures.last c.note.ensures.whole h)
       c.args.self.now.followed;
 }
 

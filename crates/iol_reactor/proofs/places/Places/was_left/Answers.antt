@@ -14,7 +14,7 @@ invariant_of-self-in-Leaving g c = record {
       (λ j other. set_rest _ _ _ _ c.release.ensures.table j other)
       (omega (arith, c.if-slot-len.false, c.len.ensures)) c.index_mut.ensures.value c.in-Some.is
       (λ h. left_followed g.P.Process.turns g.V.Service.starts g.V.Service.frames _ g.S.Socket.supplied g.S.Socket.accepted _ _ _ _ c.in-Some.client c.set_phase.new.self (sym c.phase.ensures ∙ c.in-Leaving.is) c.requires (released_at _ _ _ c.release.ensures.table) c.set_phase.ensures.phase
-          (c.set_phase.ensures.socket ∙ c.release-in-Leaving.ensures.socket) (c.set_phase.ensures.input ∙ c.release-in-Leaving.ensures.input) (ap (λ k. unsent_of k) c.set_phase.ensures.output ∙ c.release-in-Leaving.ensures.unsent) h)
+      (c.set_phase.ensures.socket ∙ c.release-in-Leaving.ensures.socket) (c.set_phase.ensures.input ∙ c.release-in-Leaving.ensures.input) (ap (λ k. unsent_of k) c.set_phase.ensures.output ∙ c.release-in-Leaving.ensures.unsent) h)
       c.args.self.now.followed;
 }
 
