@@ -1,21 +1,22 @@
 -- The contents of a domain after a change.
-use Rattle.std.proofs.Common.{inl, inr, ◌≡◌, ◌≢◌, ℕ, ◌-◌, ◌<◌, ◌≤◌, ◌⊎◌, List, [], ◌∷◌, length, ap, ◌∙◌, refl, sym, subst, arith, Option, Some, None, true}
-use Rattle.std.specs.Prelude.{not, fold}
+use Rattle.std.proofs.Common.{inl, inr, ◌≡◌, ◌≢◌, ℕ, ◌+◌, ◌-◌, ◌<◌, ◌≤◌, ◌⊎◌, List, [], ◌∷◌, length, ap, ◌∙◌, refl, sym, subst, arith, Option, Some, None, true, false, Bool}
+use Rattle.std.specs.Prelude.{not, fold, slice_set, ◌||◌}
 use Rattle.std.proofs.lemmas.Bool.{cases_eq, cases_lt}
 use Rattle.std.proofs.lemmas.Bool.Decides.{nat_tests}
 use Rattle.std.proofs.lemmas.Grind.{common_steps}
-use Rattle.std.proofs.lemmas.List.{get_or_past, set-set}
+use Rattle.std.proofs.lemmas.List.{get_or_past, set_past, set-set}
 use Rattle.iol_core.specs.Text.{Text}
 use Rattle.iol_core.specs.NumberedLists.{numbered_or, with_numbered, in_place}
 use Rattle.iol_core.specs.State.{State, Domain, Pipe, Connection, domain, descriptor, no_domain, is_live, with_domain, with_pipe, with_conn}
 use Rattle.iol_core.specs.Meaning.{first, ◌when◌}
 use Rattle.iol_core.specs.Calls.Descriptors as fds
+use Rattle.iol_core.specs.Calls.Reads as reading
 use Rattle.iol_core.specs.declared.refusals.Refusal.{Refusal}
 use Rattle.iol_core.specs.declared.refusals.Refusal.TheVariants as refuse
 use Rattle.iol_core.specs.declared.descriptors.Descriptor.{Descriptor}
 use Rattle.iol_core.specs.declared.descriptors.Descriptor.TheVariants as on
-use Rattle.iol_core.proofs.Lookups.{domain-with_domain}
-use Rattle.iol_core.proofs.TestedLists.{passed, when-not}
+use Rattle.iol_core.proofs.Lookups.{domain-same, domain-with_domain}
+use Rattle.iol_core.proofs.TestedLists.{passed, when-not, when-none}
 
 pub domains-with_pipe : (s : State) (p : ℕ) (x : Pipe) → (with_pipe s p x).domains ≡ s.domains
 unfolding with_pipe
@@ -34,7 +35,7 @@ pub domains-all_closed : (s : State) (list : List (Option Descriptor)) → (fold
 domains-all_closed s [] = refl
 domains-all_closed s (o ∷ list) = domains-all_closed (fds.closed_on s o) list ∙ domains-closed_on s o
 
-live-numbered : (s : State) (d : ℕ) → is_live s d ≡ true → (0 < d) × (d ≤ length s.domains)
+pub live-numbered : (s : State) (d : ℕ) → is_live s d ≡ true → (0 < d) × (d ≤ length s.domains)
 unfolding domain
 live-numbered s d live = elim (cases_eq d 0) [
   | inl k ↦ (let e : numbered_or s.domains d no_domain ≡ no_domain = grind (arith, nat_tests, k) in let f = ap (λ (x : Domain Text). x.live) e in absurd (cc (live, f)))
@@ -44,9 +45,20 @@ live-numbered s d live = elim (cases_eq d 0) [
   ]
 ]
 
-domain-numbered : (s : State) (d : ℕ) (x : Domain Text) → 0 < d → d ≤ length s.domains → domain (with_domain s d x) d ≡ x
+pub domain-numbered : (s : State) (d : ℕ) (x : Domain Text) → 0 < d → d ≤ length s.domains → domain (with_domain s d x) d ≡ x
 unfolding domain with_domain
 domain-numbered s d x lo hi = grind (arith, nat_tests, common_steps, lo, hi)
+
+-- a domain has a number, or no change of it changes the state
+pub in-range : (s : State) (d : ℕ) → ((0 < d) × (d ≤ length s.domains)) ⊎ ((x : Domain Text) → with_domain s d x ≡ s)
+unfolding with_domain
+in-range s d = elim (cases_eq d 0) [
+  | inl k ↦ inr (λ x. ap (λ (ds : List (Domain Text)). record s { domains = ds }) (grind (arith, nat_tests, k)))
+  | inr k ↦ elim (cases_lt (d - 1) (length s.domains)) [
+    | inl h ↦ inl (omega (arith, k), omega (arith, k, h))
+    | inr h ↦ inr (λ x. ap (λ (ds : List (Domain Text)). record s { domains = ds }) (let same = set_past s.domains (d - 1) x h in grind (arith, nat_tests, k, same)))
+  ]
+]
 
 pub domain-with_same : (s : State) (d : ℕ) (x : Domain Text) → is_live s d ≡ true → domain (with_domain s d x) d ≡ x
 domain-with_same s d x live = let n = live-numbered s d live in domain-numbered s d x n.0 n.1
@@ -66,6 +78,13 @@ numbered-there xs d x z = elim (cases_eq d 0) [
 domain-there : (s : State) (d : ℕ) (x : Domain Text) → (domain (with_domain s d x) d ≡ x) ⊎ (domain (with_domain s d x) d ≡ no_domain)
 unfolding domain with_domain
 domain-there s d x = numbered-there s.domains d x no_domain
+
+-- reading changes no more of a domain than its descriptors
+pub kept-read_on : {A : Type 0} (f : Domain Text → A) → ((y : Domain Text) (xs : List (Option Descriptor)) → f (record y { fds = xs }) ≡ f y) → (s : State) (by fd : ℕ) (o : Option Descriptor) (n : ℕ) → f (domain (reading.read_on s by fd o n) by) ≡ f (domain s by)
+kept-read_on f same s by fd (Some (on.File g at mode)) n = elim (domain-with_domain s by by (record (domain s by) { fds = slice_set (domain s by).fds fd (Some (on.File g (at + n) mode)) })) [ inl both ↦ ap f both.1 ∙ same (domain s by) _ | inr old ↦ ap f old ]
+kept-read_on f same s by fd (Some (on.ReadEnd p)) n = ap f (domain-same s _ by (domains-with_pipe s p _))
+kept-read_on f same s by fd (Some (on.Connection c)) n = ap f (domain-same s _ by (domains-with_conn s c _))
+kept-read_on f same s by fd o n = refl
 
 -- a domain changes: what is found in it is of the new list
 pub found-with : (s : State) (d : ℕ) (x : Domain Text) (e f : ℕ) (y : Descriptor) → descriptor (with_domain s d x) e f ≡ Some y → ((d ≡ e) × (in_place x.fds f ≡ Some y)) ⊎ ((d ≢ e) × (descriptor s e f ≡ Some y))
@@ -92,3 +111,11 @@ with_domain-twice s d x y = ap (λ (ds : List (Domain Text)). record s { domains
 
 pub live-first : (s : State) (d : ℕ) (rest : List (Option Refusal)) → first ((refuse.NoDomain when not (is_live s d)) ∷ rest) ≡ None → is_live s d ≡ true
 live-first s d rest none = when-not refuse.NoDomain (is_live s d) (passed ((refuse.NoDomain when not (is_live s d)) ∷ rest) 0 none)
+
+pub both-live : (s : State) (by to : ℕ) (rest : List (Option Refusal)) → first ((refuse.NoDomain when (not (is_live s by) || not (is_live s to))) ∷ rest) ≡ None → (is_live s by ≡ true) × (is_live s to ≡ true)
+both-live s by to rest none = both (is_live s by) (is_live s to) (when-none refuse.NoDomain (not (is_live s by) || not (is_live s to)) (passed ((refuse.NoDomain when (not (is_live s by) || not (is_live s to))) ∷ rest) 0 none))
+  where
+    both : (a b : Bool) → (not a || not b) ≡ false → (a ≡ true) × (b ≡ true)
+    both true true is = (refl, refl)
+    both true false is = absurd (cc)
+    both false b is = absurd (cc)

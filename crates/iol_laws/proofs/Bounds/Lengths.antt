@@ -30,7 +30,7 @@ use Rattle.iol_core.proofs.Positions.{placed_new, placed_step}
 use Rattle.iol_laws.proofs.Runs.{run_keeps}
 use Rattle.iol_laws.specs.Caller.{lent_at}
 use Rattle.iol_laws.specs.Lengths.{AreShort}
-use Rattle.iol_laws.proofs.Frame.Files.{files_written, store_meant}
+use Rattle.iol_laws.proofs.Frame.Files.{files_written, store_meant, content-same}
 use Rattle.iol_laws.proofs.Numbers.{text-of}
 use Rattle.iol_laws.proofs.Bounds.ShortAggregates.{fit_meant, fit_new_state, is-short, taken-less, text-fits}
 use Rattle.iol_laws.proofs.Bounds.ShortQueues.{conn-fits, linked_meant, piped_meant, piped_new_state, queue-short}
@@ -40,13 +40,9 @@ use Rattle.iol_laws.proofs.Texts.{length-bytes, length-labelled}
 abbrev FilesShort : State → Type 0
 FilesShort s = (f : ℕ) → is_numbered s.files f ≡ true → length (content s f) ≤ MAX_FILE_BYTES
 
-content-slots : (s t : State) (f : ℕ) → t.slots ≡ s.slots → content t f ≡ content s f
-unfolding content
-content-slots s t f same = ap (λ (l : List (List ℕ)). numbered_or l f []) same
-
 -- files and their bytes are the same
 short_same : (s t : State) → (t.files ≡ s.files) × (t.slots ≡ s.slots) → FilesShort s → FilesShort t
-short_same s t same short f there = subst (λ (l : List ℕ). length l ≤ MAX_FILE_BYTES) (sym (content-slots s t f same.1)) (short f (ap (λ (l : List File). is_numbered l f) (sym same.0) ∙ there))
+short_same s t same short f there = subst (λ (l : List ℕ). length l ≤ MAX_FILE_BYTES) (sym (content-same s t f same.1)) (short f (ap (λ (l : List File). is_numbered l f) (sym same.0) ∙ there))
 
 -- one file has other bytes
 short_content : (s t : State) (f : ℕ) (bytes : List ℕ) → t.files ≡ s.files → t.slots ≡ (with_content s f bytes).slots → length bytes ≤ MAX_FILE_BYTES → FilesShort s → FilesShort t
@@ -95,8 +91,8 @@ pushed xs x f there = elim (cases_eq f (length xs + 1)) [
 
 short_file_new : (s : State) (by : ℕ) (name : List ℕ) (p : ℕ) → first (files.file_new s by name p).refusals ≡ None → FilesShort s → FilesShort (files.file_new s by name p).after
 short_file_new s by name p passes short f there = elim (pushed s.files _ f there) [
-  | inl old ↦ subst (λ (l : List ℕ). length l ≤ MAX_FILE_BYTES) (sym (content-slots s (files.file_new s by name p).after f refl)) (short f old)
-  | inr new ↦ subst (λ (l : List ℕ). length l ≤ MAX_FILE_BYTES) (sym (content-slots s (files.file_new s by name p).after f refl)) (subst (λ n. length (content s n) ≤ MAX_FILE_BYTES) (sym new) fits)
+  | inl old ↦ subst (λ (l : List ℕ). length l ≤ MAX_FILE_BYTES) (sym (content-same s (files.file_new s by name p).after f refl)) (short f old)
+  | inr new ↦ subst (λ (l : List ℕ). length l ≤ MAX_FILE_BYTES) (sym (content-same s (files.file_new s by name p).after f refl)) (subst (λ n. length (content s n) ≤ MAX_FILE_BYTES) (sym new) fits)
 ]
   where
     within : (n : ℕ) → nat_lt MAX_FILE_BYTES n ≡ false → n ≤ MAX_FILE_BYTES

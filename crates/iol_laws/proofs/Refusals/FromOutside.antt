@@ -1,6 +1,6 @@
 -- The refusals that an external event can still get, and the reason for which arriving bytes are refused with BrokenPipe.
-use Rattle.std.proofs.Common.{inl, inr, ◌≡◌, ℕ, ◌<◌, ◌⊎◌, List, [], ◌∷◌, ap, arith, Some, true, false, Bool}
-use Rattle.std.specs.Prelude.{not, is_some, ◌||◌}
+use Rattle.std.proofs.Common.{◌≡◌, ℕ, ◌<◌, ◌⊎◌, List, [], ◌∷◌, ap, arith, Some, true, false, Bool}
+use Rattle.std.specs.Prelude.{not, is_some}
 use Rattle.std.proofs.lemmas.Bool.Decides.{nat_tests}
 use Rattle.iol_core.specs.State.{State, is_pool, pool, conn_at}
 use Rattle.iol_core.specs.Meaning.{first, ◌when◌, Never, WantOfMemory, FaultIn}
@@ -15,6 +15,7 @@ use Rattle.iol_core.specs.declared.events.Reply.TheVariants as reply
 use Rattle.iol_laws.specs.RefusalsLeft.{CannotPutOrLacksRoom, HasNothingToSend, LacksNumbers}
 use Rattle.iol_laws.proofs.Refusals.Reasons.{broken-said, other, said, when-differs}
 use Rattle.iol_laws.proofs.Refusals.Calls.{left, may, not-so, of-memory, of-room}
+use Rattle.iol_laws.proofs.Tests.{either}
 
 pub left_connect : (s t : State) (p : ℕ) (x : Refusal) → is_pool s p ≡ true → (pool s p).closed ≡ false → StepsTo s (event.ConnNew p) (reply.Refused x) t → LacksNumbers x
 left_connect s t p x there open_yet step =
@@ -48,10 +49,6 @@ left_drop_clean s t x step = step.0
 
 second : (a b c : Bool) → first ((refuse.BadFd when a) ∷ (refuse.BrokenPipe when b) ∷ (refuse.WouldBlock when c) ∷ []) ≡ Some refuse.BrokenPipe → b ≡ true
 second a b c is = broken-said b c (other (refuse.BadFd when a) ((refuse.BrokenPipe when b) ∷ (refuse.WouldBlock when c) ∷ []) refuse.BrokenPipe (when-differs refuse.BadFd refuse.BrokenPipe a (λ e. cc)) is)
-
-either : (a b : Bool) → (a || b) ≡ true → (a ≡ true) ⊎ (b ≡ true)
-either true b is = inl is
-either false b is = inr is
 
 pub arrival_is_broken : (s t : State) (c : ℕ) (bytes : List ℕ) → StepsTo s (event.Arrive c bytes) (reply.Refused refuse.BrokenPipe) t → (is_some (conn_at s c).peer ≡ true) ⊎ ((conn_at s c).closed ≡ true)
 arrival_is_broken s t c [] step = either _ _ (second _ _ false (said (first (outside.arrive s c []).refusals) refuse.BrokenPipe step.0))
