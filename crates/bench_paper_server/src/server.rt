@@ -5,8 +5,8 @@
 //! aggregate of the buffer, which it writes: the two copies of `read` and `write`. Both forms make
 //! nine calls for a request whose response fits the connection's queue.
 ghost use Rattle.std.specs.Prelude.{⊤, IfSome};
-ghost use Rattle.iol_proc.specs.Prelude.{IsQuiet};
-ghost use Rattle.iol_proc.specs.Quiet.{IsQuietCall};
+ghost use Rattle.iol_proc.specs.Prelude.{IsCopyFree};
+ghost use Rattle.iol_proc.specs.Quiet.{IsCopyFreeCall};
 
 use crate::passing::Passing;
 use crate::request::Request;
@@ -16,7 +16,7 @@ use iol_core::events::{Call, Reply};
 use iol_core::lists::Bytes;
 use iol_core::numbers::{AggId, Fd};
 use iol_core::refusals::Refusal;
-use iol_proc::look::Look;
+use iol_proc::byte_view::ByteView;
 use iol_proc::process::{Process, Turn};
 use std::alloc::{AllocError, Global};
 use std::mem;
@@ -97,8 +97,8 @@ impl Process for Server {
       may_want = λ server last lent. ⊥;
     } };
 
-    fn next(&mut self, last: &Reply, look: &Look<'_>) -> Result<Turn, AllocError> {
-        Ok(self.turn(last, look))
+    fn next(&mut self, last: &Reply, byte_view: &ByteView<'_>) -> Result<Turn, AllocError> {
+        Ok(self.turn(last, byte_view))
     }
 }
 
@@ -128,8 +128,8 @@ impl Server {
 
     // Makes a call, whose reply is awaited.
     fn make(&mut self, phase: Phase, call: Call) -> Turn
-        requires { IsQuietCall call }
-        ensures { IsQuiet result }
+        requires { IsCopyFreeCall call }
+        ensures { IsCopyFree result }
     {
         self.phase = phase;
         Turn::Make(call)
@@ -137,30 +137,30 @@ impl Server {
 
     // Makes a call, after which this aggregate is needed.
     fn make_with(&mut self, phase: Phase, agg: AggId, call: Call) -> Turn
-        requires { IsQuietCall call }
-        ensures { IsQuiet result }
+        requires { IsCopyFreeCall call }
+        ensures { IsCopyFree result }
     {
         self.agg = agg;
         self.make(phase, call)
     }
 
     // Continues with the reply to the last call.
-    fn turn(&mut self, last: &Reply, look: &Look<'_>) -> Turn
-        ensures { IsQuiet result }
+    fn turn(&mut self, last: &Reply, byte_view: &ByteView<'_>) -> Turn
+        ensures { IsCopyFree result }
     {
         let agg = self.agg;
         match self.phase {
             Phase::Beginning => self.accept(),
             Phase::Accepting => self.accepted(last),
-            Phase::Receiving => self.received(last, look),
+            Phase::Receiving => self.received(last, byte_view),
             Phase::DroppingRequest => self.open(),
             Phase::Opening => self.opened(last),
-            Phase::Reading => self.has_read(last, look),
+            Phase::Reading => self.has_read(last, byte_view),
             Phase::ClosingFile => self.complete(agg),
             Phase::DroppingPiece => self.make_copy(),
             Phase::MakingHead => self.join(last, agg),
             Phase::Completing => self.completed(last),
-            Phase::Writing => self.wrote(last, look, agg),
+            Phase::Writing => self.wrote(last, byte_view, agg),
             Phase::Cutting => self.has_cut(last, agg),
             Phase::DroppingSent => self.sent(),
             Phase::Releasing => self.close(),
@@ -170,13 +170,13 @@ impl Server {
 
     // Begins a round.
     fn accept(&mut self) -> Turn
-        ensures { IsQuiet result }
+        ensures { IsCopyFree result }
     {
         self.make(Phase::Accepting, Call::Accept)
     }
 
     fn accepted(&mut self, last: &Reply) -> Turn
-        ensures { IsQuiet result }
+        ensures { IsCopyFree result }
     {
         if let Reply::Fd(fd) = last {
             let client = Client {
@@ -196,7 +196,7 @@ impl Server {
 
     // Serves the client at this index. The round is over after the last one.
     fn serve(&mut self) -> Turn
-        ensures { IsQuiet result }
+        ensures { IsCopyFree result }
     {
         let Some(client) = self.client() else {
             self.phase = Phase::Beginning;
@@ -218,27 +218,27 @@ impl Server {
 
     // Serves the next client.
     fn advance(&mut self) -> Turn
-        ensures { IsQuiet result }
+        ensures { IsCopyFree result }
     {
         self.at = self.at.saturating_add(1);
         self.serve()
     }
 
-    fn received(&mut self, last: &Reply, look: &Look<'_>) -> Turn
-        ensures { IsQuiet result }
+    fn received(&mut self, last: &Reply, byte_view: &ByteView<'_>) -> Turn
+        ensures { IsCopyFree result }
     {
         match last {
-            Reply::Agg(agg) => self.requested(*agg, look),
+            Reply::Agg(agg) => self.requested(*agg, byte_view),
             Reply::Refused(Refusal::WouldBlock) => self.advance(),
             _ => self.close(),
         }
     }
 
     // A request came. An aggregate of no bytes is the end of the input.
-    fn requested(&mut self, agg: AggId, look: &Look<'_>) -> Turn
-        ensures { IsQuiet result }
+    fn requested(&mut self, agg: AggId, byte_view: &ByteView<'_>) -> Turn
+        ensures { IsCopyFree result }
     {
-        let request = Request::of_aggregate(look, agg);
+        let request = Request::of_aggregate(byte_view, agg);
         self.file = request.file;
         if let Some(client) = self.clients.get_mut(self.at) {
             client.is_last = request.is_last;
@@ -248,7 +248,7 @@ impl Server {
 
     // Opens the requested file. The connection ends if there is no request.
     fn open(&mut self) -> Turn
-        ensures { IsQuiet result }
+        ensures { IsCopyFree result }
     {
         let Some(index) = self.file else {
             return self.close();
@@ -261,7 +261,7 @@ impl Server {
     }
 
     fn opened(&mut self, last: &Reply) -> Turn
-        ensures { IsQuiet result }
+        ensures { IsCopyFree result }
     {
         let Reply::Fd(fd) = last else {
             return self.close();
@@ -294,17 +294,17 @@ impl Server {
     }
 
     // A piece of the file was read.
-    fn has_read(&mut self, last: &Reply, look: &Look<'_>) -> Turn
-        ensures { IsQuiet result }
+    fn has_read(&mut self, last: &Reply, byte_view: &ByteView<'_>) -> Turn
+        ensures { IsCopyFree result }
     {
         let Reply::Agg(agg) = last else {
             return self.close();
         };
         let agg = *agg;
-        if matches!(self.passing, Passing::Copied) && self.copy(look, agg).is_err() {
+        if matches!(self.passing, Passing::Copied) && self.copy(byte_view, agg).is_err() {
             self.buffer.clear();
         }
-        match self.take_file(look.len(agg).unwrap_or(0)) {
+        match self.take_file(byte_view.len(agg).unwrap_or(0)) {
             Some(fd) => self.make_with(Phase::ClosingFile, agg, Call::Close { fd }),
             None => self.complete(agg),
         }
@@ -322,11 +322,11 @@ impl Server {
     }
 
     // Copies the head and a piece into the buffer.
-    fn copy(&mut self, look: &Look<'_>, agg: AggId) -> Result<(), AllocError> {
-        let length = look.len(agg).unwrap_or(0) as usize;
+    fn copy(&mut self, byte_view: &ByteView<'_>, agg: AggId) -> Result<(), AllocError> {
+        let length = byte_view.len(agg).unwrap_or(0) as usize;
         let mut buffer = Vec::with_capacity(self.alloc, length.saturating_add(self.head.len()))?;
         buffer.extend_from_slice(&self.head)?;
-        if let Some(parts) = look.bytes(agg) {
+        if let Some(parts) = byte_view.bytes(agg) {
             for part in parts {
                 buffer.extend_from_slice(part)?;
             }
@@ -336,10 +336,10 @@ impl Server {
         Ok(())
     }
 
-    // Makes a part of the response of a piece: by reference the head is joined to it, by copying it is
-    // given up.
+    // Makes a part of the response of a piece: by reference the head is joined to it, by copying it
+    // is given up.
     fn complete(&mut self, agg: AggId) -> Turn
-        ensures { IsQuiet result }
+        ensures { IsCopyFree result }
     {
         match self.passing {
             Passing::Copied => self.make(Phase::DroppingPiece, Call::AggDrop { agg }),
@@ -349,7 +349,7 @@ impl Server {
 
     // Makes the head, if the response has not begun.
     fn make_head(&mut self, body: AggId) -> Turn
-        ensures { IsQuiet result }
+        ensures { IsCopyFree result }
     {
         if self.head.is_empty() {
             return self.write(body);
@@ -361,7 +361,7 @@ impl Server {
 
     // Places the buffer in new pages.
     fn make_copy(&mut self) -> Turn
-        ensures { IsQuiet result }
+        ensures { IsCopyFree result }
     {
         let buffer = mem::replace(&mut self.buffer, Vec::new(self.alloc));
         let bytes = Bytes::from_vec(buffer);
@@ -369,7 +369,7 @@ impl Server {
     }
 
     fn join(&mut self, last: &Reply, body: AggId) -> Turn
-        ensures { IsQuiet result }
+        ensures { IsCopyFree result }
     {
         let Reply::Agg(head) = last else {
             self.keep(Some(body));
@@ -380,7 +380,7 @@ impl Server {
     }
 
     fn completed(&mut self, last: &Reply) -> Turn
-        ensures { IsQuiet result }
+        ensures { IsCopyFree result }
     {
         match last {
             Reply::Agg(agg) => self.write(*agg),
@@ -396,18 +396,18 @@ impl Server {
 
     // Writes a part of the response.
     fn write(&mut self, agg: AggId) -> Turn
-        ensures { IsQuiet result }
+        ensures { IsCopyFree result }
     {
         self.keep(Some(agg));
         self.serve()
     }
 
     // The queue took some bytes, or none.
-    fn wrote(&mut self, last: &Reply, look: &Look<'_>, agg: AggId) -> Turn
-        ensures { IsQuiet result }
+    fn wrote(&mut self, last: &Reply, byte_view: &ByteView<'_>, agg: AggId) -> Turn
+        ensures { IsCopyFree result }
     {
         match last {
-            Reply::Count(from) => self.took(*from, look.len(agg).unwrap_or(0), agg),
+            Reply::Count(from) => self.took(*from, byte_view.len(agg).unwrap_or(0), agg),
             Reply::Refused(Refusal::WouldBlock) => self.advance(),
             _ => self.close(),
         }
@@ -415,7 +415,7 @@ impl Server {
 
     // The queue took `from` of `to` bytes.
     fn took(&mut self, from: u32, to: u32, agg: AggId) -> Turn
-        ensures { IsQuiet result }
+        ensures { IsCopyFree result }
     {
         if from < to {
             return self.make_with(Phase::Cutting, agg, Call::AggCut { agg, from, to });
@@ -426,7 +426,7 @@ impl Server {
 
     // Keeps the rest, and gives up the whole.
     fn has_cut(&mut self, last: &Reply, agg: AggId) -> Turn
-        ensures { IsQuiet result }
+        ensures { IsCopyFree result }
     {
         if let Reply::Agg(rest) = last {
             self.keep(Some(*rest));
@@ -436,7 +436,7 @@ impl Server {
 
     // A part of the response was sent and given up.
     fn sent(&mut self) -> Turn
-        ensures { IsQuiet result }
+        ensures { IsCopyFree result }
     {
         let Some(client) = self.client() else {
             return self.serve();
@@ -456,7 +456,7 @@ impl Server {
 
     // The call that gives up one of the things that the client holds.
     fn release(&mut self) -> Option<Call>
-        ensures { IfSome result IsQuietCall }
+        ensures { IfSome result IsCopyFreeCall }
     {
         let client = self.clients.get_mut(self.at)?;
         if let Some(agg) = client.rest.take() {
@@ -468,7 +468,7 @@ impl Server {
 
     // Gives up all that the client holds, and closes its connection.
     fn close(&mut self) -> Turn
-        ensures { IsQuiet result }
+        ensures { IsCopyFree result }
     {
         match self.release() {
             Some(call) => self.make(Phase::Releasing, call),
@@ -478,7 +478,7 @@ impl Server {
 
     // Closes the connection. The last client takes its index.
     fn disconnect(&mut self) -> Turn
-        ensures { IsQuiet result }
+        ensures { IsCopyFree result }
     {
         let Some(client) = self.client() else {
             return self.serve();

@@ -104,7 +104,7 @@ pub fn system(alloc: Global, site: &Site) -> Result<TestSystem<MemoryBacking>, R
 }
 
 // The server in domain 1.
-fn seated(alloc: Global, server: Server) -> Result<Vec<(DomainId, Server)>, AllocError>
+fn in_slots(alloc: Global, server: Server) -> Result<Vec<(DomainId, Server)>, AllocError>
     ensures { IfOk result (λ ps. map (λ p. p.0) ps.items ≡ 1 ∷ []) }
 {
     let mut processes = Vec::new(alloc);
@@ -115,7 +115,7 @@ fn seated(alloc: Global, server: Server) -> Result<Vec<(DomainId, Server)>, Allo
 /// A world of the server.
 pub fn world(alloc: Global, site: &Site) -> Result<World<MemoryBacking, Server>, Refusal> {
     let server = Server::new(alloc, site.passing, &site.lengths)?;
-    let processes = seated(alloc, server)?;
+    let processes = in_slots(alloc, server)?;
     let system = system(alloc, site)?;
     Ok(World::new(alloc, system.into_system(), processes)?)
 }

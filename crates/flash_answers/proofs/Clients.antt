@@ -13,9 +13,9 @@ use Rattle.flash_framing.specs.Framing.{Framed}
 use Rattle.flash_http.specs.Window.{window_in}
 use Rattle.flash_http.specs.declared.windows.Window.TheVariants.{Wait}
 use Rattle.flash_laws.specs.Serves.Rounds.{in_rounds}
-use Rattle.flash_laws.specs.Shelf.{Begins, IsAnswer, Shelf}
+use Rattle.flash_laws.specs.SiteContents.{Begins, IsAnswer, SiteContents}
 use Rattle.flash_laws.specs.Site.{net_pool}
-use Rattle.flash_laws.specs.World.Tie.{Actor, actor_turns}
+use Rattle.flash_laws.specs.World.Consistency.{Actor, actor_turns}
 use Rattle.flash_lite.specs.Workers.{worker_turns}
 use Rattle.flash_site.specs.World.{BeginsSite, IsSiteWorld}
 use Rattle.flash_answers.specs.Clients.{ClientsAreAnswered, IsAnswered, IsBegun, IsHonest, IsOfSite, LeftSites}
@@ -31,16 +31,16 @@ joined f (y ∷ ys) x = ap (λ (l : List ℕ). f y ++ l) (joined f ys x) ∙ sym
 
 -- a connection with its answer, by the contents of a site
 pub record IsGood (v : client.Visit) : Type 0 where
-  pub site : IsOfSite v.shelf
+  pub site : IsOfSite v.site_contents
   pub left : client.IsLeft v
-  pub begins : Begins v.shelf v.came v.sent
+  pub begins : Begins v.site_contents v.came v.sent
 
 good_visits : (vs : List client.Visit) → AllByRecursion IsGood vs → AreVisits vs
 good_visits [] good = tt
 good_visits (v ∷ []) good = good.0.begins
 good_visits (v ∷ w ∷ vs) good = (good.0.left, good_visits (w ∷ vs) good.1)
 
-visits_last : (vs : List client.Visit) (last : client.Visit) → AllByRecursion IsGood vs → Begins last.shelf last.came last.sent → AreVisits (vs ++ last ∷ [])
+visits_last : (vs : List client.Visit) (last : client.Visit) → AllByRecursion IsGood vs → Begins last.site_contents last.came last.sent → AreVisits (vs ++ last ∷ [])
 visits_last [] last good begins = begins
 visits_last (v ∷ []) last good begins = (good.0.left, begins)
 visits_last (v ∷ w ∷ vs) last good begins = (good.0.left, visits_last (w ∷ vs) last good.1 begins)
@@ -55,11 +55,11 @@ ends_closed waiting [] last closed = inr closed
 ends_closed waiting (v ∷ []) last closed = inr closed
 ends_closed waiting (v ∷ w ∷ vs) last closed = ends_closed waiting (w ∷ vs) last closed
 
-sites_of : (vs : List client.Visit) → AllByRecursion IsGood vs → AllByRecursion IsOfSite (map (λ v. v.shelf) vs)
+sites_of : (vs : List client.Visit) → AllByRecursion IsGood vs → AllByRecursion IsOfSite (map (λ v. v.site_contents) vs)
 sites_of [] good = tt
 sites_of (v ∷ vs) good = (good.0.site, sites_of vs good.1)
 
-sites_last : (vs : List client.Visit) (last : client.Visit) → AllByRecursion IsGood vs → IsOfSite last.shelf → AllByRecursion IsOfSite (map (λ v. v.shelf) (vs ++ last ∷ []))
+sites_last : (vs : List client.Visit) (last : client.Visit) → AllByRecursion IsGood vs → IsOfSite last.site_contents → AllByRecursion IsOfSite (map (λ v. v.site_contents) (vs ++ last ∷ []))
 sites_last [] last good site = (site, tt)
 sites_last (v ∷ vs) last good site = (good.0.site, sites_last vs last good.1 site)
 
@@ -75,18 +75,18 @@ whole_kept kept came whole = subst AreKept (sym whole.are) (kept_from kept [] wh
 
 -- ---- the connections of a client, with their sites
 
-abbrev as_visit : Shelf → Visit (Actor Worker) → client.Visit
-as_visit shelf v = record { shelf = shelf; came = v.came; sent = v.sent }
+abbrev as_visit : SiteContents → Visit (Actor Worker) → client.Visit
+as_visit site_contents v = record { site_contents = site_contents; came = v.came; sent = v.sent }
 
-pub record Told (vs : List (Visit (Actor Worker))) : Type 0 where
+pub record ClientVisits (vs : List (Visit (Actor Worker))) : Type 0 where
   pub them : List client.Visit
   pub good : AllByRecursion IsGood them
   pub comes : concat (map (λ v. v.came) them) ≡ concat (map (λ v. v.came) vs)
   pub goes : concat (map (λ v. v.sent) them) ≡ concat (map (λ v. v.sent) vs)
 
 -- the bytes of connections that were left, and of one more
-abbrev served_last : (pc ps waiting unsent supplied accepted : List ℕ) (were : WereLeft (actor_turns in_rounds worker_turns) BeginsSite Framed net_pool pc ps) (t : Told were.visits) (last : client.Visit)
-    → Begins last.shelf last.came last.sent → Holds pc ps last.came last.sent waiting unsent supplied accepted → IsServed (t.them ++ last ∷ []) supplied accepted
+abbrev served_last : (pc ps waiting unsent supplied accepted : List ℕ) (were : WereLeft (actor_turns in_rounds worker_turns) BeginsSite Framed net_pool pc ps) (t : ClientVisits were.visits) (last : client.Visit)
+    → Begins last.site_contents last.came last.sent → Holds pc ps last.came last.sent waiting unsent supplied accepted → IsServed (t.them ++ last ∷ []) supplied accepted
 served_last pc ps waiting unsent supplied accepted were t last begins holds = record {
   visits = visits_last t.them last t.good begins;
   waiting = waiting;
@@ -96,7 +96,7 @@ served_last pc ps waiting unsent supplied accepted were t last begins holds = re
   produced = joined (λ (v : client.Visit). v.sent) t.them last ∙ (ap (λ (l : List ℕ). l ++ last.sent) (t.goes ∙ sym were.goes) ∙ holds.produced);
 }
 
-abbrev served_left : (pc ps waiting unsent supplied accepted : List ℕ) (were : WereLeft (actor_turns in_rounds worker_turns) BeginsSite Framed net_pool pc ps) (t : Told were.visits)
+abbrev served_left : (pc ps waiting unsent supplied accepted : List ℕ) (were : WereLeft (actor_turns in_rounds worker_turns) BeginsSite Framed net_pool pc ps) (t : ClientVisits were.visits)
     → Holds pc ps [] [] waiting unsent supplied accepted → IsServed t.them supplied accepted
 served_left pc ps waiting unsent supplied accepted were t holds = record {
   visits = good_visits t.them t.good;
@@ -118,9 +118,9 @@ module _ (sites : SitesAnswer) (kept : RequestsAreKept) (clients : ClientsGetAns
       a : IsAnsweredBySite v.conn v.came v.sent false v.world d.done.visited is
       a = sites v.conn v.came v.sent false v.world d.done.visited is (sym d.done.visited.honest.same ∙ honest)
 
-  told : (vs : List (Visit (Actor Worker))) → AllByRecursion (IsLeft (actor_turns in_rounds worker_turns) BeginsSite Framed net_pool) vs → AllByRecursion IsHonest vs → ∥ Told vs ∥₁
-  told [] left honest = ∣ record { them = []; good = tt; comes = refl; goes = refl } ∣₁
-  told (v ∷ vs) left honest = ∥∥₁_map₂ left.0.done.visited.started (told vs left.1 honest.1) (λ (is : IsSiteWorld left.0.done.visited.begun) (t : Told vs). record {
+  client_visits : (vs : List (Visit (Actor Worker))) → AllByRecursion (IsLeft (actor_turns in_rounds worker_turns) BeginsSite Framed net_pool) vs → AllByRecursion IsHonest vs → ∥ ClientVisits vs ∥₁
+  client_visits [] left honest = ∣ record { them = []; good = tt; comes = refl; goes = refl } ∣₁
+  client_visits (v ∷ vs) left honest = ∥∥₁_map₂ left.0.done.visited.started (client_visits vs left.1 honest.1) (λ (is : IsSiteWorld left.0.done.visited.begun) (t : ClientVisits vs). record {
     them = as_visit (site_of left.0.done.visited.begun is) v ∷ t.them;
     good = (good_of v left.0 honest.0 is, t.good);
     comes = ap (λ (l : List ℕ). v.came ++ l) t.comes;
@@ -129,9 +129,9 @@ module _ (sites : SitesAnswer) (kept : RequestsAreKept) (clients : ClientsGetAns
 
   begun_last : (pc ps : List ℕ) (v : Visit (Actor Worker)) (gone : Bool) (waiting unsent supplied accepted : List ℕ) (ls : LeftSites pc ps) → IsHonest v
       → (h : HasVisited (actor_turns in_rounds worker_turns) BeginsSite net_pool v.conn v.came v.sent gone v.world) → Holds pc ps v.came v.sent waiting unsent supplied accepted
-      → IsSiteWorld h.begun → Told ls.were.visits → IsBegun supplied accepted
+      → IsSiteWorld h.begun → ClientVisits ls.were.visits → IsBegun supplied accepted
   begun_last pc ps v gone waiting unsent supplied accepted ls honest h holds is t = record {
-    shelves = map (λ (u : client.Visit). u.shelf) (t.them ++ as_visit (site_of h.begun is) v ∷ []);
+    shelves = map (λ (u : client.Visit). u.site_contents) (t.them ++ as_visit (site_of h.begun is) v ∷ []);
     sites = sites_last t.them (as_visit (site_of h.begun is) v) t.good (record { world = h.begun; is = is; same = refl });
     begins = clients.begins_in_turn (t.them ++ as_visit (site_of h.begun is) v ∷ []) supplied accepted (served_last pc ps waiting unsent supplied accepted ls.were t (as_visit (site_of h.begun is) v) a.begins holds);
   }
@@ -139,18 +139,18 @@ module _ (sites : SitesAnswer) (kept : RequestsAreKept) (clients : ClientsGetAns
       a : IsAnsweredBySite v.conn v.came v.sent gone v.world h is
       a = sites v.conn v.came v.sent gone v.world h is (sym h.honest.same ∙ honest)
 
-  begun_left : (pc ps waiting unsent supplied accepted : List ℕ) (ls : LeftSites pc ps) → Holds pc ps [] [] waiting unsent supplied accepted → Told ls.were.visits → IsBegun supplied accepted
+  begun_left : (pc ps waiting unsent supplied accepted : List ℕ) (ls : LeftSites pc ps) → Holds pc ps [] [] waiting unsent supplied accepted → ClientVisits ls.were.visits → IsBegun supplied accepted
   begun_left pc ps waiting unsent supplied accepted ls holds t = record {
-    shelves = map (λ (u : client.Visit). u.shelf) t.them;
+    shelves = map (λ (u : client.Visit). u.site_contents) t.them;
     sites = sites_of t.them t.good;
     begins = clients.begins_in_turn t.them supplied accepted (served_left pc ps waiting unsent supplied accepted ls.were t holds);
   }
 
   whole_last : (pc ps : List ℕ) (v : Visit (Actor Worker)) (waiting supplied accepted : List ℕ) (ls : LeftSites pc ps) → IsHonest v
       → (d : IsClosed (actor_turns in_rounds worker_turns) BeginsSite Framed net_pool v) → Holds pc ps v.came v.sent waiting [] supplied accepted
-      → IsSiteWorld d.done.visited.begun → Told ls.were.visits → IsAnswered supplied accepted
+      → IsSiteWorld d.done.visited.begun → ClientVisits ls.were.visits → IsAnswered supplied accepted
   whole_last pc ps v waiting supplied accepted ls honest d holds is t = record {
-    shelves = map (λ (u : client.Visit). u.shelf) (t.them ++ as_visit (site_of d.done.visited.begun is) v ∷ []);
+    shelves = map (λ (u : client.Visit). u.site_contents) (t.them ++ as_visit (site_of d.done.visited.begun is) v ∷ []);
     sites = sites_last t.them (as_visit (site_of d.done.visited.begun is) v) t.good (record { world = d.done.visited.begun; is = is; same = refl });
     whole = clients.whole_in_turn (t.them ++ as_visit (site_of d.done.visited.begun is) v ∷ []) supplied accepted (record {
       served = served_last pc ps waiting [] supplied accepted ls.were t (as_visit (site_of d.done.visited.begun is) v) a.begins holds;
@@ -165,9 +165,9 @@ module _ (sites : SitesAnswer) (kept : RequestsAreKept) (clients : ClientsGetAns
       closes : Closes v.came
       closes = subst Closes (sym d.all) (kept.close d.before d.request.waiting d.request.size d.framed.0 (whole_kept kept d.before d.whole) d.framed.1 d.framed.2)
 
-  whole_left : (pc ps waiting supplied accepted : List ℕ) (ls : LeftSites pc ps) → Framed waiting Incomplete → Holds pc ps [] [] waiting [] supplied accepted → Told ls.were.visits → IsAnswered supplied accepted
+  whole_left : (pc ps waiting supplied accepted : List ℕ) (ls : LeftSites pc ps) → Framed waiting Incomplete → Holds pc ps [] [] waiting [] supplied accepted → ClientVisits ls.were.visits → IsAnswered supplied accepted
   whole_left pc ps waiting supplied accepted ls none holds t = record {
-    shelves = map (λ (u : client.Visit). u.shelf) t.them;
+    shelves = map (λ (u : client.Visit). u.site_contents) t.them;
     sites = sites_of t.them t.good;
     whole = clients.whole_in_turn t.them supplied accepted (record {
       served = served_left pc ps waiting [] supplied accepted ls.were t holds;
@@ -178,12 +178,12 @@ module _ (sites : SitesAnswer) (kept : RequestsAreKept) (clients : ClientsGetAns
 
   pub clients_answered : ClientsAreAnswered
   clients_answered = record {
-    begins = λ pc ps v gone waiting unsent supplied accepted ls honest h holds. ∥∥₁_map₂ h.started (told ls.were.visits ls.were.left ls.honest)
+    begins = λ pc ps v gone waiting unsent supplied accepted ls honest h holds. ∥∥₁_map₂ h.started (client_visits ls.were.visits ls.were.left ls.honest)
         (λ is t. begun_last pc ps v gone waiting unsent supplied accepted ls honest h holds is t);
-    apart = λ pc ps waiting unsent supplied accepted ls holds. ∥∥₁_map (told ls.were.visits ls.were.left ls.honest)
+    apart = λ pc ps waiting unsent supplied accepted ls holds. ∥∥₁_map (client_visits ls.were.visits ls.were.left ls.honest)
         (λ t. begun_left pc ps waiting unsent supplied accepted ls holds t);
-    closed = λ pc ps v waiting supplied accepted ls honest d holds. ∥∥₁_map₂ d.done.visited.started (told ls.were.visits ls.were.left ls.honest)
+    closed = λ pc ps v waiting supplied accepted ls honest d holds. ∥∥₁_map₂ d.done.visited.started (client_visits ls.were.visits ls.were.left ls.honest)
         (λ is t. whole_last pc ps v waiting supplied accepted ls honest d holds is t);
-    ended = λ pc ps waiting supplied accepted ls none holds. ∥∥₁_map (told ls.were.visits ls.were.left ls.honest)
+    ended = λ pc ps waiting supplied accepted ls none holds. ∥∥₁_map (client_visits ls.were.visits ls.were.left ls.honest)
         (λ t. whole_left pc ps waiting supplied accepted ls none holds t);
   }

@@ -14,39 +14,39 @@ use Rattle.flash_cgi.specs.declared.worker.Worker.{Worker}
 use Rattle.flash_clients.specs.Visits.{IsVisit, IsVisitAnswered, VisitsAreAnswered}
 use Rattle.flash_laws.specs.Serves.Rounds.{in_rounds}
 use Rattle.flash_laws.specs.Site.{net_pool}
-use Rattle.flash_laws.specs.World.{RunKeepsTie, Tied}
-use Rattle.flash_laws.specs.World.Calm.{AreMild, IsMild}
+use Rattle.flash_laws.specs.World.{RunKeepsConsistency, Consistent}
+use Rattle.flash_laws.specs.World.Undisturbed.{AreSitePreserving, IsSitePreserving}
 use Rattle.flash_laws.specs.World.Fair.{any_refusal, AnyIsFair}
 use Rattle.flash_laws.specs.World.Host.{IsRight}
-use Rattle.flash_laws.specs.World.Tie.{Actor, actor_turns}
-use Rattle.flash_lite.specs.Crew.{crew_of}
+use Rattle.flash_laws.specs.World.Consistency.{Actor, actor_turns}
+use Rattle.flash_lite.specs.WorkerSet.{worker_set_of}
 use Rattle.flash_lite.specs.HostedSite.{HostedIsRight, IsRightAfter}
 use Rattle.flash_lite.specs.Workers.{worker_turns}
 use Rattle.flash_lite.specs.declared.site.Site.{Site}
 use Rattle.flash_site.specs.World.{BeginsSite, IsSiteWorld}
 use Rattle.flash_answers.specs.Sites.{IsAnsweredBySite, SitesAnswer, site_of}
 
--- ---- what happens in a world that serves is mild
+-- ---- what happens in a world that serves is site-preserving
 
-mild_one : (pool : ℕ) (x : Choice) (w after : Stage State (Actor Worker)) → IsServing pool x → IsMild w x after
-mild_one pool (choice.Turn by) w after on = tt
-mild_one pool (choice.Outside (event.ConnNew p)) w after on = tt
-mild_one pool (choice.Outside (event.Arrive c bytes)) w after on = tt
-mild_one pool (choice.Outside (event.PeerClosed c how)) w after on = tt
-mild_one pool (choice.Outside (event.Transmit c max)) w after on = tt
-mild_one pool (choice.Outside (event.Call d k)) w after on = absurd on
-mild_one pool (choice.Outside e) w after on = absurd on
+site_preserving_one : (pool : ℕ) (x : Choice) (w after : Stage State (Actor Worker)) → IsServing pool x → IsSitePreserving w x after
+site_preserving_one pool (choice.Turn by) w after on = tt
+site_preserving_one pool (choice.Outside (event.ConnNew p)) w after on = tt
+site_preserving_one pool (choice.Outside (event.Arrive c bytes)) w after on = tt
+site_preserving_one pool (choice.Outside (event.PeerClosed c how)) w after on = tt
+site_preserving_one pool (choice.Outside (event.Transmit c max)) w after on = tt
+site_preserving_one pool (choice.Outside (event.Call d k)) w after on = absurd on
+site_preserving_one pool (choice.Outside e) w after on = absurd on
 
-all_mild : (pool : ℕ) (xs : List Choice) (rs : List Reply) (w after : Stage State (Actor Worker))
+all_site_preserving : (pool : ℕ) (xs : List Choice) (rs : List Reply) (w after : Stage State (Actor Worker))
     → (run : WorldRun copying (actor_turns in_rounds worker_turns) w xs rs after) → AreServing pool xs
-    → AreMild (actor_turns in_rounds worker_turns) w xs rs after run
-all_mild pool [] rs w after run on = tt
-all_mild pool (x ∷ xs) [] w after run on = tt
-all_mild pool (x ∷ xs) (r ∷ rs) w after run on = (mild_one pool x w run.0 on.0, all_mild pool xs rs run.0 after run.2 on.1)
+    → AreSitePreserving (actor_turns in_rounds worker_turns) w xs rs after run
+all_site_preserving pool [] rs w after run on = tt
+all_site_preserving pool (x ∷ xs) [] w after run on = tt
+all_site_preserving pool (x ∷ xs) (r ∷ rs) w after run on = (site_preserving_one pool x w run.0 on.0, all_site_preserving pool xs rs run.0 after run.2 on.1)
 
 -- ---- the law
 
-module _ (keeps : (s : Site) → RunKeepsTie in_rounds (crew_of s)) (hosted : HostedIsRight) (fair : AnyIsFair) (visits : (s : Site) → VisitsAreAnswered (crew_of s))
+module _ (keeps : (s : Site) → RunKeepsConsistency in_rounds (worker_set_of s)) (hosted : HostedIsRight) (fair : AnyIsFair) (visits : (s : Site) → VisitsAreAnswered (worker_set_of s))
     (c : ℕ) (came sent : List ℕ) (gone : Bool) (w : Stage SystemState (Actor Worker))
     (visited : HasVisited (actor_turns in_rounds worker_turns) BeginsSite net_pool c came sent gone w) (is : IsSiteWorld visited.begun)
     (honest : visited.begun.machine.disk.honest ≡ true) where
@@ -57,13 +57,13 @@ module _ (keeps : (s : Site) → RunKeepsTie in_rounds (crew_of s)) (hosted : Ho
   visit : Visits (actor_turns in_rounds worker_turns) net_pool c came sent gone (copied visited.begun) (copied w)
   visit = visited.visits honest
 
-  answered_by : (past : List Choice) (ps : List Reply) → Tied (site_of visited.begun is) (crew_of is.is.site) past ps (copied visited.begun) → IsAnsweredBySite c came sent gone w visited is
-  answered_by past ps tied = record { begins = done.begins; whole = done.whole }
+  answered_by : (past : List Choice) (ps : List Reply) → Consistent (site_of visited.begun is) (worker_set_of is.is.site) past ps (copied visited.begun) → IsAnsweredBySite c came sent gone w visited is
+  answered_by past ps consistent = record { begins = done.begins; whole = done.whole }
     where
-      before : Tied (site_of visited.begun is) (crew_of is.is.site) (past ++ visit.past.choices) (ps ++ visit.past.replies) visit.before
+      before : Consistent (site_of visited.begun is) (worker_set_of is.is.site) (past ++ visit.past.choices) (ps ++ visit.past.replies) visit.before
       before = keeps is.is.site (site_of visited.begun is) past visit.past.choices ps visit.past.replies (copied visited.begun) visit.before visit.past.run
-          (all_mild net_pool visit.past.choices visit.past.replies (copied visited.begun) visit.before visit.past.run visit.past.serving)
-          (fair visit.past.choices visit.past.replies) tied
+          (all_site_preserving net_pool visit.past.choices visit.past.replies (copied visited.begun) visit.before visit.past.run visit.past.serving)
+          (fair visit.past.choices visit.past.replies) consistent
 
       own : IsVisit worker_turns c came sent gone visit.before (copied w)
       own = record {
@@ -72,18 +72,18 @@ module _ (keeps : (s : Site) → RunKeepsTie in_rounds (crew_of s)) (hosted : Ho
         choices = visit.since.continues.choices;
         replies = visit.since.continues.replies;
         run = visit.since.continues.run;
-        mild = all_mild net_pool visit.since.continues.choices visit.since.continues.replies visit.first (copied w) visit.since.continues.run visit.since.continues.serving;
+        site_preserving = all_site_preserving net_pool visit.since.continues.choices visit.since.continues.replies visit.first (copied w) visit.since.continues.run visit.since.continues.serving;
         comes = visit.since.comes;
         goes = visit.since.goes;
-        tells = visit.since.tells;
+        reports = visit.since.reports;
       }
 
-      done : IsVisitAnswered (crew_of is.is.site) (site_of visited.begun is) (past ++ visit.past.choices) (ps ++ visit.past.replies) c came sent gone visit.before (copied w) own
+      done : IsVisitAnswered (worker_set_of is.is.site) (site_of visited.begun is) (past ++ visit.past.choices) (ps ++ visit.past.replies) c came sent gone visit.before (copied w) own
       done = visits is.is.site (site_of visited.begun is) (past ++ visit.past.choices) (ps ++ visit.past.replies) c came sent gone visit.before (copied w) before own
           (fair visit.since.continues.choices visit.since.continues.replies)
 
   site_answers : IsAnsweredBySite c came sent gone w visited is
-  site_answers = answered_by _ _ hosts-right.tied
+  site_answers = answered_by _ _ hosts-right.consistent
 
-pub sites_answer : ((s : Site) → RunKeepsTie in_rounds (crew_of s)) → HostedIsRight → AnyIsFair → ((s : Site) → VisitsAreAnswered (crew_of s)) → SitesAnswer
+pub sites_answer : ((s : Site) → RunKeepsConsistency in_rounds (worker_set_of s)) → HostedIsRight → AnyIsFair → ((s : Site) → VisitsAreAnswered (worker_set_of s)) → SitesAnswer
 sites_answer keeps hosted fair visits = λ c came sent gone w visited is honest. site_answers keeps hosted fair visits c came sent gone w visited is honest

@@ -10,28 +10,28 @@ use Rattle.flash_cgi.specs.declared.worker.Worker.{Worker}
 use Rattle.flash_clients.specs.Clients.{BeginsInTurn, InTurn}
 use Rattle.flash_framing.specs.Framing.{Framed}
 use Rattle.flash_laws.specs.Serves.Rounds.{in_rounds}
-use Rattle.flash_laws.specs.Shelf.{IsAnswer, Shelf}
+use Rattle.flash_laws.specs.SiteContents.{IsAnswer, SiteContents}
 use Rattle.flash_laws.specs.Site.{net_pool}
-use Rattle.flash_laws.specs.World.Tie.{Actor, actor_turns}
+use Rattle.flash_laws.specs.World.Consistency.{Actor, actor_turns}
 use Rattle.flash_lite.specs.Workers.{worker_turns}
 use Rattle.flash_site.specs.World.{BeginsSite, IsSiteWorld}
 use Rattle.flash_answers.specs.Sites.{site_of}
 
 -- the contents of the site of some world
-pub record IsOfSite (shelf : Shelf) : Type 0 where
+pub record IsOfSite (site_contents : SiteContents) : Type 0 where
   pub world : Stage SystemState (Actor Worker)
   pub is : IsSiteWorld world
-  pub same : shelf ≡ site_of world is
+  pub same : site_contents ≡ site_of world is
 
 -- The bytes accepted are a prefix of an answer to those supplied, by some sites in turn.
 pub record IsBegun (supplied accepted : List ℕ) : Type 0 where
-  pub shelves : List Shelf
+  pub shelves : List SiteContents
   pub sites : AllByRecursion IsOfSite shelves
   pub begins : BeginsInTurn shelves supplied accepted
 
 -- They are an answer.
 pub record IsAnswered (supplied accepted : List ℕ) : Type 0 where
-  pub shelves : List Shelf
+  pub shelves : List SiteContents
   pub sites : AllByRecursion IsOfSite shelves
   pub whole : InTurn IsAnswer shelves supplied accepted
 

@@ -18,30 +18,30 @@ use Rattle.iol_core.specs.declared.events.Event.TheVariants as event
 use Rattle.iol_core.specs.declared.events.Reply.{Reply}
 use Rattle.iol_core.specs.declared.events.Reply.TheVariants as reply
 use Rattle.iol_laws.specs.Frame.{EachStepLeavesTheRest, Leaves, touches_fd, ends, changes_files, admits_to}
-use Rattle.iol_laws.specs.Caller.{lent_at, TakesFromPipe}
+use Rattle.iol_laws.specs.Caller.{readable_at, TakesFromPipe}
 use Rattle.iol_laws.specs.Order.{IsOrderly}
 use Rattle.iol_laws.specs.Others.{GoesFromFront, OthersLeavePipes, HasNotEnd}
-use Rattle.iol_proc.specs.declared.seat.Seat.{Seat}
+use Rattle.iol_proc.specs.declared.process_slot.ProcessSlot.{ProcessSlot}
 use Rattle.flash_cgi.specs.Collecting.{Collected, bytes_of_one, collected, collected_in, is_nothing, nothing, with_next, without_last}
 use Rattle.flash_cgi.specs.Job.{Task}
 use Rattle.flash_cgi.specs.Output.{Outcome, Found, by_first, output}
-use Rattle.flash_cgi.specs.Pieces.{DropsPart, Gathers, HasPiece, HoldsAt, IsRest, Lends, LendsFiles}
-use Rattle.flash_cgi.specs.Outcomes.{AreFiles, outcomes_in, to_come, to_come_doing, ReadsNamed}
-use Rattle.flash_cgi.specs.WorkerSteps.{bytes_at, file_collected, said_text, shut_by, told_doing}
-use Rattle.flash_cgi.specs.Feeds.{put_out, rest_of, set_in, still, still_doing, then_rest, HasBytes, IsFileOpen, Needs, Feeds}
+use Rattle.flash_cgi.specs.Pieces.{DropsPart, Gathers, HasPiece, HoldsAt, IsRest, IsReadable, FilesAreReadable}
+use Rattle.flash_cgi.specs.Outcomes.{AreFiles, outcomes_in, to_come, to_come_phase, ReadsNamed}
+use Rattle.flash_cgi.specs.WorkerSteps.{bytes_at, file_collected, said_text, shut_by, after_phase}
+use Rattle.flash_cgi.specs.Feeds.{put_out, rest_of, set_in, still, still_phase, then_rest, HasBytes, IsFileOpen, Needs, Feeds}
 use Rattle.flash_cgi.specs.JobStart.{HasJob, Begins}
 use Rattle.flash_cgi.specs.Turns.{IsFree, RunsJob, or_again, filed_step}
-use Rattle.flash_cgi.specs.Beside.{LeavesWorker, LeavesFiles, LeavesJobs, Hears, is_call_of}
+use Rattle.flash_cgi.specs.Beside.{LeavesWorker, LeavesFiles, LeavesJobs, Receives, is_call_of}
 use Rattle.flash_cgi.specs.declared.line.Line.{Line}
 use Rattle.flash_cgi.specs.declared.phase.Purpose.TheVariants as purpose
-use Rattle.flash_cgi.specs.declared.phase.Doing.{Doing}
-use Rattle.flash_cgi.specs.declared.phase.Doing.TheVariants as doing
+use Rattle.flash_cgi.specs.declared.phase.Phase.{Phase}
+use Rattle.flash_cgi.specs.declared.phase.Phase.TheVariants as phase
 use Rattle.flash_cgi.specs.declared.phase.Standing.{Standing}
 use Rattle.flash_cgi.specs.declared.phase.Standing.TheVariants as standing
 use Rattle.flash_cgi.specs.declared.phase.Step.{Step}
 use Rattle.flash_cgi.specs.declared.piece.Place.{Place}
 use Rattle.flash_cgi.specs.declared.worker.Worker.{Worker}
-use Rattle.flash_cgi.proofs.Interleaving.{LendsStill, gathers_still, piece_kept, text_kept}
+use Rattle.flash_cgi.proofs.Interleaving.{IsStillReadable, gathers_still, piece_kept, text_kept}
 use Rattle.flash_cgi.proofs.StaysByCall.{bytes-append}
 use Rattle.flash_cgi.proofs.JobStart.{awaits_still}
 use Rattle.flash_cgi.proofs.Truly.{content-same, same_outcome, same_outcomes}
@@ -50,7 +50,7 @@ some-inj : {A : Type 0} (x y : A) → Some x ≡ Some y → x ≡ y
 some-inj x y e = cc
 
 module _ (m n : State) (d : ℕ) (left : LeavesWorker m d n) where
-  same_at : (a : ℕ) (bytes : List ℕ) → lent_at m d a ≡ Some bytes → bytes_at (lent_at n d) a ≡ bytes_at (lent_at m d) a
+  same_at : (a : ℕ) (bytes : List ℕ) → readable_at m d a ≡ Some bytes → bytes_at (readable_at n d) a ≡ bytes_at (readable_at m d) a
   same_at a bytes is = ap (λ (l : Option (List ℕ)). unwrap_or l []) (left.bytes a bytes is ∙ sym is)
 
   open_stays : (file : ℕ) → IsFileOpen m d file → IsFileOpen n d file
@@ -59,181 +59,181 @@ module _ (m n : State) (d : ℕ) (left : LeavesWorker m d n) where
   bytes_stay : (a : ℕ) → HasBytes m d a → HasBytes n d a
   bytes_stay a h = (h.0, left.bytes a h.0 h.1)
 
-  needs_stay : (x : Doing) → Needs m d x → Needs n d x
-  needs_stay (doing.Drops a) h = bytes_stay a h
-  needs_stay (doing.Reads file u) h = record { number = h.number; place = h.place; open_on = left.fds file (on.File h.number h.place Read) h.open_on; may = left.may file h.number h.place Read h.open_on h.may }
-  needs_stay (doing.Counted file a s) h = (open_stays file h.0, bytes_stay a h.1)
-  needs_stay (doing.ShutsToSay file s) h = open_stays file h
-  needs_stay (doing.Shuts file a) h = (open_stays file h.0, bytes_stay a h.1)
-  needs_stay (doing.Writes a) h = bytes_stay a h
-  needs_stay (doing.Cuts a from to) h = (h.0, left.bytes a h.0 h.1, h.2)
-  needs_stay (doing.Swaps a b) h = (bytes_stay b h.0, h.1)
+  needs_stay : (x : Phase) → Needs m d x → Needs n d x
+  needs_stay (phase.Drops a) h = bytes_stay a h
+  needs_stay (phase.Reads file u) h = record { number = h.number; place = h.place; open_on = left.fds file (on.File h.number h.place Read) h.open_on; may = left.may file h.number h.place Read h.open_on h.may }
+  needs_stay (phase.Counted file a s) h = (open_stays file h.0, bytes_stay a h.1)
+  needs_stay (phase.ShutsToSay file s) h = open_stays file h
+  needs_stay (phase.Shuts file a) h = (open_stays file h.0, bytes_stay a h.1)
+  needs_stay (phase.Writes a) h = bytes_stay a h
+  needs_stay (phase.Cuts a from to) h = (h.0, left.bytes a h.0 h.1, h.2)
+  needs_stay (phase.Swaps a b) h = (bytes_stay b h.0, h.1)
   needs_stay x h = h
 
   -- what is collected is lent as it was
-  lent_still : (x : Collected) → LendsStill (lent_at m d) (lent_at n d) x
-  lent_still x a bytes one is = left.bytes a bytes is
+  readable_still : (x : Collected) → IsStillReadable (readable_at m d) (readable_at n d) x
+  readable_still x a bytes one is = left.bytes a bytes is
 
-  piece_stays : (len : ℕ) (x : Collected) → HasPiece (lent_at m d) len x → HasPiece (lent_at n d) len x
-  piece_stays len x h = piece_kept (lent_at m d) (lent_at n d) len x (lent_still x) h
+  piece_stays : (len : ℕ) (x : Collected) → HasPiece (readable_at m d) len x → HasPiece (readable_at n d) len x
+  piece_stays len x h = piece_kept (readable_at m d) (readable_at n d) len x (readable_still x) h
 
-  gathers_stays : (x : Collected) → Gathers (lent_at m d) x → Gathers (lent_at n d) x
-  gathers_stays x g = gathers_still (lent_at m d) (lent_at n d) x (lent_still x) g
+  gathers_stays : (x : Collected) → Gathers (readable_at m d) x → Gathers (readable_at n d) x
+  gathers_stays x g = gathers_still (readable_at m d) (readable_at n d) x (readable_still x) g
 
-  rest_stays : (x : Collected) → IsRest (lent_at m d) x → IsRest (lent_at n d) x
+  rest_stays : (x : Collected) → IsRest (readable_at m d) x → IsRest (readable_at n d) x
   rest_stays x h = record { piece = piece_stays (length x.text) x h.piece; no_text = h.no_text; no_places = h.no_places }
 
-  lends_stay : (a : ℕ) → Lends (lent_at m d) a → Lends (lent_at n d) a
-  lends_stay a h = (h.0, left.bytes a h.0 h.1)
+  is_readable_stay : (a : ℕ) → IsReadable (readable_at m d) a → IsReadable (readable_at n d) a
+  is_readable_stay a h = (h.0, left.bytes a h.0 h.1)
 
-  made_stays : (x : Collected) (a : ℕ) → Lends (lent_at m d) a → HasPiece (lent_at m d) (length (bytes_at (lent_at m d) a)) x → HasPiece (lent_at n d) (length (bytes_at (lent_at n d) a)) x
-  made_stays x a h piece = subst (λ (l : List ℕ). HasPiece (lent_at n d) (length l) x) (sym (same_at a h.0 h.1)) (piece_stays (length (bytes_at (lent_at m d) a)) x piece)
+  made_stays : (x : Collected) (a : ℕ) → IsReadable (readable_at m d) a → HasPiece (readable_at m d) (length (bytes_at (readable_at m d) a)) x → HasPiece (readable_at n d) (length (bytes_at (readable_at n d) a)) x
+  made_stays x a h piece = subst (λ (l : List ℕ). HasPiece (readable_at n d) (length l) x) (sym (same_at a h.0 h.1)) (piece_stays (length (bytes_at (readable_at m d) a)) x piece)
 
-  part_stays : (x : Collected) (part made : ℕ) → DropsPart (lent_at m d) x part made → DropsPart (lent_at n d) x part made
+  part_stays : (x : Collected) (part made : ℕ) → DropsPart (readable_at m d) x part made → DropsPart (readable_at n d) x part made
   part_stays x part made h = record {
-    lends = lends_stay made h.lends;
-    piece = made_stays x made h.lends h.piece;
+    is_readable = is_readable_stay made h.is_readable;
+    piece = made_stays x made h.is_readable h.piece;
     no_text = h.no_text;
     part_apart = h.part_apart;
     made_apart = h.made_apart;
     differ = h.differ;
   }
 
-  files_same : (held : Option ℕ) (ps : List Place) → LendsFiles (lent_at m d) held ps → bytes_of_one (lent_at n d) held ≡ bytes_of_one (lent_at m d) held
+  files_same : (held : Option ℕ) (ps : List Place) → FilesAreReadable (readable_at m d) held ps → bytes_of_one (readable_at n d) held ≡ bytes_of_one (readable_at m d) held
   files_same None ps h = refl
   files_same (Some a) ps h = same_at a h.0 h.1
 
-  holds_stay : (x : Collected) (y : Doing) → HoldsAt (lent_at m d) x y → HoldsAt (lent_at n d) x y
-  holds_stay x doing.Waits h = h
-  holds_stay x (doing.Skips a) h = h
-  holds_stay x (doing.Breaks a) h = h
-  holds_stay x doing.Runs h = piece_stays (length x.text) x h
-  holds_stay x (doing.Reads file u) h = gathers_stays x h
-  holds_stay x (doing.ShutsToSay file s) h = gathers_stays x h
-  holds_stay x (doing.Counted file a s) h = (gathers_stays x h.0, h.1)
-  holds_stay x (doing.Shuts file a) h = (gathers_stays x h.0, h.1)
-  holds_stay x (doing.JoiningFile held a from len) h = record {
+  holds_stay : (x : Collected) (y : Phase) → HoldsAt (readable_at m d) x y → HoldsAt (readable_at n d) x y
+  holds_stay x phase.Waits h = h
+  holds_stay x (phase.Skips a) h = h
+  holds_stay x (phase.Breaks a) h = h
+  holds_stay x phase.Runs h = piece_stays (length x.text) x h
+  holds_stay x (phase.Reads file u) h = gathers_stays x h
+  holds_stay x (phase.ShutsToSay file s) h = gathers_stays x h
+  holds_stay x (phase.Counted file a s) h = (gathers_stays x h.0, h.1)
+  holds_stay x (phase.Shuts file a) h = (gathers_stays x h.0, h.1)
+  holds_stay x (phase.JoiningFile held a from len) h = record {
     gathers = gathers_stays x h.gathers;
     held_is = h.held_is;
-    lends = lends_stay a h.lends;
+    is_readable = is_readable_stay a h.is_readable;
     from_is = h.from_is ∙ ap (λ (l : List ℕ). length l) (sym (files_same x.held x.places h.gathers.piece.files));
   }
-  holds_stay x (doing.CuttingPart held a from) h = record {
+  holds_stay x (phase.CuttingPart held a from) h = record {
     place = h.place;
-    lends = lends_stay a h.lends;
-    piece = made_stays x a h.lends h.piece;
+    is_readable = is_readable_stay a h.is_readable;
+    piece = made_stays x a h.is_readable h.piece;
     no_text = h.no_text;
     held_is = h.held_is;
     places_are = h.places_are;
     from_is = h.from_is;
     apart = h.apart;
   }
-  holds_stay x (doing.ReplacingPart a part at) h = record {
-    lends = lends_stay a h.lends;
-    parts = lends_stay part h.parts;
+  holds_stay x (phase.ReplacingPart a part at) h = record {
+    is_readable = is_readable_stay a h.is_readable;
+    parts = is_readable_stay part h.parts;
     piece = piece_stays at (without_last x) h.piece;
-    within = subst (λ (l : List ℕ). at ≤ length l) (sym (same_at a h.lends.0 h.lends.1)) h.within;
+    within = subst (λ (l : List ℕ). at ≤ length l) (sym (same_at a h.is_readable.0 h.is_readable.1)) h.within;
     no_text = h.no_text;
     apart = h.apart;
     part_apart = h.part_apart;
     differ = h.differ;
   }
-  holds_stay x (doing.DroppingText a part made) h = record { drops = part_stays x part made h.drops; apart = h.apart; differ = h.differ }
-  holds_stay x (doing.DroppingPart part made) h = part_stays x part made h
-  holds_stay x (doing.Drops a) h = (rest_stays x h.0, h.1)
-  holds_stay x (doing.Writes a) h = (rest_stays x h.0, h.1)
-  holds_stay x (doing.Cuts a from to) h = (rest_stays x h.0, h.1)
-  holds_stay x (doing.Swaps a b) h = (rest_stays x h.0, h.1, h.2)
+  holds_stay x (phase.DroppingText a part made) h = record { drops = part_stays x part made h.drops; apart = h.apart; differ = h.differ }
+  holds_stay x (phase.DroppingPart part made) h = part_stays x part made h
+  holds_stay x (phase.Drops a) h = (rest_stays x h.0, h.1)
+  holds_stay x (phase.Writes a) h = (rest_stays x h.0, h.1)
+  holds_stay x (phase.Cuts a from to) h = (rest_stays x h.0, h.1)
+  holds_stay x (phase.Swaps a b) h = (rest_stays x h.0, h.1, h.2)
 
   -- so it is the same text
-  all_stays : (len : ℕ) (text : List ℕ) (x : Collected) → HasPiece (lent_at m d) len x → collected_in (lent_at n d) text x ≡ collected_in (lent_at m d) text x
-  all_stays len text x h = text_kept (lent_at m d) (lent_at n d) len text x (lent_still x) h
+  all_stays : (len : ℕ) (text : List ℕ) (x : Collected) → HasPiece (readable_at m d) len x → collected_in (readable_at n d) text x ≡ collected_in (readable_at m d) text x
+  all_stays len text x h = text_kept (readable_at m d) (readable_at n d) len text x (readable_still x) h
 
-  made_text : (x : Collected) (a : ℕ) (rest : List ℕ) → Lends (lent_at m d) a → HasPiece (lent_at m d) (length (bytes_at (lent_at m d) a)) x
-      → collected_in (lent_at n d) (bytes_at (lent_at n d) a) x ++ rest ≡ collected_in (lent_at m d) (bytes_at (lent_at m d) a) x ++ rest
+  made_text : (x : Collected) (a : ℕ) (rest : List ℕ) → IsReadable (readable_at m d) a → HasPiece (readable_at m d) (length (bytes_at (readable_at m d) a)) x
+      → collected_in (readable_at n d) (bytes_at (readable_at n d) a) x ++ rest ≡ collected_in (readable_at m d) (bytes_at (readable_at m d) a) x ++ rest
   made_text x a rest h piece = ap (λ (l : List ℕ). l ++ rest)
-      (ap (λ (l : List ℕ). collected_in (lent_at n d) l x) (same_at a h.0 h.1) ∙ all_stays (length (bytes_at (lent_at m d) a)) (bytes_at (lent_at m d) a) x piece)
+      (ap (λ (l : List ℕ). collected_in (readable_at n d) l x) (same_at a h.0 h.1) ∙ all_stays (length (bytes_at (readable_at m d) a)) (bytes_at (readable_at m d) a) x piece)
 
-  then_stays : (job : Task) (begun : ℕ) (x : Collected) (os : List Outcome) → HasPiece (lent_at m d) (length x.text) x → then_rest job begun (lent_at n d) x os ≡ then_rest job begun (lent_at m d) x os
+  then_stays : (job : Task) (begun : ℕ) (x : Collected) (os : List Outcome) → HasPiece (readable_at m d) (length x.text) x → then_rest job begun (readable_at n d) x os ≡ then_rest job begun (readable_at m d) x os
   then_stays job begun x os h = ap (λ (l : List ℕ). l ++ rest_of job begun os) (all_stays (length x.text) x.text x h)
 
-  still_stays : (job : Task) (begun : ℕ) (x : Collected) (y : Doing) (os : List Outcome) → Needs m d y → HoldsAt (lent_at m d) x y → still_doing job begun (lent_at n d) x y os ≡ still_doing job begun (lent_at m d) x y os
-  still_stays job begun x doing.Waits os h k = refl
-  still_stays job begun x (doing.Skips a) os h k = refl
-  still_stays job begun x (doing.Breaks a) os h k = refl
-  still_stays job begun x doing.Runs os h k = then_stays job begun x os k
-  still_stays job begun x (doing.Drops a) os h k = then_stays job begun x os k.0.piece
-  still_stays job begun x (doing.Reads file u) os h k = ap (λ (l : List ℕ). l ++ by_first (put_out u) (rest_of job begun) os) (all_stays (length x.text) x.text x k.piece)
-  still_stays job begun x (doing.Counted file a s) os h k = ap (λ (l : List ℕ). l ++ (said_text s ++ rest_of job begun os)) (all_stays (length x.text) x.text x k.0.piece)
-  still_stays job begun x (doing.ShutsToSay file s) os h k = ap (λ (l : List ℕ). l ++ (said_text s ++ rest_of job begun os)) (all_stays (length x.text) x.text x k.piece)
-  still_stays job begun x (doing.Shuts file a) os h k =
-      ap (λ (l : List ℕ). l ++ (bytes_at (lent_at n d) a ++ rest_of job begun os)) (all_stays (length x.text) x.text x k.0.piece)
-      ∙ ap (λ (l : List ℕ). collected (lent_at m d) x ++ (l ++ rest_of job begun os)) (same_at a h.1.0 h.1.1)
-  still_stays job begun x (doing.JoiningFile held a from len) os h k =
-      ap (λ (l : List ℕ). l ++ (bytes_at (lent_at n d) a ++ rest_of job begun os)) (all_stays (length x.text) x.text x k.gathers.piece)
-      ∙ ap (λ (l : List ℕ). collected (lent_at m d) x ++ (l ++ rest_of job begun os)) (same_at a k.lends.0 k.lends.1)
-  still_stays job begun x (doing.CuttingPart held a from) os h k = made_text x a (rest_of job begun os) k.lends k.piece
-  still_stays job begun x (doing.ReplacingPart a part at) os h k = ap (λ (l : List ℕ). l ++ rest_of job begun os)
-      (ap (λ (l : List ℕ). collected_in (lent_at n d) (set_in l at (bytes_at (lent_at n d) part)) (without_last x)) (same_at a k.lends.0 k.lends.1)
-      ∙ (ap (λ (l : List ℕ). collected_in (lent_at n d) (set_in (bytes_at (lent_at m d) a) at l) (without_last x)) (same_at part k.parts.0 k.parts.1)
-      ∙ all_stays at (set_in (bytes_at (lent_at m d) a) at (bytes_at (lent_at m d) part)) (without_last x) k.piece))
-  still_stays job begun x (doing.DroppingText a part made) os h k = made_text x made (rest_of job begun os) k.drops.lends k.drops.piece
-  still_stays job begun x (doing.DroppingPart part made) os h k = made_text x made (rest_of job begun os) k.lends k.piece
-  still_stays job begun x (doing.Writes a) os h k =
-      ap (λ (l : List ℕ). l ++ then_rest job begun (lent_at n d) x os) (same_at a h.0 h.1) ∙ ap (λ (l : List ℕ). bytes_at (lent_at m d) a ++ l) (then_stays job begun x os k.0.piece)
-  still_stays job begun x (doing.Cuts a from to) os h k =
-      ap (λ (l : List ℕ). drop from l ++ then_rest job begun (lent_at n d) x os) (same_at a h.0 h.1) ∙ ap (λ (l : List ℕ). drop from (bytes_at (lent_at m d) a) ++ l) (then_stays job begun x os k.0.piece)
-  still_stays job begun x (doing.Swaps a b) os h k =
-      ap (λ (l : List ℕ). l ++ then_rest job begun (lent_at n d) x os) (same_at b h.0.0 h.0.1) ∙ ap (λ (l : List ℕ). bytes_at (lent_at m d) b ++ l) (then_stays job begun x os k.0.piece)
+  still_stays : (job : Task) (begun : ℕ) (x : Collected) (y : Phase) (os : List Outcome) → Needs m d y → HoldsAt (readable_at m d) x y → still_phase job begun (readable_at n d) x y os ≡ still_phase job begun (readable_at m d) x y os
+  still_stays job begun x phase.Waits os h k = refl
+  still_stays job begun x (phase.Skips a) os h k = refl
+  still_stays job begun x (phase.Breaks a) os h k = refl
+  still_stays job begun x phase.Runs os h k = then_stays job begun x os k
+  still_stays job begun x (phase.Drops a) os h k = then_stays job begun x os k.0.piece
+  still_stays job begun x (phase.Reads file u) os h k = ap (λ (l : List ℕ). l ++ by_first (put_out u) (rest_of job begun) os) (all_stays (length x.text) x.text x k.piece)
+  still_stays job begun x (phase.Counted file a s) os h k = ap (λ (l : List ℕ). l ++ (said_text s ++ rest_of job begun os)) (all_stays (length x.text) x.text x k.0.piece)
+  still_stays job begun x (phase.ShutsToSay file s) os h k = ap (λ (l : List ℕ). l ++ (said_text s ++ rest_of job begun os)) (all_stays (length x.text) x.text x k.piece)
+  still_stays job begun x (phase.Shuts file a) os h k =
+      ap (λ (l : List ℕ). l ++ (bytes_at (readable_at n d) a ++ rest_of job begun os)) (all_stays (length x.text) x.text x k.0.piece)
+      ∙ ap (λ (l : List ℕ). collected (readable_at m d) x ++ (l ++ rest_of job begun os)) (same_at a h.1.0 h.1.1)
+  still_stays job begun x (phase.JoiningFile held a from len) os h k =
+      ap (λ (l : List ℕ). l ++ (bytes_at (readable_at n d) a ++ rest_of job begun os)) (all_stays (length x.text) x.text x k.gathers.piece)
+      ∙ ap (λ (l : List ℕ). collected (readable_at m d) x ++ (l ++ rest_of job begun os)) (same_at a k.is_readable.0 k.is_readable.1)
+  still_stays job begun x (phase.CuttingPart held a from) os h k = made_text x a (rest_of job begun os) k.is_readable k.piece
+  still_stays job begun x (phase.ReplacingPart a part at) os h k = ap (λ (l : List ℕ). l ++ rest_of job begun os)
+      (ap (λ (l : List ℕ). collected_in (readable_at n d) (set_in l at (bytes_at (readable_at n d) part)) (without_last x)) (same_at a k.is_readable.0 k.is_readable.1)
+      ∙ (ap (λ (l : List ℕ). collected_in (readable_at n d) (set_in (bytes_at (readable_at m d) a) at l) (without_last x)) (same_at part k.parts.0 k.parts.1)
+      ∙ all_stays at (set_in (bytes_at (readable_at m d) a) at (bytes_at (readable_at m d) part)) (without_last x) k.piece))
+  still_stays job begun x (phase.DroppingText a part made) os h k = made_text x made (rest_of job begun os) k.drops.is_readable k.drops.piece
+  still_stays job begun x (phase.DroppingPart part made) os h k = made_text x made (rest_of job begun os) k.is_readable k.piece
+  still_stays job begun x (phase.Writes a) os h k =
+      ap (λ (l : List ℕ). l ++ then_rest job begun (readable_at n d) x os) (same_at a h.0 h.1) ∙ ap (λ (l : List ℕ). bytes_at (readable_at m d) a ++ l) (then_stays job begun x os k.0.piece)
+  still_stays job begun x (phase.Cuts a from to) os h k =
+      ap (λ (l : List ℕ). drop from l ++ then_rest job begun (readable_at n d) x os) (same_at a h.0 h.1) ∙ ap (λ (l : List ℕ). drop from (bytes_at (readable_at m d) a) ++ l) (then_stays job begun x os k.0.piece)
+  still_stays job begun x (phase.Swaps a b) os h k =
+      ap (λ (l : List ℕ). l ++ then_rest job begun (readable_at n d) x os) (same_at b h.0.0 h.0.1) ∙ ap (λ (l : List ℕ). bytes_at (readable_at m d) b ++ l) (then_stays job begun x os k.0.piece)
 
   -- the step that a reply leads to stays the same: it depends on bytes that the worker has
-  has_written : (a k len : ℕ) (t : Bool) → Needs m d (if t then doing.Drops a else doing.Cuts a k len) → HasBytes m d a
+  has_written : (a k len : ℕ) (t : Bool) → Needs m d (if t then phase.Drops a else phase.Cuts a k len) → HasBytes m d a
   has_written a k len true h = h
   has_written a k len false h = (h.0, h.1)
 
   -- what was read is there once its file is closed, and so is what is held
   abbrev At : Option Step → Type 0
   At None = Unit {0}
-  At (Some v) = Needs m d v.doing × HoldsAt (lent_at m d) v.piece v.doing
+  At (Some v) = Needs m d v.phase × HoldsAt (readable_at m d) v.piece v.phase
 
-  has_shut : (x : Collected) (from a len begun : ℕ) → At (shut_by x from a len begun) → Lends (lent_at m d) a × (bytes_of_one (lent_at n d) x.held ≡ bytes_of_one (lent_at m d) x.held)
+  has_shut : (x : Collected) (from a len begun : ℕ) → At (shut_by x from a len begun) → IsReadable (readable_at m d) a × (bytes_of_one (readable_at n d) x.held ≡ bytes_of_one (readable_at m d) x.held)
   has_shut x from a len begun h = by (nat_le len 4096) (is_nothing x) h
     where
-      small : (o : Option ℕ) → x.held ≡ o → At (file_collected x o from a len begun) → Lends (lent_at m d) a × (bytes_of_one (lent_at n d) x.held ≡ bytes_of_one (lent_at m d) x.held)
-      small None is h = (h.1.files, ap (λ (o : Option ℕ). bytes_of_one (lent_at n d) o) is ∙ sym (ap (λ (o : Option ℕ). bytes_of_one (lent_at m d) o) is))
-      small (Some held) is h = (h.1.lends, files_same x.held x.places h.1.gathers.piece.files)
+      small : (o : Option ℕ) → x.held ≡ o → At (file_collected x o from a len begun) → IsReadable (readable_at m d) a × (bytes_of_one (readable_at n d) x.held ≡ bytes_of_one (readable_at m d) x.held)
+      small None is h = (h.1.files, ap (λ (o : Option ℕ). bytes_of_one (readable_at n d) o) is ∙ sym (ap (λ (o : Option ℕ). bytes_of_one (readable_at m d) o) is))
+      small (Some held) is h = (h.1.is_readable, files_same x.held x.places h.1.gathers.piece.files)
 
       by : (t u : Bool) → At (if t then file_collected x x.held from a len begun
-          else (if u then Some (record { doing = doing.Writes a; begun = begun; piece = x }) else Some (record { doing = doing.Runs; begun = begun; piece = with_next x a })))
-          → Lends (lent_at m d) a × (bytes_of_one (lent_at n d) x.held ≡ bytes_of_one (lent_at m d) x.held)
+          else (if u then Some (record { phase = phase.Writes a; begun = begun; piece = x }) else Some (record { phase = phase.Runs; begun = begun; piece = with_next x a })))
+          → IsReadable (readable_at m d) a × (bytes_of_one (readable_at n d) x.held ≡ bytes_of_one (readable_at m d) x.held)
       by true u h = small x.held refl h
       by false true h = (h.0, files_same x.held x.places h.1.0.piece.files)
       by false false h = (h.1.next.0, files_same x.held x.places h.1.files)
 
-  told_stays : (job : Task) (step : Step) (x : Doing) (last : Reply) → Needs m d (or_again (told_doing (lent_at m d) job step.piece step.begun x last) step).doing
-      → HoldsAt (lent_at m d) (or_again (told_doing (lent_at m d) job step.piece step.begun x last) step).piece (or_again (told_doing (lent_at m d) job step.piece step.begun x last) step).doing
-      → told_doing (lent_at n d) job step.piece step.begun x last ≡ told_doing (lent_at m d) job step.piece step.begun x last
-  told_stays job step (doing.Reads file purpose.Wc) (reply.Agg a) h k = ap (λ (l : List ℕ). told_doing (λ k. Some l) job step.piece step.begun (doing.Reads file purpose.Wc) (reply.Agg a)) (same_at a h.1.0 h.1.1)
-  told_stays job step (doing.Shuts file a) last h k =
-      let has = has_shut step.piece (length (bytes_of_one (lent_at m d) step.piece.held)) a (length (bytes_at (lent_at m d) a)) step.begun (at_both (shut_by step.piece (length (bytes_of_one (lent_at m d) step.piece.held)) a (length (bytes_at (lent_at m d) a)) step.begun) h k) in
-      ap (λ (l : List ℕ). shut_by step.piece (length (bytes_of_one (lent_at n d) step.piece.held)) a (length l) step.begun) (same_at a has.0.0 has.0.1)
-      ∙ ap (λ (l : List ℕ). shut_by step.piece (length l) a (length (bytes_at (lent_at m d) a)) step.begun) has.1
+  after_reply_stays : (job : Task) (step : Step) (x : Phase) (last : Reply) → Needs m d (or_again (after_phase (readable_at m d) job step.piece step.begun x last) step).phase
+      → HoldsAt (readable_at m d) (or_again (after_phase (readable_at m d) job step.piece step.begun x last) step).piece (or_again (after_phase (readable_at m d) job step.piece step.begun x last) step).phase
+      → after_phase (readable_at n d) job step.piece step.begun x last ≡ after_phase (readable_at m d) job step.piece step.begun x last
+  after_reply_stays job step (phase.Reads file purpose.Wc) (reply.Agg a) h k = ap (λ (l : List ℕ). after_phase (λ k. Some l) job step.piece step.begun (phase.Reads file purpose.Wc) (reply.Agg a)) (same_at a h.1.0 h.1.1)
+  after_reply_stays job step (phase.Shuts file a) last h k =
+      let has = has_shut step.piece (length (bytes_of_one (readable_at m d) step.piece.held)) a (length (bytes_at (readable_at m d) a)) step.begun (at_both (shut_by step.piece (length (bytes_of_one (readable_at m d) step.piece.held)) a (length (bytes_at (readable_at m d) a)) step.begun) h k) in
+      ap (λ (l : List ℕ). shut_by step.piece (length (bytes_of_one (readable_at n d) step.piece.held)) a (length l) step.begun) (same_at a has.0.0 has.0.1)
+      ∙ ap (λ (l : List ℕ). shut_by step.piece (length l) a (length (bytes_at (readable_at m d) a)) step.begun) has.1
     where
-      at_both : (o : Option Step) → Needs m d (or_again o step).doing → HoldsAt (lent_at m d) (or_again o step).piece (or_again o step).doing → At o
+      at_both : (o : Option Step) → Needs m d (or_again o step).phase → HoldsAt (readable_at m d) (or_again o step).piece (or_again o step).phase → At o
       at_both None h k = tt
       at_both (Some v) h k = (h, k)
-  told_stays job step (doing.Writes a) (reply.Count k) h held =
-      let has = has_written a k (length (bytes_at (lent_at m d) a)) (k == length (bytes_at (lent_at m d) a)) h in
-      ap (λ (l : List ℕ). told_doing (λ k. Some l) job step.piece step.begun (doing.Writes a) (reply.Count k)) (same_at a has.0 has.1)
-  told_stays job step x last h k = refl
+  after_reply_stays job step (phase.Writes a) (reply.Count k) h held =
+      let has = has_written a k (length (bytes_at (readable_at m d) a)) (k == length (bytes_at (readable_at m d) a)) h in
+      ap (λ (l : List ℕ). after_phase (λ k. Some l) job step.piece step.begun (phase.Writes a) (reply.Count k)) (same_at a has.0 has.1)
+  after_reply_stays job step x last h k = refl
 
-  pub filed_stays : (s : Standing) (w : Worker) (last : Reply) → Needs m d (filed_step s w (lent_at m d) last).doing → HoldsAt (lent_at m d) (filed_step s w (lent_at m d) last).piece (filed_step s w (lent_at m d) last).doing
-      → filed_step s w (lent_at n d) last ≡ filed_step s w (lent_at m d) last
-  filed_stays standing.Asked w last h k = ap (λ (o : Option Step). or_again o w.step) (told_stays w.job w.step w.step.doing last h k)
+  pub filed_stays : (s : Standing) (w : Worker) (last : Reply) → Needs m d (filed_step s w (readable_at m d) last).phase → HoldsAt (readable_at m d) (filed_step s w (readable_at m d) last).piece (filed_step s w (readable_at m d) last).phase
+      → filed_step s w (readable_at n d) last ≡ filed_step s w (readable_at m d) last
+  filed_stays standing.Asked w last h k = ap (λ (o : Option Step). or_again o w.step) (after_reply_stays w.job w.step w.step.phase last h k)
   filed_stays x w last h k = refl
 
-  begins_stays : (p : ℕ) (job : Task) (a : ℕ) (unseen after : List Outcome → List ℕ) → (b : Begins m d p job a unseen) → Feeds n d p job (record { doing = doing.Drops a; begun = 0; piece = nothing }) after → Begins n d p job a after
-  begins_stays p job a unseen after b f = record { bytes = b.bytes; lends = left.bytes a b.bytes b.lends; is_job = b.is_job; feeds = f }
+  begins_stays : (p : ℕ) (job : Task) (a : ℕ) (unseen after : List Outcome → List ℕ) → (b : Begins m d p job a unseen) → Feeds n d p job (record { phase = phase.Drops a; begun = 0; piece = nothing }) after → Begins n d p job a after
+  begins_stays p job a unseen after b f = record { bytes = b.bytes; is_readable = left.bytes a b.bytes b.is_readable; is_job = b.is_job; feeds = f }
 
   all_may : (t : Text) → AllByRecursion (λ b. may_read m d b.1 ≡ true) t → AllByRecursion (λ b. may_read n d b.1 ≡ true) t
   all_may [] h = h
@@ -255,13 +255,13 @@ module _ (m n : State) (d : ℕ) (left : LeavesWorker m d n) where
       }
 
   -- where files are left, so is what is still to come of them
-  come_still : LeavesFiles m d n → (job : Task) (begun : ℕ) (x : Doing) → to_come_doing n d job begun x ≡ to_come_doing m d job begun x
-  come_still files job begun doing.Waits = refl
-  come_still files job begun (doing.Reads file u) = sym (same_outcomes m n d files.outcomes (drop (begun - 1) job.lines))
+  come_still : LeavesFiles m d n → (job : Task) (begun : ℕ) (x : Phase) → to_come_phase n d job begun x ≡ to_come_phase m d job begun x
+  come_still files job begun phase.Waits = refl
+  come_still files job begun (phase.Reads file u) = sym (same_outcomes m n d files.outcomes (drop (begun - 1) job.lines))
   come_still files job begun x = sym (same_outcomes m n d files.outcomes (drop begun job.lines))
 
-  named_still : LeavesFiles m d n → (job : Task) (begun : ℕ) (x : Doing) → ReadsNamed m d job begun x → ReadsNamed n d job begun x
-  named_still files job begun (doing.Reads file u) g = record {
+  named_still : LeavesFiles m d n → (job : Task) (begun : ℕ) (x : Phase) → ReadsNamed m d job begun x → ReadsNamed n d job begun x
+  named_still files job begun (phase.Reads file u) g = record {
     number = g.number;
     open_on = left.fds file (on.File g.number 0 Read) g.open_on;
     names = sym (same_outcomes m n d files.outcomes (drop (begun - 1) job.lines)) ∙ (g.names
@@ -273,98 +273,98 @@ module _ (m n : State) (d : ℕ) (left : LeavesWorker m d n) where
 -- ---- a worker that is free stays so
 
 -- what is written or counted depends on bytes that it is lent; a step at which it waits does not
-waits_still : (lm ln : ℕ → Option (List ℕ)) (job : Task) (step : Step) (x : Doing) (last : Reply) → (or_again (told_doing lm job step.piece step.begun x last) step).doing ≡ doing.Waits
-    → (or_again (told_doing ln job step.piece step.begun x last) step).doing ≡ doing.Waits
-waits_still lm ln job step (doing.Reads file purpose.Wc) (reply.Agg a) h = absurd (cc (h))
-waits_still lm ln job step (doing.Shuts file a) last h = absurd (shut_on step.piece.held (nat_le (length (bytes_at lm a)) 4096) (is_nothing step.piece) h)
+waits_still : (lm ln : ℕ → Option (List ℕ)) (job : Task) (step : Step) (x : Phase) (last : Reply) → (or_again (after_phase lm job step.piece step.begun x last) step).phase ≡ phase.Waits
+    → (or_again (after_phase ln job step.piece step.begun x last) step).phase ≡ phase.Waits
+waits_still lm ln job step (phase.Reads file purpose.Wc) (reply.Agg a) h = absurd (cc (h))
+waits_still lm ln job step (phase.Shuts file a) last h = absurd (shut_on step.piece.held (nat_le (length (bytes_at lm a)) 4096) (is_nothing step.piece) h)
   where
-    collects_on : (o : Option ℕ) (from len : ℕ) → (or_again (file_collected step.piece o from a len step.begun) step).doing ≡ doing.Waits → ⊥
+    collects_on : (o : Option ℕ) (from len : ℕ) → (or_again (file_collected step.piece o from a len step.begun) step).phase ≡ phase.Waits → ⊥
     collects_on None from len e = cc (e)
     collects_on (Some held) from len e = cc (e)
 
     shut_on : (o : Option ℕ) (t u : Bool) → (or_again (if t then file_collected step.piece o (length (bytes_of_one lm step.piece.held)) a (length (bytes_at lm a)) step.begun
-        else (if u then Some (record { doing = doing.Writes a; begun = step.begun; piece = step.piece }) else Some (record { doing = doing.Runs; begun = step.begun; piece = with_next step.piece a }))) step).doing ≡ doing.Waits → ⊥
+        else (if u then Some (record { phase = phase.Writes a; begun = step.begun; piece = step.piece }) else Some (record { phase = phase.Runs; begun = step.begun; piece = with_next step.piece a }))) step).phase ≡ phase.Waits → ⊥
     shut_on o true u e = collects_on o (length (bytes_of_one lm step.piece.held)) (length (bytes_at lm a)) e
     shut_on o false true e = cc (e)
     shut_on o false false e = cc (e)
-waits_still lm ln job step (doing.Writes a) (reply.Count k) h = absurd (writes_on (k == length (bytes_at lm a)) (length (bytes_at lm a)) h)
+waits_still lm ln job step (phase.Writes a) (reply.Count k) h = absurd (writes_on (k == length (bytes_at lm a)) (length (bytes_at lm a)) h)
   where
-    writes_on : (t : Bool) (len : ℕ) → (if t then doing.Drops a else doing.Cuts a k len) ≡ doing.Waits → ⊥
+    writes_on : (t : Bool) (len : ℕ) → (if t then phase.Drops a else phase.Cuts a k len) ≡ phase.Waits → ⊥
     writes_on true len e = cc (e)
     writes_on false len e = cc (e)
 waits_still lm ln job step x last h = h
 
-pub free_still : (m n : State) (seat : Seat Worker) → IsFree m seat → IsFree n seat
-free_still m n seat h = record { not_over = h.not_over; waits = by seat.process.standing h.waits; not_given = h.not_given }
+pub free_still : (m n : State) (process_slot : ProcessSlot Worker) → IsFree m process_slot → IsFree n process_slot
+free_still m n process_slot h = record { not_over = h.not_over; waits = by process_slot.process.standing h.waits; not_given = h.not_given }
   where
-    by : (s : Standing) → (filed_step s seat.process (lent_at m seat.by) seat.last).doing ≡ doing.Waits → (filed_step s seat.process (lent_at n seat.by) seat.last).doing ≡ doing.Waits
-    by standing.Asked is = waits_still (lent_at m seat.by) (lent_at n seat.by) seat.process.job seat.process.step seat.process.step.doing seat.last is
+    by : (s : Standing) → (filed_step s process_slot.process (readable_at m process_slot.by) process_slot.last).phase ≡ phase.Waits → (filed_step s process_slot.process (readable_at n process_slot.by) process_slot.last).phase ≡ phase.Waits
+    by standing.Asked is = waits_still (readable_at m process_slot.by) (readable_at n process_slot.by) process_slot.process.job process_slot.process.step process_slot.process.step.phase process_slot.last is
     by x is = is
 
 -- ---- what went from the front of the pipe of its output stood in front of what is unseen
 
-module _ (m n : State) (p : ℕ) (seat : Seat Worker) (left : LeavesWorker m seat.by n) (jobs : LeavesJobs m seat n) (goes : GoesFromFront m p n) where
+module _ (m n : State) (p : ℕ) (process_slot : ProcessSlot Worker) (left : LeavesWorker m process_slot.by n) (jobs : LeavesJobs m process_slot n) (goes : GoesFromFront m p n) where
   front : (rest : List ℕ) → bytes_of (pipe_at m p).queue ++ rest ≡ bytes_of goes.gone ++ (bytes_of (pipe_at n p).queue ++ rest)
   front rest = ap (λ (t : Text). bytes_of t ++ rest) goes.queue
       ∙ (ap (λ (l : List ℕ). l ++ rest) (bytes-append goes.gone (pipe_at n p).queue) ∙ append_assoc (bytes_of goes.gone) (bytes_of (pipe_at n p).queue) rest)
 
-  feeds_after : (job : Task) (step : Step) (unseen : List Outcome → List ℕ) → Feeds m seat.by p job step unseen
-      → Feeds n seat.by p job step (λ os. bytes_of (pipe_at n p).queue ++ still job (lent_at m seat.by) step os)
+  feeds_after : (job : Task) (step : Step) (unseen : List Outcome → List ℕ) → Feeds m process_slot.by p job step unseen
+      → Feeds n process_slot.by p job step (λ os. bytes_of (pipe_at n p).queue ++ still job (readable_at m process_slot.by) step os)
   feeds_after job step unseen f = record {
     live = left.live f.live;
     open_on = left.fds job.fd (on.WriteEnd p) f.open_on;
-    needs = needs_stay m n seat.by left step.doing f.needs;
-    holds = holds_stay m n seat.by left step.piece step.doing f.holds;
-    is = λ os. ap (λ (l : List ℕ). bytes_of (pipe_at n p).queue ++ l) (sym (still_stays m n seat.by left job step.begun step.piece step.doing os f.needs f.holds));
+    needs = needs_stay m n process_slot.by left step.phase f.needs;
+    holds = holds_stay m n process_slot.by left step.piece step.phase f.holds;
+    is = λ os. ap (λ (l : List ℕ). bytes_of (pipe_at n p).queue ++ l) (sym (still_stays m n process_slot.by left job step.begun step.piece step.phase os f.needs f.holds));
   }
 
-  pub gone : (unseen : List Outcome → List ℕ) (was : RunsJob m p seat unseen) → Hears m n p seat unseen was (bytes_of goes.gone)
+  pub gone : (unseen : List Outcome → List ℕ) (was : RunsJob m p process_slot unseen) → Receives m n p process_slot unseen was (bytes_of goes.gone)
   gone unseen (inl h) = record {
     after = λ os. bytes_of (pipe_at n p).queue ++ output h.query h.lines os;
     splits = λ os. h.is os ∙ front (output h.query h.lines os);
-    runs = inl (awaits_still m n p seat seat unseen _ h (free_still m n seat h.free) (job_stays m n seat.by left h.jobs p h.fd h.query h.script h.lines (jobs.same h.jobs h.free h.has.jobs) h.has) (λ os. refl));
-    outcomes = λ files. sym (same_outcomes m n seat.by files.outcomes h.lines);
+    runs = inl (awaits_still m n p process_slot process_slot unseen _ h (free_still m n process_slot h.free) (job_stays m n process_slot.by left h.jobs p h.fd h.query h.script h.lines (jobs.same h.jobs h.free h.has.jobs) h.has) (λ os. refl));
+    outcomes = λ files. sym (same_outcomes m n process_slot.by files.outcomes h.lines);
     reads = λ files right. tt;
   }
   gone unseen (inr (inl h)) =
-      let step : Step = record { doing = doing.Drops h.agg; begun = 0; piece = nothing } in
+      let step : Step = record { phase = phase.Drops h.agg; begun = 0; piece = nothing } in
       record {
-        after = λ os. bytes_of (pipe_at n p).queue ++ still h.job (lent_at m seat.by) step os;
-        splits = λ os. h.begins.feeds.is os ∙ front (still h.job (lent_at m seat.by) step os);
+        after = λ os. bytes_of (pipe_at n p).queue ++ still h.job (readable_at m process_slot.by) step os;
+        splits = λ os. h.begins.feeds.is os ∙ front (still h.job (readable_at m process_slot.by) step os);
         runs = inr (inl (record {
           job = h.job;
           agg = h.agg;
           waits = h.waits;
           asked = h.asked;
           last = h.last;
-          begins = begins_stays m n seat.by left p h.job h.agg unseen (λ os. bytes_of (pipe_at n p).queue ++ still h.job (lent_at m seat.by) step os) h.begins
+          begins = begins_stays m n process_slot.by left p h.job h.agg unseen (λ os. bytes_of (pipe_at n p).queue ++ still h.job (readable_at m process_slot.by) step os) h.begins
               (feeds_after h.job step unseen h.begins.feeds);
         }));
-        outcomes = λ files. sym (same_outcomes m n seat.by files.outcomes h.job.lines);
+        outcomes = λ files. sym (same_outcomes m n process_slot.by files.outcomes h.job.lines);
         reads = λ files right. tt;
       }
   gone unseen (inr (inr i)) =
-      let step : Step = filed_step seat.process.standing seat.process (lent_at m seat.by) seat.last in
-      let same : filed_step seat.process.standing seat.process (lent_at n seat.by) seat.last ≡ step = filed_stays m n seat.by left seat.process.standing seat.process seat.last i.feeds.needs i.feeds.holds in
+      let step : Step = filed_step process_slot.process.standing process_slot.process (readable_at m process_slot.by) process_slot.last in
+      let same : filed_step process_slot.process.standing process_slot.process (readable_at n process_slot.by) process_slot.last ≡ step = filed_stays m n process_slot.by left process_slot.process.standing process_slot.process process_slot.last i.feeds.needs i.feeds.holds in
       record {
-        after = λ os. bytes_of (pipe_at n p).queue ++ still seat.process.job (lent_at m seat.by) step os;
-        splits = λ os. i.feeds.is os ∙ front (still seat.process.job (lent_at m seat.by) step os);
+        after = λ os. bytes_of (pipe_at n p).queue ++ still process_slot.process.job (readable_at m process_slot.by) step os;
+        splits = λ os. i.feeds.is os ∙ front (still process_slot.process.job (readable_at m process_slot.by) step os);
         runs = inr (inr (record {
           not_over = i.not_over;
-          feeds = subst (λ (s : Step). Feeds n seat.by p seat.process.job s (λ os. bytes_of (pipe_at n p).queue ++ still seat.process.job (lent_at m seat.by) step os)) (sym same)
-              (feeds_after seat.process.job step unseen i.feeds);
+          feeds = subst (λ (s : Step). Feeds n process_slot.by p process_slot.process.job s (λ os. bytes_of (pipe_at n p).queue ++ still process_slot.process.job (readable_at m process_slot.by) step os)) (sym same)
+              (feeds_after process_slot.process.job step unseen i.feeds);
         }));
-        outcomes = λ files. ap (λ (s : Step). to_come n seat.by seat.process.job s) same ∙ come_still m n seat.by left files seat.process.job step.begun step.doing;
-        reads = λ files right. subst (λ (s : Step). ReadsNamed n seat.by seat.process.job s.begun s.doing) (sym same)
-            (named_still m n seat.by left files seat.process.job step.begun step.doing right);
+        outcomes = λ files. ap (λ (s : Step). to_come n process_slot.by process_slot.process.job s) same ∙ come_still m n process_slot.by left files process_slot.process.job step.begun step.phase;
+        reads = λ files right. subst (λ (s : Step). ReadsNamed n process_slot.by process_slot.process.job s.begun s.phase) (sym same)
+            (named_still m n process_slot.by left files process_slot.process.job step.begun step.phase right);
       }
 
 -- what a read of it gives is what went
-pub heard : (m n : State) (p by count a : ℕ) (bytes : List ℕ) → TakesFromPipe m by p count a n → lent_at n by a ≡ Some bytes → (goes : GoesFromFront m p n) → bytes_of goes.gone ≡ bytes
-heard m n p by count a bytes takes names goes =
+pub received : (m n : State) (p by count a : ℕ) (bytes : List ℕ) → TakesFromPipe m by p count a n → readable_at n by a ≡ Some bytes → (goes : GoesFromFront m p n) → bytes_of goes.gone ≡ bytes
+received m n p by count a bytes takes names goes =
     let rest : (pipe_at n p).queue ≡ takes.rest = ap (λ (x : Pipe). x.queue) takes.pipe in
     let same : goes.gone ≡ takes.text = append_cancel_right goes.gone takes.text takes.rest (ap (λ (t : Text). goes.gone ++ t) (sym rest) ∙ (sym goes.queue ∙ takes.was)) in
-    ap (λ (t : Text). bytes_of t) same ∙ some-inj (bytes_of takes.text) bytes (sym takes.lends ∙ names)
+    ap (λ (t : Text). bytes_of t) same ∙ some-inj (bytes_of takes.text) bytes (sym takes.is_readable ∙ names)
 
 -- ---- a call of another domain, and what happens outside
 
@@ -391,10 +391,10 @@ no_gift (event.Call by (call.AggDrop b)) d a other = ap (λ t. t && (b == a)) ot
 no_gift (event.Call by (call.AggGive b to)) d a other = ap (λ t. t && (b == a)) other
 no_gift e d a other = refl
 
-pub values_stay : (m n : State) (e : Event) (d a : ℕ) (bytes : List ℕ) → ValuesStay m e n → lent_at m d a ≡ Some bytes → gives_up e d a ≡ false → lent_at n d a ≡ Some bytes
+pub values_stay : (m n : State) (e : Event) (d a : ℕ) (bytes : List ℕ) → ValuesStay m e n → readable_at m d a ≡ Some bytes → gives_up e d a ≡ false → readable_at n d a ≡ Some bytes
 values_stay m n e d a bytes stay is un = by (aggregate m d a) refl
   where
-    by : (t : Option Text) → aggregate m d a ≡ t → lent_at n d a ≡ Some bytes
+    by : (t : Option Text) → aggregate m d a ≡ t → readable_at n d a ≡ Some bytes
     by None none = (let e = ap (λ (t : Option Text). option_map bytes_of t) none in absurd (cc (is, e)))
     by (Some t) some =
         ap (λ (u : Option Text). option_map bytes_of u) (stay.each d a t some un)
@@ -414,9 +414,9 @@ others_leave steps m n d e r placed step other = record {
 
 pub files_left : EachStepLeavesTheRest → (m n : State) (d : ℕ) (e : Event) (r : Reply) → AreFiles m → StepsTo m e r n → changes_files m e ≡ false
     → ((q : ℕ) → admits_to e q ≡ false) → LeavesFiles m d n
-files_left steps m n d e r good step calm shut = record {
-  outcomes = same_outcome m n d e leaves good calm shut;
-  contents = λ f. content-same m n f (leaves.files calm).1;
+files_left steps m n d e r good step undisturbed shut = record {
+  outcomes = same_outcome m n d e leaves good undisturbed shut;
+  contents = λ f. content-same m n f (leaves.files undisturbed).1;
 }
   where
     leaves : Leaves m e n

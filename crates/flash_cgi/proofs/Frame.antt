@@ -15,14 +15,14 @@ use Rattle.iol_core.specs.declared.events.Event.TheVariants as event
 use Rattle.iol_core.specs.declared.events.Reply.{Reply}
 use Rattle.iol_core.specs.declared.events.Reply.TheVariants as reply
 use Rattle.iol_laws.specs.Aggregates.{AggregatesComeAndGo, brings}
-use Rattle.iol_laws.specs.Caller.{lent_at}
+use Rattle.iol_laws.specs.Caller.{readable_at}
 use Rattle.iol_laws.specs.Frame.{EachStepLeavesTheRest, Leaves, admits_to, changes_files, closes_pool, ends, is_conn, is_end, sets_default, touches_conn, touches_fd, touches_pipe}
 use Rattle.iol_laws.specs.DescriptorNumbers.{DescriptorsComeByReplies, opens}
-use Rattle.iol_proc.specs.Turns.{Comes as ComesOf, SeatTurn}
+use Rattle.iol_proc.specs.Turns.{Comes as ComesOf, ProcessSlotTurn}
 use Rattle.iol_proc.specs.World.{copying}
 use Rattle.iol_proc.specs.declared.process.Turn.{Turn}
 use Rattle.iol_proc.specs.declared.process.Turn.TheVariants as turn
-use Rattle.iol_proc.specs.declared.seat.Seat.{Seat}
+use Rattle.iol_proc.specs.declared.process_slot.ProcessSlot.{ProcessSlot}
 use Rattle.flash_cgi.specs.Collecting.{Collected}
 use Rattle.flash_cgi.specs.Feeds.{Needs}
 use Rattle.flash_cgi.specs.Job.{Task}
@@ -30,18 +30,18 @@ use Rattle.flash_cgi.specs.Frame.{LeavesAllBut, WorkersAreQuiet}
 use Rattle.flash_cgi.specs.Output.{Outcome}
 use Rattle.flash_cgi.specs.Turns.{IsFree, HasRead, IsRunning, filed_step, is_given, or_again}
 use Rattle.flash_cgi.specs.Standstill.{is_over}
-use Rattle.flash_cgi.specs.WorkerSteps.{call_at, doing_call, due_now, next_call, told, told_doing}
-use Rattle.flash_cgi.specs.Works.{files, goes_on, works, works_as, worker_turns}
+use Rattle.flash_cgi.specs.WorkerSteps.{call_at, phase_call, expected_now, next_call, after_reply, after_phase}
+use Rattle.flash_cgi.specs.Works.{files, proceeds, works, works_as, worker_turns}
 use Rattle.flash_cgi.specs.declared.line.Line.{Line}
 use Rattle.flash_cgi.specs.declared.line.Line.TheVariants as line
-use Rattle.flash_cgi.specs.declared.phase.Doing.{Doing}
-use Rattle.flash_cgi.specs.declared.phase.Doing.TheVariants as doing
+use Rattle.flash_cgi.specs.declared.phase.Phase.{Phase}
+use Rattle.flash_cgi.specs.declared.phase.Phase.TheVariants as phase
 use Rattle.flash_cgi.specs.declared.phase.Standing.{Standing}
 use Rattle.flash_cgi.specs.declared.phase.Standing.TheVariants as standing
 use Rattle.flash_cgi.specs.declared.phase.Step.{Step}
 use Rattle.flash_cgi.specs.declared.worker.Worker.{Worker}
 use Rattle.flash_cgi.proofs.Beside.{no_gift, no_touch, values_stay}
-use Rattle.flash_cgi.proofs.OutputByTurn.{lent-live}
+use Rattle.flash_cgi.proofs.OutputByTurn.{readable-live}
 
 -- ---- calls that keep to a file, or to one pipe
 
@@ -166,8 +166,8 @@ module _ (m : State) (d p : ℕ) where
   agg_free k r e a is other = refl
 
   -- its job pipe is not closed by it
-  at_desk : (fd j : ℕ) → j ≢ p → descriptor m d 0 ≡ Some (on.ReadEnd j) → is_but p (descriptor m d fd) ≡ true → (fd == 0) ≡ false
-  at_desk fd j differ opened is = by (fd == 0) refl
+  at_job_queue : (fd j : ℕ) → j ≢ p → descriptor m d 0 ≡ Some (on.ReadEnd j) → is_but p (descriptor m d fd) ≡ true → (fd == 0) ≡ false
+  at_job_queue fd j differ opened is = by (fd == 0) refl
     where
       by : (b : Bool) → (fd == 0) ≡ b → (fd == 0) ≡ false
       by false is_b = is_b
@@ -188,19 +188,19 @@ module _ (m : State) (d p : ℕ) where
           let zero_is : fd ≡ 0 = grind (arith, nat_tests, is_b) in
           ap (λ o. (d == d) && (fd == 0) && is_file o) (ap (λ k. descriptor m d k) zero_is ∙ opened) ∙ none ((d == d) && (fd == 0))
 
-  desk_free : (k : Call) (j : ℕ) → j ≢ p → descriptor m d 0 ≡ Some (on.ReadEnd j) → keeps_to m d p k ≡ true → touches_fd m (event.Call d k) d 0 ≡ false
-  desk_free (call.AggMake bytes) j differ opened is = refl
-  desk_free (call.AggCut a from to) j differ opened is = refl
-  desk_free (call.AggDrop a) j differ opened is = refl
-  desk_free (call.AggSplit a at) j differ opened is = refl
-  desk_free (call.AggJoin a b) j differ opened is = refl
-  desk_free (call.AggReplace a from to b) j differ opened is = refl
-  desk_free (call.SetPool q) j differ opened is = refl
-  desk_free (call.OpenFile name mode) j differ opened is = refl
-  desk_free (call.Close fd) j differ opened is = (let e = at_desk fd j differ opened is in grind (arith, nat_tests, e))
-  desk_free (call.IolRead fd n) j differ opened is = no_file_end fd j opened
-  desk_free (call.IolWrite fd a) j differ opened is = no_file_end fd j opened
-  desk_free k j differ opened is = absurd (cc (is))
+  job_queue_free : (k : Call) (j : ℕ) → j ≢ p → descriptor m d 0 ≡ Some (on.ReadEnd j) → keeps_to m d p k ≡ true → touches_fd m (event.Call d k) d 0 ≡ false
+  job_queue_free (call.AggMake bytes) j differ opened is = refl
+  job_queue_free (call.AggCut a from to) j differ opened is = refl
+  job_queue_free (call.AggDrop a) j differ opened is = refl
+  job_queue_free (call.AggSplit a at) j differ opened is = refl
+  job_queue_free (call.AggJoin a b) j differ opened is = refl
+  job_queue_free (call.AggReplace a from to b) j differ opened is = refl
+  job_queue_free (call.SetPool q) j differ opened is = refl
+  job_queue_free (call.OpenFile name mode) j differ opened is = refl
+  job_queue_free (call.Close fd) j differ opened is = (let e = at_job_queue fd j differ opened is in grind (arith, nat_tests, e))
+  job_queue_free (call.IolRead fd n) j differ opened is = no_file_end fd j opened
+  job_queue_free (call.IolWrite fd a) j differ opened is = no_file_end fd j opened
+  job_queue_free k j differ opened is = absurd (cc (is))
 
 module _ (steps : EachStepLeavesTheRest) (come : AggregatesComeAndGo) (by_reply : DescriptorsComeByReplies) (m n : State) (d p : ℕ) where
   other_domain : (e : ℕ) → e ≢ d → (d == e) ≡ false
@@ -215,8 +215,8 @@ module _ (steps : EachStepLeavesTheRest) (come : AggregatesComeAndGo) (by_reply 
     lives = λ e lives. leaves.lives e lives (life_free m d p k e is);
     defaults = λ e differ lives. leaves.defaults e lives (default_free m d p k e is (other_domain e differ));
     fds = λ e fd differ. fd_stays e fd differ (descriptor m e fd) refl;
-    aggs = λ e a differ. agg_stays e a differ (lent_at m e a) refl;
-    desk = λ j differ opened. leaves.fds d 0 (on.ReadEnd j) opened (desk_free m d p k j differ opened is);
+    aggs = λ e a differ. agg_stays e a differ (readable_at m e a) refl;
+    job_queue = λ j differ opened. leaves.fds d 0 (on.ReadEnd j) opened (job_queue_free m d p k j differ opened is);
   }
     where
       leaves : Leaves m (event.Call d k) n
@@ -226,9 +226,9 @@ module _ (steps : EachStepLeavesTheRest) (come : AggregatesComeAndGo) (by_reply 
       fd_stays e fd differ None none = by_reply.none m n (event.Call d k) r e fd step none (fd_free m d p k r e fd is (other_domain e differ)) ∙ sym none
       fd_stays e fd differ (Some x) opened = leaves.fds e fd x opened (no_touch m (event.Call d k) e fd (other_domain e differ)) ∙ sym opened
 
-      agg_stays : (e a : ℕ) → e ≢ d → (o : Option (List ℕ)) → lent_at m e a ≡ o → lent_at n e a ≡ lent_at m e a
+      agg_stays : (e a : ℕ) → e ≢ d → (o : Option (List ℕ)) → readable_at m e a ≡ o → readable_at n e a ≡ readable_at m e a
       agg_stays e a differ None none = come.none m n (event.Call d k) r e a step none (agg_free m d p k r e a is (other_domain e differ)) ∙ sym none
-      agg_stays e a differ (Some bytes) lent = values_stay m n (event.Call d k) e a bytes (steps.values m n (event.Call d k) r step) lent (no_gift (event.Call d k) e a (other_domain e differ)) ∙ sym lent
+      agg_stays e a differ (Some bytes) readable = values_stay m n (event.Call d k) e a bytes (steps.values m n (event.Call d k) r step) readable (no_gift (event.Call d k) e a (other_domain e differ)) ∙ sym readable
 
   same : n ≡ m → LeavesAllBut m d p n
   same is = record {
@@ -239,8 +239,8 @@ module _ (steps : EachStepLeavesTheRest) (come : AggregatesComeAndGo) (by_reply 
     lives = λ e lives. ap (λ u. is_live u e) is ∙ lives;
     defaults = λ e differ lives. ap (λ u. (domain u e).default) is;
     fds = λ e fd differ. ap (λ u. descriptor u e fd) is;
-    aggs = λ e a differ. ap (λ u. lent_at u e a) is;
-    desk = λ j differ opened. ap (λ u. descriptor u d 0) is ∙ opened;
+    aggs = λ e a differ. ap (λ u. readable_at u e a) is;
+    job_queue = λ j differ opened. ap (λ u. descriptor u d 0) is ∙ opened;
   }
 
   turned : (t : Turn) (r : Reply) (yields : Bool) → ComesOf copying worker_turns m d t yields r n → ((k : Call) → t ≡ turn.Make k → keeps_to m d p k ≡ true) → LeavesAllBut m d p n
@@ -267,19 +267,19 @@ makes w v x k step call_is is job_is step_is asked = record {
   asked = ap (λ (y : Worker). y.standing) is ∙ asked;
 }
 
-pub makes_call : (w v : Worker) (k : Call) (l : Reply) (lent : ℕ → Option (List ℕ)) (s : Standing) → w.standing ≡ s → is_over s ≡ false
-    → (s ≡ standing.Asked → is_given w.step.doing l ≡ false) → works_as s w l lent (turn.Make k) v → MakesCall w v k (filed_step s w lent l)
-makes_call w v k l lent standing.Over is goes un did = absurd (cc (goes))
-makes_call w v k l lent standing.Asks is goes un did = makes w v (record w { standing = standing.Asked }) k w.step did.0 did.1 refl refl refl
-makes_call w v k l lent standing.Asked is goes un did = filed w.step.doing l (un refl) did
+pub makes_call : (w v : Worker) (k : Call) (l : Reply) (readable : ℕ → Option (List ℕ)) (s : Standing) → w.standing ≡ s → is_over s ≡ false
+    → (s ≡ standing.Asked → is_given w.step.phase l ≡ false) → works_as s w l readable (turn.Make k) v → MakesCall w v k (filed_step s w readable l)
+makes_call w v k l readable standing.Over is goes un did = absurd (cc (goes))
+makes_call w v k l readable standing.Asks is goes un did = makes w v (record w { standing = standing.Asked }) k w.step did.0 did.1 refl refl refl
+makes_call w v k l readable standing.Asked is goes un did = filed w.step.phase l (un refl) did
   where
-    on : (o : Option Step) → goes_on w o (turn.Make k) v → MakesCall w v k (or_again o w.step)
+    on : (o : Option Step) → proceeds w o (turn.Make k) v → MakesCall w v k (or_again o w.step)
     on (Some step) did = makes w v (record w { step = step }) k step did.0 did.1 refl refl is
     on None did = (let e = did.0 in absurd (cc (e)))
 
-    filed : (x : Doing) (y : Reply) → is_given x y ≡ false → files w x y lent (turn.Make k) v → MakesCall w v k (or_again (told w.job w.step lent y) w.step)
-    filed doing.Waits (reply.Agg a) given did = absurd (cc (given))
-    filed x y given did = on (told w.job w.step lent y) did
+    filed : (x : Phase) (y : Reply) → is_given x y ≡ false → files w x y readable (turn.Make k) v → MakesCall w v k (or_again (after_reply w.job w.step readable y) w.step)
+    filed phase.Waits (reply.Agg a) given did = absurd (cc (given))
+    filed x y given did = on (after_reply w.job w.step readable y) did
 
 -- a step that it is at keeps to files, and to the pipe of its output
 line_keeps : (m : State) (d p : ℕ) (job : Task) (l : Option Line) → is_but p (descriptor m d job.fd) ≡ true → keeps_to m d p (next_call job l) ≡ true
@@ -305,90 +305,90 @@ both true false one two = refl
 both true true one two = absurd (cc (two))
 both false b one two = absurd (cc (one))
 
-step_keeps : (m : State) (d p : ℕ) (job : Task) (x : Collected) (begun : ℕ) (y : Doing) → descriptor m d job.fd ≡ Some (on.WriteEnd p) → Needs m d y → keeps_to m d p (doing_call job x begun y) ≡ true
-step_keeps m d p job x begun doing.Waits opened h = absurd h
-step_keeps m d p job x begun (doing.Skips a) opened h = absurd h
-step_keeps m d p job x begun (doing.Breaks a) opened h = absurd h
-step_keeps m d p job x begun doing.Runs opened h = begin_keeps m d p job x (slice_get job.lines begun) (due_now job x begun) (output_is m d p job.fd opened).0
-step_keeps m d p job x begun (doing.Reads file u) opened h = file_is m d p file h.number h.place h.open_on
-step_keeps m d p job x begun (doing.Shuts file a) opened h = file_is m d p file h.0.0 h.0.1 h.0.2
-step_keeps m d p job x begun (doing.ShutsToSay file s) opened h = file_is m d p file h.0 h.1 h.2
-step_keeps m d p job x begun (doing.Writes a) opened h = (let o = output_is m d p job.fd opened in both _ _ o.0 o.1)
+step_keeps : (m : State) (d p : ℕ) (job : Task) (x : Collected) (begun : ℕ) (y : Phase) → descriptor m d job.fd ≡ Some (on.WriteEnd p) → Needs m d y → keeps_to m d p (phase_call job x begun y) ≡ true
+step_keeps m d p job x begun phase.Waits opened h = absurd h
+step_keeps m d p job x begun (phase.Skips a) opened h = absurd h
+step_keeps m d p job x begun (phase.Breaks a) opened h = absurd h
+step_keeps m d p job x begun phase.Runs opened h = begin_keeps m d p job x (slice_get job.lines begun) (expected_now job x begun) (output_is m d p job.fd opened).0
+step_keeps m d p job x begun (phase.Reads file u) opened h = file_is m d p file h.number h.place h.open_on
+step_keeps m d p job x begun (phase.Shuts file a) opened h = file_is m d p file h.0.0 h.0.1 h.0.2
+step_keeps m d p job x begun (phase.ShutsToSay file s) opened h = file_is m d p file h.0 h.1 h.2
+step_keeps m d p job x begun (phase.Writes a) opened h = (let o = output_is m d p job.fd opened in both _ _ o.0 o.1)
 step_keeps m d p job x begun y opened h = refl
 
 -- one that runs was given no text, or it would wait
-given_waits : (m : State) (d : ℕ) (x : Doing) (y : Reply) (w : Worker) (lent : ℕ → Option (List ℕ)) → w.step.doing ≡ x → Needs m d (or_again (told_doing lent w.job w.step.piece w.step.begun x y) w.step).doing → is_given x y ≡ false
-given_waits m d doing.Waits (reply.Agg a) w lent at h = absurd (subst (λ (z : Doing). Needs m d z) at h)
-given_waits m d x y w lent at h = refl
+given_waits : (m : State) (d : ℕ) (x : Phase) (y : Reply) (w : Worker) (readable : ℕ → Option (List ℕ)) → w.step.phase ≡ x → Needs m d (or_again (after_phase readable w.job w.step.piece w.step.begun x y) w.step).phase → is_given x y ≡ false
+given_waits m d phase.Waits (reply.Agg a) w readable at h = absurd (subst (λ (z : Phase). Needs m d z) at h)
+given_waits m d x y w readable at h = refl
 
-pub run_is_not_given : (m : State) (d : ℕ) (w : Worker) (l : Reply) (lent : ℕ → Option (List ℕ)) (s : Standing) → s ≡ standing.Asked → Needs m d (filed_step s w lent l).doing → is_given w.step.doing l ≡ false
-run_is_not_given m d w l lent s asked h = given_waits m d w.step.doing l w lent refl (subst (λ (z : Standing). Needs m d (filed_step z w lent l).doing) asked h)
+pub run_is_not_given : (m : State) (d : ℕ) (w : Worker) (l : Reply) (readable : ℕ → Option (List ℕ)) (s : Standing) → s ≡ standing.Asked → Needs m d (filed_step s w readable l).phase → is_given w.step.phase l ≡ false
+run_is_not_given m d w l readable s asked h = given_waits m d w.step.phase l w readable refl (subst (λ (z : Standing). Needs m d (filed_step z w readable l).phase) asked h)
 
 module _ (steps : EachStepLeavesTheRest) (come : AggregatesComeAndGo) (by_reply : DescriptorsComeByReplies) where
   -- of a worker that lives: whichever call it makes keeps to the pipe
-  quiet : (m n : State) (p : ℕ) (seat next : Seat Worker) (yields : Bool) (r : Reply) → is_live m seat.by ≡ true
-      → ((k : Call) (v : Worker) → works seat.process seat.last (lent_at m seat.by) (turn.Make k) v → keeps_to m seat.by p k ≡ true)
-      → SeatTurn copying worker_turns m seat yields r n next → LeavesAllBut m seat.by p n
-  quiet m n p seat next yields r live keeps (inl starved) = same steps come by_reply m n seat.by p starved.machine_stays
-  quiet m n p seat next yields r live keeps (inr did) =
-      let goes = subst (λ (l : ℕ → Option (List ℕ)). works seat.process seat.last l did.turn next.process) (lent-live m seat.by live) did.goes_on in
-      turned steps come by_reply m n seat.by p did.turn r yields did.comes
-      (λ k is. keeps k next.process (subst (λ (t : Turn). works seat.process seat.last (lent_at m seat.by) t next.process) is goes))
+  quiet : (m n : State) (p : ℕ) (process_slot next : ProcessSlot Worker) (yields : Bool) (r : Reply) → is_live m process_slot.by ≡ true
+      → ((k : Call) (v : Worker) → works process_slot.process process_slot.last (readable_at m process_slot.by) (turn.Make k) v → keeps_to m process_slot.by p k ≡ true)
+      → ProcessSlotTurn copying worker_turns m process_slot yields r n next → LeavesAllBut m process_slot.by p n
+  quiet m n p process_slot next yields r live keeps (inl starved) = same steps come by_reply m n process_slot.by p starved.machine_stays
+  quiet m n p process_slot next yields r live keeps (inr did) =
+      let goes = subst (λ (l : ℕ → Option (List ℕ)). works process_slot.process process_slot.last l did.turn next.process) (readable-live m process_slot.by live) did.proceeds in
+      turned steps come by_reply m n process_slot.by p did.turn r yields did.comes
+      (λ k is. keeps k next.process (subst (λ (t : Turn). works process_slot.process process_slot.last (readable_at m process_slot.by) t next.process) is goes))
 
-  free_keeps : (m : State) (j : ℕ) (seat : Seat Worker) → IsFree m seat → descriptor m seat.by 0 ≡ Some (on.ReadEnd j)
-      → (k : Call) (v : Worker) → works seat.process seat.last (lent_at m seat.by) (turn.Make k) v → k ≡ call.IolRead 0 65536
-  free_keeps m j seat free opened k v did =
-      let w : Worker = seat.process in
-      let step : Step = filed_step w.standing w (lent_at m seat.by) seat.last in
-      (makes_call w v k seat.last (lent_at m seat.by) w.standing refl free.not_over free.not_given did).call_is ∙ ap (λ (x : Doing). doing_call w.job step.piece step.begun x) free.waits
+  free_keeps : (m : State) (j : ℕ) (process_slot : ProcessSlot Worker) → IsFree m process_slot → descriptor m process_slot.by 0 ≡ Some (on.ReadEnd j)
+      → (k : Call) (v : Worker) → works process_slot.process process_slot.last (readable_at m process_slot.by) (turn.Make k) v → k ≡ call.IolRead 0 65536
+  free_keeps m j process_slot free opened k v did =
+      let w : Worker = process_slot.process in
+      let step : Step = filed_step w.standing w (readable_at m process_slot.by) process_slot.last in
+      (makes_call w v k process_slot.last (readable_at m process_slot.by) w.standing refl free.not_over free.not_given did).call_is ∙ ap (λ (x : Phase). phase_call w.job step.piece step.begun x) free.waits
 
-  desk_is : (m : State) (d j : ℕ) → descriptor m d 0 ≡ Some (on.ReadEnd j) → is_but j (descriptor m d 0) ≡ true
+  job_queue_is : (m : State) (d j : ℕ) → descriptor m d 0 ≡ Some (on.ReadEnd j) → is_but j (descriptor m d 0) ≡ true
   unfolding is_but
-  desk_is m d j opened = ap (λ o. is_but j o) opened ∙ grind (arith, nat_tests)
+  job_queue_is m d j opened = ap (λ o. is_but j o) opened ∙ grind (arith, nat_tests)
 
-  free : (m n : State) (j : ℕ) (seat next : Seat Worker) (yields : Bool) (r : Reply) → is_live m seat.by ≡ true
-      → IsFree m seat → descriptor m seat.by 0 ≡ Some (on.ReadEnd j) → SeatTurn copying worker_turns m seat yields r n next
-      → LeavesAllBut m seat.by j n × (descriptor n seat.by 0 ≡ Some (on.ReadEnd j))
-  free m n j seat next yields r live is_free opened did = (
-    quiet m n j seat next yields r live (λ k v goes. ap (λ c. keeps_to m seat.by j c) (free_keeps m j seat is_free opened k v goes) ∙ desk_is m seat.by j opened) did,
+  free : (m n : State) (j : ℕ) (process_slot next : ProcessSlot Worker) (yields : Bool) (r : Reply) → is_live m process_slot.by ≡ true
+      → IsFree m process_slot → descriptor m process_slot.by 0 ≡ Some (on.ReadEnd j) → ProcessSlotTurn copying worker_turns m process_slot yields r n next
+      → LeavesAllBut m process_slot.by j n × (descriptor n process_slot.by 0 ≡ Some (on.ReadEnd j))
+  free m n j process_slot next yields r live is_free opened did = (
+    quiet m n j process_slot next yields r live (λ k v goes. ap (λ c. keeps_to m process_slot.by j c) (free_keeps m j process_slot is_free opened k v goes) ∙ job_queue_is m process_slot.by j opened) did,
     kept did,
   )
     where
-      read : (t : Turn) (y : Bool) → ComesOf copying worker_turns m seat.by t y r n → ((k : Call) → t ≡ turn.Make k → k ≡ call.IolRead 0 65536) → descriptor n seat.by 0 ≡ Some (on.ReadEnd j)
-      read turn.Yield y comes is = ap (λ u. descriptor u seat.by 0) comes.2 ∙ opened
+      read : (t : Turn) (y : Bool) → ComesOf copying worker_turns m process_slot.by t y r n → ((k : Call) → t ≡ turn.Make k → k ≡ call.IolRead 0 65536) → descriptor n process_slot.by 0 ≡ Some (on.ReadEnd j)
+      read turn.Yield y comes is = ap (λ u. descriptor u process_slot.by 0) comes.2 ∙ opened
       read (turn.Make k) y comes is =
-          let step = subst (λ c. StepsTo m (event.Call seat.by c) r n) (is k refl) comes.1 in
-          (steps.leaves m n (event.Call seat.by (call.IolRead 0 65536)) r step).fds seat.by 0 (on.ReadEnd j) opened (no_file_end m seat.by j 0 j opened)
+          let step = subst (λ c. StepsTo m (event.Call process_slot.by c) r n) (is k refl) comes.1 in
+          (steps.leaves m n (event.Call process_slot.by (call.IolRead 0 65536)) r step).fds process_slot.by 0 (on.ReadEnd j) opened (no_file_end m process_slot.by j 0 j opened)
 
-      kept : SeatTurn copying worker_turns m seat yields r n next → descriptor n seat.by 0 ≡ Some (on.ReadEnd j)
-      kept (inl starved) = ap (λ u. descriptor u seat.by 0) starved.machine_stays ∙ opened
+      kept : ProcessSlotTurn copying worker_turns m process_slot yields r n next → descriptor n process_slot.by 0 ≡ Some (on.ReadEnd j)
+      kept (inl starved) = ap (λ u. descriptor u process_slot.by 0) starved.machine_stays ∙ opened
       kept (inr did) =
-          let goes = subst (λ (l : ℕ → Option (List ℕ)). works seat.process seat.last l did.turn next.process) (lent-live m seat.by live) did.goes_on in
+          let goes = subst (λ (l : ℕ → Option (List ℕ)). works process_slot.process process_slot.last l did.turn next.process) (readable-live m process_slot.by live) did.proceeds in
           read did.turn yields did.comes
-          (λ k is. free_keeps m j seat is_free opened k next.process (subst (λ (t : Turn). works seat.process seat.last (lent_at m seat.by) t next.process) is goes))
+          (λ k is. free_keeps m j process_slot is_free opened k next.process (subst (λ (t : Turn). works process_slot.process process_slot.last (readable_at m process_slot.by) t next.process) is goes))
 
-  begins : (m n : State) (p : ℕ) (seat next : Seat Worker) (yields : Bool) (r : Reply) (unseen : List Outcome → List ℕ)
-      → HasRead m p seat unseen → SeatTurn copying worker_turns m seat yields r n next → LeavesAllBut m seat.by p n
-  begins m n p seat next yields r unseen h did = quiet m n p seat next yields r h.begins.feeds.live keeps did
+  begins : (m n : State) (p : ℕ) (process_slot next : ProcessSlot Worker) (yields : Bool) (r : Reply) (unseen : List Outcome → List ℕ)
+      → HasRead m p process_slot unseen → ProcessSlotTurn copying worker_turns m process_slot yields r n next → LeavesAllBut m process_slot.by p n
+  begins m n p process_slot next yields r unseen h did = quiet m n p process_slot next yields r h.begins.feeds.live keeps did
     where
-      keeps : (k : Call) (v : Worker) → works seat.process seat.last (lent_at m seat.by) (turn.Make k) v → keeps_to m seat.by p k ≡ true
+      keeps : (k : Call) (v : Worker) → works process_slot.process process_slot.last (readable_at m process_slot.by) (turn.Make k) v → keeps_to m process_slot.by p k ≡ true
       keeps k v goes =
-          let w : Worker = seat.process in
-          let filed = subst (λ (s : Standing). works_as s w seat.last (lent_at m seat.by) (turn.Make k) v) h.asked goes in
-          let took = subst (λ (l : Reply). files w doing.Waits l (lent_at m seat.by) (turn.Make k) v) h.last
-          (subst (λ (x : Doing). files w x seat.last (lent_at m seat.by) (turn.Make k) v) h.waits filed) in
-          ap (λ c. keeps_to m seat.by p c) (made_is k (call.AggDrop h.agg) took.0)
+          let w : Worker = process_slot.process in
+          let filed = subst (λ (s : Standing). works_as s w process_slot.last (readable_at m process_slot.by) (turn.Make k) v) h.asked goes in
+          let took = subst (λ (l : Reply). files w phase.Waits l (readable_at m process_slot.by) (turn.Make k) v) h.last
+          (subst (λ (x : Phase). files w x process_slot.last (readable_at m process_slot.by) (turn.Make k) v) h.waits filed) in
+          ap (λ c. keeps_to m process_slot.by p c) (made_is k (call.AggDrop h.agg) took.0)
 
-  runs : (m n : State) (p : ℕ) (seat next : Seat Worker) (yields : Bool) (r : Reply) (unseen : List Outcome → List ℕ)
-      → IsRunning m p seat unseen → SeatTurn copying worker_turns m seat yields r n next → LeavesAllBut m seat.by p n
-  runs m n p seat next yields r unseen i did = quiet m n p seat next yields r i.feeds.live keeps did
+  runs : (m n : State) (p : ℕ) (process_slot next : ProcessSlot Worker) (yields : Bool) (r : Reply) (unseen : List Outcome → List ℕ)
+      → IsRunning m p process_slot unseen → ProcessSlotTurn copying worker_turns m process_slot yields r n next → LeavesAllBut m process_slot.by p n
+  runs m n p process_slot next yields r unseen i did = quiet m n p process_slot next yields r i.feeds.live keeps did
     where
-      keeps : (k : Call) (v : Worker) → works seat.process seat.last (lent_at m seat.by) (turn.Make k) v → keeps_to m seat.by p k ≡ true
+      keeps : (k : Call) (v : Worker) → works process_slot.process process_slot.last (readable_at m process_slot.by) (turn.Make k) v → keeps_to m process_slot.by p k ≡ true
       keeps k v goes =
-          let w : Worker = seat.process in
-          let step : Step = filed_step w.standing w (lent_at m seat.by) seat.last in
-          let is = makes_call w v k seat.last (lent_at m seat.by) w.standing refl i.not_over (λ asked. run_is_not_given m seat.by w seat.last (lent_at m seat.by) w.standing asked i.feeds.needs) goes in
-          ap (λ c. keeps_to m seat.by p c) is.call_is ∙ step_keeps m seat.by p w.job step.piece step.begun step.doing i.feeds.open_on i.feeds.needs
+          let w : Worker = process_slot.process in
+          let step : Step = filed_step w.standing w (readable_at m process_slot.by) process_slot.last in
+          let is = makes_call w v k process_slot.last (readable_at m process_slot.by) w.standing refl i.not_over (λ asked. run_is_not_given m process_slot.by w process_slot.last (readable_at m process_slot.by) w.standing asked i.feeds.needs) goes in
+          ap (λ c. keeps_to m process_slot.by p c) is.call_is ∙ step_keeps m process_slot.by p w.job step.piece step.begun step.phase i.feeds.open_on i.feeds.needs
 
 pub workers_are_quiet : EachStepLeavesTheRest → AggregatesComeAndGo → DescriptorsComeByReplies → WorkersAreQuiet
 workers_are_quiet steps come by_reply = record {

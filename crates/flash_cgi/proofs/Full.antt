@@ -14,12 +14,12 @@ use Rattle.iol_core.specs.declared.events.Event.TheVariants as event
 use Rattle.iol_core.specs.declared.events.Reply.{Reply}
 use Rattle.iol_core.specs.declared.events.Reply.TheVariants as reply
 use Rattle.iol_core.specs.declared.refusals.Refusal.TheVariants.{WouldBlock}
-use Rattle.iol_laws.specs.Caller.{lent_at}
+use Rattle.iol_laws.specs.Caller.{readable_at}
 use Rattle.iol_laws.specs.CallerFiles.{FileCallsServeTheirDomain}
 use Rattle.iol_laws.specs.Order.{IsOrderly}
 use Rattle.iol_laws.specs.Reasons.{RefusalsTellWhy}
 use Rattle.iol_laws.specs.RefusalsLeft.{RefusalsThatAreLeft, may_wait}
-use Rattle.iol_proc.specs.declared.seat.Seat.{Seat}
+use Rattle.iol_proc.specs.declared.process_slot.ProcessSlot.{ProcessSlot}
 use Rattle.flash_cgi.specs.Collecting.{Collected}
 use Rattle.flash_cgi.specs.Feeds.{Needs, IsFileOpen}
 use Rattle.flash_cgi.specs.Full.{RunningIsFull}
@@ -27,11 +27,11 @@ use Rattle.flash_cgi.specs.Job.{Task, job_of}
 use Rattle.flash_cgi.specs.Output.{Outcome}
 use Rattle.flash_cgi.specs.Turns.{Awaits, filed_step, or_again}
 use Rattle.flash_cgi.specs.Standstill.{IsBlocked, IsStuck, is_over}
-use Rattle.flash_cgi.specs.WorkerSteps.{doing_call, due_now, next_call, told, told_doing}
+use Rattle.flash_cgi.specs.WorkerSteps.{phase_call, expected_now, next_call, after_reply, after_phase}
 use Rattle.flash_cgi.specs.declared.line.Line.{Line}
 use Rattle.flash_cgi.specs.declared.line.Line.TheVariants as line
-use Rattle.flash_cgi.specs.declared.phase.Doing.{Doing}
-use Rattle.flash_cgi.specs.declared.phase.Doing.TheVariants as doing
+use Rattle.flash_cgi.specs.declared.phase.Phase.{Phase}
+use Rattle.flash_cgi.specs.declared.phase.Phase.TheVariants as phase
 use Rattle.flash_cgi.specs.declared.phase.Standing.{Standing}
 use Rattle.flash_cgi.specs.declared.phase.Standing.TheVariants as standing
 use Rattle.flash_cgi.specs.declared.phase.Step.{Step}
@@ -63,75 +63,75 @@ module _ (why : RefusalsTellWhy) (left : RefusalsThatAreLeft) (files : FileCalls
   file_goes f h step = (let e = (files.reads_file m m d f h.0 h.1 16777216 Read (reply.Refused WouldBlock) order live (access.fds d f h.0 h.1 Read h.2) refl h.2 step).0 in cc (e))
 
   -- what it needs of the machine for a call, that it does not wait for a job, and that the file that it reads is open
-  abbrev Ready : Doing → Type 0
-  Ready doing.Waits = ⊥
-  Ready (doing.Reads file u) = IsFileOpen m d file
+  abbrev Ready : Phase → Type 0
+  Ready phase.Waits = ⊥
+  Ready (phase.Reads file u) = IsFileOpen m d file
   Ready x = Unit {0}
 
-  full_at : (job : Task) (x : Collected) (begun : ℕ) (y : Doing) → descriptor m d job.fd ≡ Some (on.WriteEnd p) → Ready y → Blocks (doing_call job x begun y) → Full
-  full_at job x begun doing.Waits opened h step = absurd h
-  full_at job x begun doing.Runs opened h step = absurd (begin_goes job x (slice_get job.lines begun) (due_now job x begun) (left.waits m m d (doing_call job x begun doing.Runs) step))
-  full_at job x begun (doing.Reads file u) opened h step = absurd (file_goes file h step)
-  full_at job x begun (doing.Writes a) opened h step = why.pipe_is_full m m d job.fd p a opened step
-  full_at job x begun y opened h step = absurd (let e = left.waits m m d (doing_call job x begun y) step in cc (e))
+  full_at : (job : Task) (x : Collected) (begun : ℕ) (y : Phase) → descriptor m d job.fd ≡ Some (on.WriteEnd p) → Ready y → Blocks (phase_call job x begun y) → Full
+  full_at job x begun phase.Waits opened h step = absurd h
+  full_at job x begun phase.Runs opened h step = absurd (begin_goes job x (slice_get job.lines begun) (expected_now job x begun) (left.waits m m d (phase_call job x begun phase.Runs) step))
+  full_at job x begun (phase.Reads file u) opened h step = absurd (file_goes file h step)
+  full_at job x begun (phase.Writes a) opened h step = why.pipe_is_full m m d job.fd p a opened step
+  full_at job x begun y opened h step = absurd (let e = left.waits m m d (phase_call job x begun y) step in cc (e))
 
   -- one that is at its call, and one that was told to wait
-  ready_at : (x : Doing) → Needs m d x → Ready x
-  ready_at doing.Waits h = h
-  ready_at (doing.Reads file u) h = (h.number, h.place, h.open_on)
+  ready_at : (x : Phase) → Needs m d x → Ready x
+  ready_at phase.Waits h = h
+  ready_at (phase.Reads file u) h = (h.number, h.place, h.open_on)
   ready_at x h = tt
 
-  ready_told : (lent : ℕ → Option (List ℕ)) (job : Task) (step : Step) (x : Doing) → step.doing ≡ x
-      → Needs m d (or_again (told_doing lent job step.piece step.begun x (reply.Refused WouldBlock)) step).doing → Ready x
-  ready_told lent job step doing.Waits is h = subst (λ (y : Doing). Needs m d y) is h
-  ready_told lent job step (doing.Reads file u) is h = h
-  ready_told lent job step x is h = tt
+  ready_after_reply : (readable : ℕ → Option (List ℕ)) (job : Task) (step : Step) (x : Phase) → step.phase ≡ x
+      → Needs m d (or_again (after_phase readable job step.piece step.begun x (reply.Refused WouldBlock)) step).phase → Ready x
+  ready_after_reply readable job step phase.Waits is h = subst (λ (y : Phase). Needs m d y) is h
+  ready_after_reply readable job step (phase.Reads file u) is h = h
+  ready_after_reply readable job step x is h = tt
 
-  blocked_full : (w : Worker) → descriptor m d w.job.fd ≡ Some (on.WriteEnd p) → Ready w.step.doing → IsBlocked m d w → Full
-  blocked_full w opened h step = full_at w.job w.step.piece w.step.begun w.step.doing opened h step
+  blocked_full : (w : Worker) → descriptor m d w.job.fd ≡ Some (on.WriteEnd p) → Ready w.step.phase → IsBlocked m d w → Full
+  blocked_full w opened h step = full_at w.job w.step.piece w.step.begun w.step.phase opened h step
 
   runs_full : (w : Worker) (last : Reply) (s : Standing) → is_over s ≡ false → descriptor m d w.job.fd ≡ Some (on.WriteEnd p)
-      → Needs m d (filed_step s w (lent_at m d) last).doing → IsStuck m d w last s → Full
+      → Needs m d (filed_step s w (readable_at m d) last).phase → IsStuck m d w last s → Full
   runs_full w last standing.Over goes opened h stuck = absurd (cc (goes))
-  runs_full w last standing.Asks goes opened h stuck = blocked_full w opened (ready_at w.step.doing h) stuck
+  runs_full w last standing.Asks goes opened h stuck = blocked_full w opened (ready_at w.step.phase h) stuck
   runs_full w last standing.Asked goes opened h stuck =
-      let told_so = subst (λ (l : Reply). Needs m d (or_again (told w.job w.step (lent_at m d) l) w.step).doing) stuck.1 h in
-      blocked_full w opened (ready_told (lent_at m d) w.job w.step w.step.doing refl told_so) stuck.0
+      let after_reply_so = subst (λ (l : Reply). Needs m d (or_again (after_reply w.job w.step (readable_at m d) l) w.step).phase) stuck.1 h in
+      blocked_full w opened (ready_after_reply (readable_at m d) w.job w.step w.step.phase refl after_reply_so) stuck.0
 
   -- ---- a job that waits would be read
 
-  waits_told : (lent : ℕ → Option (List ℕ)) (job : Task) (step : Step) (x : Doing) → step.doing ≡ x
-      → (or_again (told_doing lent job step.piece step.begun x (reply.Refused WouldBlock)) step).doing ≡ doing.Waits
-      → Blocks (doing_call job step.piece step.begun x) → x ≡ doing.Waits
-  waits_told lent job step doing.Waits is h step_is = refl
-  waits_told lent job step doing.Runs is h step_is = absurd (begin_goes job step.piece (slice_get job.lines step.begun) (due_now job step.piece step.begun) (left.waits m m d (doing_call job step.piece step.begun doing.Runs) step_is))
-  waits_told lent job step (doing.Reads file u) is h step_is = absurd (cc (h))
-  waits_told lent job step (doing.Writes a) is h step_is = absurd (let e = sym is ∙ h in cc (e))
-  waits_told lent job step x is h step_is = absurd (let e = left.waits m m d (doing_call job step.piece step.begun x) step_is in cc (e))
+  waits_after_reply : (readable : ℕ → Option (List ℕ)) (job : Task) (step : Step) (x : Phase) → step.phase ≡ x
+      → (or_again (after_phase readable job step.piece step.begun x (reply.Refused WouldBlock)) step).phase ≡ phase.Waits
+      → Blocks (phase_call job step.piece step.begun x) → x ≡ phase.Waits
+  waits_after_reply readable job step phase.Waits is h step_is = refl
+  waits_after_reply readable job step phase.Runs is h step_is = absurd (begin_goes job step.piece (slice_get job.lines step.begun) (expected_now job step.piece step.begun) (left.waits m m d (phase_call job step.piece step.begun phase.Runs) step_is))
+  waits_after_reply readable job step (phase.Reads file u) is h step_is = absurd (cc (h))
+  waits_after_reply readable job step (phase.Writes a) is h step_is = absurd (let e = sym is ∙ h in cc (e))
+  waits_after_reply readable job step x is h step_is = absurd (let e = left.waits m m d (phase_call job step.piece step.begun x) step_is in cc (e))
 
-  asks_blocked : (w : Worker) (last : Reply) (s : Standing) → is_over s ≡ false → (filed_step s w (lent_at m d) last).doing ≡ doing.Waits
+  asks_blocked : (w : Worker) (last : Reply) (s : Standing) → is_over s ≡ false → (filed_step s w (readable_at m d) last).phase ≡ phase.Waits
       → IsStuck m d w last s → Blocks (call.IolRead 0 65536)
   asks_blocked w last standing.Over goes h stuck = absurd (cc (goes))
-  asks_blocked w last standing.Asks goes h stuck = subst (λ (x : Doing). Blocks (doing_call w.job w.step.piece w.step.begun x)) h stuck
+  asks_blocked w last standing.Asks goes h stuck = subst (λ (x : Phase). Blocks (phase_call w.job w.step.piece w.step.begun x)) h stuck
   asks_blocked w last standing.Asked goes h stuck =
-      let told_so = subst (λ (l : Reply). (or_again (told w.job w.step (lent_at m d) l) w.step).doing ≡ doing.Waits) stuck.1 h in
-      subst (λ (x : Doing). Blocks (doing_call w.job w.step.piece w.step.begun x)) (waits_told (lent_at m d) w.job w.step w.step.doing refl told_so stuck.0) stuck.0
+      let after_reply_so = subst (λ (l : Reply). (or_again (after_reply w.job w.step (readable_at m d) l) w.step).phase ≡ phase.Waits) stuck.1 h in
+      subst (λ (x : Phase). Blocks (phase_call w.job w.step.piece w.step.begun x)) (waits_after_reply (readable_at m d) w.job w.step w.step.phase refl after_reply_so stuck.0) stuck.0
 
 -- what it was given it was not refused
-given_is_told : (m : State) (d a : ℕ) (w : Worker) (last : Reply) (s : Standing) → s ≡ standing.Asked → last ≡ reply.Agg a → IsStuck m d w last s → ⊥
-given_is_told m d a w last standing.Asked asked is stuck = (let e = sym is ∙ stuck.1 in cc (e))
-given_is_told m d a w last s asked is stuck = cc (asked)
+given_is_after_reply : (m : State) (d a : ℕ) (w : Worker) (last : Reply) (s : Standing) → s ≡ standing.Asked → last ≡ reply.Agg a → IsStuck m d w last s → ⊥
+given_is_after_reply m d a w last standing.Asked asked is stuck = (let e = sym is ∙ stuck.1 in cc (e))
+given_is_after_reply m d a w last s asked is stuck = cc (asked)
 
-no_job : (m : State) (p : ℕ) (seat : Seat Worker) (unseen : List Outcome → List ℕ) (h : Awaits m p seat unseen) → (pipe_at m h.jobs).queue ≡ [] → ⊥
-no_job m p seat unseen h empty =
-    let is = sym (ap (λ (t : Text). job_of (bytes_of t)) empty) ∙ waits_as_job m seat.by h.jobs p h.fd h.query h.script h.lines h.has in
+no_job : (m : State) (p : ℕ) (process_slot : ProcessSlot Worker) (unseen : List Outcome → List ℕ) (h : Awaits m p process_slot unseen) → (pipe_at m h.jobs).queue ≡ [] → ⊥
+no_job m p process_slot unseen h empty =
+    let is = sym (ap (λ (t : Text). job_of (bytes_of t)) empty) ∙ waits_as_job m process_slot.by h.jobs p h.fd h.query h.script h.lines h.has in
     cc (is)
 
 pub running_is_full : RefusalsTellWhy → RefusalsThatAreLeft → FileCallsServeTheirDomain → RunningIsFull
-running_is_full why left files m p seat unseen order access (inl h) waited =
-    let step = asks_blocked why left files m seat.by p order access h.has.live seat.process seat.last seat.process.standing h.free.not_over h.free.waits waited in
-    absurd (no_job m p seat unseen h (why.pipe_is_empty m m seat.by 0 h.jobs 65536 h.has.jobs step).0)
-running_is_full why left files m p seat unseen order access (inr (inl h)) waited =
-    absurd (given_is_told m seat.by h.agg seat.process seat.last seat.process.standing h.asked h.last waited)
-running_is_full why left files m p seat unseen order access (inr (inr i)) waited =
-    runs_full why left files m seat.by p order access i.feeds.live seat.process seat.last seat.process.standing i.not_over i.feeds.open_on i.feeds.needs waited
+running_is_full why left files m p process_slot unseen order access (inl h) waited =
+    let step = asks_blocked why left files m process_slot.by p order access h.has.live process_slot.process process_slot.last process_slot.process.standing h.free.not_over h.free.waits waited in
+    absurd (no_job m p process_slot unseen h (why.pipe_is_empty m m process_slot.by 0 h.jobs 65536 h.has.jobs step).0)
+running_is_full why left files m p process_slot unseen order access (inr (inl h)) waited =
+    absurd (given_is_after_reply m process_slot.by h.agg process_slot.process process_slot.last process_slot.process.standing h.asked h.last waited)
+running_is_full why left files m p process_slot unseen order access (inr (inr i)) waited =
+    runs_full why left files m process_slot.by p order access i.feeds.live process_slot.process process_slot.last process_slot.process.standing i.not_over i.feeds.open_on i.feeds.needs waited

@@ -6,7 +6,7 @@ use Rattle.std.proofs.lemmas.Bool.Decides.{nat_tests}
 use Rattle.std.proofs.Math.Seq.{drop-append_seam, take-append_seam}
 use Rattle.flash_cgi.specs.Collecting.{Collected, bytes_of_one, collected, collected_in, is_nothing, place_behind, with_file, with_text, interleaved}
 use Rattle.flash_cgi.specs.Feeds.{set_in}
-use Rattle.flash_cgi.specs.Pieces.{AreWithin, Gathers, HasPiece, IsApart, Lends, LendsFiles, LendsNext}
+use Rattle.flash_cgi.specs.Pieces.{AreWithin, Gathers, HasPiece, IsApart, IsReadable, FilesAreReadable, NextIsReadable}
 use Rattle.flash_cgi.specs.declared.piece.Place.{Place}
 
 -- ---- texts
@@ -78,95 +78,95 @@ place_is len short = by (nat_lt len 4096) refl
 -- ---- what is lent
 
 -- what is collected is lent as it was
-abbrev pub LendsStill : (lm ln : ℕ → Option (List ℕ)) → Collected → Type 0
-LendsStill lm ln x = (a : ℕ) (bytes : List ℕ) → (x.held ≡ Some a) ⊎ (x.next ≡ Some a) → lm a ≡ Some bytes → ln a ≡ Some bytes
+abbrev pub IsStillReadable : (lm ln : ℕ → Option (List ℕ)) → Collected → Type 0
+IsStillReadable lm ln x = (a : ℕ) (bytes : List ℕ) → (x.held ≡ Some a) ⊎ (x.next ≡ Some a) → lm a ≡ Some bytes → ln a ≡ Some bytes
 
 module _ (lm ln : ℕ → Option (List ℕ)) where
   abbrev Stays : Option ℕ → Type 0
   Stays o = (a : ℕ) (bytes : List ℕ) → o ≡ Some a → lm a ≡ Some bytes → ln a ≡ Some bytes
 
-  files_kept : (held : Option ℕ) (ps : List Place) → Stays held → LendsFiles lm held ps → LendsFiles ln held ps
+  files_kept : (held : Option ℕ) (ps : List Place) → Stays held → FilesAreReadable lm held ps → FilesAreReadable ln held ps
   files_kept None ps stays h = h
   files_kept (Some a) ps stays h = (h.0, stays a h.0 refl h.1)
 
-  next_kept : (held next : Option ℕ) → Stays next → LendsNext lm held next → LendsNext ln held next
+  next_kept : (held next : Option ℕ) → Stays next → NextIsReadable lm held next → NextIsReadable ln held next
   next_kept held None stays h = h
   next_kept held (Some a) stays h = ((h.0.0, stays a h.0.0 refl h.0.1), h.1)
 
-  files_same : (held : Option ℕ) (ps : List Place) → Stays held → LendsFiles lm held ps → bytes_of_one ln held ≡ bytes_of_one lm held
+  files_same : (held : Option ℕ) (ps : List Place) → Stays held → FilesAreReadable lm held ps → bytes_of_one ln held ≡ bytes_of_one lm held
   files_same None ps stays h = refl
   files_same (Some a) ps stays h = ap (λ (l : Option (List ℕ)). unwrap_or l []) (stays a h.0 refl h.1 ∙ sym h.1)
 
-  next_same : (held next : Option ℕ) → Stays next → LendsNext lm held next → bytes_of_one ln next ≡ bytes_of_one lm next
+  next_same : (held next : Option ℕ) → Stays next → NextIsReadable lm held next → bytes_of_one ln next ≡ bytes_of_one lm next
   next_same held None stays h = refl
   next_same held (Some a) stays h = ap (λ (l : Option (List ℕ)). unwrap_or l []) (stays a h.0.0 refl h.0.1 ∙ sym h.0.1)
 
-  pub piece_kept : (len : ℕ) (x : Collected) → LendsStill lm ln x → HasPiece lm len x → HasPiece ln len x
+  pub piece_kept : (len : ℕ) (x : Collected) → IsStillReadable lm ln x → HasPiece lm len x → HasPiece ln len x
   piece_kept len x stays h = record {
     files = files_kept x.held x.places (λ a bytes is l. stays a bytes (inl is) l) h.files;
     within = h.within;
     next = next_kept x.held x.next (λ a bytes is l. stays a bytes (inr is) l) h.next;
   }
 
-  pub text_kept : (len : ℕ) (text : List ℕ) (x : Collected) → LendsStill lm ln x → HasPiece lm len x → collected_in ln text x ≡ collected_in lm text x
+  pub text_kept : (len : ℕ) (text : List ℕ) (x : Collected) → IsStillReadable lm ln x → HasPiece lm len x → collected_in ln text x ≡ collected_in lm text x
   text_kept len text x stays h =
       ap (λ (l : List ℕ). interleaved text x.places l ++ bytes_of_one ln x.next) (files_same x.held x.places (λ a bytes is l. stays a bytes (inl is) l) h.files)
       ∙ ap (λ (l : List ℕ). interleaved text x.places (bytes_of_one lm x.held) ++ l) (next_same x.held x.next (λ a bytes is l. stays a bytes (inr is) l) h.next)
 
-  pub gathers_still : (x : Collected) → LendsStill lm ln x → Gathers lm x → Gathers ln x
+  pub gathers_still : (x : Collected) → IsStillReadable lm ln x → Gathers lm x → Gathers ln x
   gathers_still x stays g = record { piece = piece_kept (length x.text) x stays g.piece; none_next = g.none_next; short = g.short }
 
 -- ---- a number that is new is none of those
 
-held_is_lent : (lent : ℕ → Option (List ℕ)) (held : Option ℕ) (ps : List Place) (a : ℕ) → LendsFiles lent held ps → lent a ≡ None → held ≢ Some a
-held_is_lent lent None ps a h none is = absurd (cc (is))
-held_is_lent lent (Some b) ps a h none is = (let same : b ≡ a = cc in let e = ap lent same in let was = h.1 in absurd (cc (e, was, none)))
+held_is_readable : (readable : ℕ → Option (List ℕ)) (held : Option ℕ) (ps : List Place) (a : ℕ) → FilesAreReadable readable held ps → readable a ≡ None → held ≢ Some a
+held_is_readable readable None ps a h none is = absurd (cc (is))
+held_is_readable readable (Some b) ps a h none is = (let same : b ≡ a = cc in let e = ap readable same in let was = h.1 in absurd (cc (e, was, none)))
 
-next_is_lent : (lent : ℕ → Option (List ℕ)) (held next : Option ℕ) (a : ℕ) → LendsNext lent held next → lent a ≡ None → next ≢ Some a
-next_is_lent lent held None a h none is = absurd (cc (is))
-next_is_lent lent held (Some b) a h none is = (let same : b ≡ a = cc in let e = ap lent same in let was = h.0.1 in absurd (cc (e, was, none)))
+next_is_readable : (readable : ℕ → Option (List ℕ)) (held next : Option ℕ) (a : ℕ) → NextIsReadable readable held next → readable a ≡ None → next ≢ Some a
+next_is_readable readable held None a h none is = absurd (cc (is))
+next_is_readable readable held (Some b) a h none is = (let same : b ≡ a = cc in let e = ap readable same in let was = h.0.1 in absurd (cc (e, was, none)))
 
-pub new_apart : (lent : ℕ → Option (List ℕ)) (len : ℕ) (x : Collected) (a : ℕ) → HasPiece lent len x → lent a ≡ None → IsApart x a
-new_apart lent len x a h none = (held_is_lent lent x.held x.places a h.files none, next_is_lent lent x.held x.next a h.next none)
+pub new_apart : (readable : ℕ → Option (List ℕ)) (len : ℕ) (x : Collected) (a : ℕ) → HasPiece readable len x → readable a ≡ None → IsApart x a
+new_apart readable len x a h none = (held_is_readable readable x.held x.places a h.files none, next_is_readable readable x.held x.next a h.next none)
 
 -- ---- what is collected, one more
 
 -- where nothing but a file that is too long is left, that is all of it
-pub rest_text : (lent : ℕ → Option (List ℕ)) (x : Collected) → x.text ≡ [] → x.places ≡ [] → collected lent x ≡ bytes_of_one lent x.next
-rest_text lent x no_text no_places =
-    ap (λ (t : List ℕ). interleaved t x.places (bytes_of_one lent x.held) ++ bytes_of_one lent x.next) no_text
-    ∙ ap (λ (ps : List Place). interleaved [] ps (bytes_of_one lent x.held) ++ bytes_of_one lent x.next) no_places
+pub rest_text : (readable : ℕ → Option (List ℕ)) (x : Collected) → x.text ≡ [] → x.places ≡ [] → collected readable x ≡ bytes_of_one readable x.next
+rest_text readable x no_text no_places =
+    ap (λ (t : List ℕ). interleaved t x.places (bytes_of_one readable x.held) ++ bytes_of_one readable x.next) no_text
+    ∙ ap (λ (ps : List Place). interleaved [] ps (bytes_of_one readable x.held) ++ bytes_of_one readable x.next) no_places
 
-pub text_added : (lent : ℕ → Option (List ℕ)) (x : Collected) (said : List ℕ) → HasPiece lent (length x.text) x → HasPiece lent (length (x.text ++ said)) (with_text x said)
-text_added lent x said h = record {
+pub text_added : (readable : ℕ → Option (List ℕ)) (x : Collected) (said : List ℕ) → HasPiece readable (length x.text) x → HasPiece readable (length (x.text ++ said)) (with_text x said)
+text_added readable x said h = record {
   files = h.files;
   within = wider (length x.text) (length (x.text ++ said)) x.places (omega (arith, length-append x.text said)) h.within;
   next = h.next;
 }
 
-pub said_behind : (lent : ℕ → Option (List ℕ)) (x : Collected) (said rest : List ℕ) → Gathers lent x → collected lent (with_text x said) ++ rest ≡ collected lent x ++ (said ++ rest)
-said_behind lent x said rest g =
+pub said_behind : (readable : ℕ → Option (List ℕ)) (x : Collected) (said rest : List ℕ) → Gathers readable x → collected readable (with_text x said) ++ rest ≡ collected readable x ++ (said ++ rest)
+said_behind readable x said rest g =
     ap (λ (l : List ℕ). (interleaved (x.text ++ said) x.places files ++ l) ++ rest) none
     ∙ (ap (λ (l : List ℕ). l ++ rest) (append-nil (interleaved (x.text ++ said) x.places files) ∙ behind x.text said files x.places g.piece.within)
     ∙ (append_assoc all said rest
     ∙ (ap (λ (l : List ℕ). l ++ (said ++ rest)) (sym (append-nil all)) ∙ ap (λ (l : List ℕ). (all ++ l) ++ (said ++ rest)) (sym none))))
   where
     files : List ℕ
-    files = bytes_of_one lent x.held
+    files = bytes_of_one readable x.held
 
     all : List ℕ
     all = interleaved x.text x.places files
 
-    none : bytes_of_one lent x.next ≡ []
-    none = ap (λ (o : Option ℕ). bytes_of_one lent o) g.none_next
+    none : bytes_of_one readable x.next ≡ []
+    none = ap (λ (o : Option ℕ). bytes_of_one readable o) g.none_next
 
 -- a file more is collected: `a` lends the bytes of those before, and its own
-pub file_added : (ln : ℕ → Option (List ℕ)) (x : Collected) (a from len : ℕ) → AreWithin (length x.text) x.places → x.next ≡ None → length x.text ≤ 4096 → Lends ln a
+pub file_added : (ln : ℕ → Option (List ℕ)) (x : Collected) (a from len : ℕ) → AreWithin (length x.text) x.places → x.next ≡ None → length x.text ≤ 4096 → IsReadable ln a
     → HasPiece ln (length x.text) (with_file x a from len)
-file_added ln x a from len within none short lends = record {
-  files = lends;
+file_added ln x a from len within none short is_readable = record {
+  files = is_readable;
   within = (let same = place_is (length x.text) short in omega (arith, same), subst (λ (k : ℕ). AreWithin k x.places) (sym (place_is (length x.text) short)) within);
-  next = subst (λ (o : Option ℕ). LendsNext ln (Some a) o) (sym none) tt;
+  next = subst (λ (o : Option ℕ). NextIsReadable ln (Some a) o) (sym none) tt;
 }
 
 pub file_in : (lm ln : ℕ → Option (List ℕ)) (x : Collected) (a from len : ℕ) (files bytes rest : List ℕ) → x.next ≡ None → length x.text ≤ 4096 → bytes_of_one lm x.held ≡ files → from ≡ length files → ln a ≡ Some (files ++ bytes)
@@ -211,5 +211,5 @@ nothing_is x is =
     let all = four (length x.text == 0) (length x.places == 0) (is_none x.held) (is_none x.next) is in
     record { text = empty_is x.text all.0; places = empty_is x.places all.1; held = none_is x.held all.2; next = none_is x.next all.3 }
 
-pub nothing_collected : (lent : ℕ → Option (List ℕ)) (x : Collected) → IsNothing x → collected lent x ≡ []
-nothing_collected lent x is = rest_text lent x is.text is.places ∙ ap (λ (o : Option ℕ). bytes_of_one lent o) is.next
+pub nothing_collected : (readable : ℕ → Option (List ℕ)) (x : Collected) → IsNothing x → collected readable x ≡ []
+nothing_collected readable x is = rest_text readable x is.text is.places ∙ ap (λ (o : Option ℕ). bytes_of_one readable o) is.next

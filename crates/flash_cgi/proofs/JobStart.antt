@@ -12,8 +12,8 @@ use Rattle.iol_core.specs.declared.descriptors.Descriptor.TheVariants as on
 use Rattle.iol_core.specs.declared.events.Call.TheVariants as call
 use Rattle.iol_core.specs.declared.events.Event.TheVariants as event
 use Rattle.iol_core.specs.declared.events.Reply.TheVariants as reply
-use Rattle.iol_proc.specs.declared.seat.Seat.{Seat}
-use Rattle.iol_laws.specs.Caller.{TakesFromPipe, lent_at}
+use Rattle.iol_proc.specs.declared.process_slot.ProcessSlot.{ProcessSlot}
+use Rattle.iol_laws.specs.Caller.{TakesFromPipe, readable_at}
 use Rattle.iol_laws.specs.Frame.{EachStepLeavesTheRest, Leaves, is_end}
 use Rattle.flash_cgi.specs.Collecting.{nothing}
 use Rattle.flash_cgi.specs.Job.{job_of, task_of}
@@ -40,9 +40,9 @@ last_false true c e = e
 last_false false c e = refl
 
 -- it awaits the same job, whatever became of the machine
-abbrev pub awaits_still : (m n : State) (p : ℕ) (seat next : Seat Worker) (was is : List Outcome → List ℕ) → (h : Awaits m p seat was) → IsFree n next → HasJob n next.by h.jobs p h.fd h.query h.script h.lines
+abbrev pub awaits_still : (m n : State) (p : ℕ) (process_slot next : ProcessSlot Worker) (was is : List Outcome → List ℕ) → (h : Awaits m p process_slot was) → IsFree n next → HasJob n next.by h.jobs p h.fd h.query h.script h.lines
     → ((os : List Outcome) → is os ≡ bytes_of (pipe_at n p).queue ++ output h.query h.lines os) → Awaits n p next is
-awaits_still m n p seat next was is h free has unseen = record { jobs = h.jobs; fd = h.fd; query = h.query; script = h.script; lines = h.lines; free = free; has = has; is = unseen }
+awaits_still m n p process_slot next was is h free has unseen = record { jobs = h.jobs; fd = h.fd; query = h.query; script = h.script; lines = h.lines; free = free; has = has; is = unseen }
 
 -- what waits for it is its job
 pub waits_as_job : (m : State) (d j p fd : ℕ) (query script : List ℕ) (lines : List Line) → HasJob m d j p fd query script lines
@@ -70,8 +70,8 @@ all_taken m n d j p fd a query script lines has takes =
         tail_is x y s u e = cc
 
 -- nothing is collected yet
-nothing_left : (lent : ℕ → Option (List ℕ)) → IsRest lent nothing
-nothing_left lent = record { piece = record { files = refl; within = tt; next = tt }; no_text = refl; no_places = refl }
+nothing_left : (readable : ℕ → Option (List ℕ)) → IsRest readable nothing
+nothing_left readable = record { piece = record { files = refl; within = tt; next = tt }; no_text = refl; no_places = refl }
 
 pub job_is_taken : EachStepLeavesTheRest → JobsAreTaken
 job_is_taken steps m n d j p fd a query script lines has step takes =
@@ -81,13 +81,13 @@ job_is_taken steps m n d j p fd a query script lines has step takes =
     let pipe : pipe_at n p ≡ pipe_at m p = leaves.pipes p (ap (λ (x : Option Descriptor). list_any (is_end p) (x ∷ []) || false) has.jobs ∙ ap (λ b. (b || false) || false) (not-equal j p has.apart)) in
     record {
       bytes = bytes_of takes.text;
-      lends = takes.lends;
+      is_readable = takes.is_readable;
       is_job = ap (λ (t : Text). job_of (bytes_of t)) all ∙ waits_as_job m d j p fd query script lines has;
       feeds = record {
         live = leaves.lives d has.live refl;
         open_on = leaves.fds d fd (on.WriteEnd p) has.open_on (last_false ((d == d) && (0 == fd)) (is_file (descriptor m d 0)) (ap (λ (x : Option Descriptor). is_file x) has.jobs));
-        needs = (bytes_of takes.text, takes.lends);
-        holds = (nothing_left (lent_at n d), (λ e. absurd (cc (e)), λ e. absurd (cc (e))));
+        needs = (bytes_of takes.text, takes.is_readable);
+        holds = (nothing_left (readable_at n d), (λ e. absurd (cc (e)), λ e. absurd (cc (e))));
         is = λ os. ap (λ (x : Pipe). bytes_of x.queue ++ output query lines os) (sym pipe);
       };
     }

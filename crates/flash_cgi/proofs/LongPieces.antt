@@ -3,7 +3,7 @@ use Rattle.std.proofs.Common.{inl, inr, ◌⊎◌, ◌≡◌, ◌≢◌, ℕ, �
 use Rattle.std.specs.Prelude.{◌||◌, is_some, unwrap_or}
 use Rattle.std.proofs.lemmas.List.{length-take}
 use Rattle.std.proofs.lemmas.Bool.Decides.{nat_tests}
-use Rattle.flash_cgi.specs.Collecting.{Collected, bytes_of_one, collected, is_due, is_full, with_file, interleaved}
+use Rattle.flash_cgi.specs.Collecting.{Collected, bytes_of_one, collected, is_expected, is_full, with_file, interleaved}
 use Rattle.flash_cgi.specs.LongPieces.{HavePlaces, IsCounted, PiecesAreLong}
 use Rattle.flash_cgi.specs.declared.line.Line.{Line}
 use Rattle.flash_cgi.specs.declared.piece.Place.{Place}
@@ -31,32 +31,32 @@ no_none : (o : Option ℕ) → is_some o ≡ true → o ≢ None
 no_none None is none = absurd (cc (is))
 no_none (Some a) is none = absurd (cc (none))
 
-long : (lent : ℕ → Option (List ℕ)) (x : Collected) (l : Line) → IsCounted lent x → is_due x (Some l) ≡ true → (4064 ≤ length (collected lent x)) ⊎ (x.next ≢ None)
-long lent x l h due = by (either (is_full x) (is_some x.next) due)
+long : (readable : ℕ → Option (List ℕ)) (x : Collected) (l : Line) → IsCounted readable x → is_expected x (Some l) ≡ true → (4064 ≤ length (collected readable x)) ⊎ (x.next ≢ None)
+long readable x l h expected = by (either (is_full x) (is_some x.next) expected)
   where
     files : List ℕ
-    files = bytes_of_one lent x.held
+    files = bytes_of_one readable x.held
 
-    by : (is_full x ≡ true) ⊎ (is_some x.next ≡ true) → (4064 ≤ length (collected lent x)) ⊎ (x.next ≢ None)
+    by : (is_full x ≡ true) ⊎ (is_some x.next ≡ true) → (4064 ≤ length (collected readable x)) ⊎ (x.next ≢ None)
     by (inl full) = inl (
         let count = h.count in
         let most : 4064 ≤ length x.text + x.files = grind (arith, nat_tests, full) in
         let all = length-interleaved x.text files x.places (subst (λ (k : ℕ). HavePlaces x.places k) h.count h.places) in
-        let both = length-append (interleaved x.text x.places files) (bytes_of_one lent x.next) in
+        let both = length-append (interleaved x.text x.places files) (bytes_of_one readable x.next) in
         omega (arith, count, most, all, both))
     by (inr next) = inr (no_none x.next next)
 
-files_counted : (lent now : ℕ → Option (List ℕ)) (x : Collected) (a : ℕ) (bytes : List ℕ) → IsCounted lent x → now a ≡ Some (bytes_of_one lent x.held ++ bytes)
-    → IsCounted now (with_file x a (length (bytes_of_one lent x.held)) (length bytes))
-files_counted lent now x a bytes h is = record {
-  count = sym (ap (λ (o : Option (List ℕ)). length (unwrap_or o [])) is ∙ length-append (bytes_of_one lent x.held) bytes);
+files_counted : (readable now : ℕ → Option (List ℕ)) (x : Collected) (a : ℕ) (bytes : List ℕ) → IsCounted readable x → now a ≡ Some (bytes_of_one readable x.held ++ bytes)
+    → IsCounted now (with_file x a (length (bytes_of_one readable x.held)) (length bytes))
+files_counted readable now x a bytes h is = record {
+  count = sym (ap (λ (o : Option (List ℕ)). length (unwrap_or o [])) is ∙ length-append (bytes_of_one readable x.held) bytes);
   places = (omega arith, subst (λ (k : ℕ). HavePlaces x.places k) h.count h.places);
 }
 
 pub pieces_are_long : PiecesAreLong
 pieces_are_long = record {
-  starts = λ lent. record { count = refl; places = refl };
-  texts = λ lent x text h. record { count = h.count; places = h.places };
+  starts = λ readable. record { count = refl; places = refl };
+  texts = λ readable x text h. record { count = h.count; places = h.places };
   files = files_counted;
   long = long;
 }

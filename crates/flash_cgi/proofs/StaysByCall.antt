@@ -20,13 +20,13 @@ use Rattle.iol_core.specs.declared.events.Event.TheVariants as event
 use Rattle.iol_core.specs.declared.events.Reply.{Reply}
 use Rattle.iol_core.specs.declared.events.Reply.TheVariants as reply
 use Rattle.iol_laws.specs.Caller as o
-use Rattle.iol_laws.specs.Caller.{lent_at}
+use Rattle.iol_laws.specs.Caller.{readable_at}
 use Rattle.iol_laws.specs.CallerFiles as fl
 use Rattle.iol_laws.specs.Frame.{EachStepLeavesTheRest, Leaves, is_end, touches_fd, touches_pipe, ends}
 use Rattle.flash_cgi.specs.Collecting.{Collected, collected}
 use Rattle.flash_cgi.specs.Job.{Task}
 use Rattle.flash_cgi.specs.Output.{Outcome, Failed, output, by_first}
-use Rattle.flash_cgi.specs.Pieces.{HasPiece, HoldsAt, IsApart, IsRest, Lends}
+use Rattle.flash_cgi.specs.Pieces.{HasPiece, HoldsAt, IsApart, IsRest, IsReadable}
 use Rattle.flash_cgi.specs.WorkerSteps.{said_text, bytes_at}
 use Rattle.flash_cgi.specs.Feeds.{put_out, still, IsFileOpen, Needs, Feeds, failed}
 use Rattle.flash_cgi.specs.declared.line.Line.{Line}
@@ -34,10 +34,10 @@ use Rattle.flash_cgi.specs.declared.line.Line.TheVariants as line
 use Rattle.flash_cgi.specs.declared.counts.Said.TheVariants as said
 use Rattle.flash_cgi.specs.declared.phase.Purpose.{Purpose}
 use Rattle.flash_cgi.specs.declared.phase.Purpose.TheVariants as purpose
-use Rattle.flash_cgi.specs.declared.phase.Doing.{Doing}
-use Rattle.flash_cgi.specs.declared.phase.Doing.TheVariants as doing
+use Rattle.flash_cgi.specs.declared.phase.Phase.{Phase}
+use Rattle.flash_cgi.specs.declared.phase.Phase.TheVariants as phase
 use Rattle.flash_cgi.specs.declared.phase.Step.{Step}
-use Rattle.flash_cgi.proofs.Interleaving.{LendsStill, piece_kept, text_kept}
+use Rattle.flash_cgi.proofs.Interleaving.{IsStillReadable, piece_kept, text_kept}
 
 -- ---- plain facts
 
@@ -64,8 +64,8 @@ rest-nil [] (suc i) e = refl
 rest-nil (x ∷ lines) zero e = absurd (cc)
 rest-nil (x ∷ lines) (suc i) e = rest-nil lines i e
 
-abbrev pub at_step : Doing → ℕ → Collected → Step
-at_step d begun x = record { doing = d; begun = begun; piece = x }
+abbrev pub at_step : Phase → ℕ → Collected → Step
+at_step d begun x = record { phase = d; begun = begun; piece = x }
 
 pub range_to_end : (xs : List ℕ) (i j : ℕ) → j ≡ length xs → slice_range xs i j ≡ drop i xs
 range_to_end xs i j e = take_all (j - i) (drop i xs) (omega (arith, length-drop i xs, e))
@@ -113,10 +113,10 @@ pub file-same : (m n : State) (k : ℕ) → n.files ≡ m.files → file n k ≡
 unfolding file
 file-same m n k e = ap (λ (fs : List File). numbered_or fs k no_file) e
 
-pub same_bytes : (m n : State) (d a : ℕ) (bytes : List ℕ) → lent_at m d a ≡ Some bytes → lent_at n d a ≡ Some bytes → bytes_at (lent_at n d) a ≡ bytes_at (lent_at m d) a
+pub same_bytes : (m n : State) (d a : ℕ) (bytes : List ℕ) → readable_at m d a ≡ Some bytes → readable_at n d a ≡ Some bytes → bytes_at (readable_at n d) a ≡ bytes_at (readable_at m d) a
 same_bytes m n d a bytes is now = ap (λ (l : Option (List ℕ)). unwrap_or l []) (now ∙ sym is)
 
-pub is_bytes : (m : State) (d a : ℕ) (bytes : List ℕ) → lent_at m d a ≡ Some bytes → bytes_at (lent_at m d) a ≡ bytes
+pub is_bytes : (m : State) (d a : ℕ) (bytes : List ℕ) → readable_at m d a ≡ Some bytes → bytes_at (readable_at m d) a ≡ bytes
 is_bytes m d a bytes is = ap (λ (l : Option (List ℕ)). unwrap_or l []) is
 
 -- a file's descriptor is no end of a pipe
@@ -134,44 +134,44 @@ apart_test d a b x apart one = and_false (d == d) (a == b) (not-equal a b (λ sa
     by same (inl is) = apart.0 (is ∙ ap (λ k. Some k) (sym same))
     by same (inr is) = apart.1 (is ∙ ap (λ k. Some k) (sym same))
 
-pub rest_still : (m n : State) (d : ℕ) (x : Collected) → LendsStill (lent_at m d) (lent_at n d) x → IsRest (lent_at m d) x → IsRest (lent_at n d) x
-rest_still m n d x stays h = record { piece = piece_kept (lent_at m d) (lent_at n d) (length x.text) x stays h.piece; no_text = h.no_text; no_places = h.no_places }
+pub rest_still : (m n : State) (d : ℕ) (x : Collected) → IsStillReadable (readable_at m d) (readable_at n d) x → IsRest (readable_at m d) x → IsRest (readable_at n d) x
+rest_still m n d x stays h = record { piece = piece_kept (readable_at m d) (readable_at n d) (length x.text) x stays h.piece; no_text = h.no_text; no_places = h.no_places }
 
-pub all_same : (m n : State) (d : ℕ) (x : Collected) → LendsStill (lent_at m d) (lent_at n d) x → HasPiece (lent_at m d) (length x.text) x → collected (lent_at n d) x ≡ collected (lent_at m d) x
-all_same m n d x stays h = text_kept (lent_at m d) (lent_at n d) (length x.text) x.text x stays h
+pub all_same : (m n : State) (d : ℕ) (x : Collected) → IsStillReadable (readable_at m d) (readable_at n d) x → HasPiece (readable_at m d) (length x.text) x → collected (readable_at n d) x ≡ collected (readable_at m d) x
+all_same m n d x stays h = text_kept (readable_at m d) (readable_at n d) (length x.text) x.text x stays h
 
 module _ (steps : EachStepLeavesTheRest) where
-  pub lent-stays : (m n : State) (e : Event) (r : Reply) → StepsTo m e r n → (d a : ℕ) (bytes : List ℕ) → lent_at m d a ≡ Some bytes → gives_up e d a ≡ false → lent_at n d a ≡ Some bytes
-  lent-stays m n e r step d a bytes is un = by (aggregate m d a) refl
+  pub readable-stays : (m n : State) (e : Event) (r : Reply) → StepsTo m e r n → (d a : ℕ) (bytes : List ℕ) → readable_at m d a ≡ Some bytes → gives_up e d a ≡ false → readable_at n d a ≡ Some bytes
+  readable-stays m n e r step d a bytes is un = by (aggregate m d a) refl
     where
-      by : (t : Option Text) → aggregate m d a ≡ t → lent_at n d a ≡ Some bytes
+      by : (t : Option Text) → aggregate m d a ≡ t → readable_at n d a ≡ Some bytes
       by None none = (let e = ap (λ (t : Option Text). option_map bytes_of t) none in absurd (cc (is, e)))
       by (Some t) some =
           ap (λ (u : Option Text). option_map bytes_of u) ((steps.values m n e r step).each d a t some un)
           ∙ sym (ap (λ (u : Option Text). option_map bytes_of u) some) ∙ is
 
-  pub still_lent : (m n : State) (d : ℕ) (k : Call) (r : Reply) (x : Collected) → StepsTo m (event.Call d k) r n
-      → ((a : ℕ) → (x.held ≡ Some a) ⊎ (x.next ≡ Some a) → gives_up (event.Call d k) d a ≡ false) → LendsStill (lent_at m d) (lent_at n d) x
-  still_lent m n d k r x step un a bytes one is = lent-stays m n (event.Call d k) r step d a bytes is (un a one)
+  pub still_readable : (m n : State) (d : ℕ) (k : Call) (r : Reply) (x : Collected) → StepsTo m (event.Call d k) r n
+      → ((a : ℕ) → (x.held ≡ Some a) ⊎ (x.next ≡ Some a) → gives_up (event.Call d k) d a ≡ false) → IsStillReadable (readable_at m d) (readable_at n d) x
+  still_readable m n d k r x step un a bytes one is = readable-stays m n (event.Call d k) r step d a bytes is (un a one)
 
-  pub after_drop : (m n : State) (d a : ℕ) (r : Reply) (x : Collected) → StepsTo m (event.Call d (call.AggDrop a)) r n → IsApart x a → LendsStill (lent_at m d) (lent_at n d) x
-  after_drop m n d a r x step apart = still_lent m n d (call.AggDrop a) r x step (λ b one. apart_test d a b x apart one)
+  pub after_drop : (m n : State) (d a : ℕ) (r : Reply) (x : Collected) → StepsTo m (event.Call d (call.AggDrop a)) r n → IsApart x a → IsStillReadable (readable_at m d) (readable_at n d) x
+  after_drop m n d a r x step apart = still_readable m n d (call.AggDrop a) r x step (λ b one. apart_test d a b x apart one)
 
   -- one that is not dropped
-  abbrev pub beside_drop : (m n : State) (d a b : ℕ) (r : Reply) → StepsTo m (event.Call d (call.AggDrop a)) r n → a ≢ b → Lends (lent_at m d) b → Lends (lent_at n d) b
-  beside_drop m n d a b r step differ h = (h.0, lent-stays m n (event.Call d (call.AggDrop a)) r step d b h.0 h.1 (and_false (d == d) (a == b) (not-equal a b differ)))
+  abbrev pub beside_drop : (m n : State) (d a b : ℕ) (r : Reply) → StepsTo m (event.Call d (call.AggDrop a)) r n → a ≢ b → IsReadable (readable_at m d) b → IsReadable (readable_at n d) b
+  beside_drop m n d a b r step differ h = (h.0, readable-stays m n (event.Call d (call.AggDrop a)) r step d b h.0 h.1 (and_false (d == d) (a == b) (not-equal a b differ)))
 
   -- ---- a call that leaves the pipe, after which as much is still to be written
   pub goes : (m n : State) (d p : ℕ) (job : Task) (s v : Step) (unseen : List Outcome → List ℕ) (used : List Outcome) (c : Call) (r : Reply) → Feeds m d p job s unseen → StepsTo m (event.Call d c) r n
       → ends (event.Call d c) d ≡ false → touches_fd m (event.Call d c) d job.fd ≡ false → touches_pipe m (event.Call d c) p ≡ false
-      → Needs n d v.doing → HoldsAt (lent_at n d) v.piece v.doing
-      → ((os : List Outcome) → still job (lent_at n d) v os ≡ still job (lent_at m d) s (used ++ os)) → Feeds n d p job v (λ os. unseen (used ++ os))
+      → Needs n d v.phase → HoldsAt (readable_at n d) v.piece v.phase
+      → ((os : List Outcome) → still job (readable_at n d) v os ≡ still job (readable_at m d) s (used ++ os)) → Feeds n d p job v (λ os. unseen (used ++ os))
   goes m n d p job s v unseen used c r f step lives fd pipe needs holds same = record {
     live = leaves.lives d f.live lives;
     open_on = leaves.fds d job.fd (on.WriteEnd p) f.open_on fd;
     needs = needs;
     holds = holds;
-    is = λ os. f.is (used ++ os) ∙ (ap (λ (l : List ℕ). bytes_of (pipe_at m p).queue ++ l) (sym (same os)) ∙ ap (λ (x : Pipe). bytes_of x.queue ++ still job (lent_at n d) v os) (sym (leaves.pipes p pipe)));
+    is = λ os. f.is (used ++ os) ∙ (ap (λ (l : List ℕ). bytes_of (pipe_at m p).queue ++ l) (sym (same os)) ∙ ap (λ (x : Pipe). bytes_of x.queue ++ still job (readable_at n d) v os) (sym (leaves.pipes p pipe)));
   }
     where
       leaves : Leaves m (event.Call d c) n

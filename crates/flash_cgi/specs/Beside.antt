@@ -10,11 +10,11 @@ use Rattle.iol_core.specs.declared.descriptors.Mode.{Mode}
 use Rattle.iol_core.specs.declared.events.Event.{Event}
 use Rattle.iol_core.specs.declared.events.Event.TheVariants as event
 use Rattle.iol_core.specs.declared.events.Reply.{Reply}
-use Rattle.iol_laws.specs.Caller.{lent_at, TakesFromPipe}
+use Rattle.iol_laws.specs.Caller.{readable_at, TakesFromPipe}
 use Rattle.iol_laws.specs.Frame.{changes_files, admits_to}
 use Rattle.iol_laws.specs.Order.{IsOrderly}
 use Rattle.iol_laws.specs.Others.{GoesFromFront}
-use Rattle.iol_proc.specs.declared.seat.Seat.{Seat}
+use Rattle.iol_proc.specs.declared.process_slot.ProcessSlot.{ProcessSlot}
 use Rattle.flash_cgi.specs.Output.{Outcome}
 use Rattle.flash_cgi.specs.Outcomes.{AreFiles, outcome_in}
 use Rattle.flash_cgi.specs.Turns.{IsFree, RunsJob, outcomes_to_come, ReadsItsFile}
@@ -29,7 +29,7 @@ is_call_of e d = false
 pub record LeavesWorker (m : State) (d : ℕ) (n : State) : Type 0 where
   pub live : is_live m d ≡ true → is_live n d ≡ true
   pub fds : (fd : ℕ) (x : Descriptor) → descriptor m d fd ≡ Some x → descriptor n d fd ≡ Some x
-  pub bytes : (a : ℕ) (bytes : List ℕ) → lent_at m d a ≡ Some bytes → lent_at n d a ≡ Some bytes
+  pub bytes : (a : ℕ) (bytes : List ℕ) → readable_at m d a ≡ Some bytes → readable_at n d a ≡ Some bytes
   pub readers : (q : ℕ) → may_read m d q ≡ true → may_read n d q ≡ true
   pub may : (fd number place : ℕ) (mode : Mode) → descriptor m d fd ≡ Some (on.File number place mode)
       → may_read m d (file m number).pool ≡ true → may_read n d (file n number).pool ≡ true
@@ -40,20 +40,21 @@ pub record LeavesFiles (m : State) (d : ℕ) (n : State) : Type 0 where
   pub contents : (f : ℕ) → content n f ≡ content m f
 
 -- the bytes of its job pipe are unchanged until the worker reads them
-pub record LeavesJobs (m : State) (seat : Seat Worker) (n : State) : Type 0 where
-  pub same : (j : ℕ) → IsFree m seat → descriptor m seat.by 0 ≡ Some (on.ReadEnd j) → pipe_at n j ≡ pipe_at m j
+pub record LeavesJobs (m : State) (process_slot : ProcessSlot Worker) (n : State) : Type 0 where
+  pub same : (j : ℕ) → IsFree m process_slot → descriptor m process_slot.by 0 ≡ Some (on.ReadEnd j) → pipe_at n j ≡ pipe_at m j
 
--- Bytes removed from its output pipe were the front of the pending output. If files are unchanged, the outcomes to come are unchanged.
-pub record Hears (m n : State) (p : ℕ) (seat : Seat Worker) (unseen : List Outcome → List ℕ)
-    (was : RunsJob m p seat unseen) (heard : List ℕ) : Type 0 where
+-- Bytes removed from its output pipe were the front of the pending output. If files are unchanged, the outcomes to come
+-- are unchanged.
+pub record Receives (m n : State) (p : ℕ) (process_slot : ProcessSlot Worker) (unseen : List Outcome → List ℕ)
+    (was : RunsJob m p process_slot unseen) (received : List ℕ) : Type 0 where
   pub after : List Outcome → List ℕ
-  pub splits : (os : List Outcome) → unseen os ≡ heard ++ after os
-  pub runs : RunsJob n p seat after
-  pub outcomes : LeavesFiles m seat.by n → outcomes_to_come n p seat after runs ≡ outcomes_to_come m p seat unseen was
-  pub reads : LeavesFiles m seat.by n → ReadsItsFile m p seat unseen was → ReadsItsFile n p seat after runs
+  pub splits : (os : List Outcome) → unseen os ≡ received ++ after os
+  pub runs : RunsJob n p process_slot after
+  pub outcomes : LeavesFiles m process_slot.by n → outcomes_to_come n p process_slot after runs ≡ outcomes_to_come m p process_slot unseen was
+  pub reads : LeavesFiles m process_slot.by n → ReadsItsFile m p process_slot unseen was → ReadsItsFile n p process_slot after runs
 
 -- Others leave a worker with its job unchanged, except for the front of its output pipe.
-pub record OthersHear : Type 0 where
+pub record OthersReceive : Type 0 where
   pub leave : (m n : State) (d : ℕ) (e : Event) (r : Reply) → ArePlaced m → StepsTo m e r n → is_call_of e d ≡ false
       → LeavesWorker m d n
   -- a step that may not change a file, and that admits no domain to a pool, leaves the files unchanged
@@ -62,9 +63,9 @@ pub record OthersHear : Type 0 where
   -- bytes of a pipe to which a worker writes are removed only from its front
   pub front : (m n : State) (d p fd : ℕ) (e : Event) (r : Reply) → IsOrderly m → StepsTo m e r n → is_call_of e d ≡ false
       → descriptor m d fd ≡ Some (on.WriteEnd p) → GoesFromFront m p n
-  pub gone : (m n : State) (p : ℕ) (seat : Seat Worker) (unseen : List Outcome → List ℕ) → LeavesWorker m seat.by n
-      → LeavesJobs m seat n → (was : RunsJob m p seat unseen) → (goes : GoesFromFront m p n)
-      → Hears m n p seat unseen was (bytes_of goes.gone)
+  pub gone : (m n : State) (p : ℕ) (process_slot : ProcessSlot Worker) (unseen : List Outcome → List ℕ) → LeavesWorker m process_slot.by n
+      → LeavesJobs m process_slot n → (was : RunsJob m p process_slot unseen) → (goes : GoesFromFront m p n)
+      → Receives m n p process_slot unseen was (bytes_of goes.gone)
   -- a read of the pipe returns the bytes removed
-  pub heard : (m n : State) (p by count a : ℕ) (bytes : List ℕ) → TakesFromPipe m by p count a n → lent_at n by a ≡ Some bytes
+  pub received : (m n : State) (p by count a : ℕ) (bytes : List ℕ) → TakesFromPipe m by p count a n → readable_at n by a ≡ Some bytes
       → (goes : GoesFromFront m p n) → bytes_of goes.gone ≡ bytes

@@ -4,8 +4,8 @@ use Rattle.flash_cgi.specs.declared.line.Line.{Line}
 use Rattle.flash_cgi.specs.declared.piece.Place.{Place}
 use Rattle.flash_cgi.specs.declared.piece.TheConstants.{MIN_PIECE_BYTES, MAX_COLLECTED_BYTES}
 
--- A place has the number of bytes of text before a file's bytes, and the number of bytes of all buffered files before them. The
--- last place is the first of the list. A file that is too long follows all other bytes.
+-- A place has the number of bytes of text before a file's bytes, and the number of bytes of all buffered files before
+-- them. The last place is the first of the list. A file that is too long follows all other bytes.
 pub record Collected : Type 0 where
   pub text : List ℕ
   pub held : Option ℕ
@@ -27,15 +27,15 @@ interleaved text [] files = text
 interleaved text (p ∷ ps) files = interleaved (take p.at text) ps (take p.from files) ++ (drop p.from files ++ drop p.at text)
 
 abbrev pub bytes_of_one : (ℕ → Option (List ℕ)) → Option ℕ → List ℕ
-bytes_of_one lent None = []
-bytes_of_one lent (Some a) = unwrap_or (lent a) []
+bytes_of_one readable None = []
+bytes_of_one readable (Some a) = unwrap_or (readable a) []
 
 -- with this text
 abbrev pub collected_in : (ℕ → Option (List ℕ)) → (text : List ℕ) → Collected → List ℕ
-collected_in lent text x = interleaved text x.places (bytes_of_one lent x.held) ++ bytes_of_one lent x.next
+collected_in readable text x = interleaved text x.places (bytes_of_one readable x.held) ++ bytes_of_one readable x.next
 
 abbrev pub collected : (ℕ → Option (List ℕ)) → Collected → List ℕ
-collected lent x = collected_in lent x.text x
+collected readable x = collected_in readable x.text x
 
 -- ---- when it is written
 
@@ -44,9 +44,9 @@ abbrev pub is_full : Collected → Bool
 is_full x = nat_le MIN_PIECE_BYTES (length x.text + x.files)
 
 -- it is written before this line, or after the last one: it is full, a file follows it, or no line is left
-abbrev pub is_due : Collected → Option Line → Bool
-is_due x (Some l) = is_full x || is_some x.next
-is_due x None = not (is_nothing x)
+abbrev pub is_expected : Collected → Option Line → Bool
+is_expected x (Some l) = is_full x || is_some x.next
+is_expected x None = not (is_nothing x)
 
 -- ---- additions and removals
 

@@ -1,4 +1,5 @@
--- The pending output of a running script: the bytes in its pipe, followed by the bytes that its worker has still to write.
+-- The pending output of a running script: the bytes in its pipe, followed by the bytes that its worker has still to
+-- write.
 use Rattle.std.specs.Prelude.{◌≡◌, ◌≢◌, ◌⊎◌, ℕ, Bool, true, false, List, [], ◌∷◌, ◌++◌, length, take, drop, Option, Some, None, slice_get}
 use Rattle.iol_core.specs.Text.{bytes_of}
 use Rattle.iol_core.specs.State.{State, descriptor, pipe_at, file, may_read, is_live}
@@ -8,19 +9,19 @@ use Rattle.iol_core.specs.declared.descriptors.Mode.TheVariants.{Read}
 use Rattle.iol_core.specs.declared.events.Event.TheVariants as event
 use Rattle.iol_core.specs.declared.events.Reply.{Reply}
 use Rattle.iol_core.specs.declared.events.Reply.TheVariants as reply
-use Rattle.iol_laws.specs.Caller.{lent_at, ClosesWriteEnd}
+use Rattle.iol_laws.specs.Caller.{readable_at, ClosesWriteEnd}
 use Rattle.iol_laws.specs.Order.{IsOrderly}
 use Rattle.flash_cgi.specs.Collecting.{Collected, collected, collected_in, without_last}
 use Rattle.flash_cgi.specs.Job.{Task}
 use Rattle.flash_cgi.specs.Output.{Outcome, Found, Failed, output, by_first, cat_of, wc_of}
 use Rattle.flash_cgi.specs.Pieces.{HoldsAt}
-use Rattle.flash_cgi.specs.WorkerSteps.{said_text, bytes_at, call_at, due_now, told}
+use Rattle.flash_cgi.specs.WorkerSteps.{said_text, bytes_at, call_at, expected_now, after_reply}
 use Rattle.flash_cgi.specs.declared.line.Line.{Line}
 use Rattle.flash_cgi.specs.declared.line.Line.TheVariants as line
 use Rattle.flash_cgi.specs.declared.phase.Purpose.{Purpose}
 use Rattle.flash_cgi.specs.declared.phase.Purpose.TheVariants as purpose
-use Rattle.flash_cgi.specs.declared.phase.Doing.{Doing}
-use Rattle.flash_cgi.specs.declared.phase.Doing.TheVariants as doing
+use Rattle.flash_cgi.specs.declared.phase.Phase.{Phase}
+use Rattle.flash_cgi.specs.declared.phase.Phase.TheVariants as phase
 use Rattle.flash_cgi.specs.declared.phase.Step.{Step}
 
 -- ---- the bytes still to be written
@@ -35,44 +36,44 @@ rest_of job begun os = output job.query (drop begun job.lines) os
 
 -- the buffered output, followed by these
 abbrev pub then_rest : Task → (begun : ℕ) → (ℕ → Option (List ℕ)) → Collected → List Outcome → List ℕ
-then_rest job begun lent x os = collected lent x ++ rest_of job begun os
+then_rest job begun readable x os = collected readable x ++ rest_of job begun os
 
 -- the text with these bytes inserted at this place
 abbrev pub set_in : (text : List ℕ) → (at : ℕ) → (bytes : List ℕ) → List ℕ
 set_in text at bytes = take at text ++ (bytes ++ drop at text)
 
-abbrev pub still_doing : Task → (begun : ℕ) → (ℕ → Option (List ℕ)) → Collected → Doing → List Outcome → List ℕ
-still_doing job begun lent x doing.Waits os = []
-still_doing job begun lent x (doing.Skips agg) os = []
-still_doing job begun lent x (doing.Breaks agg) os = []
-still_doing job begun lent x doing.Runs os = then_rest job begun lent x os
-still_doing job begun lent x (doing.Drops agg) os = then_rest job begun lent x os
-still_doing job begun lent x (doing.Reads file p) os = collected lent x ++ by_first (put_out p) (rest_of job begun) os
-still_doing job begun lent x (doing.Counted file agg s) os = collected lent x ++ (said_text s ++ rest_of job begun os)
-still_doing job begun lent x (doing.ShutsToSay file s) os = collected lent x ++ (said_text s ++ rest_of job begun os)
-still_doing job begun lent x (doing.Shuts file agg) os = collected lent x ++ (bytes_at lent agg ++ rest_of job begun os)
-still_doing job begun lent x (doing.JoiningFile held agg from len) os =
-    collected lent x ++ (bytes_at lent agg ++ rest_of job begun os)
-still_doing job begun lent x (doing.CuttingPart held agg from) os =
-    collected_in lent (bytes_at lent agg) x ++ rest_of job begun os
-still_doing job begun lent x (doing.ReplacingPart agg part at) os =
-    collected_in lent (set_in (bytes_at lent agg) at (bytes_at lent part)) (without_last x) ++ rest_of job begun os
-still_doing job begun lent x (doing.DroppingText agg part made) os =
-    collected_in lent (bytes_at lent made) x ++ rest_of job begun os
-still_doing job begun lent x (doing.DroppingPart part made) os =
-    collected_in lent (bytes_at lent made) x ++ rest_of job begun os
-still_doing job begun lent x (doing.Writes agg) os = bytes_at lent agg ++ then_rest job begun lent x os
-still_doing job begun lent x (doing.Cuts agg from to) os = drop from (bytes_at lent agg) ++ then_rest job begun lent x os
-still_doing job begun lent x (doing.Swaps agg rest) os = bytes_at lent rest ++ then_rest job begun lent x os
+abbrev pub still_phase : Task → (begun : ℕ) → (ℕ → Option (List ℕ)) → Collected → Phase → List Outcome → List ℕ
+still_phase job begun readable x phase.Waits os = []
+still_phase job begun readable x (phase.Skips agg) os = []
+still_phase job begun readable x (phase.Breaks agg) os = []
+still_phase job begun readable x phase.Runs os = then_rest job begun readable x os
+still_phase job begun readable x (phase.Drops agg) os = then_rest job begun readable x os
+still_phase job begun readable x (phase.Reads file p) os = collected readable x ++ by_first (put_out p) (rest_of job begun) os
+still_phase job begun readable x (phase.Counted file agg s) os = collected readable x ++ (said_text s ++ rest_of job begun os)
+still_phase job begun readable x (phase.ShutsToSay file s) os = collected readable x ++ (said_text s ++ rest_of job begun os)
+still_phase job begun readable x (phase.Shuts file agg) os = collected readable x ++ (bytes_at readable agg ++ rest_of job begun os)
+still_phase job begun readable x (phase.JoiningFile held agg from len) os =
+    collected readable x ++ (bytes_at readable agg ++ rest_of job begun os)
+still_phase job begun readable x (phase.CuttingPart held agg from) os =
+    collected_in readable (bytes_at readable agg) x ++ rest_of job begun os
+still_phase job begun readable x (phase.ReplacingPart agg part at) os =
+    collected_in readable (set_in (bytes_at readable agg) at (bytes_at readable part)) (without_last x) ++ rest_of job begun os
+still_phase job begun readable x (phase.DroppingText agg part made) os =
+    collected_in readable (bytes_at readable made) x ++ rest_of job begun os
+still_phase job begun readable x (phase.DroppingPart part made) os =
+    collected_in readable (bytes_at readable made) x ++ rest_of job begun os
+still_phase job begun readable x (phase.Writes agg) os = bytes_at readable agg ++ then_rest job begun readable x os
+still_phase job begun readable x (phase.Cuts agg from to) os = drop from (bytes_at readable agg) ++ then_rest job begun readable x os
+still_phase job begun readable x (phase.Swaps agg rest) os = bytes_at readable rest ++ then_rest job begun readable x os
 
 -- the bytes still to be written, with these outcomes of the files still to be read
 abbrev pub still : Task → (ℕ → Option (List ℕ)) → Step → List Outcome → List ℕ
-still job lent step os = still_doing job step.begun lent step.piece step.doing os
+still job readable step os = still_phase job step.begun readable step.piece step.phase os
 
 -- ---- requirements on the machine
 
 abbrev pub HasBytes : State → (d agg : ℕ) → Type 0
-HasBytes m d agg = (bytes : List ℕ) × (lent_at m d agg ≡ Some bytes)
+HasBytes m d agg = (bytes : List ℕ) × (readable_at m d agg ≡ Some bytes)
 
 -- a file that the domain may read is open under this number
 pub record IsOpenFile (m : State) (d fd : ℕ) : Type 0 where
@@ -85,33 +86,33 @@ pub record IsOpenFile (m : State) (d fd : ℕ) : Type 0 where
 abbrev pub IsFileOpen : State → (d fd : ℕ) → Type 0
 IsFileOpen m d fd = (number : ℕ) × (place : ℕ) × (descriptor m d fd ≡ Some (on.File number place Read))
 
-abbrev pub Needs : State → (d : ℕ) → Doing → Type 0
-Needs m d doing.Waits = ⊥
-Needs m d (doing.Skips agg) = ⊥
-Needs m d (doing.Breaks agg) = ⊥
-Needs m d doing.Runs = Unit {0}
-Needs m d (doing.JoiningFile held agg from len) = Unit {0}
-Needs m d (doing.CuttingPart held agg from) = Unit {0}
-Needs m d (doing.ReplacingPart agg part at) = Unit {0}
-Needs m d (doing.DroppingText agg part made) = Unit {0}
-Needs m d (doing.DroppingPart part made) = Unit {0}
-Needs m d (doing.Drops agg) = HasBytes m d agg
-Needs m d (doing.Reads file p) = IsOpenFile m d file
-Needs m d (doing.ShutsToSay file s) = IsFileOpen m d file
-Needs m d (doing.Counted file agg s) = IsFileOpen m d file × HasBytes m d agg
-Needs m d (doing.Shuts file agg) = IsFileOpen m d file × HasBytes m d agg
-Needs m d (doing.Writes agg) = HasBytes m d agg
-Needs m d (doing.Cuts agg from to) = (bytes : List ℕ) × (lent_at m d agg ≡ Some bytes) × (to ≡ length bytes)
-Needs m d (doing.Swaps agg rest) = HasBytes m d rest × (agg ≢ rest)
+abbrev pub Needs : State → (d : ℕ) → Phase → Type 0
+Needs m d phase.Waits = ⊥
+Needs m d (phase.Skips agg) = ⊥
+Needs m d (phase.Breaks agg) = ⊥
+Needs m d phase.Runs = Unit {0}
+Needs m d (phase.JoiningFile held agg from len) = Unit {0}
+Needs m d (phase.CuttingPart held agg from) = Unit {0}
+Needs m d (phase.ReplacingPart agg part at) = Unit {0}
+Needs m d (phase.DroppingText agg part made) = Unit {0}
+Needs m d (phase.DroppingPart part made) = Unit {0}
+Needs m d (phase.Drops agg) = HasBytes m d agg
+Needs m d (phase.Reads file p) = IsOpenFile m d file
+Needs m d (phase.ShutsToSay file s) = IsFileOpen m d file
+Needs m d (phase.Counted file agg s) = IsFileOpen m d file × HasBytes m d agg
+Needs m d (phase.Shuts file agg) = IsFileOpen m d file × HasBytes m d agg
+Needs m d (phase.Writes agg) = HasBytes m d agg
+Needs m d (phase.Cuts agg from to) = (bytes : List ℕ) × (readable_at m d agg ≡ Some bytes) × (to ≡ length bytes)
+Needs m d (phase.Swaps agg rest) = HasBytes m d rest × (agg ≢ rest)
 
--- The worker in domain d runs a job with its output to pipe p: for all outcomes to come, the pending output is the bytes in the
--- pipe, followed by the bytes still to be written.
+-- The worker in domain d runs a job with its output to pipe p: for all outcomes to come, the pending output is the
+-- bytes in the pipe, followed by the bytes still to be written.
 pub record Feeds (m : State) (d p : ℕ) (job : Task) (step : Step) (unseen : List Outcome → List ℕ) : Type 0 where
   pub live : is_live m d ≡ true
   pub open_on : descriptor m d job.fd ≡ Some (on.WriteEnd p)
-  pub needs : Needs m d step.doing
-  pub holds : HoldsAt (lent_at m d) step.piece step.doing
-  pub is : (os : List Outcome) → unseen os ≡ bytes_of (pipe_at m p).queue ++ still job (lent_at m d) step os
+  pub needs : Needs m d step.phase
+  pub holds : HoldsAt (readable_at m d) step.piece step.phase
+  pub is : (os : List Outcome) → unseen os ≡ bytes_of (pipe_at m p).queue ++ still job (readable_at m d) step os
 
 -- ---- its own calls
 
@@ -119,32 +120,32 @@ abbrev pub failed : Reply → List Outcome
 failed (reply.Refused x) = Failed x ∷ []
 failed r = []
 
-abbrev pub settled_open : Option Line → Reply → List Outcome
-settled_open (Some (line.Cat name)) r = failed r
-settled_open (Some (line.Wc name)) r = failed r
-settled_open l r = []
+abbrev pub resolved_open : Option Line → Reply → List Outcome
+resolved_open (Some (line.Cat name)) r = failed r
+resolved_open (Some (line.Wc name)) r = failed r
+resolved_open l r = []
 
-abbrev pub settled_read : (ℕ → Option (List ℕ)) → Reply → List Outcome
-settled_read lent (reply.Agg agg) = Found (bytes_at lent agg) ∷ []
-settled_read lent r = failed r
+abbrev pub resolved_read : (ℕ → Option (List ℕ)) → Reply → List Outcome
+resolved_read readable (reply.Agg agg) = Found (bytes_at readable agg) ∷ []
+resolved_read readable r = failed r
 
 -- making an aggregate of the buffered text settles none
-abbrev pub settled_begun : (due : Bool) → Option Line → Reply → List Outcome
-settled_begun true l r = []
-settled_begun false l r = settled_open l r
+abbrev pub resolved_begun : (expected : Bool) → Option Line → Reply → List Outcome
+resolved_begun true l r = []
+resolved_begun false l r = resolved_open l r
 
-abbrev pub settled_doing : Task → Collected → (begun : ℕ) → (ℕ → Option (List ℕ)) → Doing → Reply → List Outcome
-settled_doing job x begun lent doing.Runs r = settled_begun (due_now job x begun) (slice_get job.lines begun) r
-settled_doing job x begun lent (doing.Reads file p) r = settled_read lent r
-settled_doing job x begun lent d r = []
+abbrev pub resolved_phase : Task → Collected → (begun : ℕ) → (ℕ → Option (List ℕ)) → Phase → Reply → List Outcome
+resolved_phase job x begun readable phase.Runs r = resolved_begun (expected_now job x begun) (slice_get job.lines begun) r
+resolved_phase job x begun readable (phase.Reads file p) r = resolved_read readable r
+resolved_phase job x begun readable d r = []
 
 -- the outcome that a reply settles, if any
-abbrev pub settled : Task → Step → (ℕ → Option (List ℕ)) → Reply → List Outcome
-settled job step lent r = settled_doing job step.piece step.begun lent step.doing r
+abbrev pub resolved : Task → Step → (ℕ → Option (List ℕ)) → Reply → List Outcome
+resolved job step readable r = resolved_phase job step.piece step.begun readable step.phase r
 
 -- the script is over: all of its output was written, and the pipe's write end is closed
 pub record Ends (m : State) (d p : ℕ) (unseen : List Outcome → List ℕ) (r : Reply) (next : Step) (n : State) : Type 0 where
-  pub free : next.doing ≡ doing.Waits
+  pub free : next.phase ≡ phase.Waits
   pub all : (os : List Outcome) → unseen os ≡ bytes_of (pipe_at m p).queue
   pub done : r ≡ reply.Done
   pub closes : ClosesWriteEnd m p r n
@@ -154,11 +155,11 @@ abbrev pub ComesTo : (m : State) → (d p : ℕ) → Task → Step → (List Out
     → Option Step → Type 0
 ComesTo m d p job step unseen r n None = n ≡ m
 ComesTo m d p job step unseen r n (Some next) =
-    Feeds n d p job next (λ os. unseen (settled job step (lent_at n d) r ++ os))
+    Feeds n d p job next (λ os. unseen (resolved job step (readable_at n d) r ++ os))
     ⊎ (Ends m d p unseen r next n ⊎ ((pipe_at n p).reading ≡ false))
 
 abbrev pub Comes : (m : State) → (d p : ℕ) → Task → Step → (List Outcome → List ℕ) → (r : Reply) → (n : State) → Type 0
-Comes m d p job step unseen r n = ComesTo m d p job step unseen r n (told job step (lent_at n d) r)
+Comes m d p job step unseen r n = ComesTo m d p job step unseen r n (after_reply job step (readable_at n d) r)
 
 -- A worker's call preserves the pending output, until all of it is written or the pipe has no reader.
 abbrev pub FeedsOn : Type 0

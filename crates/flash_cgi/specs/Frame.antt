@@ -3,10 +3,10 @@ use Rattle.std.specs.Prelude.{◌≡◌, ◌≢◌, ℕ, Bool, true, List, Some}
 use Rattle.iol_core.specs.State.{State, domain, descriptor, conn_at, pipe_at, pool, is_live, is_pool}
 use Rattle.iol_core.specs.declared.descriptors.Descriptor.TheVariants as on
 use Rattle.iol_core.specs.declared.events.Reply.{Reply}
-use Rattle.iol_laws.specs.Caller.{lent_at}
-use Rattle.iol_proc.specs.Turns.{SeatTurn}
+use Rattle.iol_laws.specs.Caller.{readable_at}
+use Rattle.iol_proc.specs.Turns.{ProcessSlotTurn}
 use Rattle.iol_proc.specs.World.{copying}
-use Rattle.iol_proc.specs.declared.seat.Seat.{Seat}
+use Rattle.iol_proc.specs.declared.process_slot.ProcessSlot.{ProcessSlot}
 use Rattle.flash_cgi.specs.Output.{Outcome}
 use Rattle.flash_cgi.specs.Turns.{IsFree, HasRead, IsRunning}
 use Rattle.flash_cgi.specs.Works.{worker_turns}
@@ -21,17 +21,17 @@ pub record LeavesAllBut (m : State) (d p : ℕ) (n : State) : Type 0 where
   pub lives : (e : ℕ) → is_live m e ≡ true → is_live n e ≡ true
   pub defaults : (e : ℕ) → e ≢ d → is_live m e ≡ true → (domain n e).default ≡ (domain m e).default
   pub fds : (e fd : ℕ) → e ≢ d → descriptor n e fd ≡ descriptor m e fd
-  pub aggs : (e a : ℕ) → e ≢ d → lent_at n e a ≡ lent_at m e a
+  pub aggs : (e a : ℕ) → e ≢ d → readable_at n e a ≡ readable_at m e a
   -- the job pipe of the domain is unchanged, too
-  pub desk : (j : ℕ) → j ≢ p → descriptor m d 0 ≡ Some (on.ReadEnd j) → descriptor n d 0 ≡ Some (on.ReadEnd j)
+  pub job_queue : (j : ℕ) → j ≢ p → descriptor m d 0 ≡ Some (on.ReadEnd j) → descriptor n d 0 ≡ Some (on.ReadEnd j)
 
 pub record WorkersAreQuiet : Type 0 where
   -- a free worker changes only its job pipe, and will read it again
-  pub free : (m n : State) (j : ℕ) (seat next : Seat Worker) (yields : Bool) (r : Reply) → is_live m seat.by ≡ true
-      → IsFree m seat → descriptor m seat.by 0 ≡ Some (on.ReadEnd j) → SeatTurn copying worker_turns m seat yields r n next
-      → LeavesAllBut m seat.by j n × (descriptor n seat.by 0 ≡ Some (on.ReadEnd j))
+  pub free : (m n : State) (j : ℕ) (process_slot next : ProcessSlot Worker) (yields : Bool) (r : Reply) → is_live m process_slot.by ≡ true
+      → IsFree m process_slot → descriptor m process_slot.by 0 ≡ Some (on.ReadEnd j) → ProcessSlotTurn copying worker_turns m process_slot yields r n next
+      → LeavesAllBut m process_slot.by j n × (descriptor n process_slot.by 0 ≡ Some (on.ReadEnd j))
   -- a worker that has read its job, or runs it, changes only its output pipe
-  pub begins : (m n : State) (p : ℕ) (seat next : Seat Worker) (yields : Bool) (r : Reply) (unseen : List Outcome → List ℕ)
-      → HasRead m p seat unseen → SeatTurn copying worker_turns m seat yields r n next → LeavesAllBut m seat.by p n
-  pub runs : (m n : State) (p : ℕ) (seat next : Seat Worker) (yields : Bool) (r : Reply) (unseen : List Outcome → List ℕ)
-      → IsRunning m p seat unseen → SeatTurn copying worker_turns m seat yields r n next → LeavesAllBut m seat.by p n
+  pub begins : (m n : State) (p : ℕ) (process_slot next : ProcessSlot Worker) (yields : Bool) (r : Reply) (unseen : List Outcome → List ℕ)
+      → HasRead m p process_slot unseen → ProcessSlotTurn copying worker_turns m process_slot yields r n next → LeavesAllBut m process_slot.by p n
+  pub runs : (m n : State) (p : ℕ) (process_slot next : ProcessSlot Worker) (yields : Bool) (r : Reply) (unseen : List Outcome → List ℕ)
+      → IsRunning m p process_slot unseen → ProcessSlotTurn copying worker_turns m process_slot yields r n next → LeavesAllBut m process_slot.by p n

@@ -4,15 +4,15 @@ use Rattle.iol_core.specs.State.{State, descriptor, pipe_at, is_live}
 use Rattle.iol_core.specs.declared.descriptors.Descriptor.TheVariants as on
 use Rattle.iol_core.specs.declared.events.Reply.{Reply}
 use Rattle.iol_core.specs.declared.events.Reply.TheVariants as reply
-use Rattle.iol_laws.specs.Caller.{lent_at}
+use Rattle.iol_laws.specs.Caller.{readable_at}
 use Rattle.iol_laws.specs.Order.{IsOrderly}
-use Rattle.iol_proc.specs.Turns.{SeatTurn}
-use Rattle.iol_proc.specs.World.{copying, seat_of}
-use Rattle.iol_proc.specs.declared.seat.Seat.{Seat}
+use Rattle.iol_proc.specs.Turns.{ProcessSlotTurn}
+use Rattle.iol_proc.specs.World.{copying, process_slot_of}
+use Rattle.iol_proc.specs.declared.process_slot.ProcessSlot.{ProcessSlot}
 use Rattle.flash_cgi.specs.Job.{job_of}
 use Rattle.flash_cgi.specs.Turns.{IsFree}
 use Rattle.flash_cgi.specs.Works.{IsNew, worker_turns}
-use Rattle.flash_cgi.specs.declared.phase.Doing.TheVariants as doing
+use Rattle.flash_cgi.specs.declared.phase.Phase.TheVariants as phase
 use Rattle.flash_cgi.specs.declared.phase.Standing.TheVariants as standing
 use Rattle.flash_cgi.specs.declared.worker.Worker.{Worker}
 
@@ -25,16 +25,16 @@ pub record HasNoJob (m : State) (d j : ℕ) : Type 0 where
 
 pub record WorkersStayFree : Type 0 where
   -- a new one is free
-  pub new : (m : State) (d : ℕ) (w : Worker) → IsNew w → IsFree m (seat_of (d, w))
+  pub new : (m : State) (d : ℕ) (w : Worker) → IsNew w → IsFree m (process_slot_of (d, w))
   -- its turn changes nothing while there is no job, and it stays free
-  pub turns : (m n : State) (j : ℕ) (seat next : Seat Worker) (yields : Bool) (r : Reply) → IsOrderly m → HasNoJob m seat.by j
-      → IsFree m seat → SeatTurn copying worker_turns m seat yields r n next → (n ≡ m) × IsFree n next
+  pub turns : (m n : State) (j : ℕ) (process_slot next : ProcessSlot Worker) (yields : Bool) (r : Reply) → IsOrderly m → HasNoJob m process_slot.by j
+      → IsFree m process_slot → ProcessSlotTurn copying worker_turns m process_slot yields r n next → (n ≡ m) × IsFree n next
   -- the same for events of others
-  pub others : (m n : State) (seat : Seat Worker) → IsFree m seat → IsFree n seat
-  -- a worker that has read a text that is no job is free after its turn, or ran out of memory and will be called again with the
-  -- same reply
-  pub skips : (m n : State) (agg b : ℕ) (bs : List ℕ) (seat next : Seat Worker) (yields : Bool) (r : Reply)
-      → is_live m seat.by ≡ true
-      → seat.process.step.doing ≡ doing.Waits → seat.process.standing ≡ standing.Asked → seat.last ≡ reply.Agg agg
-      → lent_at m seat.by agg ≡ Some (b ∷ bs) → job_of (b ∷ bs) ≡ None → SeatTurn copying worker_turns m seat yields r n next
-      → IsFree n next ⊎ (next ≡ seat)
+  pub others : (m n : State) (process_slot : ProcessSlot Worker) → IsFree m process_slot → IsFree n process_slot
+  -- a worker that has read a text that is no job is free after its turn, or ran out of memory and will be called again
+  -- with the same reply
+  pub skips : (m n : State) (agg b : ℕ) (bs : List ℕ) (process_slot next : ProcessSlot Worker) (yields : Bool) (r : Reply)
+      → is_live m process_slot.by ≡ true
+      → process_slot.process.step.phase ≡ phase.Waits → process_slot.process.standing ≡ standing.Asked → process_slot.last ≡ reply.Agg agg
+      → readable_at m process_slot.by agg ≡ Some (b ∷ bs) → job_of (b ∷ bs) ≡ None → ProcessSlotTurn copying worker_turns m process_slot yields r n next
+      → IsFree n next ⊎ (next ≡ process_slot)

@@ -4,7 +4,7 @@ use Rattle.iol_core.specs.Access.{HasAccess}
 use Rattle.iol_core.specs.State.{State, pipe_at}
 use Rattle.iol_core.specs.declared.limits.TheConstants.{MAX_QUEUE_BYTES}
 use Rattle.iol_laws.specs.Order.{IsOrderly}
-use Rattle.iol_proc.specs.declared.seat.Seat.{Seat}
+use Rattle.iol_proc.specs.declared.process_slot.ProcessSlot.{ProcessSlot}
 use Rattle.flash_cgi.specs.Output.{Outcome}
 use Rattle.flash_cgi.specs.Turns.{RunsJob}
 use Rattle.flash_cgi.specs.Standstill.{HasWaited}
@@ -12,5 +12,5 @@ use Rattle.flash_cgi.specs.declared.worker.Worker.{Worker}
 
 -- Nothing else can block it: an unread job can be read, and of its calls only a write to the pipe may block.
 abbrev pub RunningIsFull : Type 0
-RunningIsFull = (m : State) (p : ℕ) (seat : Seat Worker) (unseen : List Outcome → List ℕ) → IsOrderly m → HasAccess m
-    → RunsJob m p seat unseen → HasWaited 2 seat.by seat.process seat.last m → MAX_QUEUE_BYTES ≤ length (pipe_at m p).queue
+RunningIsFull = (m : State) (p : ℕ) (process_slot : ProcessSlot Worker) (unseen : List Outcome → List ℕ) → IsOrderly m → HasAccess m
+    → RunsJob m p process_slot unseen → HasWaited 2 process_slot.by process_slot.process process_slot.last m → MAX_QUEUE_BYTES ≤ length (pipe_at m p).queue

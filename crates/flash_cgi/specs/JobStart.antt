@@ -8,14 +8,14 @@ use Rattle.iol_core.specs.declared.descriptors.Descriptor.TheVariants as on
 use Rattle.iol_core.specs.declared.events.Call.TheVariants as call
 use Rattle.iol_core.specs.declared.events.Event.TheVariants as event
 use Rattle.iol_core.specs.declared.events.Reply.TheVariants as reply
-use Rattle.iol_laws.specs.Caller.{lent_at, TakesFromPipe}
+use Rattle.iol_laws.specs.Caller.{readable_at, TakesFromPipe}
 use Rattle.flash_cgi.specs.Collecting.{nothing}
 use Rattle.flash_cgi.specs.Job.{Task, job_of, job_text}
 use Rattle.flash_cgi.specs.Script.{script_of}
 use Rattle.flash_cgi.specs.Output.{Outcome, output}
 use Rattle.flash_cgi.specs.Feeds.{Feeds}
 use Rattle.flash_cgi.specs.declared.line.Line.{Line}
-use Rattle.flash_cgi.specs.declared.phase.Doing.TheVariants as doing
+use Rattle.flash_cgi.specs.declared.phase.Phase.TheVariants as phase
 
 -- A job waits in pipe j for the worker in domain d: the text of this script with this query, with its output to pipe p.
 pub record HasJob (m : State) (d j p fd : ℕ) (query script : List ℕ) (lines : List Line) : Type 0 where
@@ -32,9 +32,9 @@ pub record HasJob (m : State) (d j p fd : ℕ) (query script : List ℕ) (lines 
 -- The worker has read the job as this aggregate: it will run this job, and none of its output is written yet.
 pub record Begins (m : State) (d p : ℕ) (job : Task) (agg : ℕ) (unseen : List Outcome → List ℕ) : Type 0 where
   pub bytes : List ℕ
-  pub lends : lent_at m d agg ≡ Some bytes
+  pub is_readable : readable_at m d agg ≡ Some bytes
   pub is_job : job_of bytes ≡ Some job
-  pub feeds : Feeds m d p job (record { doing = doing.Drops agg; begun = 0; piece = nothing }) unseen
+  pub feeds : Feeds m d p job (record { phase = phase.Drops agg; begun = 0; piece = nothing }) unseen
 
 -- Reading a waiting job gives exactly this job, and all of the output of its lines is pending.
 abbrev pub JobsAreTaken : Type 0

@@ -3,8 +3,8 @@ use Rattle.std.specs.Prelude.{◌≡◌, ℕ, ◌<◌, ◌^◌, List, length}
 use Rattle.flash_cgi.specs.Script.{script_of}
 use Rattle.flash_cgi.specs.Job.{job_text, job_of, task_of}
 use Rattle.flash_cgi.specs.Output.{Outcome}
-pub use Rattle.flash_cgi.specs.Beside.{OthersHear}
-pub use Rattle.flash_cgi.specs.Due.{ScriptsPutOut}
+pub use Rattle.flash_cgi.specs.Beside.{OthersReceive}
+pub use Rattle.flash_cgi.specs.Expected.{ScriptsPutOut}
 pub use Rattle.flash_cgi.specs.PipeEnd.{WorkersStop}
 pub use Rattle.flash_cgi.specs.Feeds.{FeedsOn}
 pub use Rattle.flash_cgi.specs.Free.{WorkersStayFree}

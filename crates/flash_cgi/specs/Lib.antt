@@ -1,6 +1,6 @@
 pub mod Beside
 pub mod Collecting
-pub mod Due
+pub mod Expected
 pub mod PipeEnd
 pub mod Feeds
 pub mod Free

@@ -1,6 +1,6 @@
 -- The minimum length of a worker's writes: all except the last have at least this length.
 use Rattle.std.specs.Prelude.{◌≡◌, ◌≢◌, ◌⊎◌, ℕ, ◌≤◌, true, List, [], ◌∷◌, ◌++◌, length, Option, Some, None}
-use Rattle.flash_cgi.specs.Collecting.{Collected, bytes_of_one, collected, is_due, nothing, with_file, with_text}
+use Rattle.flash_cgi.specs.Collecting.{Collected, bytes_of_one, collected, is_expected, nothing, with_file, with_text}
 use Rattle.flash_cgi.specs.declared.line.Line.{Line}
 use Rattle.flash_cgi.specs.declared.piece.Place.{Place}
 use Rattle.flash_cgi.specs.declared.piece.TheConstants.{MIN_PIECE_BYTES}
@@ -11,17 +11,17 @@ HavePlaces [] files = files ≡ 0
 HavePlaces (p ∷ ps) files = (p.from ≤ files) × HavePlaces ps p.from
 
 -- the bytes of files are counted, and all of them have places
-pub record IsCounted (lent : ℕ → Option (List ℕ)) (x : Collected) : Type 0 where
-  pub count : x.files ≡ length (bytes_of_one lent x.held)
+pub record IsCounted (readable : ℕ → Option (List ℕ)) (x : Collected) : Type 0 where
+  pub count : x.files ≡ length (bytes_of_one readable x.held)
   pub places : HavePlaces x.places x.files
 
 pub record PiecesAreLong : Type 0 where
   -- the invariant is preserved as texts and files are buffered: a file's bytes are appended to those of earlier files
-  pub starts : (lent : ℕ → Option (List ℕ)) → IsCounted lent nothing
-  pub texts : (lent : ℕ → Option (List ℕ)) (x : Collected) (text : List ℕ) → IsCounted lent x → IsCounted lent (with_text x text)
-  pub files : (lent now : ℕ → Option (List ℕ)) (x : Collected) (a : ℕ) (bytes : List ℕ) → IsCounted lent x
-      → now a ≡ Some (bytes_of_one lent x.held ++ bytes)
-      → IsCounted now (with_file x a (length (bytes_of_one lent x.held)) (length bytes))
+  pub starts : (readable : ℕ → Option (List ℕ)) → IsCounted readable nothing
+  pub texts : (readable : ℕ → Option (List ℕ)) (x : Collected) (text : List ℕ) → IsCounted readable x → IsCounted readable (with_text x text)
+  pub files : (readable now : ℕ → Option (List ℕ)) (x : Collected) (a : ℕ) (bytes : List ℕ) → IsCounted readable x
+      → now a ≡ Some (bytes_of_one readable x.held ++ bytes)
+      → IsCounted now (with_file x a (length (bytes_of_one readable x.held)) (length bytes))
   -- a write before a line is long, or a file of its own follows it
-  pub long : (lent : ℕ → Option (List ℕ)) (x : Collected) (l : Line) → IsCounted lent x → is_due x (Some l) ≡ true
-      → (MIN_PIECE_BYTES ≤ length (collected lent x)) ⊎ (x.next ≢ None)
+  pub long : (readable : ℕ → Option (List ℕ)) (x : Collected) (l : Line) → IsCounted readable x → is_expected x (Some l) ≡ true
+      → (MIN_PIECE_BYTES ≤ length (collected readable x)) ⊎ (x.next ≢ None)

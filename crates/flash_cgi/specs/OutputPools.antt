@@ -13,16 +13,16 @@ use Rattle.iol_core.specs.declared.events.Event.{Event}
 use Rattle.iol_core.specs.declared.events.Reply.{Reply}
 use Rattle.iol_laws.specs.Order.{IsOrderly}
 use Rattle.iol_laws.specs.Sources.{lie_in}
-use Rattle.iol_proc.specs.Turns.{SeatTurn}
+use Rattle.iol_proc.specs.Turns.{ProcessSlotTurn}
 use Rattle.iol_proc.specs.World.{copying}
-use Rattle.iol_proc.specs.declared.seat.Seat.{Seat}
+use Rattle.iol_proc.specs.declared.process_slot.ProcessSlot.{ProcessSlot}
 use Rattle.flash_cgi.specs.Beside.{is_call_of}
 use Rattle.flash_cgi.specs.Collecting.{Collected}
 use Rattle.flash_cgi.specs.Output.{Outcome}
 use Rattle.flash_cgi.specs.Turns.{IsFree, RunsJob, step_of}
 use Rattle.flash_cgi.specs.Works.{worker_turns}
-use Rattle.flash_cgi.specs.declared.phase.Doing.{Doing}
-use Rattle.flash_cgi.specs.declared.phase.Doing.TheVariants as doing
+use Rattle.flash_cgi.specs.declared.phase.Phase.{Phase}
+use Rattle.flash_cgi.specs.declared.phase.Phase.TheVariants as phase
 use Rattle.flash_cgi.specs.declared.worker.Worker.{Worker}
 
 -- the pools include those of all files that the domain may read, and the one that a pause sets
@@ -40,40 +40,40 @@ abbrev pub PieceLies : (pools : ℕ → Bool) → State → (d : ℕ) → Collec
 PieceLies pools m d x = OneLies pools m d x.held × OneLies pools m d x.next
 
 -- the same for the file that it reads, and the bytes that it writes
-abbrev pub PhaseLies : (pools : ℕ → Bool) → State → (d : ℕ) → Doing → Type 0
-PhaseLies pools m d (doing.Reads fd u) =
+abbrev pub PhaseLies : (pools : ℕ → Bool) → State → (d : ℕ) → Phase → Type 0
+PhaseLies pools m d (phase.Reads fd u) =
     (f at : ℕ) (mode : Mode) → descriptor m d fd ≡ Some (on.File f at mode) → pools (file m f).pool ≡ true
-PhaseLies pools m d (doing.Shuts fd a) = lie_in pools (text m d a) ≡ true
-PhaseLies pools m d (doing.JoiningFile held a from len) =
+PhaseLies pools m d (phase.Shuts fd a) = lie_in pools (text m d a) ≡ true
+PhaseLies pools m d (phase.JoiningFile held a from len) =
     (lie_in pools (text m d held) ≡ true) × (lie_in pools (text m d a) ≡ true)
-PhaseLies pools m d (doing.CuttingPart held a from) = (lie_in pools (text m d held) ≡ true) × (lie_in pools (text m d a) ≡ true)
-PhaseLies pools m d (doing.ReplacingPart a part at) = (lie_in pools (text m d a) ≡ true) × (lie_in pools (text m d part) ≡ true)
-PhaseLies pools m d (doing.DroppingText a part made) = lie_in pools (text m d made) ≡ true
-PhaseLies pools m d (doing.DroppingPart part made) = lie_in pools (text m d made) ≡ true
-PhaseLies pools m d (doing.Writes a) = lie_in pools (text m d a) ≡ true
-PhaseLies pools m d (doing.Cuts a from to) = lie_in pools (text m d a) ≡ true
-PhaseLies pools m d (doing.Swaps a rest) = lie_in pools (text m d rest) ≡ true
+PhaseLies pools m d (phase.CuttingPart held a from) = (lie_in pools (text m d held) ≡ true) × (lie_in pools (text m d a) ≡ true)
+PhaseLies pools m d (phase.ReplacingPart a part at) = (lie_in pools (text m d a) ≡ true) × (lie_in pools (text m d part) ≡ true)
+PhaseLies pools m d (phase.DroppingText a part made) = lie_in pools (text m d made) ≡ true
+PhaseLies pools m d (phase.DroppingPart part made) = lie_in pools (text m d made) ≡ true
+PhaseLies pools m d (phase.Writes a) = lie_in pools (text m d a) ≡ true
+PhaseLies pools m d (phase.Cuts a from to) = lie_in pools (text m d a) ≡ true
+PhaseLies pools m d (phase.Swaps a rest) = lie_in pools (text m d rest) ≡ true
 PhaseLies pools m d x = Unit {0}
 
 -- for a worker with a job
-abbrev pub LiesIn : (pools : ℕ → Bool) → State → (d : ℕ) → Collected → Doing → Type 0
-LiesIn pools m d x doing.Waits = Unit {0}
+abbrev pub LiesIn : (pools : ℕ → Bool) → State → (d : ℕ) → Collected → Phase → Type 0
+LiesIn pools m d x phase.Waits = Unit {0}
 LiesIn pools m d x y = PieceLies pools m d x × PhaseLies pools m d y
 
 -- the bytes that it wrote to pipe p, and those that it will make, are in these pools
-pub record IsShown (pools : ℕ → Bool) (m : State) (p : ℕ) (seat : Seat Worker) : Type 0 where
-  pub default : pools (default_pool m seat.by) ≡ true
+pub record IsShown (pools : ℕ → Bool) (m : State) (p : ℕ) (process_slot : ProcessSlot Worker) : Type 0 where
+  pub default : pools (default_pool m process_slot.by) ≡ true
   pub output : lie_in pools (pipe_at m p).queue ≡ true
-  pub lies : LiesIn pools m seat.by (step_of m seat).piece (step_of m seat).doing
+  pub lies : LiesIn pools m process_slot.by (step_of m process_slot).piece (step_of m process_slot).phase
 
 pub record OutputsAreShown : Type 0 where
   -- for a worker that is free, and a pipe to which no other bytes were written
-  pub free : (pools : ℕ → Bool) (m : State) (p : ℕ) (seat : Seat Worker) → IsFree m seat
-      → pools (default_pool m seat.by) ≡ true → lie_in pools (pipe_at m p).queue ≡ true → IsShown pools m p seat
+  pub free : (pools : ℕ → Bool) (m : State) (p : ℕ) (process_slot : ProcessSlot Worker) → IsFree m process_slot
+      → pools (default_pool m process_slot.by) ≡ true → lie_in pools (pipe_at m p).queue ≡ true → IsShown pools m p process_slot
   -- its turns and events of others preserve this
-  pub turns : (pools : ℕ → Bool) (m n : State) (p : ℕ) (seat next : Seat Worker) (yields : Bool) (r : Reply)
-      (unseen : List Outcome → List ℕ) → IsOrderly m → HoldFiles pools m seat.by → RunsJob m p seat unseen
-      → IsShown pools m p seat → SeatTurn copying worker_turns m seat yields r n next → IsShown pools n p next
-  pub others : (pools : ℕ → Bool) (m n : State) (p : ℕ) (seat : Seat Worker) (e : Event) (r : Reply)
-      (unseen : List Outcome → List ℕ) → IsOrderly m → ArePlaced m → RunsJob m p seat unseen → IsShown pools m p seat
-      → StepsTo m e r n → is_call_of e seat.by ≡ false → IsShown pools n p seat
+  pub turns : (pools : ℕ → Bool) (m n : State) (p : ℕ) (process_slot next : ProcessSlot Worker) (yields : Bool) (r : Reply)
+      (unseen : List Outcome → List ℕ) → IsOrderly m → HoldFiles pools m process_slot.by → RunsJob m p process_slot unseen
+      → IsShown pools m p process_slot → ProcessSlotTurn copying worker_turns m process_slot yields r n next → IsShown pools n p next
+  pub others : (pools : ℕ → Bool) (m n : State) (p : ℕ) (process_slot : ProcessSlot Worker) (e : Event) (r : Reply)
+      (unseen : List Outcome → List ℕ) → IsOrderly m → ArePlaced m → RunsJob m p process_slot unseen → IsShown pools m p process_slot
+      → StepsTo m e r n → is_call_of e process_slot.by ≡ false → IsShown pools n p process_slot

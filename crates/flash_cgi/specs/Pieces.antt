@@ -1,8 +1,8 @@
 -- Invariants of the buffered output of a worker, given the bytes of its domain's aggregates by number.
 use Rattle.std.specs.Prelude.{◌≡◌, ◌≢◌, ℕ, ◌≤◌, List, [], ◌∷◌, length, drop, Option, Some, None}
 use Rattle.flash_cgi.specs.Collecting.{Collected, but_last, bytes_of_one, without_last}
-use Rattle.flash_cgi.specs.declared.phase.Doing.{Doing}
-use Rattle.flash_cgi.specs.declared.phase.Doing.TheVariants as doing
+use Rattle.flash_cgi.specs.declared.phase.Phase.{Phase}
+use Rattle.flash_cgi.specs.declared.phase.Phase.TheVariants as phase
 use Rattle.flash_cgi.specs.declared.piece.Place.{Place}
 use Rattle.flash_cgi.specs.WorkerSteps.{bytes_at}
 
@@ -11,23 +11,23 @@ abbrev pub AreWithin : ℕ → List Place → Type 0
 AreWithin n [] = Unit {0}
 AreWithin n (p ∷ ps) = (p.at ≤ n) × AreWithin p.at ps
 
-abbrev pub Lends : (ℕ → Option (List ℕ)) → (a : ℕ) → Type 0
-Lends lent a = (bytes : List ℕ) × (lent a ≡ Some bytes)
+abbrev pub IsReadable : (ℕ → Option (List ℕ)) → (a : ℕ) → Type 0
+IsReadable readable a = (bytes : List ℕ) × (readable a ≡ Some bytes)
 
 -- the bytes of files exist, if files have places
-abbrev pub LendsFiles : (ℕ → Option (List ℕ)) → (held : Option ℕ) → List Place → Type 0
-LendsFiles lent None ps = ps ≡ []
-LendsFiles lent (Some held) ps = Lends lent held
+abbrev pub FilesAreReadable : (ℕ → Option (List ℕ)) → (held : Option ℕ) → List Place → Type 0
+FilesAreReadable readable None ps = ps ≡ []
+FilesAreReadable readable (Some held) ps = IsReadable readable held
 
-abbrev pub LendsNext : (ℕ → Option (List ℕ)) → (held next : Option ℕ) → Type 0
-LendsNext lent held None = Unit {0}
-LendsNext lent held (Some next) = Lends lent next × (held ≢ Some next)
+abbrev pub NextIsReadable : (ℕ → Option (List ℕ)) → (held next : Option ℕ) → Type 0
+NextIsReadable readable held None = Unit {0}
+NextIsReadable readable held (Some next) = IsReadable readable next × (held ≢ Some next)
 
 -- the buffered output exists, with its places within a text of len bytes
-pub record HasPiece (lent : ℕ → Option (List ℕ)) (len : ℕ) (x : Collected) : Type 0 where
-  pub files : LendsFiles lent x.held x.places
+pub record HasPiece (readable : ℕ → Option (List ℕ)) (len : ℕ) (x : Collected) : Type 0 where
+  pub files : FilesAreReadable readable x.held x.places
   pub within : AreWithin len x.places
-  pub next : LendsNext lent x.held x.next
+  pub next : NextIsReadable readable x.held x.next
 
 -- this aggregate is not part of the buffered output
 abbrev pub IsApart : Collected → (a : ℕ) → Type 0
@@ -36,72 +36,72 @@ IsApart x a = (x.held ≢ Some a) × (x.next ≢ Some a)
 -- ---- by phase
 
 -- a file may be buffered: no long file waits after it, and the place after its text is defined
-pub record Gathers (lent : ℕ → Option (List ℕ)) (x : Collected) : Type 0 where
-  pub piece : HasPiece lent (length x.text) x
+pub record Gathers (readable : ℕ → Option (List ℕ)) (x : Collected) : Type 0 where
+  pub piece : HasPiece readable (length x.text) x
   pub none_next : x.next ≡ None
   pub short : length x.text ≤ 4096
 
 -- only the file that is too long is left of the buffered output
-pub record IsRest (lent : ℕ → Option (List ℕ)) (x : Collected) : Type 0 where
-  pub piece : HasPiece lent (length x.text) x
+pub record IsRest (readable : ℕ → Option (List ℕ)) (x : Collected) : Type 0 where
+  pub piece : HasPiece readable (length x.text) x
   pub no_text : x.text ≡ []
   pub no_places : x.places ≡ []
 
-pub record Joins (lent : ℕ → Option (List ℕ)) (x : Collected) (held agg from : ℕ) : Type 0 where
-  pub gathers : Gathers lent x
+pub record Joins (readable : ℕ → Option (List ℕ)) (x : Collected) (held agg from : ℕ) : Type 0 where
+  pub gathers : Gathers readable x
   pub held_is : x.held ≡ Some held
-  pub lends : Lends lent agg
-  pub from_is : from ≡ length (bytes_of_one lent x.held)
+  pub is_readable : IsReadable readable agg
+  pub from_is : from ≡ length (bytes_of_one readable x.held)
 
 -- this aggregate is made of the text, and the bytes of the last place are to be inserted
-pub record Cuts (lent : ℕ → Option (List ℕ)) (x : Collected) (held agg from : ℕ) : Type 0 where
+pub record Cuts (readable : ℕ → Option (List ℕ)) (x : Collected) (held agg from : ℕ) : Type 0 where
   pub place : Place
-  pub lends : Lends lent agg
-  pub piece : HasPiece lent (length (bytes_at lent agg)) x
+  pub is_readable : IsReadable readable agg
+  pub piece : HasPiece readable (length (bytes_at readable agg)) x
   pub no_text : x.text ≡ []
   pub held_is : x.held ≡ Some held
   pub places_are : x.places ≡ place ∷ but_last x.places
   pub from_is : place.from ≡ from
   pub apart : IsApart x agg
 
-pub record Replaces (lent : ℕ → Option (List ℕ)) (x : Collected) (agg part at : ℕ) : Type 0 where
-  pub lends : Lends lent agg
-  pub parts : Lends lent part
-  pub piece : HasPiece lent at (without_last x)
-  pub within : at ≤ length (bytes_at lent agg)
+pub record Replaces (readable : ℕ → Option (List ℕ)) (x : Collected) (agg part at : ℕ) : Type 0 where
+  pub is_readable : IsReadable readable agg
+  pub parts : IsReadable readable part
+  pub piece : HasPiece readable at (without_last x)
+  pub within : at ≤ length (bytes_at readable agg)
   pub no_text : x.text ≡ []
   pub apart : IsApart x agg
   pub part_apart : IsApart x part
   pub differ : agg ≢ part
 
-pub record DropsPart (lent : ℕ → Option (List ℕ)) (x : Collected) (part made : ℕ) : Type 0 where
-  pub lends : Lends lent made
-  pub piece : HasPiece lent (length (bytes_at lent made)) x
+pub record DropsPart (readable : ℕ → Option (List ℕ)) (x : Collected) (part made : ℕ) : Type 0 where
+  pub is_readable : IsReadable readable made
+  pub piece : HasPiece readable (length (bytes_at readable made)) x
   pub no_text : x.text ≡ []
   pub part_apart : IsApart x part
   pub made_apart : IsApart x made
   pub differ : part ≢ made
 
-pub record DropsText (lent : ℕ → Option (List ℕ)) (x : Collected) (agg part made : ℕ) : Type 0 where
-  pub drops : DropsPart lent x part made
+pub record DropsText (readable : ℕ → Option (List ℕ)) (x : Collected) (agg part made : ℕ) : Type 0 where
+  pub drops : DropsPart readable x part made
   pub apart : IsApart x agg
   pub differ : agg ≢ made
 
-abbrev pub HoldsAt : (ℕ → Option (List ℕ)) → Collected → Doing → Type 0
-HoldsAt lent x doing.Waits = Unit {0}
-HoldsAt lent x (doing.Skips agg) = Unit {0}
-HoldsAt lent x (doing.Breaks agg) = Unit {0}
-HoldsAt lent x doing.Runs = HasPiece lent (length x.text) x
-HoldsAt lent x (doing.Reads file p) = Gathers lent x
-HoldsAt lent x (doing.ShutsToSay file s) = Gathers lent x
-HoldsAt lent x (doing.Counted file agg s) = Gathers lent x × IsApart x agg
-HoldsAt lent x (doing.Shuts file agg) = Gathers lent x × IsApart x agg
-HoldsAt lent x (doing.JoiningFile held agg from len) = Joins lent x held agg from
-HoldsAt lent x (doing.CuttingPart held agg from) = Cuts lent x held agg from
-HoldsAt lent x (doing.ReplacingPart agg part at) = Replaces lent x agg part at
-HoldsAt lent x (doing.DroppingText agg part made) = DropsText lent x agg part made
-HoldsAt lent x (doing.DroppingPart part made) = DropsPart lent x part made
-HoldsAt lent x (doing.Drops agg) = IsRest lent x × IsApart x agg
-HoldsAt lent x (doing.Writes agg) = IsRest lent x × IsApart x agg
-HoldsAt lent x (doing.Cuts agg from to) = IsRest lent x × IsApart x agg
-HoldsAt lent x (doing.Swaps agg rest) = IsRest lent x × IsApart x agg × IsApart x rest
+abbrev pub HoldsAt : (ℕ → Option (List ℕ)) → Collected → Phase → Type 0
+HoldsAt readable x phase.Waits = Unit {0}
+HoldsAt readable x (phase.Skips agg) = Unit {0}
+HoldsAt readable x (phase.Breaks agg) = Unit {0}
+HoldsAt readable x phase.Runs = HasPiece readable (length x.text) x
+HoldsAt readable x (phase.Reads file p) = Gathers readable x
+HoldsAt readable x (phase.ShutsToSay file s) = Gathers readable x
+HoldsAt readable x (phase.Counted file agg s) = Gathers readable x × IsApart x agg
+HoldsAt readable x (phase.Shuts file agg) = Gathers readable x × IsApart x agg
+HoldsAt readable x (phase.JoiningFile held agg from len) = Joins readable x held agg from
+HoldsAt readable x (phase.CuttingPart held agg from) = Cuts readable x held agg from
+HoldsAt readable x (phase.ReplacingPart agg part at) = Replaces readable x agg part at
+HoldsAt readable x (phase.DroppingText agg part made) = DropsText readable x agg part made
+HoldsAt readable x (phase.DroppingPart part made) = DropsPart readable x part made
+HoldsAt readable x (phase.Drops agg) = IsRest readable x × IsApart x agg
+HoldsAt readable x (phase.Writes agg) = IsRest readable x × IsApart x agg
+HoldsAt readable x (phase.Cuts agg from to) = IsRest readable x × IsApart x agg
+HoldsAt readable x (phase.Swaps agg rest) = IsRest readable x × IsApart x agg × IsApart x rest

@@ -8,7 +8,7 @@ use Rattle.iol_core.specs.declared.events.Reply.{Reply}
 use Rattle.iol_core.specs.declared.events.Reply.TheVariants as reply
 use Rattle.iol_core.specs.declared.refusals.Refusal.TheVariants.{WouldBlock}
 use Rattle.flash_cgi.specs.WorkerSteps.{call_at}
-use Rattle.flash_cgi.specs.declared.phase.Doing.TheVariants as doing
+use Rattle.flash_cgi.specs.declared.phase.Phase.TheVariants as phase
 use Rattle.flash_cgi.specs.declared.phase.Standing.{Standing}
 use Rattle.flash_cgi.specs.declared.phase.Standing.TheVariants as standing
 use Rattle.flash_cgi.specs.declared.worker.Worker.{Worker}
@@ -40,5 +40,5 @@ is_over s = false
 -- If a worker waits for a job when all are idle, its job pipe is empty and has a writer.
 abbrev pub WaitingIsEmpty : Type 0
 WaitingIsEmpty = (m : State) (by j : ℕ) (w : Worker) (last : Reply) → HasWaited 2 by w last m
-    → w.step.doing ≡ doing.Waits → is_over w.standing ≡ false → descriptor m by 0 ≡ Some (on.ReadEnd j)
+    → w.step.phase ≡ phase.Waits → is_over w.standing ≡ false → descriptor m by 0 ≡ Some (on.ReadEnd j)
     → ((pipe_at m j).queue ≡ []) × ((pipe_at m j).writing ≡ true)

@@ -4,9 +4,9 @@ use Rattle.iol_core.specs.declared.events.Reply.{Reply}
 use Rattle.iol_core.specs.declared.events.Reply.TheVariants as reply
 use Rattle.flash_cgi.specs.Collecting.{Collected}
 use Rattle.flash_cgi.specs.Job.{Task}
-use Rattle.flash_cgi.specs.WorkerSteps.{bytes_at, due_now, told}
-use Rattle.flash_cgi.specs.declared.phase.Doing.{Doing}
-use Rattle.flash_cgi.specs.declared.phase.Doing.TheVariants as doing
+use Rattle.flash_cgi.specs.WorkerSteps.{bytes_at, expected_now, after_reply}
+use Rattle.flash_cgi.specs.declared.phase.Phase.{Phase}
+use Rattle.flash_cgi.specs.declared.phase.Phase.TheVariants as phase
 use Rattle.flash_cgi.specs.declared.phase.Standing.{Standing}
 use Rattle.flash_cgi.specs.declared.phase.Standing.TheVariants as standing
 use Rattle.flash_cgi.specs.declared.phase.Step.{Step}
@@ -26,27 +26,27 @@ next_has_bytes (Some l) = line_has_bytes l
 
 -- whether the next call has bytes: it begins such a line, or makes an aggregate of the buffered text
 abbrev pub begins_with_bytes : Task → Collected → (begun : ℕ) → Bool
-begins_with_bytes job x begun = if due_now job x begun then true else next_has_bytes (slice_get job.lines begun)
+begins_with_bytes job x begun = if expected_now job x begun then true else next_has_bytes (slice_get job.lines begun)
 
-abbrev pub doing_has_bytes : Task → Collected → (begun : ℕ) → Doing → Bool
-doing_has_bytes job x begun doing.Runs = begins_with_bytes job x begun
-doing_has_bytes job x begun d = false
+abbrev pub phase_has_bytes : Task → Collected → (begun : ℕ) → Phase → Bool
+phase_has_bytes job x begun phase.Runs = begins_with_bytes job x begun
+phase_has_bytes job x begun d = false
 
 -- whether the call of a step has bytes
 abbrev pub has_bytes : Task → Step → Bool
-has_bytes job step = doing_has_bytes job step.piece step.begun step.doing
+has_bytes job step = phase_has_bytes job step.piece step.begun step.phase
 
 -- whether the buffered output may change after the reply, and is copied
-abbrev pub may_copy : Collected → Doing → Bool
-may_copy x doing.Runs = true
-may_copy x (doing.Shuts file agg) = true
-may_copy x (doing.ShutsToSay file s) = true
-may_copy x (doing.JoiningFile held agg from len) = true
-may_copy x (doing.CuttingPart held agg from) = true
-may_copy x (doing.ReplacingPart agg part place) = true
-may_copy x (doing.DroppingPart part made) = true
-may_copy x (doing.Drops agg) = is_some x.next
-may_copy x (doing.Breaks agg) = is_some x.next
+abbrev pub may_copy : Collected → Phase → Bool
+may_copy x phase.Runs = true
+may_copy x (phase.Shuts file agg) = true
+may_copy x (phase.ShutsToSay file s) = true
+may_copy x (phase.JoiningFile held agg from len) = true
+may_copy x (phase.CuttingPart held agg from) = true
+may_copy x (phase.ReplacingPart agg part place) = true
+may_copy x (phase.DroppingPart part made) = true
+may_copy x (phase.Drops agg) = is_some x.next
+may_copy x (phase.Breaks agg) = is_some x.next
 may_copy x d = false
 
 -- it continues with a call that has bytes, or makes its call again
@@ -56,18 +56,18 @@ WantsOn job (Some step) = has_bytes job step ≡ true
 
 -- if it copies nothing, it needs memory only for its next call
 abbrev pub WantsByReply : Worker → Reply → (ℕ → Option (List ℕ)) → Type 0
-WantsByReply w last lent = may_copy w.step.piece w.step.doing ≡ false → WantsOn w.job (told w.job w.step lent last)
+WantsByReply w last readable = may_copy w.step.piece w.step.phase ≡ false → WantsOn w.job (after_reply w.job w.step readable last)
 
 -- it processes a reply: a text of at least one byte is parsed as a job
-abbrev pub WantsToFile : Worker → Doing → Reply → (ℕ → Option (List ℕ)) → Type 0
-WantsToFile w doing.Waits (reply.Agg agg) lent = 0 < length (bytes_at lent agg)
-WantsToFile w d last lent = WantsByReply w last lent
+abbrev pub WantsToFile : Worker → Phase → Reply → (ℕ → Option (List ℕ)) → Type 0
+WantsToFile w phase.Waits (reply.Agg agg) readable = 0 < length (bytes_at readable agg)
+WantsToFile w d last readable = WantsByReply w last readable
 
 abbrev pub WantsAs : Standing → Worker → Reply → (ℕ → Option (List ℕ)) → Type 0
-WantsAs standing.Asks w last lent = has_bytes w.job w.step ≡ true
-WantsAs standing.Asked w last lent = WantsToFile w w.step.doing last lent
-WantsAs standing.Over w last lent = ⊥
+WantsAs standing.Asks w last readable = has_bytes w.job w.step ≡ true
+WantsAs standing.Asked w last readable = WantsToFile w w.step.phase last readable
+WantsAs standing.Over w last readable = ⊥
 
 -- in a turn
 abbrev pub Wants : Worker → Reply → (ℕ → Option (List ℕ)) → Type 0
-Wants w last lent = WantsAs w.standing w last lent
+Wants w last readable = WantsAs w.standing w last readable

@@ -1,11 +1,11 @@
 //! The calls that a worker makes.
 ghost use Rattle.std.specs.Prelude.{◌≡◌, true, IfOk, OnErr};
-ghost use Rattle.flash_cgi.specs.Wants.{doing_has_bytes, line_has_bytes, begins_with_bytes};
+ghost use Rattle.flash_cgi.specs.Wants.{phase_has_bytes, line_has_bytes, begins_with_bytes};
 ghost use Rattle.flash_cgi.specs.WorkerSteps as spec;
 
 use crate::jobs::Job;
 use crate::line::Line;
-use crate::phase::Doing;
+use crate::phase::Phase;
 use crate::piece::Piece;
 use iol_core::descriptors::Mode;
 use iol_core::events::Call;
@@ -26,8 +26,8 @@ pub const MAX_FILE_BYTES: u32 = 0x100_0000;
 pub const WORK_POOL: u32 = 3;
 
 /// Returns whether the buffered output is written before the next line.
-pub(crate) fn is_due(job: &Job, piece: &Piece, begun: usize) -> bool
-    ensures { result ≡ spec.due_now job.now piece.now begun }
+pub(crate) fn is_expected(job: &Job, piece: &Piece, begun: usize) -> bool
+    ensures { result ≡ spec.expected_now job.now piece.now begun }
 {
     match job.script.lines.get(begun) {
         Some(_) => piece.is_full() || piece.next.is_some(),
@@ -66,13 +66,13 @@ fn make_call(alloc: Global, text: &[u8]) -> Result<Call, AllocError>
     Ok(Call::AggMake { bytes })
 }
 
-// The call that makes an aggregate of the buffered text, if it is due. Otherwise the call that
+// The call that makes an aggregate of the buffered text, if it is expected. Otherwise the call that
 // begins the next line, or closes the output after the last line.
 fn begin_call(alloc: Global, job: &Job, piece: &Piece, begun: usize) -> Result<Call, AllocError>
     ensures call { IfOk result (λ call. call ≡ spec.begin_call job.now piece.now begun) }
     ensures wants { OnErr result (begins_with_bytes job.now piece.now begun ≡ true) }
 {
-    if is_due(job, piece, begun) {
+    if is_expected(job, piece, begun) {
         return make_call(alloc, piece.text.as_slice());
     }
     match job.script.lines.get(begun) {
@@ -87,46 +87,46 @@ pub(crate) fn call_of(
     job: &Job,
     piece: &Piece,
     begun: usize,
-    doing: &Doing,
+    phase: &Phase,
 ) -> Result<Call, AllocError>
-    ensures call { IfOk result (λ call. call ≡ spec.doing_call job.now piece.now begun doing.now) }
-    ensures wants { OnErr result (doing_has_bytes job.now piece.now begun doing.now ≡ true) }
+    ensures call { IfOk result (λ call. call ≡ spec.phase_call job.now piece.now begun phase.now) }
+    ensures wants { OnErr result (phase_has_bytes job.now piece.now begun phase.now ≡ true) }
 {
-    let doing = *doing;
-    match doing {
-        Doing::Waits => Ok(Call::IolRead {
+    let phase = *phase;
+    match phase {
+        Phase::Waits => Ok(Call::IolRead {
             fd: Fd::new(JOBS),
             count: MAX_JOB_BYTES,
         }),
-        Doing::Runs => begin_call(alloc, job, piece, begun),
-        Doing::Reads { file, .. } => Ok(Call::IolRead {
+        Phase::Runs => begin_call(alloc, job, piece, begun),
+        Phase::Reads { file, .. } => Ok(Call::IolRead {
             fd: file,
             count: MAX_FILE_BYTES,
         }),
-        Doing::Shuts { file, .. } => Ok(Call::Close { fd: file }),
-        Doing::ShutsToSay { file, .. } => Ok(Call::Close { fd: file }),
-        Doing::JoiningFile { held, agg, .. } => Ok(Call::AggJoin {
+        Phase::Shuts { file, .. } => Ok(Call::Close { fd: file }),
+        Phase::ShutsToSay { file, .. } => Ok(Call::Close { fd: file }),
+        Phase::JoiningFile { held, agg, .. } => Ok(Call::AggJoin {
             first: held,
             second: agg,
         }),
-        Doing::CuttingPart { held, from, .. } => Ok(Call::AggSplit {
+        Phase::CuttingPart { held, from, .. } => Ok(Call::AggSplit {
             agg: held,
             at: from,
         }),
-        Doing::ReplacingPart { agg, part, at } => Ok(Call::AggReplace {
+        Phase::ReplacingPart { agg, part, at } => Ok(Call::AggReplace {
             agg,
             from: at,
             to: at,
             with: part,
         }),
-        Doing::DroppingText { agg, .. } => Ok(Call::AggDrop { agg }),
-        Doing::DroppingPart { part, .. } => Ok(Call::AggDrop { agg: part }),
-        Doing::Writes { agg } => Ok(Call::IolWrite { fd: job.fd, agg }),
-        Doing::Cuts { agg, from, to } => Ok(Call::AggCut { agg, from, to }),
-        Doing::Skips { agg } => Ok(Call::AggDrop { agg }),
-        Doing::Counted { agg, .. } => Ok(Call::AggDrop { agg }),
-        Doing::Swaps { agg, .. } => Ok(Call::AggDrop { agg }),
-        Doing::Drops { agg } => Ok(Call::AggDrop { agg }),
-        Doing::Breaks { agg } => Ok(Call::AggDrop { agg }),
+        Phase::DroppingText { agg, .. } => Ok(Call::AggDrop { agg }),
+        Phase::DroppingPart { part, .. } => Ok(Call::AggDrop { agg: part }),
+        Phase::Writes { agg } => Ok(Call::IolWrite { fd: job.fd, agg }),
+        Phase::Cuts { agg, from, to } => Ok(Call::AggCut { agg, from, to }),
+        Phase::Skips { agg } => Ok(Call::AggDrop { agg }),
+        Phase::Counted { agg, .. } => Ok(Call::AggDrop { agg }),
+        Phase::Swaps { agg, .. } => Ok(Call::AggDrop { agg }),
+        Phase::Drops { agg } => Ok(Call::AggDrop { agg }),
+        Phase::Breaks { agg } => Ok(Call::AggDrop { agg }),
     }
 }

@@ -1,5 +1,5 @@
 //! Laws of scripts and workers. The functions have no effect; their contracts are the laws.
-ghost use Rattle.flash_cgi.specs.Laws.{OthersHear, ScriptsPutOut, WorkersStop, FeedsOn, WorkersStayFree, RunningIsFull, WorkersKeepNothing, JobsAreRead, WorkersAreQuiet, OutcomesAreTrue, OutputsAreShown, JobsAreTaken, PiecesAreLong, TurnsFeed, WaitingIsEmpty};
+ghost use Rattle.flash_cgi.specs.Laws.{OthersReceive, ScriptsPutOut, WorkersStop, FeedsOn, WorkersStayFree, RunningIsFull, WorkersKeepNothing, JobsAreRead, WorkersAreQuiet, OutcomesAreTrue, OutputsAreShown, JobsAreTaken, PiecesAreLong, TurnsFeed, WaitingIsEmpty};
 
 use iol_laws::laws;
 
@@ -48,8 +48,8 @@ pub fn turns_feed()
 /// Events of others preserve a worker's job and its pending output, except for bytes taken from
 /// the front of its output pipe: these were the front of the pending output, and are the result of
 /// a read of the pipe.
-pub fn others_hear()
-    ensures { OthersHear }
+pub fn others_receive()
+    ensures { OthersReceive }
 {
     laws::each_step_leaves_the_rest();
     laws::others_leave_pipes();
@@ -65,15 +65,16 @@ pub fn outcomes_are_true()
 }
 
 /// If the files do not change, a script outputs one text: the output of its lines, in order, from
-/// its job to its end. Each turn of its worker keeps the rest of the text due, and the bytes that
-/// others take are its front. A turn whose call for a file is refused with TooMany, NoRoom, Fault
-/// or Memory replaces the text by another: that of the same lines with the refusal instead of the
-/// file, which begins with the bytes already taken. After the job is read, its job pipe is empty.
+/// its job to its end. Each turn of its worker keeps the rest of the text expected, and the bytes
+/// that others take are its front. A turn whose call for a file is refused with TooMany, NoRoom,
+/// Fault or Memory replaces the text by another: that of the same lines with the refusal instead of
+/// the file, which begins with the bytes already taken. After the job is read, its job pipe is
+/// empty.
 pub fn scripts_put_out()
     ensures { ScriptsPutOut }
 {
     turns_feed();
-    others_hear();
+    others_receive();
     workers_are_quiet();
     laws::calls_serve_their_domain();
 }

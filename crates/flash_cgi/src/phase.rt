@@ -12,7 +12,7 @@ pub enum Purpose {
 
 /// The phase of a worker: its next call and the purpose of this call.
 #[derive(Clone, Copy, Debug)]
-pub enum Doing {
+pub enum Phase {
     /// Waits for a job.
     Waits,
 
@@ -21,8 +21,8 @@ pub enum Doing {
         agg: AggId,
     },
 
-    /// Makes an aggregate of the buffered text, if it is due. Otherwise begins the next line, or
-    /// closes the output after the last line.
+    /// Makes an aggregate of the buffered text, if it is expected. Otherwise begins the next line,
+    /// or closes the output after the last line.
     Runs,
 
     /// Reads an open file.
@@ -117,7 +117,7 @@ pub enum Doing {
 /// The phase of a worker, the number of lines that it has begun, and its buffered output.
 #[derive(Debug, Drop)]
 pub struct Step {
-    pub doing: Doing,
+    pub phase: Phase,
     pub begun: usize,
     pub piece: Piece,
 }

@@ -1,75 +1,81 @@
 //! The step of a worker after the reply to its call.
 ghost use Rattle.std.specs.Prelude.{◌≡◌, IfOk, OnErr, Some, None, is_some, length, true};
-ghost use Rattle.iol_proc.specs.Prelude.{lent};
+ghost use Rattle.iol_proc.specs.Prelude.{readable};
 ghost use Rattle.flash_cgi.specs.Collecting.{bytes_of_one, with_line};
 ghost use Rattle.flash_cgi.specs.Reached.{after_of, cut_after, reached, read_after, written_after};
 ghost use Rattle.flash_cgi.specs.Wants.{may_copy};
 ghost use Rattle.flash_cgi.specs.WorkerSteps as spec;
-ghost use Rattle.flash_cgi.specs.declared.phase.Doing.TheVariants as doing;
+ghost use Rattle.flash_cgi.specs.declared.phase.Phase.TheVariants as phase;
 
-use crate::calls::is_due;
+use crate::calls::is_expected;
 use crate::counts::Said;
 use crate::feeds::{counts, len_of};
 use crate::jobs::Job;
 use crate::line::Line;
-use crate::phase::{Doing, Purpose, Step};
+use crate::phase::{Phase, Purpose, Step};
 use crate::piece::{MAX_COLLECTED_BYTES, Piece, Place};
 use iol_core::events::Reply;
 use iol_core::numbers::{AggId, Fd};
 use iol_core::refusals::Refusal;
-use iol_proc::look::Look;
+use iol_proc::byte_view::ByteView;
 use std::alloc::{AllocError, Global};
 
 /// The step after a reply: the phase, the number of lines begun, and the buffered output, if it
 /// changes.
 #[derive(Drop)]
 pub(crate) struct After {
-    pub doing: Doing,
+    pub phase: Phase,
     pub begun: usize,
     pub piece: Option<Piece>,
 }
 
 /// The next step, or none if the same call is retried.
-type Told = Result<Option<After>, AllocError>;
+type AfterReply = Result<Option<After>, AllocError>;
 
 // A step with unchanged buffered output.
-fn at(doing: Doing, begun: usize) -> Option<After>
-    ensures { result ≡ after_of doing begun None }
+fn at(phase: Phase, begun: usize) -> Option<After>
+    ensures { result ≡ after_of phase begun None }
 {
     Some(After {
-        doing,
+        phase,
         begun,
         piece: None,
     })
 }
 
 // A step with this buffered output.
-fn with(doing: Doing, begun: usize, piece: Piece) -> Option<After>
-    ensures { result ≡ after_of doing begun (Some piece) }
+fn with(phase: Phase, begun: usize, piece: Piece) -> Option<After>
+    ensures { result ≡ after_of phase begun (Some piece) }
 {
     Some(After {
-        doing,
+        phase,
         begun,
         piece: Some(piece),
     })
 }
 
 // Buffers the result of a `wc` line.
-fn collect_said(alloc: Global, piece: &Piece, said: Said, begun: usize) -> Told
+fn collect_said(alloc: Global, piece: &Piece, said: Said, begun: usize) -> AfterReply
     ensures { IfOk result (λ after. reached piece.now after ≡ spec.said_collected begun piece.now said) }
 {
     let text = said.text(alloc)?;
     let piece = piece.with_text(alloc, text.as_slice())?;
-    Ok(with(Doing::Runs, begun, piece))
+    Ok(with(Phase::Runs, begun, piece))
 }
 
 // After opening a file, or its refusal.
-fn told_opened(alloc: Global, piece: &Piece, purpose: Purpose, begun: usize, last: &Reply) -> Told
-    ensures { IfOk result (λ after. reached piece.now after ≡ spec.told_opened piece.now purpose begun last.now) }
+fn after_opening(
+    alloc: Global,
+    piece: &Piece,
+    purpose: Purpose,
+    begun: usize,
+    last: &Reply,
+) -> AfterReply
+    ensures { IfOk result (λ after. reached piece.now after ≡ spec.after_opening piece.now purpose begun last.now) }
 {
     match last {
         Reply::Fd(file) => Ok(at(
-            Doing::Reads {
+            Phase::Reads {
                 file: *file,
                 purpose,
             },
@@ -81,30 +87,30 @@ fn told_opened(alloc: Global, piece: &Piece, purpose: Purpose, begun: usize, las
 }
 
 // Buffers a text, as a line.
-fn collect_line(alloc: Global, piece: &Piece, text: &[u8], begun: usize) -> Told
-    ensures { IfOk result (λ after. reached piece.now after ≡ spec.at doing.Runs begun (with_line piece.now text.now)) }
+fn collect_line(alloc: Global, piece: &Piece, text: &[u8], begun: usize) -> AfterReply
+    ensures { IfOk result (λ after. reached piece.now after ≡ spec.at phase.Runs begun (with_line piece.now text.now)) }
 {
     let piece = piece.with_line(alloc, text)?;
-    Ok(with(Doing::Runs, begun, piece))
+    Ok(with(Phase::Runs, begun, piece))
 }
 
 // After the call that begins a line; `begun` includes this line.
-fn told_line(
+fn after_line(
     alloc: Global,
     job: &Job,
     piece: &Piece,
     line: &Line,
     begun: usize,
     last: &Reply,
-) -> Told
-    ensures { IfOk result (λ after. reached piece.now after ≡ spec.told_line job.now piece.now line.now begun last.now) }
+) -> AfterReply
+    ensures { IfOk result (λ after. reached piece.now after ≡ spec.after_line job.now piece.now line.now begun last.now) }
 {
     match line {
         Line::Emit { text } => collect_line(alloc, piece, text.as_slice(), begun),
         Line::Query => collect_line(alloc, piece, job.query.as_slice(), begun),
-        Line::Cat { .. } => told_opened(alloc, piece, Purpose::Cat, begun, last),
-        Line::Wc { .. } => told_opened(alloc, piece, Purpose::Wc, begun, last),
-        Line::Pause => Ok(at(Doing::Runs, begun)),
+        Line::Cat { .. } => after_opening(alloc, piece, Purpose::Cat, begun, last),
+        Line::Wc { .. } => after_opening(alloc, piece, Purpose::Wc, begun, last),
+        Line::Pause => Ok(at(Phase::Runs, begun)),
     }
 }
 
@@ -114,9 +120,9 @@ fn interleave(alloc: Global, piece: Piece, agg: AggId, begun: usize) -> Result<S
     ensures { IfOk result (λ step. step ≡ spec.interleave_on begun piece agg) }
 {
     let Some(held) = piece.held else {
-        let doing = Doing::Writes { agg };
+        let phase = Phase::Writes { agg };
         return Ok(Step {
-            doing,
+            phase,
             begun,
             piece,
         });
@@ -124,21 +130,21 @@ fn interleave(alloc: Global, piece: Piece, agg: AggId, begun: usize) -> Result<S
     match piece.last() {
         None => {
             let piece = piece.without_files(alloc)?;
-            let doing = Doing::Swaps {
+            let phase = Phase::Swaps {
                 agg: held,
                 rest: agg,
             };
             Ok(Step {
-                doing,
+                phase,
                 begun,
                 piece,
             })
         }
         Some(place) => {
             let from = place.from;
-            let doing = Doing::CuttingPart { held, agg, from };
+            let phase = Phase::CuttingPart { held, agg, from };
             Ok(Step {
-                doing,
+                phase,
                 begun,
                 piece,
             })
@@ -147,14 +153,14 @@ fn interleave(alloc: Global, piece: Piece, agg: AggId, begun: usize) -> Result<S
 }
 
 // After making an aggregate of the buffered text.
-fn told_made(alloc: Global, piece: &Piece, begun: usize, last: &Reply) -> Told
-    ensures { IfOk result (λ after. reached piece.now after ≡ spec.told_made piece.now begun last.now) }
+fn after_making(alloc: Global, piece: &Piece, begun: usize, last: &Reply) -> AfterReply
+    ensures { IfOk result (λ after. reached piece.now after ≡ spec.after_making piece.now begun last.now) }
 {
     match last {
         Reply::Agg(agg) => {
             let piece = piece.without_text(alloc)?;
             let step = interleave(alloc, piece, *agg, begun)?;
-            Ok(with(step.doing, step.begun, step.piece))
+            Ok(with(step.phase, step.begun, step.piece))
         }
         _ => Ok(None),
     }
@@ -162,46 +168,46 @@ fn told_made(alloc: Global, piece: &Piece, begun: usize, last: &Reply) -> Told
 
 // After the call that makes an aggregate of the buffered text, begins the next line, or closes the
 // output.
-fn told_begun(alloc: Global, job: &Job, piece: &Piece, begun: usize, last: &Reply) -> Told
-    ensures { IfOk result (λ after. reached piece.now after ≡ spec.told_begun job.now piece.now begun last.now) }
+fn after_begin(alloc: Global, job: &Job, piece: &Piece, begun: usize, last: &Reply) -> AfterReply
+    ensures { IfOk result (λ after. reached piece.now after ≡ spec.after_begin job.now piece.now begun last.now) }
 {
-    if is_due(job, piece, begun) {
-        return told_made(alloc, piece, begun, last);
+    if is_expected(job, piece, begun) {
+        return after_making(alloc, piece, begun, last);
     }
     match job.script.lines.get(begun) {
-        Some(line) => told_line(alloc, job, piece, line, begun + 1, last),
-        None => Ok(at(Doing::Waits, 0)),
+        Some(line) => after_line(alloc, job, piece, line, begun + 1, last),
+        None => Ok(at(Phase::Waits, 0)),
     }
 }
 
 // The phase after reading the bytes of a file.
-fn got(file: Fd, agg: AggId, purpose: Purpose, look: &Look<'_>) -> Doing
-    ensures { result ≡ spec.got (lent look.now) file agg purpose }
+fn got(file: Fd, agg: AggId, purpose: Purpose, byte_view: &ByteView<'_>) -> Phase
+    ensures { result ≡ spec.got (readable byte_view.now) file agg purpose }
 {
     match purpose {
-        Purpose::Cat => Doing::Shuts { file, agg },
-        Purpose::Wc => Doing::Counted {
+        Purpose::Cat => Phase::Shuts { file, agg },
+        Purpose::Wc => Phase::Counted {
             file,
             agg,
-            said: Said::Counted(counts(look, agg)),
+            said: Said::Counted(counts(byte_view, agg)),
         },
     }
 }
 
 // After reading a file, or its refusal.
-fn told_read(
+fn after_reading(
     file: Fd,
     purpose: Purpose,
     begun: usize,
     last: &Reply,
-    look: &Look<'_>,
+    byte_view: &ByteView<'_>,
 ) -> Option<After>
-    ensures { result ≡ read_after (lent look.now) file purpose begun last.now }
+    ensures { result ≡ read_after (readable byte_view.now) file purpose begun last.now }
 {
     match last {
-        Reply::Agg(agg) => at(got(file, *agg, purpose, look), begun),
+        Reply::Agg(agg) => at(got(file, *agg, purpose, byte_view), begun),
         Reply::Refused(refusal) => at(
-            Doing::ShutsToSay {
+            Phase::ShutsToSay {
                 file,
                 said: Said::Refused(*refusal),
             },
@@ -212,13 +218,20 @@ fn told_read(
 }
 
 // Buffers `len` bytes of a file, which is closed, after the `from` bytes of the earlier files.
-fn collect_file(alloc: Global, piece: &Piece, from: u32, agg: AggId, len: u32, begun: usize) -> Told
+fn collect_file(
+    alloc: Global,
+    piece: &Piece,
+    from: u32,
+    agg: AggId,
+    len: u32,
+    begun: usize,
+) -> AfterReply
     ensures { IfOk result
         (λ after. reached piece.now after ≡ spec.file_collected piece.now piece.now.held from agg len begun) }
 {
     match piece.held {
         Some(held) => Ok(at(
-            Doing::JoiningFile {
+            Phase::JoiningFile {
                 held,
                 agg,
                 from,
@@ -228,51 +241,57 @@ fn collect_file(alloc: Global, piece: &Piece, from: u32, agg: AggId, len: u32, b
         )),
         None => {
             let piece = piece.with_file(alloc, agg, 0, len)?;
-            Ok(with(Doing::Runs, begun, piece))
+            Ok(with(Phase::Runs, begun, piece))
         }
     }
 }
 
 // The number of bytes of all buffered files.
-fn held_bytes(piece: &Piece, look: &Look<'_>) -> u32
-    ensures { result ≡ length (bytes_of_one (lent look.now) piece.now.held) }
+fn held_bytes(piece: &Piece, byte_view: &ByteView<'_>) -> u32
+    ensures { result ≡ length (bytes_of_one (readable byte_view.now) piece.now.held) }
 {
     match piece.held {
-        Some(held) => len_of(look, held),
+        Some(held) => len_of(byte_view, held),
         None => 0,
     }
 }
 
 // After closing a file: buffers its bytes, or writes them by themselves after the buffered output.
-fn told_shut(alloc: Global, piece: &Piece, agg: AggId, begun: usize, look: &Look<'_>) -> Told
-    ensures { IfOk result (λ after. reached piece.now after ≡ spec.told_shut (lent look.now) piece.now agg begun) }
+fn after_closing(
+    alloc: Global,
+    piece: &Piece,
+    agg: AggId,
+    begun: usize,
+    byte_view: &ByteView<'_>,
+) -> AfterReply
+    ensures { IfOk result (λ after. reached piece.now after ≡ spec.after_closing (readable byte_view.now) piece.now agg begun) }
 {
-    let len = len_of(look, agg);
+    let len = len_of(byte_view, agg);
     if len as usize <= MAX_COLLECTED_BYTES {
-        return collect_file(alloc, piece, held_bytes(piece, look), agg, len, begun);
+        return collect_file(alloc, piece, held_bytes(piece, byte_view), agg, len, begun);
     }
     if piece.is_nothing() {
-        return Ok(at(Doing::Writes { agg }, begun));
+        return Ok(at(Phase::Writes { agg }, begun));
     }
     let piece = piece.with_next(alloc, agg)?;
-    Ok(with(Doing::Runs, begun, piece))
+    Ok(with(Phase::Runs, begun, piece))
 }
 
 // After joining the bytes of a file to those of the earlier files.
-fn told_joined(
+fn after_joining(
     alloc: Global,
     piece: &Piece,
     from: u32,
     len: u32,
     begun: usize,
     last: &Reply,
-) -> Told
-    ensures { IfOk result (λ after. reached piece.now after ≡ spec.told_joined piece.now from len begun last.now) }
+) -> AfterReply
+    ensures { IfOk result (λ after. reached piece.now after ≡ spec.after_joining piece.now from len begun last.now) }
 {
     match last {
         Reply::Agg(held) => {
             let piece = piece.with_file(alloc, *held, from, len)?;
-            Ok(with(Doing::Runs, begun, piece))
+            Ok(with(Phase::Runs, begun, piece))
         }
         _ => Ok(None),
     }
@@ -288,58 +307,58 @@ fn place_at(place: Option<Place>) -> u32
 }
 
 // After cutting off the bytes of the last file: inserts them into this text.
-fn told_parted(alloc: Global, piece: &Piece, agg: AggId, begun: usize, last: &Reply) -> Told
-    ensures { IfOk result (λ after. reached piece.now after ≡ spec.told_parted piece.now agg begun last.now) }
+fn after_parting(alloc: Global, piece: &Piece, agg: AggId, begun: usize, last: &Reply) -> AfterReply
+    ensures { IfOk result (λ after. reached piece.now after ≡ spec.after_parting piece.now agg begun last.now) }
 {
     match last {
         Reply::Aggs(held, part) => {
             let at = place_at(piece.last());
             let piece = piece.with_held(alloc, *held)?;
             let part = *part;
-            Ok(with(Doing::ReplacingPart { agg, part, at }, begun, piece))
+            Ok(with(Phase::ReplacingPart { agg, part, at }, begun, piece))
         }
         _ => Ok(None),
     }
 }
 
 // After inserting them.
-fn told_replaced(
+fn after_replacing(
     alloc: Global,
     piece: &Piece,
     agg: AggId,
     part: AggId,
     begun: usize,
     last: &Reply,
-) -> Told
-    ensures { IfOk result (λ after. reached piece.now after ≡ spec.told_replaced piece.now agg part begun last.now) }
+) -> AfterReply
+    ensures { IfOk result (λ after. reached piece.now after ≡ spec.after_replacing piece.now agg part begun last.now) }
 {
     match last {
         Reply::Agg(made) => {
             let piece = piece.without_last(alloc)?;
             let made = *made;
-            Ok(with(Doing::DroppingText { agg, part, made }, begun, piece))
+            Ok(with(Phase::DroppingText { agg, part, made }, begun, piece))
         }
         _ => Ok(None),
     }
 }
 
 // After dropping the bytes that were cut off: inserts the bytes of the file before.
-fn told_part_dropped(alloc: Global, piece: &Piece, made: AggId, begun: usize) -> Told
+fn after_dropping_part(alloc: Global, piece: &Piece, made: AggId, begun: usize) -> AfterReply
     ensures { IfOk result (λ after. reached piece.now after ≡ Some (spec.interleave_on begun piece.now made)) }
 {
     let piece = piece.copy(alloc)?;
     let step = interleave(alloc, piece, made, begun)?;
-    Ok(with(step.doing, step.begun, step.piece))
+    Ok(with(step.phase, step.begun, step.piece))
 }
 
 // The phase after `taken` of an aggregate's bytes were taken.
-fn taken_of(agg: AggId, taken: u32, to: u32) -> Doing
+fn taken_of(agg: AggId, taken: u32, to: u32) -> Phase
     ensures { result ≡ spec.taken_of agg taken to }
 {
     if taken == to {
-        Doing::Drops { agg }
+        Phase::Drops { agg }
     } else {
-        Doing::Cuts {
+        Phase::Cuts {
             agg,
             from: taken,
             to,
@@ -348,90 +367,92 @@ fn taken_of(agg: AggId, taken: u32, to: u32) -> Doing
 }
 
 // After writing an aggregate of `len` bytes, or a refusal because there is no reader.
-fn told_written(agg: AggId, len: u32, begun: usize, last: &Reply) -> Option<After>
+fn after_writing(agg: AggId, len: u32, begun: usize, last: &Reply) -> Option<After>
     ensures { result ≡ written_after agg len begun last.now }
 {
     match last {
         Reply::Count(taken) => at(taken_of(agg, *taken, len), begun),
-        Reply::Refused(Refusal::BrokenPipe) => at(Doing::Breaks { agg }, begun),
+        Reply::Refused(Refusal::BrokenPipe) => at(Phase::Breaks { agg }, begun),
         _ => None,
     }
 }
 
 // After cutting off the rest of an aggregate.
-fn told_cut(agg: AggId, begun: usize, last: &Reply) -> Option<After>
+fn after_cutting(agg: AggId, begun: usize, last: &Reply) -> Option<After>
     ensures { result ≡ cut_after agg begun last.now }
 {
     match last {
-        Reply::Agg(rest) => at(Doing::Swaps { agg, rest: *rest }, begun),
+        Reply::Agg(rest) => at(Phase::Swaps { agg, rest: *rest }, begun),
         _ => None,
     }
 }
 
 // After writing all of an aggregate: writes the file that is too long, or continues the script.
-fn told_dropped(alloc: Global, piece: &Piece, begun: usize) -> Told
-    ensures after { IfOk result (λ after. reached piece.now after ≡ spec.told_dropped piece.now piece.now.next begun) }
+fn after_dropping(alloc: Global, piece: &Piece, begun: usize) -> AfterReply
+    ensures after { IfOk result (λ after. reached piece.now after ≡ spec.after_dropping piece.now piece.now.next begun) }
     ensures wants { OnErr result (is_some piece.now.next ≡ true) }
 {
     match piece.next {
         Some(agg) => {
             let piece = piece.without_next(alloc)?;
-            Ok(with(Doing::Writes { agg }, begun, piece))
+            Ok(with(Phase::Writes { agg }, begun, piece))
         }
-        None => Ok(at(Doing::Runs, begun)),
+        None => Ok(at(Phase::Runs, begun)),
     }
 }
 
 // After a write without reader: drops the rest, and ends the script.
-fn told_broken(alloc: Global, job: &Job, piece: &Piece, begun: usize) -> Told
-    ensures after { IfOk result (λ after. reached piece.now after ≡ spec.told_broken job.now piece.now piece.now.next begun) }
+fn after_breaking(alloc: Global, job: &Job, piece: &Piece, begun: usize) -> AfterReply
+    ensures after { IfOk result (λ after. reached piece.now after ≡ spec.after_breaking job.now piece.now piece.now.next begun) }
     ensures wants { OnErr result (is_some piece.now.next ≡ true) }
 {
     match piece.next {
         Some(agg) => {
             let piece = piece.without_next(alloc)?;
-            Ok(with(Doing::Breaks { agg }, begun, piece))
+            Ok(with(Phase::Breaks { agg }, begun, piece))
         }
-        None => Ok(at(Doing::Runs, job.script.lines.len())),
+        None => Ok(at(Phase::Runs, job.script.lines.len())),
     }
 }
 
 /// The step after the reply; none if the call is retried.
-pub(crate) fn told(
+pub(crate) fn after_reply(
     alloc: Global,
     job: &Job,
     piece: &Piece,
     begun: usize,
-    doing: Doing,
+    phase: Phase,
     last: &Reply,
-    look: &Look<'_>,
-) -> Told
+    byte_view: &ByteView<'_>,
+) -> AfterReply
     ensures after { IfOk result
-        (λ after. reached piece.now after ≡ spec.told_doing (lent look.now) job.now piece.now begun doing last.now) }
-    ensures wants { OnErr result (may_copy piece.now doing ≡ true) }
+        (λ after. reached piece.now after ≡ spec.after_phase (readable byte_view.now) job.now piece.now begun phase last.now) }
+    ensures wants { OnErr result (may_copy piece.now phase ≡ true) }
 {
-    let next = match doing {
-        Doing::Waits => return Ok(None),
-        Doing::Runs => return told_begun(alloc, job, piece, begun, last),
-        Doing::Reads { file, purpose } => return Ok(told_read(file, purpose, begun, last, look)),
-        Doing::Shuts { agg, .. } => return told_shut(alloc, piece, agg, begun, look),
-        Doing::ShutsToSay { said, .. } => return collect_said(alloc, piece, said, begun),
-        Doing::JoiningFile { from, len, .. } => {
-            return told_joined(alloc, piece, from, len, begun, last);
+    let next = match phase {
+        Phase::Waits => return Ok(None),
+        Phase::Runs => return after_begin(alloc, job, piece, begun, last),
+        Phase::Reads { file, purpose } => return Ok(after_reading(
+            file, purpose, begun, last, byte_view,
+        )),
+        Phase::Shuts { agg, .. } => return after_closing(alloc, piece, agg, begun, byte_view),
+        Phase::ShutsToSay { said, .. } => return collect_said(alloc, piece, said, begun),
+        Phase::JoiningFile { from, len, .. } => {
+            return after_joining(alloc, piece, from, len, begun, last);
         }
-        Doing::CuttingPart { agg, .. } => return told_parted(alloc, piece, agg, begun, last),
-        Doing::ReplacingPart { agg, part, .. } => {
-            return told_replaced(alloc, piece, agg, part, begun, last);
+        Phase::CuttingPart { agg, .. } => return after_parting(alloc, piece, agg, begun, last),
+        Phase::ReplacingPart { agg, part, .. } => {
+            return after_replacing(alloc, piece, agg, part, begun, last);
         }
-        Doing::DroppingPart { made, .. } => return told_part_dropped(alloc, piece, made, begun),
-        Doing::Writes { agg } => return Ok(told_written(agg, len_of(look, agg), begun, last)),
-        Doing::Cuts { agg, .. } => return Ok(told_cut(agg, begun, last)),
-        Doing::Drops { .. } => return told_dropped(alloc, piece, begun),
-        Doing::Breaks { .. } => return told_broken(alloc, job, piece, begun),
-        Doing::Skips { .. } => Doing::Waits,
-        Doing::Counted { file, said, .. } => Doing::ShutsToSay { file, said },
-        Doing::DroppingText { part, made, .. } => Doing::DroppingPart { part, made },
-        Doing::Swaps { rest, .. } => Doing::Writes { agg: rest },
+        Phase::DroppingPart { made, .. } => return after_dropping_part(alloc, piece, made, begun),
+        Phase::Writes { agg } => return Ok(after_writing(agg, len_of(byte_view, agg), begun, last)),
+        Phase::Cuts { agg, .. } => return Ok(after_cutting(agg, begun, last)),
+        Phase::Drops { .. } => return after_dropping(alloc, piece, begun),
+        Phase::Breaks { .. } => return after_breaking(alloc, job, piece, begun),
+        Phase::Skips { .. } => Phase::Waits,
+        Phase::Counted { file, said, .. } => Phase::ShutsToSay { file, said },
+        Phase::DroppingText { part, made, .. } => Phase::DroppingPart { part, made },
+        Phase::Swaps { rest, .. } => Phase::Writes { agg: rest },
     };
     Ok(at(next, begun))
 }

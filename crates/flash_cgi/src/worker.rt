@@ -1,8 +1,8 @@
 //! A process that runs scripts.
 ghost use Rattle.std.specs.Prelude.{◌≡◌, ◌<◌, Some, IfOk, OnErr, length};
-ghost use Rattle.iol_proc.specs.Prelude.{lent, IsQuiet};
+ghost use Rattle.iol_proc.specs.Prelude.{readable, IsCopyFree};
 ghost use Rattle.flash_cgi.specs.Reached.{reached_by};
-ghost use Rattle.flash_cgi.specs.TakingTurns.{FilesReply, GoesOnBy, MakesItsCall, StepsOn, TakesText};
+ghost use Rattle.flash_cgi.specs.TakingTurns.{FilesReply, ProceedsBy, MakesItsCall, StepsOn, TakesText};
 ghost use Rattle.flash_cgi.specs.Wants as memory;
 ghost use Rattle.flash_cgi.specs.WorkerSteps.{bytes_at, step_with};
 ghost use Rattle.flash_cgi.specs.Works as account;
@@ -10,13 +10,13 @@ ghost use Rattle.flash_cgi.specs.Works as account;
 use crate::calls::call_of;
 use crate::feeds::text_of;
 use crate::jobs::Job;
-use crate::phase::{Doing, Standing, Step};
+use crate::phase::{Phase, Standing, Step};
 use crate::piece::Piece;
-use crate::replies::{After, told};
+use crate::replies::{After, after_reply};
 use iol_core::events::{Call, Reply};
 use iol_core::numbers::AggId;
-use iol_proc::idle::Settling;
-use iol_proc::look::Look;
+use iol_proc::byte_view::ByteView;
+use iol_proc::idle::Quiescence;
 use iol_proc::process::{Process, Turn};
 use std::alloc::{AllocError, Global};
 
@@ -39,7 +39,7 @@ impl Worker {
             alloc,
             job: Job::nothing(alloc),
             step: Step {
-                doing: Doing::Waits,
+                phase: Phase::Waits,
                 begun: 0,
                 piece: Piece::nothing(alloc),
             },
@@ -52,31 +52,31 @@ impl Worker {
         ensures { MakesItsCall self.old result self.new }
     {
         let step = &self.step;
-        let call = call_of(self.alloc, &self.job, &step.piece, step.begun, &step.doing)?;
+        let call = call_of(self.alloc, &self.job, &step.piece, step.begun, &step.phase)?;
         self.standing = Standing::Asked;
         Ok(Turn::Make(call))
     }
 
     // Makes the call of a phase, with unchanged buffered output.
-    fn make(&mut self, doing: Doing, begun: usize) -> Result<Turn, AllocError>
-        ensures { StepsOn self.old (Some (step_with doing begun self.old.step.piece)) result self.new }
+    fn make(&mut self, phase: Phase, begun: usize) -> Result<Turn, AllocError>
+        ensures { StepsOn self.old (Some (step_with phase begun self.old.step.piece)) result self.new }
     {
-        let call = call_of(self.alloc, &self.job, &self.step.piece, begun, &doing)?;
-        self.step.doing = doing;
+        let call = call_of(self.alloc, &self.job, &self.step.piece, begun, &phase)?;
+        self.step.phase = phase;
         self.step.begun = begun;
         Ok(Turn::Make(call))
     }
 
     // Makes the call of a phase with this piece as the new buffered output.
-    fn make_with(&mut self, doing: Doing, begun: usize, piece: Piece) -> Result<Turn, AllocError>
-        ensures { StepsOn self.old (Some (step_with doing begun piece)) result self.new }
+    fn make_with(&mut self, phase: Phase, begun: usize, piece: Piece) -> Result<Turn, AllocError>
+        ensures { StepsOn self.old (Some (step_with phase begun piece)) result self.new }
     {
         let step = Step {
-            doing,
+            phase,
             begun,
             piece,
         };
-        let call = call_of(self.alloc, &self.job, &step.piece, step.begun, &step.doing)?;
+        let call = call_of(self.alloc, &self.job, &step.piece, step.begun, &step.phase)?;
         self.step = step;
         Ok(Turn::Make(call))
     }
@@ -86,29 +86,29 @@ impl Worker {
         ensures { StepsOn self.old (Some (reached_by self.old.step.piece after)) result self.new }
     {
         let After {
-            doing,
+            phase,
             begun,
             piece,
         } = after;
         match piece {
-            Some(piece) => self.make_with(doing, begun, piece),
-            None => self.make(doing, begun),
+            Some(piece) => self.make_with(phase, begun, piece),
+            None => self.make(phase, begun),
         }
     }
 
     // Continues by the reply, or yields, to make the same call again.
-    fn go_on(&mut self, last: &Reply, look: &Look<'_>) -> Result<Turn, AllocError>
-        ensures { GoesOnBy self.old last.now (lent look.now) result self.new }
+    fn advance_by(&mut self, last: &Reply, byte_view: &ByteView<'_>) -> Result<Turn, AllocError>
+        ensures { ProceedsBy self.old last.now (readable byte_view.now) result self.new }
     {
         let step = &self.step;
-        match told(
+        match after_reply(
             self.alloc,
             &self.job,
             &step.piece,
             step.begun,
-            step.doing,
+            step.phase,
             last,
-            look,
+            byte_view,
         )? {
             Some(after) => self.advance(after),
             None => {
@@ -133,33 +133,33 @@ impl Worker {
             Some(job) => {
                 self.job = job;
                 self.step = Step {
-                    doing: Doing::Drops { agg },
+                    phase: Phase::Drops { agg },
                     begun: 0,
                     piece: Piece::nothing(self.alloc),
                 };
             }
-            None => self.step.doing = Doing::Skips { agg },
+            None => self.step.phase = Phase::Skips { agg },
         }
         Ok(())
     }
 
     // Takes the text read from its job pipe, and drops the aggregate.
-    fn take(&mut self, agg: AggId, look: &Look<'_>) -> Result<Turn, AllocError>
-        ensures { TakesText self.old (bytes_at (lent look.now) agg) agg result self.new }
+    fn take(&mut self, agg: AggId, byte_view: &ByteView<'_>) -> Result<Turn, AllocError>
+        ensures { TakesText self.old (bytes_at (readable byte_view.now) agg) agg result self.new }
     {
-        let text = text_of(self.alloc, look, agg)?;
+        let text = text_of(self.alloc, byte_view, agg)?;
         self.take_text(text.as_slice(), agg)?;
         Ok(Turn::Make(Call::AggDrop { agg }))
     }
 
     // Processes the reply to its call.
-    fn file(&mut self, last: &Reply, look: &Look<'_>) -> Result<Turn, AllocError>
-        ensures { FilesReply self.old last.now (lent look.now) result self.new }
+    fn file(&mut self, last: &Reply, byte_view: &ByteView<'_>) -> Result<Turn, AllocError>
+        ensures { FilesReply self.old last.now (readable byte_view.now) result self.new }
     {
-        let doing = self.step.doing;
-        match (doing, last) {
-            (Doing::Waits, Reply::Agg(agg)) => self.take(*agg, look),
-            _ => self.go_on(last, look),
+        let phase = self.step.phase;
+        match (phase, last) {
+            (Phase::Waits, Reply::Agg(agg)) => self.take(*agg, byte_view),
+            _ => self.advance_by(last, byte_view),
         }
     }
 }
@@ -167,27 +167,27 @@ impl Worker {
 impl Process for Worker {
     ghost turns = { account.worker_turns };
 
-    fn next(&mut self, last: &Reply, look: &Look<'_>) -> Result<Turn, AllocError>
+    fn next(&mut self, last: &Reply, byte_view: &ByteView<'_>) -> Result<Turn, AllocError>
         ensures turn { IfOk result
-            (λ turn. account.works self.old last.now (lent look.now) turn self.new) }
-        ensures quiet { IfOk result IsQuiet }
+            (λ turn. account.works self.old last.now (readable byte_view.now) turn self.new) }
+        ensures quiet { IfOk result IsCopyFree }
         ensures err { OnErr result (self.new ≡ self.old) }
 
         // It needs memory only to parse a text of at least one byte, and for the bytes of a call.
-        ensures wants { OnErr result (memory.Wants self.old last.now (lent look.now)) }
+        ensures wants { OnErr result (memory.Wants self.old last.now (readable byte_view.now)) }
     {
         match self.standing {
             Standing::Asks => self.ask(),
-            Standing::Asked => self.file(last, look),
+            Standing::Asked => self.file(last, byte_view),
             Standing::Over => Ok(Turn::Yield),
         }
     }
 }
 
-impl Settling for Worker {
+impl Quiescence for Worker {
     ghost use Rattle.flash_cgi.specs.Standstill.{HasWaited};
 
-    ghost settled = { HasWaited };
+    ghost quiescent = { HasWaited };
 
-    fn settles() {}
+    fn quiesces() {}
 }

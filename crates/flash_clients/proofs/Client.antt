@@ -8,7 +8,7 @@ use Rattle.flash_http.specs.declared.windows.Window.TheVariants.{Wait, Head, Too
 use Rattle.flash_http.specs.Window.{window_in}
 use Rattle.flash_http.specs.Request.{Answer, OneAnswer}
 use Rattle.flash_laws.specs.Answers.{keeps, NextIn, Next, Reads, last_may_close, last_closes}
-use Rattle.flash_laws.specs.Shelf.{IsAnswer, Responds, Shelf}
+use Rattle.flash_laws.specs.SiteContents.{IsAnswer, Responds, SiteContents}
 use Rattle.flash_laws.proofs.Conn.Responses.{WindowLaws, reads-append}
 use Rattle.flash_laws.proofs.World.Responses.{responds-none}
 use Rattle.flash_streams.specs.Follow.{IsAnsweredWhole, StreamsFollow}
@@ -88,23 +88,23 @@ module _ (one : OneAnswer) where
 
 -- ---- answers
 
-pub waits_answer : (shelf : Shelf) (s : List ℕ) → window_in s ≡ Wait → IsAnswer shelf s []
-waits_answer shelf s waits = record { qs = []; rest = s; reads = refl; order = refl; responds = responds-none shelf; no_more = inl waits }
+pub waits_answer : (site_contents : SiteContents) (s : List ℕ) → window_in s ≡ Wait → IsAnswer site_contents s []
+waits_answer site_contents s waits = record { qs = []; rest = s; reads = refl; order = refl; responds = responds-none site_contents; no_more = inl waits }
 
 module _ (laws : WindowLaws) (one : OneAnswer) (follow : StreamsFollow) where
   -- a connection that was left has its whole responses
-  pub left_whole : (v : Visit) → IsLeft v → IsAnsweredWhole v.shelf v.came v.sent
+  pub left_whole : (v : Visit) → IsLeft v → IsAnsweredWhole v.site_contents v.came v.sent
   left_whole v left = record {
     qs = left.kept.qs;
     reads = left.kept.reads;
     keep = left.kept.keep;
-    responds = subst (λ (l : List Answer). Responds v.shelf l v.sent)
+    responds = subst (λ (l : List Answer). Responds v.site_contents l v.sent)
         (kept_all one v.came left.kept.qs left.answered.qs left.answered.rest left.kept.reads left.kept.keep left.answered.reads left.answered.no_more)
         left.answered.responds;
   }
 
   -- whatever waits after a request that closed the connection
-  closed_answer : (v : Visit) (waiting : List ℕ) → IsClosed v → IsAnswer v.shelf (v.came ++ waiting) v.sent
+  closed_answer : (v : Visit) (waiting : List ℕ) → IsClosed v → IsAnswer v.site_contents (v.came ++ waiting) v.sent
   closed_answer v waiting closed =
       let a = closed.answered in record {
         qs = a.qs;
@@ -115,7 +115,7 @@ module _ (laws : WindowLaws) (one : OneAnswer) (follow : StreamsFollow) where
         no_more = inr (closes_last one v.came closed.close.qs a.qs closed.close.rest a.rest closed.close.reads closed.close.close a.reads a.order a.no_more);
       }
 
-  pub well_answer : (v : Visit) (waiting : List ℕ) → (IsLeft v × (window_in waiting ≡ Wait)) ⊎ IsClosed v → IsAnswer v.shelf (v.came ++ waiting) v.sent
-  well_answer v waiting (inl left) = subst (λ (l : List ℕ). IsAnswer v.shelf (v.came ++ waiting) l) (append-nil v.sent)
-      (follow.answer v.shelf v.came waiting v.sent [] (left_whole v left.0) (waits_answer v.shelf waiting left.1))
+  pub well_answer : (v : Visit) (waiting : List ℕ) → (IsLeft v × (window_in waiting ≡ Wait)) ⊎ IsClosed v → IsAnswer v.site_contents (v.came ++ waiting) v.sent
+  well_answer v waiting (inl left) = subst (λ (l : List ℕ). IsAnswer v.site_contents (v.came ++ waiting) l) (append-nil v.sent)
+      (follow.answer v.site_contents v.came waiting v.sent [] (left_whole v left.0) (waits_answer v.site_contents waiting left.1))
   well_answer v waiting (inr closed) = closed_answer v waiting closed

@@ -11,7 +11,7 @@ use Rattle.iol_proc.specs.Histories.{stream_over, sent_over, came_with, sent_wit
 use Rattle.iol_proc.specs.declared.choice.Choice.{Choice}
 use Rattle.iol_proc.specs.declared.choice.Choice.TheVariants as choice
 use Rattle.flash_laws.specs.Site.Past.{gone_by}
-use Rattle.flash_laws.specs.World.Tie.{tells_with, tells_over}
+use Rattle.flash_laws.specs.World.Consistency.{reports_with, reports_over}
 
 pub stream-both : (c : ℕ) (xs ys : List Choice) (rs qs : List Reply) → length xs ≡ length rs
     → stream_over c (xs ++ ys) (rs ++ qs) ≡ stream_over c xs rs ++ stream_over c ys qs
@@ -41,39 +41,39 @@ or-both false c is = (refl, is)
 or-both true c is = absurd (cc (is))
 
 or-later : (a b c : Bool) → (a || b) ≡ true → (b ≡ true → c ≡ true) → (a || c) ≡ true
-or-later true b c told more = refl
-or-later false b c told more = more told
+or-later true b c after_reply more = refl
+or-later false b c after_reply more = more after_reply
 
-pub tells-first : (p : Event → Reply → Bool) (xs ys : List Choice) (rs qs : List Reply) → length xs ≡ length rs → tells_over p xs rs ≡ true
-    → tells_over p (xs ++ ys) (rs ++ qs) ≡ true
-unfolding tells_over
-tells-first p [] ys rs qs even told = absurd (cc (told))
-tells-first p (x ∷ xs) ys [] qs even told = absurd (cc (told))
-tells-first p (x ∷ xs) ys (r ∷ rs) qs even told =
-    or-later (tells_with p x r) (tells_over p xs rs) (tells_over p (xs ++ ys) (rs ++ qs)) told (λ more. tells-first p xs ys rs qs (omega (arith, even)) more)
+pub reports-first : (p : Event → Reply → Bool) (xs ys : List Choice) (rs qs : List Reply) → length xs ≡ length rs → reports_over p xs rs ≡ true
+    → reports_over p (xs ++ ys) (rs ++ qs) ≡ true
+unfolding reports_over
+reports-first p [] ys rs qs even after_reply = absurd (cc (after_reply))
+reports-first p (x ∷ xs) ys [] qs even after_reply = absurd (cc (after_reply))
+reports-first p (x ∷ xs) ys (r ∷ rs) qs even after_reply =
+    or-later (reports_with p x r) (reports_over p xs rs) (reports_over p (xs ++ ys) (rs ++ qs)) after_reply (λ more. reports-first p xs ys rs qs (omega (arith, even)) more)
 
-pub tells-none : (p : Event → Reply → Bool) (xs ys : List Choice) (rs qs : List Reply) → length xs ≡ length rs → tells_over p xs rs ≡ false
-    → tells_over p ys qs ≡ false → tells_over p (xs ++ ys) (rs ++ qs) ≡ false
-unfolding tells_over
-tells-none p [] ys [] qs even none more = more
-tells-none p (x ∷ xs) ys (r ∷ rs) qs even none more =
-    let both = or-both (tells_with p x r) (tells_over p xs rs) none in
-    or-none (tells_with p x r) (tells_over p (xs ++ ys) (rs ++ qs)) both.0 (tells-none p xs ys rs qs (omega (arith, even)) both.1 more)
-tells-none p [] ys (r ∷ rs) qs even none more = absurd (omega (arith, even))
-tells-none p (x ∷ xs) ys [] qs even none more = absurd (omega (arith, even))
+pub reports-none : (p : Event → Reply → Bool) (xs ys : List Choice) (rs qs : List Reply) → length xs ≡ length rs → reports_over p xs rs ≡ false
+    → reports_over p ys qs ≡ false → reports_over p (xs ++ ys) (rs ++ qs) ≡ false
+unfolding reports_over
+reports-none p [] ys [] qs even none more = more
+reports-none p (x ∷ xs) ys (r ∷ rs) qs even none more =
+    let both = or-both (reports_with p x r) (reports_over p xs rs) none in
+    or-none (reports_with p x r) (reports_over p (xs ++ ys) (rs ++ qs)) both.0 (reports-none p xs ys rs qs (omega (arith, even)) both.1 more)
+reports-none p [] ys (r ∷ rs) qs even none more = absurd (omega (arith, even))
+reports-none p (x ∷ xs) ys [] qs even none more = absurd (omega (arith, even))
 
 -- a peer that was told to be gone would have been told so by a choice
-told-drops : (c : ℕ) (x : Choice) (r : Reply) → drops_with x c ≡ false → tells_with (λ e s. gone_by c e s) x r ≡ false
-told-drops c (choice.Turn by) r none = refl
-told-drops c (choice.Outside (event.PeerClosed d Gone)) reply.Done none = none
-told-drops c (choice.Outside (event.PeerClosed d Gone)) r none = refl
-told-drops c (choice.Outside (event.PeerClosed d Done)) r none = refl
-told-drops c (choice.Outside e) r none = refl
+after_reply-drops : (c : ℕ) (x : Choice) (r : Reply) → drops_with x c ≡ false → reports_with (λ e s. gone_by c e s) x r ≡ false
+after_reply-drops c (choice.Turn by) r none = refl
+after_reply-drops c (choice.Outside (event.PeerClosed d Gone)) reply.Done none = none
+after_reply-drops c (choice.Outside (event.PeerClosed d Gone)) r none = refl
+after_reply-drops c (choice.Outside (event.PeerClosed d Done)) r none = refl
+after_reply-drops c (choice.Outside e) r none = refl
 
-pub none-told : (c : ℕ) (xs : List Choice) (rs : List Reply) → list_any (λ x. drops_with x c) xs ≡ false → tells_over (λ e r. gone_by c e r) xs rs ≡ false
-unfolding tells_over
-none-told c [] rs none = refl
-none-told c (x ∷ xs) [] none = refl
-none-told c (x ∷ xs) (r ∷ rs) none =
+pub none-after_reply : (c : ℕ) (xs : List Choice) (rs : List Reply) → list_any (λ x. drops_with x c) xs ≡ false → reports_over (λ e r. gone_by c e r) xs rs ≡ false
+unfolding reports_over
+none-after_reply c [] rs none = refl
+none-after_reply c (x ∷ xs) [] none = refl
+none-after_reply c (x ∷ xs) (r ∷ rs) none =
     let both = or-both (drops_with x c) (list_any (λ y. drops_with y c) xs) none in
-    or-none (tells_with (λ e s. gone_by c e s) x r) (tells_over (λ e s. gone_by c e s) xs rs) (told-drops c x r both.0) (none-told c xs rs both.1)
+    or-none (reports_with (λ e s. gone_by c e s) x r) (reports_over (λ e s. gone_by c e s) xs rs) (after_reply-drops c x r both.0) (none-after_reply c xs rs both.1)

@@ -14,17 +14,17 @@ use Rattle.iol_proc.specs.World.{OutsideStep, Stage, copying}
 use Rattle.iol_proc.specs.declared.choice.Choice.{Choice}
 use Rattle.iol_proc.specs.declared.choice.Choice.TheVariants as choice
 use Rattle.flash_laws.specs.Serves.Rounds.{in_rounds}
-use Rattle.flash_laws.specs.Shelf.{Begins, IsAnswer, Shelf}
+use Rattle.flash_laws.specs.SiteContents.{Begins, IsAnswer, SiteContents}
 use Rattle.flash_laws.specs.Site.{net_pool}
 use Rattle.flash_laws.specs.Site.Past.{Past, made_by, gone_by}
-use Rattle.flash_laws.specs.Workers.Crew.{Crew}
-use Rattle.flash_laws.specs.World.{AreFair, RunKeepsTie, Tied, TiedIsAnswered, TiedIsWhole}
-use Rattle.flash_laws.specs.World.Tie.{Actor, actor_turns, gone_over, made_over, past_of}
+use Rattle.flash_laws.specs.Workers.WorkerSet.{WorkerSet}
+use Rattle.flash_laws.specs.World.{AreFair, RunKeepsConsistency, Consistent, ConsistentIsAnswered, ConsistentIsWhole}
+use Rattle.flash_laws.specs.World.Consistency.{Actor, actor_turns, gone_over, made_over, past_of}
 use Rattle.flash_laws.proofs.Lists.{later_of, self}
 use Rattle.flash_laws.proofs.Site.Pasts.{past-outside}
 use Rattle.flash_laws.proofs.World.Responses.{begins-less}
 use Rattle.flash_clients.specs.Visits.{IsVisit, IsVisitAnswered, VisitsAreAnswered}
-use Rattle.flash_clients.proofs.Histories.{none-told, sent-both, stream-both, tells-first, tells-none}
+use Rattle.flash_clients.proofs.Histories.{none-after_reply, sent-both, stream-both, reports-first, reports-none}
 
 -- ---- a connection that is not there any more
 
@@ -49,45 +49,45 @@ never : (b : Bool) → b ≡ false → (b || false) ≡ false
 never false is = refl
 never true is = absurd (cc (is))
 
-module _ (crew : Crew) (keeps : RunKeepsTie in_rounds crew) (answered : TiedIsAnswered crew) (whole : TiedIsWhole crew)
-    (numbers : ConnectionNumbersRise) (shelf : Shelf) where
-  made_new : (past : List Choice) (ps : List Reply) (c : ℕ) (w mid : Stage State (Actor crew.Worker)) → Tied shelf crew past ps w
-      → OutsideStep copying (actor_turns in_rounds crew.turns) w (event.ConnNew net_pool) (reply.Conn c) mid
+module _ (worker_set : WorkerSet) (keeps : RunKeepsConsistency in_rounds worker_set) (answered : ConsistentIsAnswered worker_set) (whole : ConsistentIsWhole worker_set)
+    (numbers : ConnectionNumbersRise) (site_contents : SiteContents) where
+  made_new : (past : List Choice) (ps : List Reply) (c : ℕ) (w mid : Stage State (Actor worker_set.Worker)) → Consistent site_contents worker_set past ps w
+      → OutsideStep copying (actor_turns in_rounds worker_set.turns) w (event.ConnNew net_pool) (reply.Conn c) mid
       → HasNone (past_of (past ++ choice.Outside (event.ConnNew net_pool) ∷ []) (ps ++ reply.Conn c ∷ [])) c
-  made_new past ps c w mid tied made =
-      subst (λ (p : Past). HasNone p c) (sym (past-outside past ps (event.ConnNew net_pool) (reply.Conn c) tied.even)) (record {
+  made_new past ps c w mid consistent made =
+      subst (λ (p : Past). HasNone p c) (sym (past-outside past ps (event.ConnNew net_pool) (reply.Conn c) consistent.even)) (record {
         net = later_of ((past_of past ps).net c) ((c == c) && (net_pool == net_pool)) (ap (λ b. b && (net_pool == net_pool)) (self c));
         unread = append-nil ((past_of past ps).came c) ∙ none.0;
         unsent = append-nil ((past_of past ps).sent c) ∙ none.1;
-        stays = never ((past_of past ps).gone c) (tied.seated.serves.fit.untold c (omega (arith, number)));
+        stays = never ((past_of past ps).gone c) (consistent.in_slots.serves.fit.unreported c (omega (arith, number)));
       })
     where
       number : c ≡ w.machine.next_conn
       number = (numbers.next w.machine mid.machine net_pool c made.step).0
 
       none : ((past_of past ps).came c ≡ []) × ((past_of past ps).sent c ≡ []) × ((past_of past ps).net c ≡ false)
-      none = tied.seated.serves.fit.fresh c (omega (arith, number))
+      none = consistent.in_slots.serves.fit.fresh c (omega (arith, number))
 
-  module _ (past : List Choice) (ps : List Reply) (c : ℕ) (came sent : List ℕ) (gone : Bool) (w after : Stage State (Actor crew.Worker))
-      (tied : Tied shelf crew past ps w) (visit : IsVisit crew.turns c came sent gone w after) (fair : AreFair shelf.refuses visit.choices visit.replies) where
+  module _ (past : List Choice) (ps : List Reply) (c : ℕ) (came sent : List ℕ) (gone : Bool) (w after : Stage State (Actor worker_set.Worker))
+      (consistent : Consistent site_contents worker_set past ps w) (visit : IsVisit worker_set.turns c came sent gone w after) (fair : AreFair site_contents.refuses visit.choices visit.replies) where
     abbrev xs : List Choice
     xs = past ++ choice.Outside (event.ConnNew net_pool) ∷ []
 
     abbrev rs : List Reply
     rs = ps ++ reply.Conn c ∷ []
 
-    begun : Tied shelf crew xs rs visit.begun
-    begun = keeps shelf past (choice.Outside (event.ConnNew net_pool) ∷ []) ps (reply.Conn c ∷ []) w visit.begun (visit.begun, visit.made, refl) (tt, tt) tt tied
+    begun : Consistent site_contents worker_set xs rs visit.begun
+    begun = keeps site_contents past (choice.Outside (event.ConnNew net_pool) ∷ []) ps (reply.Conn c ∷ []) w visit.begun (visit.begun, visit.made, refl) (tt, tt) tt consistent
 
     fresh : HasNone (past_of xs rs) c
-    fresh = made_new past ps c w visit.begun tied visit.made
+    fresh = made_new past ps c w visit.begun consistent visit.made
 
-    tie : Tied shelf crew (xs ++ visit.choices) (rs ++ visit.replies) after
-    tie = keeps shelf xs visit.choices rs visit.replies visit.begun after visit.run visit.mild fair begun
+    consistency : Consistent site_contents worker_set (xs ++ visit.choices) (rs ++ visit.replies) after
+    consistency = keeps site_contents xs visit.choices rs visit.replies visit.begun after visit.run visit.site_preserving fair begun
 
     net : made_over c (xs ++ visit.choices) (rs ++ visit.replies) ≡ true
     unfolding made_over
-    net = tells-first (λ e r. made_by c e r) xs visit.choices rs visit.replies begun.even fresh.net
+    net = reports-first (λ e r. made_by c e r) xs visit.choices rs visit.replies begun.even fresh.net
 
     came_is : stream_over c (xs ++ visit.choices) (rs ++ visit.replies) ≡ came
     came_is = stream-both c xs visit.choices rs visit.replies begun.even
@@ -99,18 +99,18 @@ module _ (crew : Crew) (keeps : RunKeepsTie in_rounds crew) (answered : TiedIsAn
 
     stays : gone ≡ false → gone_over c (xs ++ visit.choices) (rs ++ visit.replies) ≡ false
     unfolding gone_over
-    stays here = tells-none (λ e r. gone_by c e r) xs visit.choices rs visit.replies begun.even fresh.stays
-        (none-told c visit.choices visit.replies (visit.tells ∙ here))
+    stays here = reports-none (λ e r. gone_by c e r) xs visit.choices rs visit.replies begun.even fresh.stays
+        (none-after_reply c visit.choices visit.replies (visit.reports ∙ here))
 
-    begins : Begins shelf came sent
-    begins = subst (λ (l : List ℕ). Begins shelf l sent) came_is
-        (subst (λ (l : List ℕ). Begins shelf (stream_over c (xs ++ visit.choices) (rs ++ visit.replies)) l) sent_is
-        (begins-less shelf _ _ (bytes_of (conn_at after.machine c).outgoing) (answered shelf _ _ after tie c net)))
+    begins : Begins site_contents came sent
+    begins = subst (λ (l : List ℕ). Begins site_contents l sent) came_is
+        (subst (λ (l : List ℕ). Begins site_contents (stream_over c (xs ++ visit.choices) (rs ++ visit.replies)) l) sent_is
+        (begins-less site_contents _ _ (bytes_of (conn_at after.machine c).outgoing) (answered site_contents _ _ after consistency c net)))
 
-    all : gone ≡ false → lacks_conn after.machine c ≡ true → IsAnswer shelf came sent
-    all here lacks = subst (λ (l : List ℕ). IsAnswer shelf l sent) came_is
-        (subst (λ (l : List ℕ). IsAnswer shelf (stream_over c (xs ++ visit.choices) (rs ++ visit.replies)) l) (all_sent ∙ sent_is)
-        (whole shelf _ _ after tie c net (ap (λ (k : Connection). k.closed) removed) (stays here)))
+    all : gone ≡ false → lacks_conn after.machine c ≡ true → IsAnswer site_contents came sent
+    all here lacks = subst (λ (l : List ℕ). IsAnswer site_contents l sent) came_is
+        (subst (λ (l : List ℕ). IsAnswer site_contents (stream_over c (xs ++ visit.choices) (rs ++ visit.replies)) l) (all_sent ∙ sent_is)
+        (whole site_contents _ _ after consistency c net (ap (λ (k : Connection). k.closed) removed) (stays here)))
       where
         removed : conn_at after.machine c ≡ no_conn
         removed = lacking-is-none after.machine c lacks
@@ -120,14 +120,14 @@ module _ (crew : Crew) (keeps : RunKeepsTie in_rounds crew) (answered : TiedIsAn
         all_sent = ap (λ (k : Connection). sent_over c (xs ++ visit.choices) (rs ++ visit.replies) ++ bytes_of k.outgoing) removed
             ∙ append-nil (sent_over c (xs ++ visit.choices) (rs ++ visit.replies))
 
-    visit_answered : IsVisitAnswered crew shelf past ps c came sent gone w after visit
+    visit_answered : IsVisitAnswered worker_set site_contents past ps c came sent gone w after visit
     visit_answered = record {
       begins = begins;
       whole = all;
-      tied = subst (λ (l : List Choice). Tied shelf crew l (ps ++ reply.Conn c ∷ visit.replies) after) (append_assoc past (choice.Outside (event.ConnNew net_pool) ∷ []) visit.choices)
-          (subst (λ (l : List Reply). Tied shelf crew (xs ++ visit.choices) l after) (append_assoc ps (reply.Conn c ∷ []) visit.replies) tie);
+      consistent = subst (λ (l : List Choice). Consistent site_contents worker_set l (ps ++ reply.Conn c ∷ visit.replies) after) (append_assoc past (choice.Outside (event.ConnNew net_pool) ∷ []) visit.choices)
+          (subst (λ (l : List Reply). Consistent site_contents worker_set (xs ++ visit.choices) l after) (append_assoc ps (reply.Conn c ∷ []) visit.replies) consistency);
     }
 
-pub visits_answered : (crew : Crew) → RunKeepsTie in_rounds crew → TiedIsAnswered crew → TiedIsWhole crew → ConnectionNumbersRise → VisitsAreAnswered crew
-visits_answered crew keeps answered whole numbers = λ shelf past ps c came sent gone w after tied visit fair.
-    visit_answered crew keeps answered whole numbers shelf past ps c came sent gone w after tied visit fair
+pub visits_answered : (worker_set : WorkerSet) → RunKeepsConsistency in_rounds worker_set → ConsistentIsAnswered worker_set → ConsistentIsWhole worker_set → ConnectionNumbersRise → VisitsAreAnswered worker_set
+visits_answered worker_set keeps answered whole numbers = λ site_contents past ps c came sent gone w after consistent visit fair.
+    visit_answered worker_set keeps answered whole numbers site_contents past ps c came sent gone w after consistent visit fair

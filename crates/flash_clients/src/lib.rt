@@ -10,7 +10,7 @@
 ghost use Rattle.flash_clients.specs.Clients.{ClientsGetAnswers};
 ghost use Rattle.flash_clients.specs.Requests.{RequestsAreKept};
 ghost use Rattle.flash_clients.specs.Visits.{VisitsAreAnswered};
-ghost use Rattle.flash_laws.specs.Workers.Crews.{OfEach};
+ghost use Rattle.flash_laws.specs.Workers.WorkerSets.{OfEach};
 
 use flash_http::{one_answer, window_fits, window_stays};
 use flash_laws::world_law::{RunsScripts, world_law};
@@ -28,11 +28,11 @@ pub fn requests_are_kept()
 }
 
 /// In a world that satisfies the server's invariant, a connection of the net is created. Whatever
-/// turns and mild events follow, on this connection and on others, the bytes sent on it begin an
-/// answer to the bytes received on it, and are an answer once it is removed, unless its peer was
-/// reported as gone. The world satisfies the invariant afterwards.
+/// turns and site-preserving events follow, on this connection and on others, the bytes sent on it
+/// begin an answer to the bytes received on it, and are an answer once it is removed, unless its
+/// peer was reported as gone. The world satisfies the invariant afterwards.
 pub fn visits_are_answered<W: RunsScripts>()
-    ensures { OfEach W.turns W.settled W.free W.due VisitsAreAnswered }
+    ensures { OfEach W.turns W.quiescent W.free W.expected VisitsAreAnswered }
 {
     world_law::<W>();
     connection_numbers_rise();

@@ -13,4 +13,4 @@ AnnouncesPort port held now = Appends held now (announcement port)
 -- the port that it has, on a line of its own
 pub record Announces (held now : Option (List ℕ)) : Type 0 where
   pub port : ℕ
-  pub told : AnnouncesPort port held now
+  pub reported : AnnouncesPort port held now

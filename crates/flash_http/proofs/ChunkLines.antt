@@ -20,14 +20,14 @@ sixteen_times k = let e : suc k + 1 ≡ suc (k + 1) = omega arith in ap (λ m. 1
 length_onto : (fuel k n : ℕ) (acc : List ℕ) → n < 16 ^ (k + 1) → length (digits_onto fuel 16 false n acc) ≤ k + 1 + length acc
 length_onto zero k n acc h = omega arith
 length_onto (suc fuel) k n acc h =
-    ends_or_goes_on k (n / 16 == 0) refl h (λ j below. length_onto fuel j (n / 16) (digit_glyph false (n % 16) ∷ acc) below)
+    ends_or_proceeds k (n / 16 == 0) refl h (λ j below. length_onto fuel j (n / 16) (digit_glyph false (n % 16) ∷ acc) below)
   where
-    ends_or_goes_on : (k : ℕ) (v : Bool) → (n / 16 == 0) ≡ v → n < 16 ^ (k + 1)
+    ends_or_proceeds : (k : ℕ) (v : Bool) → (n / 16 == 0) ≡ v → n < 16 ^ (k + 1)
         → ((j : ℕ) → n / 16 < 16 ^ (j + 1) → length (digits_onto fuel 16 false (n / 16) (digit_glyph false (n % 16) ∷ acc)) ≤ j + 1 + length (digit_glyph false (n % 16) ∷ acc))
         → length (cond v (digit_glyph false (n % 16) ∷ acc) (digits_onto fuel 16 false (n / 16) (digit_glyph false (n % 16) ∷ acc))) ≤ k + 1 + length acc
-    ends_or_goes_on k true e h more = omega arith
-    ends_or_goes_on zero false e h more = let below = some (n / 16) e in absurd (omega arith)
-    ends_or_goes_on (suc k) false e h more =
+    ends_or_proceeds k true e h more = omega arith
+    ends_or_proceeds zero false e h more = let below = some (n / 16) e in absurd (omega arith)
+    ends_or_proceeds (suc k) false e h more =
         let below : n / 16 < 16 ^ (k + 1) = omega (arith, sixteen_times k) in
         let rest = more k below in omega arith
 

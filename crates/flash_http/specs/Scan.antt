@@ -38,5 +38,5 @@ abbrev pub Finds : Scan → (bytes : List ℕ) → Window → Type 0
 Finds s bytes w = (rest : List ℕ) → window_from s (bytes ++ rest) ≡ w
 
 -- the search continues after these bytes
-abbrev pub GoesOn : (old : Scan) → (bytes : List ℕ) → (new : Scan) → Type 0
-GoesOn old bytes new = (rest : List ℕ) → window_from old (bytes ++ rest) ≡ window_from new rest
+abbrev pub Proceeds : (old : Scan) → (bytes : List ℕ) → (new : Scan) → Type 0
+Proceeds old bytes new = (rest : List ℕ) → window_from old (bytes ++ rest) ≡ window_from new rest

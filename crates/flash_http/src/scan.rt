@@ -2,7 +2,7 @@
 ghost use Rattle.std.specs.Prelude.{◌≡◌, ◌<◌, ◌+◌, ◌∷◌, [], IfSome, IfNone, length};
 ghost use Rattle.std.specs.List.{concat};
 ghost use Rattle.flash_http.specs.Window.{window_in, FitsIn, WindowsStay, WindowsFit};
-ghost use Rattle.flash_http.specs.Scan.{next_line, searched, Finds, GoesOn};
+ghost use Rattle.flash_http.specs.Scan.{next_line, searched, Finds, Proceeds};
 
 use crate::windows::{MAX_HEAD_BYTES, Window};
 use iol_agg::Parts;
@@ -47,7 +47,7 @@ impl Scan {
         requires { searched self.old < MAX_HEAD_BYTES }
         ensures count { IfNone result (searched self.new ≡ searched self.old + 1) }
         ensures found { IfSome result (Finds self.old (byte ∷ [])) }
-        ensures goes_on { IfNone result (GoesOn self.old (byte ∷ []) self.new) }
+        ensures proceeds { IfNone result (Proceeds self.old (byte ∷ []) self.new) }
     {
         self.len += 1;
         if byte != b'\n' {
@@ -77,7 +77,7 @@ impl Scan {
         requires { searched self.old < MAX_HEAD_BYTES }
         ensures room { IfNone result (searched self.new < MAX_HEAD_BYTES) }
         ensures found { IfSome result (Finds self.old (byte ∷ [])) }
-        ensures goes_on { IfNone result (GoesOn self.old (byte ∷ []) self.new) }
+        ensures proceeds { IfNone result (Proceeds self.old (byte ∷ []) self.new) }
     {
         let found = self.step(byte);
         if found.is_none() && self.skip + self.len == MAX_HEAD_BYTES {
@@ -92,7 +92,7 @@ impl Scan {
         requires { searched self.old < MAX_HEAD_BYTES }
         ensures room { IfNone result (searched self.new < MAX_HEAD_BYTES) }
         ensures found { IfSome result (Finds self.old bytes.now) }
-        ensures goes_on { IfNone result (GoesOn self.old bytes.now self.new) }
+        ensures proceeds { IfNone result (Proceeds self.old bytes.now self.new) }
     {
         for byte in bytes {
             let found = self.feed(*byte);

@@ -1,6 +1,6 @@
 pub mod Responses
 pub mod AnswerParts
-pub mod LentBytes
+pub mod ReadableBytes
 pub mod Uses
 pub mod Touches
 pub mod Repeats

@@ -3,11 +3,11 @@ use Rattle.std.proofs.Common.{ℕ, List, Option}
 use Rattle.flash_http.specs.Request.{Answer}
 use Rattle.flash_laws.specs.Client.{Client}
 use Rattle.flash_laws.specs.Conn.{Conn}
-use Rattle.flash_laws.specs.declared.phase.Doing.{Doing}
+use Rattle.flash_laws.specs.declared.phase.Phase.{Phase}
 use Rattle.flash_laws.specs.declared.script_run.Running.{Running}
 
-abbrev pub at : List ℕ → Answer → Doing → Conn
-at kept q d = record { kept = kept; q = q; doing = d }
+abbrev pub at : List ℕ → Answer → Phase → Conn
+at kept q d = record { kept = kept; q = q; phase = d }
 
 abbrev pub of : Conn → Option Running → List ℕ → Client
 of c run script = record { conn = c; run = run; script = script }

@@ -94,13 +94,13 @@ take-plus (suc t) k [] = take-none (suc t + k) ∙ sym (take-none k)
 take-plus (suc t) k (x ∷ l) = (let e : suc t + k ≡ suc (t + k) = omega arith in ap (λ z. take z (x ∷ l)) e ∙ ap (λ (w : List ℕ). x ∷ w) (take-plus t k l))
 
 -- of what is next the first k bytes, and what comes after them
-pub next-front : (k : ℕ) (bytes after due : List ℕ) → bytes ++ after ≡ due → k ≤ length bytes
-    → take k due ≡ take k bytes
-next-front k bytes after due next within = sym (ap (λ (l : List ℕ). take k l) next) ∙ take-append-le k bytes after within
+pub next-front : (k : ℕ) (bytes after expected : List ℕ) → bytes ++ after ≡ expected → k ≤ length bytes
+    → take k expected ≡ take k bytes
+next-front k bytes after expected next within = sym (ap (λ (l : List ℕ). take k l) next) ∙ take-append-le k bytes after within
 
-pub next-rest : (k taken : ℕ) (bytes after due : List ℕ) → bytes ++ after ≡ drop taken due
-    → k ≤ length bytes → drop k bytes ++ after ≡ drop (taken + k) due
-next-rest k taken bytes after due next within = sym (drop-append-le k bytes after within) ∙ (ap (λ (l : List ℕ). drop k l) next ∙ drop-drop k taken due)
+pub next-rest : (k taken : ℕ) (bytes after expected : List ℕ) → bytes ++ after ≡ drop taken expected
+    → k ≤ length bytes → drop k bytes ++ after ≡ drop (taken + k) expected
+next-rest k taken bytes after expected next within = sym (drop-append-le k bytes after within) ∙ (ap (λ (l : List ℕ). drop k l) next ∙ drop-drop k taken expected)
 
 -- where all is taken only what follows is left
 pub none-left : (bytes after : List ℕ) (from len : ℕ) → len ≡ length bytes → nat_lt from len ≡ false

@@ -4,12 +4,12 @@ pub mod OpenDescriptors
 pub mod Peers
 pub mod Others
 pub mod Pasts
-pub mod Due
+pub mod Expected
 pub mod OwnWorkers
 pub mod WorkersRun
 pub mod BlockedClients
 pub mod IdleMoments
 pub mod Rounds
 pub mod FairTurns
-pub mod MildTurns
+pub mod SitePreservingTurns
 pub mod OneAnswer

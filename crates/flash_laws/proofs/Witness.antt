@@ -1,4 +1,5 @@
--- The premises of the law can be met: a small site, a new world with only the server, and a calm run of that world.
+-- The premises of the law can be met: a small site, a new world with only the server, and an undisturbed run of that
+-- world.
 use Rattle.std.proofs.Common.{inl, inr, ◌≡◌, ◌≢◌, ℕ, zero, suc, ◌+◌, ◌≤◌, ◌<◌, ◌⊎◌, List, [], ◌∷◌, length, replicate, ap, refl, sym, subst, arith, Some, true, false, Bool}
 use Rattle.std.specs.Prelude.{codes, bytes_eq, position, option_map, ◌||◌}
 use Rattle.std.proofs.lemmas.Bool.Decides.{nat_tests}
@@ -18,27 +19,27 @@ use Rattle.iol_core.specs.declared.limits.TheConstants.{MAX_FILES, MAX_FILE_BYTE
 use Rattle.iol_core.specs.declared.refusals.Refusal.TheVariants as refusal
 use Rattle.iol_laws.specs.DescriptorNumbers.{DescriptorsComeByReplies, AreLow}
 use Rattle.iol_laws.specs.Order.{IsOrderly, EachStepKeepsOrder}
-use Rattle.iol_proc.specs.Settlement.{Claim}
-use Rattle.iol_proc.specs.Turns.{Account}
+use Rattle.iol_proc.specs.Quiescence.{Claim}
+use Rattle.iol_proc.specs.Turns.{TransitionRelation}
 use Rattle.iol_proc.specs.World.{Stage}
 use Rattle.iol_proc.specs.declared.choice.Choice.{Choice}
 use Rattle.iol_proc.specs.declared.choice.Choice.TheVariants as choice
 use Rattle.iol_proc.specs.declared.process.Turn.TheVariants as turn
-use Rattle.iol_proc.specs.declared.seat.Seat.{Seat}
-use Rattle.flash_cgi.specs.Due.{Made}
+use Rattle.iol_proc.specs.declared.process_slot.ProcessSlot.{ProcessSlot}
+use Rattle.flash_cgi.specs.Expected.{Made}
 use Rattle.flash_cgi.specs.Outcomes.{AreFiles}
 use Rattle.flash_cgi.specs.Output as script
 use Rattle.flash_laws.specs.Answers.{Found, Failed}
 use Rattle.flash_laws.specs.Conn.{most_read}
-use Rattle.flash_laws.specs.declared.phase.Flight.TheVariants.{Accepting}
-use Rattle.flash_laws.specs.Workers.Crew.{Crew, IsFixedFor}
-use Rattle.flash_laws.specs.Workers.Crews.{crew_with, OfSome}
+use Rattle.flash_laws.specs.declared.phase.PendingCall.TheVariants.{Accepting}
+use Rattle.flash_laws.specs.Workers.WorkerSet.{WorkerSet, IsFixedFor}
+use Rattle.flash_laws.specs.Workers.WorkerSets.{worker_set_with, OfSome}
 use Rattle.flash_laws.specs.Serves.{new_server}
-use Rattle.flash_laws.specs.Shelf.{Shelf}
+use Rattle.flash_laws.specs.SiteContents.{SiteContents}
 use Rattle.flash_laws.specs.World.Fair.{no_refusal}
 use Rattle.flash_laws.specs.Site.{server, outcome_in, IsFixed}
-use Rattle.flash_laws.specs.World.Tie.{tells_over, made_over, Actor, Serving}
-use Rattle.flash_laws.specs.World.{IsNew, ARunIsCalm}
+use Rattle.flash_laws.specs.World.Consistency.{reports_over, made_over, Actor, Serving}
+use Rattle.flash_laws.specs.World.{IsNew, ARunIsUndisturbed}
 use Rattle.flash_laws.proofs.Lists.{not-equal}
 
 -- what a call leads to, where it is not refused
@@ -52,7 +53,8 @@ slots = codes "hello" ∷ codes "secret" ∷ replicate MAX_FILES []
 enough : MAX_FILES ≤ length slots
 enough = omega (arith, length-replicate {A = List ℕ} MAX_FILES [])
 
--- Domain 1 is the server and 2 a guest; pool 1 is for both, 2 the net, 4 the guest's own; a file lies in 1, and another in 4.
+-- Domain 1 is the server and 2 a guest; pool 1 is for both, 2 the net, 4 the guest's own; a file lies in 1, and another
+-- in 4.
 abbrev begun : State
 begun = new_state slots
 
@@ -166,17 +168,18 @@ site_files = record {
 }
 
 -- nothing is shown, since no script runs
-abbrev shelf : Shelf
-shelf = record { finds = outcome_in site; shows = λ name. script.Failed refusal.NoFile; scripts = false; refuses = no_refusal }
+abbrev site_contents : SiteContents
+site_contents = record { finds = outcome_in site; shows = λ name. script.Failed refusal.NoFile; scripts = false; refuses = no_refusal }
 
--- A world with the server alone: it is new. A connection comes, and is accepted: this run is calm, and the connection is the net's.
-module _ (orders : EachStepKeepsOrder) (descriptors : DescriptorsComeByReplies) {W : Type 0} (works : Account W) (settled : Claim W)
-    (free : (ℕ → Bool) → State → ℕ → Seat W → Type 0) (due : (ℕ → Bool) → State → ℕ → ℕ → Seat W → Made → List ℕ → Type 0) where
-  -- no workers, and so no desks, and no pools of theirs
-  abbrev alone : Crew
-  alone = crew_with works settled free due 0 (λ k. 0) (λ q. false) (λ q. true)
+-- A world with the server alone: it is new. A connection comes, and is accepted: this run is undisturbed, and the
+-- connection is the net's.
+module _ (orders : EachStepKeepsOrder) (descriptors : DescriptorsComeByReplies) {W : Type 0} (works : TransitionRelation W) (quiescent : Claim W)
+    (free : (ℕ → Bool) → State → ℕ → ProcessSlot W → Type 0) (expected : (ℕ → Bool) → State → ℕ → ℕ → ProcessSlot W → Made → List ℕ → Type 0) where
+  -- no workers, and so no job queues, and no pools of theirs
+  abbrev alone : WorkerSet
+  alone = worker_set_with works quiescent free expected 0 (λ k. 0) (λ q. false) (λ q. true)
 
-  fixed_alone : IsFixedFor shelf alone site
+  fixed_alone : IsFixedFor site_contents alone site
   unfolding domain pool file content with_domain with_content
   fixed_alone = record {
     site = site_fixed;
@@ -193,21 +196,21 @@ module _ (orders : EachStepKeepsOrder) (descriptors : DescriptorsComeByReplies) 
   }
 
   abbrev new_world : Stage State (Actor W)
-  new_world = record { machine = site; seats = record { by = server; process = Serving new_server; last = reply.Done } ∷ []; rough = false }
+  new_world = record { machine = site; process_slots = record { by = server; process = Serving new_server; last = reply.Done } ∷ []; resource_failure = false }
 
-  world_is_new : IsNew shelf alone new_world
+  world_is_new : IsNew site_contents alone new_world
   unfolding conn_at domain with_domain
   world_is_new = record {
     order = over_steps IsOrderly orders.step (orders.new slots);
     fixed = fixed_alone;
     workers = [];
-    seats = refl;
-    desks = record {
-      seated = λ k lt. absurd (omega (arith, lt));
-      by = λ k seat is. absurd (cc (is));
-      desks = λ k lt. absurd (omega (arith, lt));
+    process_slots = refl;
+    job_queues = record {
+      in_slots = λ k lt. absurd (omega (arith, lt));
+      by = λ k process_slot is. absurd (cc (is));
+      job_queues = λ k lt. absurd (omega (arith, lt));
     };
-    free = λ k seat is. absurd (cc (is));
+    free = λ k process_slot is. absurd (cc (is));
     no_aggs = λ a. refl;
     no_conns = λ c. refl;
   }
@@ -218,8 +221,8 @@ module _ (orders : EachStepKeepsOrder) (descriptors : DescriptorsComeByReplies) 
   abbrev accepted_1 : Stage State (Actor W)
   accepted_1 = record {
     machine = then_on (then_on site (event.ConnNew 2)) (event.Call 1 call.Accept);
-    seats = record { by = server; process = Serving (record { clients = []; flight = Accepting; workers = 0 }); last = reply.Fd 0 } ∷ [];
-    rough = false;
+    process_slots = record { by = server; process = Serving (record { clients = []; pending_call = Accepting; workers = 0 }); last = reply.Fd 0 } ∷ [];
+    resource_failure = false;
   }
 
   abbrev choices : List Choice
@@ -228,10 +231,10 @@ module _ (orders : EachStepKeepsOrder) (descriptors : DescriptorsComeByReplies) 
   abbrev replies : List Reply
   replies = reply.Conn 1 ∷ reply.Fd 0 ∷ []
 
-  run_is_calm : ARunIsCalm alone
-  unfolding domain pool file content with_domain with_conn with_content conn_at tells_over made_over
-  run_is_calm = record {
-    shelf = shelf;
+  run_is_undisturbed : ARunIsUndisturbed alone
+  unfolding domain pool file content with_domain with_conn with_content conn_at reports_over made_over
+  run_is_undisturbed = record {
+    site_contents = site_contents;
     first = new_world;
     after = accepted_1;
     choices = choices;
@@ -239,17 +242,17 @@ module _ (orders : EachStepKeepsOrder) (descriptors : DescriptorsComeByReplies) 
     is_new = world_is_new;
     run = (
       with_conn_1,
-      record { step = (refl, refl, refl); seats_stay = refl; rough_stays = refl },
+      record { step = (refl, refl, refl); process_slots_stay = refl; resource_failure_stays = refl },
       (
         accepted_1,
         inr (record {
           place = 0;
           yields = false;
           turn = record {
-            seat = record { by = server; process = Serving new_server; last = reply.Done };
-            next = record { by = server; process = Serving (record { clients = []; flight = Accepting; workers = 0 }); last = reply.Fd 0 };
+            process_slot = record { by = server; process = Serving new_server; last = reply.Done };
+            next = record { by = server; process = Serving (record { clients = []; pending_call = Accepting; workers = 0 }); last = reply.Fd 0 };
             sits = refl;
-            turn = inr (record { turn = turn.Make call.Accept; goes_on = (refl, (refl, refl), refl); comes = (refl, (refl, refl, refl)); told = refl; domain_stays = refl });
+            turn = inr (record { turn = turn.Make call.Accept; proceeds = (refl, (refl, refl), refl); comes = (refl, (refl, refl, refl)); after_reply = refl; domain_stays = refl });
             others_stay = refl;
             notes = refl;
           };
@@ -258,20 +261,20 @@ module _ (orders : EachStepKeepsOrder) (descriptors : DescriptorsComeByReplies) 
         refl,
       ),
     );
-    mild = (tt, (tt, tt));
-    smooth = (refl, tt);
+    site_preserving = (tt, (tt, tt));
+    failure_free = (refl, tt);
     conn = 1;
     comes = refl;
     taken = refl;
     open_yet = refl;
   }
 
-  pub some_run_is_calm : OfSome works settled free due ARunIsCalm
-  some_run_is_calm = record {
+  pub some_run_is_undisturbed : OfSome works quiescent free expected ARunIsUndisturbed
+  some_run_is_undisturbed = record {
     count = 0;
-    desk = λ k. 0;
+    job_queue = λ k. 0;
     pools = λ q. false;
     jobs = λ q. true;
     apart = λ k l lt lt_l same. absurd (omega (arith, lt));
-    holds = run_is_calm;
+    holds = run_is_undisturbed;
   }

@@ -1,11 +1,11 @@
 pub mod AllLaws
 pub mod Responses
-pub mod Desk
-pub mod TieGoes
+pub mod JobQueue
+pub mod ConsistencyGoes
 pub mod ClientFrame
 pub mod Alone
 pub mod OwnAlone
-pub mod RunTie
+pub mod RunConsistency
 pub mod OwnRun
 pub mod TurnLeaves
 pub mod WorkerTurn

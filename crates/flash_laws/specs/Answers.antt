@@ -1,5 +1,5 @@
--- The answer to a stream: the responses to its requests, in order, up to the first after which the connection closes (RFC 9112,
--- sections 9.3.2 and 9.6).
+-- The answer to a stream: the responses to its requests, in order, up to the first after which the connection closes
+-- (RFC 9112, sections 9.3.2 and 9.6).
 pub mod Scripts
 use Rattle.std.specs.Prelude.{◌≡◌, ℕ, ◌+◌, Bool, true, false, not, ◌&&◌, List, [], ◌∷◌, ◌++◌, length, take, drop, slice_range}
 use Rattle.flash_http.specs.declared.windows.Window.{Window}
@@ -59,16 +59,16 @@ response (serve w) (Failed status) = error_text status w.head_only (not w.keep)
 response (refuse status head_only close) outcome = error_text status head_only close
 
 -- the files of a site by name: the outcome of each name, while no file and no pool's list changes
-abbrev pub Shelf : Type 0
-Shelf = List ℕ → Outcome
+abbrev pub SiteContents : Type 0
+SiteContents = List ℕ → Outcome
 
-abbrev pub outcome_of : Shelf → Answer → Outcome
-outcome_of shelf (serve w) = shelf w.name
-outcome_of shelf (refuse status head_only close) = Failed status
+abbrev pub outcome_of : SiteContents → Answer → Outcome
+outcome_of site_contents (serve w) = site_contents w.name
+outcome_of site_contents (refuse status head_only close) = Failed status
 
--- the response that is due to a request, for these files
-abbrev pub due_to : Shelf → Answer → List ℕ
-due_to shelf q = response q (outcome_of shelf q)
+-- the response that is expected to a request, for these files
+abbrev pub expected_to : SiteContents → Answer → List ℕ
+expected_to site_contents q = response q (outcome_of site_contents q)
 
 -- ---- the requests of a stream
 

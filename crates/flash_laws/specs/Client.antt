@@ -1,7 +1,7 @@
 -- One client of the server: its connection, and the script that runs for the request in progress.
 --
--- A server with workers answers a request for a name that ends in `.cgi` by the output of the script. The script is opened and
--- read like any file; then its run has the connection until all is sent.
+-- A server with workers answers a request for a name that ends in `.cgi` by the output of the script. The script is
+-- opened and read like any file; then its run has the connection until all is sent.
 pub mod ResponseState
 pub mod Fits
 pub mod OfferedBytes
@@ -22,10 +22,10 @@ use Rattle.flash_laws.specs.Conn.Policy as policy
 use Rattle.flash_laws.specs.Run as running
 use Rattle.flash_laws.specs.Run.{is_over}
 use Rattle.flash_laws.specs.Site.OtherConns.{left_by}
-use Rattle.flash_laws.specs.declared.phase.Learnt.TheVariants.{Text}
-use Rattle.flash_laws.specs.declared.phase.Content.TheVariants.{Script}
-use Rattle.flash_laws.specs.declared.phase.Doing.{Doing}
-use Rattle.flash_laws.specs.declared.phase.Doing.TheVariants as doing
+use Rattle.flash_laws.specs.declared.phase.FileResult.TheVariants.{Text}
+use Rattle.flash_laws.specs.declared.phase.Payload.TheVariants.{Script}
+use Rattle.flash_laws.specs.declared.phase.Phase.{Phase}
+use Rattle.flash_laws.specs.declared.phase.Phase.TheVariants as phase
 use Rattle.flash_laws.specs.declared.script_run.Step.TheVariants.{Gives, Makes}
 use Rattle.flash_laws.specs.declared.script_run.Running.{Running}
 use Rattle.flash_laws.specs.declared.script_run.Running.TheVariants.{Awaits, Runs, Leaves}
@@ -47,14 +47,14 @@ abbrev pub uses_agg : Client → (a : ℕ) → Bool
 uses_agg x a = by x.run
   where
     by : Option Running → Bool
-    by None = conn.uses_agg x.conn.doing a
+    by None = conn.uses_agg x.conn.phase a
     by (Some y) = running.uses_agg y a
 
 abbrev pub uses_fd : Client → (g : ℕ) → Bool
 uses_fd x g = by x.run
   where
     by : Option Running → Bool
-    by None = conn.uses_fd x.conn.doing g
+    by None = conn.uses_fd x.conn.phase g
     by (Some y) = running.uses_fd y g
 
 -- ---- its next call
@@ -66,10 +66,10 @@ is_for_script scripts (refuse status head_only close) = false
 
 -- a script is read whole, also for HEAD
 abbrev pub script_wants : (fd : ℕ) → Conn → Call
-script_wants fd x = by x.doing
+script_wants fd x = by x.phase
   where
-    by : Doing → Call
-    by (doing.Reads f) = call.IolRead f most_read
+    by : Phase → Call
+    by (phase.Reads f) = call.IolRead f most_read
     by d = conn.wants fd x
 
 abbrev pub conn_wants : (script : Bool) → (fd : ℕ) → Conn → Call
@@ -109,52 +109,52 @@ IsAwaiting x = by x.run
     by None = conn.IsAwaiting x.conn
     by (Some y) = Unit {0}
 
--- ---- its state after the reply to its call; `heard` is the contents of the aggregate in the reply
+-- ---- its state after the reply to its call; `received` is the contents of the aggregate in the reply
 
 -- whether a text is a script
 abbrev pub can_run : List ℕ → Bool
 can_run text = is_some (script_of text)
 
-abbrev pub told_text : (file : ℕ) → Reply → (heard : List ℕ) → Doing
-told_text f (reply.Agg n) heard = doing.Shuts f (Text n (can_run heard))
-told_text f r heard = conn.told_reads f r heard
+abbrev pub after_text : (file : ℕ) → Reply → (received : List ℕ) → Phase
+after_text f (reply.Agg n) received = phase.Shuts f (Text n (can_run received))
+after_text f r received = conn.after_read f r received
 
 -- the text that is kept: that of a script that will run
 abbrev pub kept_if : (head_only runs : Bool) → List ℕ → List ℕ
 kept_if false true text = text
 kept_if head_only runs text = []
 
-abbrev pub kept_text : (head_only : Bool) → (was : List ℕ) → Reply → (heard : List ℕ) → List ℕ
-kept_text head_only was (reply.Agg n) heard = kept_if head_only (can_run heard) heard
-kept_text head_only was r heard = was
+abbrev pub kept_text : (head_only : Bool) → (was : List ℕ) → Reply → (received : List ℕ) → List ℕ
+kept_text head_only was (reply.Agg n) received = kept_if head_only (can_run received) received
+kept_text head_only was r received = was
 
 -- the aggregate of the script is dropped: the run begins, unless the request is HEAD
-abbrev pub told_spares : (head_only : Bool) → Reply → Option Running
-told_spares false reply.Done = Some Awaits
-told_spares head_only r = None
+abbrev pub after_drop_whole : (head_only : Bool) → Reply → Option Running
+after_drop_whole false reply.Done = Some Awaits
+after_drop_whole head_only r = None
 
-abbrev pub conn_told : Client → Reply → (heard : List ℕ) → Client
-conn_told x r heard = record { conn = conn.told x.conn r heard; run = None; script = x.script }
+abbrev pub conn_after_reply : Client → Reply → (received : List ℕ) → Client
+conn_after_reply x r received = record { conn = conn.after_reply x.conn r received; run = None; script = x.script }
 
-abbrev pub script_told : Client → Reply → (heard : List ℕ) → Client
-script_told x r heard = by x.conn.doing
+abbrev pub script_after_reply : Client → Reply → (received : List ℕ) → Client
+script_after_reply x r received = by x.conn.phase
   where
-    by : Doing → Client
-    by (doing.Reads f) = record {
-      conn = record x.conn { doing = told_text f r heard };
+    by : Phase → Client
+    by (phase.Reads f) = record {
+      conn = record x.conn { phase = after_text f r received };
       run = None;
-      script = kept_text (is_head_only x.conn.q) x.script r heard;
+      script = kept_text (is_head_only x.conn.q) x.script r received;
     }
-    by (doing.Spares a Script) = record {
-      conn = conn.told x.conn r heard;
-      run = told_spares (is_head_only x.conn.q) r;
+    by (phase.Spares a Script) = record {
+      conn = conn.after_reply x.conn r received;
+      run = after_drop_whole (is_head_only x.conn.q) r;
       script = x.script;
     }
-    by d = conn_told x r heard
+    by d = conn_after_reply x r received
 
-abbrev pub file_told : (script : Bool) → Client → Reply → (heard : List ℕ) → Client
-file_told false x r heard = conn_told x r heard
-file_told true x r heard = script_told x r heard
+abbrev pub file_after_reply : (script : Bool) → Client → Reply → (received : List ℕ) → Client
+file_after_reply false x r received = conn_after_reply x r received
+file_after_reply true x r received = script_after_reply x r received
 
 -- whether the job is still to be made
 abbrev pub keeps_text : Running → Bool
@@ -169,36 +169,36 @@ text_on true false text = []
 text_on was now text = text
 
 -- the phase of the connection once the run is over
-abbrev pub after_run : Running → Doing
+abbrev pub after_run : Running → Phase
 after_run (Leaves d) = d
-after_run y = doing.Closes
+after_run y = phase.Closes
 
 -- the run advances from y to z, or is over with it
-abbrev pub goes_on : (was over : Bool) → Client → (y z : Running) → Client
-goes_on false true x y z = record { conn = record x.conn { doing = after_run z }; run = None; script = [] }
-goes_on was over x y z = record { conn = x.conn; run = Some z; script = text_on (keeps_text y) (keeps_text z) x.script }
+abbrev pub proceeds : (was over : Bool) → Client → (y z : Running) → Client
+proceeds false true x y z = record { conn = record x.conn { phase = after_run z }; run = None; script = [] }
+proceeds was over x y z = record { conn = x.conn; run = Some z; script = text_on (keeps_text y) (keeps_text z) x.script }
 
 abbrev pub run_on : Client → (y z : Running) → Client
-run_on x y z = goes_on (is_over y) (is_over z) x y z
+run_on x y z = proceeds (is_over y) (is_over z) x y z
 
-abbrev pub run_told : (worker : ℕ) → Answer → Client → Running → Reply → (heard : List ℕ) → Client
-run_told worker (serve w) x y r heard = run_on x y (running.told worker w y r heard)
-run_told worker (refuse status head_only close) x y r heard = x
+abbrev pub run_after_reply : (worker : ℕ) → Answer → Client → Running → Reply → (received : List ℕ) → Client
+run_after_reply worker (serve w) x y r received = run_on x y (running.after_reply worker w y r received)
+run_after_reply worker (refuse status head_only close) x y r received = x
 
 -- Its state after the reply to its call; `worker` is a free worker.
-abbrev pub told : (scripts : Bool) → (worker : ℕ) → Client → Reply → (heard : List ℕ) → Client
-told scripts worker x r heard = by x.run
+abbrev pub after_reply : (scripts : Bool) → (worker : ℕ) → Client → Reply → (received : List ℕ) → Client
+after_reply scripts worker x r received = by x.run
   where
     by : Option Running → Client
-    by None = file_told (is_for_script scripts x.conn.q) x r heard
-    by (Some y) = run_told worker x.conn.q x y r heard
+    by None = file_after_reply (is_for_script scripts x.conn.q) x r received
+    by (Some y) = run_after_reply worker x.conn.q x y r received
 
 -- a client that is over is removed
 abbrev pub left_over : Client → Option Client
 left_over x = by x.run
   where
     by : Option Running → Option Client
-    by None = left_by x.conn.doing x
+    by None = left_by x.conn.phase x
     by (Some y) = Some x
 
 -- ---- its turns
@@ -226,5 +226,5 @@ has_answered x = by x.run
   where
     by : Option Running → Bool
     by None = policy.has_answered x.conn
-    by (Some (Leaves d)) = policy.has_answered (record x.conn { doing = d })
+    by (Some (Leaves d)) = policy.has_answered (record x.conn { phase = d })
     by (Some y) = false

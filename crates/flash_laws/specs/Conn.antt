@@ -21,12 +21,12 @@ use Rattle.flash_http.specs.declared.ranges.Selection.TheVariants.{Whole, Bytes,
 use Rattle.flash_http.specs.Window.{window_in}
 use Rattle.flash_http.specs.Range.{selected}
 use Rattle.flash_http.specs.Request.{Answer, serve, refuse}
-use Rattle.flash_laws.specs.declared.phase.Learnt.{Learnt}
-use Rattle.flash_laws.specs.declared.phase.Learnt.TheVariants.{File, Length, Fails, Text}
-use Rattle.flash_laws.specs.declared.phase.Content.{Content}
-use Rattle.flash_laws.specs.declared.phase.Content.TheVariants.{Body, Bare, Error, Script}
-use Rattle.flash_laws.specs.declared.phase.Doing.{Doing}
-use Rattle.flash_laws.specs.declared.phase.Doing.TheVariants.{Rests, Got, Opens, Reads, Shuts, Picks, Spares, Heads, Joins, Sends, Cuts, Offers, Swaps, Sent, Breaks, Drops, Closes, Over}
+use Rattle.flash_laws.specs.declared.phase.FileResult.{FileResult}
+use Rattle.flash_laws.specs.declared.phase.FileResult.TheVariants.{File, Length, Fails, Text}
+use Rattle.flash_laws.specs.declared.phase.Payload.{Payload}
+use Rattle.flash_laws.specs.declared.phase.Payload.TheVariants.{Body, Bare, Error, Script}
+use Rattle.flash_laws.specs.declared.phase.Phase.{Phase}
+use Rattle.flash_laws.specs.declared.phase.Phase.TheVariants.{Rests, Got, Opens, Reads, Shuts, Picks, Spares, Heads, Joins, Sends, Cuts, Offers, Swaps, Sent, Breaks, Drops, Closes, Over}
 use Rattle.flash_laws.specs.Answers.{keeps, body_unless, file_text, script_text, error_text, unsatisfiable, Next}
 
 -- the aggregate to be sent after the current one, with its length
@@ -38,11 +38,11 @@ pub record Conn : Type 0 where
   pub kept : List ℕ
   -- the request in progress, or the last one
   pub q : Answer
-  pub doing : Doing
+  pub phase : Phase
 
 -- a newly accepted connection; `q` is no request until one begins
 abbrev pub new_connection : Conn
-new_connection = record { kept = []; q = refuse 431 false true; doing = Rests }
+new_connection = record { kept = []; q = refuse 431 false true; phase = Rests }
 
 -- ---- the aggregates and the file descriptor that it has
 
@@ -50,18 +50,18 @@ abbrev pub has_followed : Following → (a : ℕ) → Bool
 has_followed None a = false
 has_followed (Some x) a = x.0 == a
 
-abbrev pub learnt_agg : Learnt → (a : ℕ) → Bool
-learnt_agg (File b len) a = b == a
-learnt_agg (Text b runs) a = b == a
-learnt_agg k a = false
+abbrev pub file_result_agg : FileResult → (a : ℕ) → Bool
+file_result_agg (File b len) a = b == a
+file_result_agg (Text b runs) a = b == a
+file_result_agg k a = false
 
-abbrev pub content_agg : Content → (a : ℕ) → Bool
+abbrev pub content_agg : Payload → (a : ℕ) → Bool
 content_agg (Body b size len) a = b == a
 content_agg k a = false
 
-abbrev pub uses_agg : Doing → (a : ℕ) → Bool
+abbrev pub uses_agg : Phase → (a : ℕ) → Bool
 uses_agg (Got b) a = b == a
-uses_agg (Shuts g k) a = learnt_agg k a
+uses_agg (Shuts g k) a = file_result_agg k a
 uses_agg (Picks b first last len) a = b == a
 uses_agg (Spares b k) a = (b == a) || content_agg k a
 uses_agg (Heads k) a = content_agg k a
@@ -75,7 +75,7 @@ uses_agg (Breaks piece b more) a = (piece == a) || ((b == a) || has_followed mor
 uses_agg (Drops b more) a = (b == a) || has_followed more a
 uses_agg d a = false
 
-abbrev pub uses_fd : Doing → (g : ℕ) → Bool
+abbrev pub uses_fd : Phase → (g : ℕ) → Bool
 uses_fd (Reads f) g = f == g
 uses_fd (Shuts f k) g = f == g
 uses_fd d g = false
@@ -103,7 +103,7 @@ abbrev pub count_of : List ℕ → ℕ
 count_of bytes = min (length bytes) 4294967295
 
 -- the new bytes of a response: the head, and the body if no aggregate has it
-abbrev pub text_of : Answer → Content → List ℕ
+abbrev pub text_of : Answer → Payload → List ℕ
 text_of (serve w) (Body agg size len) = file_text w len
 text_of (serve w) (Bare len) = file_text w len ++ body_unless w.head_only unsatisfiable
 text_of (serve w) (Error status) = error_text status w.head_only (not w.keep)
@@ -116,9 +116,9 @@ piece_end from len = min (from + MAX_QUEUE_BYTES) len
 
 -- its next call; fd is its descriptor
 abbrev pub wants : (fd : ℕ) → Conn → Call
-wants fd x = by x.doing
+wants fd x = by x.phase
   where
-    by : Doing → Call
+    by : Phase → Call
     by Rests = call.IolRead fd (most_kept - length x.kept)
     by (Got a) = call.AggDrop a
     by Opens = call.OpenFile (name_of x.q) modes.Read
@@ -140,7 +140,7 @@ wants fd x = by x.doing
 
 -- ---- the beginning of a response
 
-abbrev pub begins : Answer → Doing
+abbrev pub begins : Answer → Phase
 begins (serve w) = Opens
 begins (refuse status head_only close) = Heads (Error status)
 
@@ -149,24 +149,24 @@ abbrev pub Starts : Conn → Conn → Type 0
 Starts x y =
     ((window_in x.kept ≡ Wait) × (y ≡ x))
     ⊎ ((q : Answer) × (rest : List ℕ) × Next x.kept q rest
-    × (y ≡ record { kept = rest; q = q; doing = begins q }))
+    × (y ≡ record { kept = rest; q = q; phase = begins q }))
 
 abbrev pub Readies : Conn → Conn → Type 0
-Readies x y = by x.doing
+Readies x y = by x.phase
   where
-    by : Doing → Type 0
+    by : Phase → Type 0
     by Rests = Starts x y
     by d = y ≡ x
 
 -- whether a reading connection has no request that could begin
 abbrev pub IsAwaiting : Conn → Type 0
-IsAwaiting x = by x.doing
+IsAwaiting x = by x.phase
   where
-    by : Doing → Type 0
+    by : Phase → Type 0
     by Rests = window_in x.kept ≡ Wait
     by d = Unit {0}
 
--- ---- its state after the reply to its call; `heard` is the contents of the aggregate in the reply
+-- ---- its state after the reply to its call; `received` is the contents of the aggregate in the reply
 
 -- the status of a response if opening or reading was refused
 abbrev pub status_of : Refusal → ℕ
@@ -175,142 +175,142 @@ status_of (no.Denied p) = 403
 status_of (no.Fault f) = 500
 status_of x = 503
 
-abbrev pub told_rests : List ℕ → Answer → Reply → (heard : List ℕ) → Conn
-told_rests kept q (reply.Agg n) [] = record { kept = kept; q = q; doing = Drops n None }
-told_rests kept q (reply.Agg n) (b ∷ heard) = record { kept = kept ++ (b ∷ heard); q = q; doing = Got n }
-told_rests kept q r heard = record { kept = kept; q = q; doing = Rests }
+abbrev pub after_receive : List ℕ → Answer → Reply → (received : List ℕ) → Conn
+after_receive kept q (reply.Agg n) [] = record { kept = kept; q = q; phase = Drops n None }
+after_receive kept q (reply.Agg n) (b ∷ received) = record { kept = kept ++ (b ∷ received); q = q; phase = Got n }
+after_receive kept q r received = record { kept = kept; q = q; phase = Rests }
 
-abbrev pub told_opens : Reply → Doing
-told_opens (reply.Fd f) = Reads f
-told_opens (reply.Refused no.WouldBlock) = Opens
-told_opens (reply.Refused x) = Heads (Error (status_of x))
-told_opens r = Opens
+abbrev pub after_open : Reply → Phase
+after_open (reply.Fd f) = Reads f
+after_open (reply.Refused no.WouldBlock) = Opens
+after_open (reply.Refused x) = Heads (Error (status_of x))
+after_open r = Opens
 
-abbrev pub told_reads : (file : ℕ) → Reply → (heard : List ℕ) → Doing
-told_reads f (reply.Agg n) heard = Shuts f (File n (count_of heard))
-told_reads f (reply.Count n) heard = Shuts f (Length n)
-told_reads f (reply.Refused no.WouldBlock) heard = Reads f
-told_reads f (reply.Refused x) heard = Shuts f (Fails (status_of x))
-told_reads f r heard = Reads f
+abbrev pub after_read : (file : ℕ) → Reply → (received : List ℕ) → Phase
+after_read f (reply.Agg n) received = Shuts f (File n (count_of received))
+after_read f (reply.Count n) received = Shuts f (Length n)
+after_read f (reply.Refused no.WouldBlock) received = Reads f
+after_read f (reply.Refused x) received = Shuts f (Fails (status_of x))
+after_read f r received = Reads f
 
 -- the phase that sends the selected part of a file that was read
-abbrev pub sends_of : Selection → (agg len : ℕ) → Doing
+abbrev pub sends_of : Selection → (agg len : ℕ) → Phase
 sends_of Whole a len = Heads (Body a len len)
 sends_of (Bytes first last) a len = Picks a first (last + 1) len
 sends_of Unsatisfiable a len = Spares a (Bare len)
 
 -- a text that is no script cannot run
-abbrev pub put_out : (runs : Bool) → Content
+abbrev pub put_out : (runs : Bool) → Payload
 put_out true = Script
 put_out false = Error 500
 
-abbrev pub settled : Answer → Learnt → Doing
-settled (serve w) (File a len) = sends_of (selected w.range len) a len
-settled (refuse status head_only close) (File a len) = Heads (Body a len len)
-settled q (Length len) = Heads (Bare len)
-settled q (Fails status) = Heads (Error status)
-settled q (Text a runs) = Spares a (put_out runs)
+abbrev pub resolved : Answer → FileResult → Phase
+resolved (serve w) (File a len) = sends_of (selected w.range len) a len
+resolved (refuse status head_only close) (File a len) = Heads (Body a len len)
+resolved q (Length len) = Heads (Bare len)
+resolved q (Fails status) = Heads (Error status)
+resolved q (Text a runs) = Spares a (put_out runs)
 
-abbrev pub told_shuts : Answer → (file : ℕ) → Learnt → Reply → Doing
-told_shuts q f k reply.Done = settled q k
-told_shuts q f k r = Shuts f k
+abbrev pub after_close_file : Answer → (file : ℕ) → FileResult → Reply → Phase
+after_close_file q f k reply.Done = resolved q k
+after_close_file q f k r = Shuts f k
 
-abbrev pub told_picks : (agg from to len : ℕ) → Reply → Doing
-told_picks a from to len (reply.Agg n) = Spares a (Body n (to - from) len)
-told_picks a from to len r = Picks a from to len
+abbrev pub after_slice : (agg from to len : ℕ) → Reply → Phase
+after_slice a from to len (reply.Agg n) = Spares a (Body n (to - from) len)
+after_slice a from to len r = Picks a from to len
 
-abbrev pub told_spares : (agg : ℕ) → Content → Reply → Doing
-told_spares a k reply.Done = Heads k
-told_spares a k r = Spares a k
+abbrev pub after_drop_whole : (agg : ℕ) → Payload → Reply → Phase
+after_drop_whole a k reply.Done = Heads k
+after_drop_whole a k r = Spares a k
 
-abbrev pub following : Content → Following
+abbrev pub following : Payload → Following
 following (Body b size len) = Some (b, size)
 following k = None
 
 -- a head of head bytes is joined with its body, if both fit into an aggregate
-abbrev pub headed : (head size : ℕ) → Following → Doing
+abbrev pub headed : (head size : ℕ) → Following → Phase
 headed a size None = Sends a size 0 None
 headed a size (Some x) = if nat_le (size + x.1) MAX_AGGREGATE_BYTES then Joins a size x.0 x.1 else Sends a size 0 (Some x)
 
-abbrev pub told_heads : Content → Reply → (heard : List ℕ) → Doing
-told_heads k (reply.Agg n) heard = headed n (count_of heard) (following k)
-told_heads k r heard = Heads k
+abbrev pub after_head : Payload → Reply → (received : List ℕ) → Phase
+after_head k (reply.Agg n) received = headed n (count_of received) (following k)
+after_head k r received = Heads k
 
-abbrev pub told_joins : (head size body len : ℕ) → Reply → Doing
-told_joins a size body len (reply.Agg n) = Sends n (size + len) 0 None
-told_joins a size body len r = Joins a size body len
+abbrev pub after_join : (head size body len : ℕ) → Reply → Phase
+after_join a size body len (reply.Agg n) = Sends n (size + len) 0 None
+after_join a size body len r = Joins a size body len
 
 -- all is taken, or the rest is sent in pieces
-abbrev pub told_sends : (agg len taken : ℕ) → Following → Reply → Doing
-told_sends a len taken more (reply.Count n) = if nat_lt n len then Cuts a n len (taken + n) more else Sent a (taken + len) more
-told_sends a len taken more (reply.Refused no.BrokenPipe) = Drops a more
-told_sends a len taken more r = Sends a len taken more
+abbrev pub after_send : (agg len taken : ℕ) → Following → Reply → Phase
+after_send a len taken more (reply.Count n) = if nat_lt n len then Cuts a n len (taken + n) more else Sent a (taken + len) more
+after_send a len taken more (reply.Refused no.BrokenPipe) = Drops a more
+after_send a len taken more r = Sends a len taken more
 
-abbrev pub told_cuts : (agg from len taken : ℕ) → Following → Reply → Doing
-told_cuts a from len taken more (reply.Agg n) = Offers a from len n taken more
-told_cuts a from len taken more r = Cuts a from len taken more
+abbrev pub after_cut : (agg from len taken : ℕ) → Following → Reply → Phase
+after_cut a from len taken more (reply.Agg n) = Offers a from len n taken more
+after_cut a from len taken more r = Cuts a from len taken more
 
 -- count more bytes are taken
-abbrev pub moved_on : (agg from len piece taken : ℕ) → Following → (count : ℕ) → Doing
+abbrev pub moved_on : (agg from len piece taken : ℕ) → Following → (count : ℕ) → Phase
 moved_on a from len piece taken more count = Swaps a (from + count) len piece (taken + count) more
 
-abbrev pub told_offers : (agg from len piece taken : ℕ) → Following → Reply → Doing
-told_offers a from len piece taken more (reply.Count n) = moved_on a from len piece taken more (min n (len - from))
-told_offers a from len piece taken more (reply.Refused no.BrokenPipe) = Breaks piece a more
-told_offers a from len piece taken more r = Offers a from len piece taken more
+abbrev pub after_offer : (agg from len piece taken : ℕ) → Following → Reply → Phase
+after_offer a from len piece taken more (reply.Count n) = moved_on a from len piece taken more (min n (len - from))
+after_offer a from len piece taken more (reply.Refused no.BrokenPipe) = Breaks piece a more
+after_offer a from len piece taken more r = Offers a from len piece taken more
 
-abbrev pub told_swaps : (agg from len piece taken : ℕ) → Following → Reply → Doing
-told_swaps a from len piece taken more reply.Done = if nat_lt from len then Cuts a from len taken more else Sent a taken more
-told_swaps a from len piece taken more r = Swaps a from len piece taken more
+abbrev pub after_swap : (agg from len piece taken : ℕ) → Following → Reply → Phase
+after_swap a from len piece taken more reply.Done = if nat_lt from len then Cuts a from len taken more else Sent a taken more
+after_swap a from len piece taken more r = Swaps a from len piece taken more
 
 -- the aggregate after it, or the end of the response
-abbrev pub goes_on : Answer → (taken : ℕ) → Following → Doing
-goes_on q taken (Some x) = Sends x.0 x.1 taken None
-goes_on q taken None = if keeps q then Rests else Closes
+abbrev pub proceeds : Answer → (taken : ℕ) → Following → Phase
+proceeds q taken (Some x) = Sends x.0 x.1 taken None
+proceeds q taken None = if keeps q then Rests else Closes
 
-abbrev pub told_sent : Answer → (agg taken : ℕ) → Following → Reply → Doing
-told_sent q a taken more reply.Done = goes_on q taken more
-told_sent q a taken more r = Sent a taken more
+abbrev pub after_taken : Answer → (agg taken : ℕ) → Following → Reply → Phase
+after_taken q a taken more reply.Done = proceeds q taken more
+after_taken q a taken more r = Sent a taken more
 
-abbrev pub told_breaks : (piece agg : ℕ) → Following → Reply → Doing
-told_breaks piece a more reply.Done = Drops a more
-told_breaks piece a more r = Breaks piece a more
+abbrev pub after_break : (piece agg : ℕ) → Following → Reply → Phase
+after_break piece a more reply.Done = Drops a more
+after_break piece a more r = Breaks piece a more
 
-abbrev pub drops_next : Following → Doing
+abbrev pub drops_next : Following → Phase
 drops_next (Some x) = Drops x.0 None
 drops_next None = Closes
 
-abbrev pub told_drops : (agg : ℕ) → Following → Reply → Doing
-told_drops a more reply.Done = drops_next more
-told_drops a more r = Drops a more
+abbrev pub after_drop : (agg : ℕ) → Following → Reply → Phase
+after_drop a more reply.Done = drops_next more
+after_drop a more r = Drops a more
 
-abbrev pub told_got : (agg : ℕ) → Reply → Doing
-told_got a reply.Done = Rests
-told_got a r = Got a
+abbrev pub after_discard : (agg : ℕ) → Reply → Phase
+after_discard a reply.Done = Rests
+after_discard a r = Got a
 
-abbrev pub told_closes : Reply → Doing
-told_closes reply.Done = Over
-told_closes r = Closes
+abbrev pub after_disconnect : Reply → Phase
+after_disconnect reply.Done = Over
+after_disconnect r = Closes
 
-abbrev pub told : Conn → Reply → (heard : List ℕ) → Conn
-told x r heard = by x.doing
+abbrev pub after_reply : Conn → Reply → (received : List ℕ) → Conn
+after_reply x r received = by x.phase
   where
-    by : Doing → Conn
-    by Rests = told_rests x.kept x.q r heard
-    by (Got a) = record x { doing = told_got a r }
-    by Opens = record x { doing = told_opens r }
-    by (Reads f) = record x { doing = told_reads f r heard }
-    by (Shuts f k) = record x { doing = told_shuts x.q f k r }
-    by (Picks a from to len) = record x { doing = told_picks a from to len r }
-    by (Spares a k) = record x { doing = told_spares a k r }
-    by (Heads k) = record x { doing = told_heads k r heard }
-    by (Joins a size body len) = record x { doing = told_joins a size body len r }
-    by (Sends a len taken more) = record x { doing = told_sends a len taken more r }
-    by (Cuts a from len taken more) = record x { doing = told_cuts a from len taken more r }
-    by (Offers a from len piece taken more) = record x { doing = told_offers a from len piece taken more r }
-    by (Swaps a from len piece taken more) = record x { doing = told_swaps a from len piece taken more r }
-    by (Sent a taken more) = record x { doing = told_sent x.q a taken more r }
-    by (Breaks piece a more) = record x { doing = told_breaks piece a more r }
-    by (Drops a more) = record x { doing = told_drops a more r }
-    by Closes = record x { doing = told_closes r }
+    by : Phase → Conn
+    by Rests = after_receive x.kept x.q r received
+    by (Got a) = record x { phase = after_discard a r }
+    by Opens = record x { phase = after_open r }
+    by (Reads f) = record x { phase = after_read f r received }
+    by (Shuts f k) = record x { phase = after_close_file x.q f k r }
+    by (Picks a from to len) = record x { phase = after_slice a from to len r }
+    by (Spares a k) = record x { phase = after_drop_whole a k r }
+    by (Heads k) = record x { phase = after_head k r received }
+    by (Joins a size body len) = record x { phase = after_join a size body len r }
+    by (Sends a len taken more) = record x { phase = after_send a len taken more r }
+    by (Cuts a from len taken more) = record x { phase = after_cut a from len taken more r }
+    by (Offers a from len piece taken more) = record x { phase = after_offer a from len piece taken more r }
+    by (Swaps a from len piece taken more) = record x { phase = after_swap a from len piece taken more r }
+    by (Sent a taken more) = record x { phase = after_taken x.q a taken more r }
+    by (Breaks piece a more) = record x { phase = after_break piece a more r }
+    by (Drops a more) = record x { phase = after_drop a more r }
+    by Closes = record x { phase = after_disconnect r }
     by Over = x

@@ -2,7 +2,7 @@ pub mod Answers
 pub mod Conn
 pub mod Run
 pub mod Client
-pub mod Shelf
+pub mod SiteContents
 pub mod Site
 pub mod Serves
 pub mod Workers

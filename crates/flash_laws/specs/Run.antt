@@ -1,7 +1,7 @@
 -- The run of a script by itself: what it uses, its next call, and its state after the reply.
 --
--- It begins once the text of the script is read, and answers a request that is served and is not HEAD. `job` is the text of the
--- job, which names the worker's descriptor of the pipe's write end.
+-- It begins once the text of the script is read, and answers a request that is served and is not HEAD. `job` is the
+-- text of the job, which names the worker's descriptor of the pipe's write end.
 pub mod Fits
 pub mod OfferedBytes
 pub mod Holdings
@@ -18,13 +18,13 @@ use Rattle.flash_http.specs.Request.{serve, Wanted}
 use Rattle.flash_laws.specs.Conn as conn
 use Rattle.flash_laws.specs.Conn.{Following, Conn, has_followed, count_of}
 use Rattle.flash_laws.specs.Answers.Scripts.{script_text, frame_of, place_in_frame, end_around}
-use Rattle.flash_laws.specs.declared.phase.Content.TheVariants.{Error}
-use Rattle.flash_laws.specs.declared.phase.Doing.{Doing}
-use Rattle.flash_laws.specs.declared.phase.Doing.TheVariants as doing
+use Rattle.flash_laws.specs.declared.phase.Payload.TheVariants.{Error}
+use Rattle.flash_laws.specs.declared.phase.Phase.{Phase}
+use Rattle.flash_laws.specs.declared.phase.Phase.TheVariants as phase
 use Rattle.flash_laws.specs.declared.script_run.TheConstants.{CHUNK_BYTES}
 use Rattle.flash_laws.specs.declared.script_run.Run.{Run}
 use Rattle.flash_laws.specs.declared.script_run.Step.{Step}
-use Rattle.flash_laws.specs.declared.script_run.Step.TheVariants.{Gives, Makes, Hands, Lets, Heads, Sending, Hears, Spills, Gathers, Frames, Wraps, Trims, Ended, Unholds, Stops, Unframes, Lasts, WrapsLast, TrimsLast, Unwraps, Returns, Lapses, Fails}
+use Rattle.flash_laws.specs.declared.script_run.Step.TheVariants.{Gives, Makes, Hands, Lets, Heads, Sending, Receives, Spills, Gathers, Frames, Wraps, Trims, Ended, Unholds, Stops, Unframes, Lasts, WrapsLast, TrimsLast, Unwraps, Returns, Lapses, Fails}
 use Rattle.flash_laws.specs.declared.script_run.Running.{Running}
 use Rattle.flash_laws.specs.declared.script_run.Running.TheVariants.{Awaits, Runs, Leaves, Closes}
 
@@ -38,15 +38,15 @@ abbrev pub job_pipe : (worker : ℕ) → ℕ
 job_pipe worker = worker + 1
 
 -- whether the rest of a response is still to be made, or to be sent
-abbrev pub is_left : Doing → Bool
-is_left (doing.Heads k) = true
-is_left (doing.Sends a len taken more) = true
-is_left (doing.Cuts a from len taken more) = true
-is_left (doing.Offers a from len piece taken more) = true
-is_left (doing.Swaps a from len piece taken more) = true
-is_left (doing.Sent a taken more) = true
-is_left (doing.Breaks piece a more) = true
-is_left (doing.Drops a more) = true
+abbrev pub is_left : Phase → Bool
+is_left (phase.Heads k) = true
+is_left (phase.Sends a len taken more) = true
+is_left (phase.Cuts a from len taken more) = true
+is_left (phase.Offers a from len piece taken more) = true
+is_left (phase.Swaps a from len piece taken more) = true
+is_left (phase.Sent a taken more) = true
+is_left (phase.Breaks piece a more) = true
+is_left (phase.Drops a more) = true
 is_left d = false
 
 -- whether it makes no more calls
@@ -63,7 +63,7 @@ abbrev pub step_agg : Step → (a : ℕ) → Bool
 step_agg (Hands job f) a = job == a
 step_agg (Lets job) a = job == a
 step_agg (Sending d frame) a = conn.uses_agg d a || has_frame frame a
-step_agg (Hears held frame) a = has_followed held a || has_frame frame a
+step_agg (Receives held frame) a = has_followed held a || has_frame frame a
 step_agg (Spills b frame) a = (b == a) || has_frame frame a
 step_agg (Gathers held size piece len frame) a = (held == a) || ((piece == a) || has_frame frame a)
 step_agg (Frames held) a = held == a
@@ -118,8 +118,8 @@ held_size None = 0
 held_size (Some x) = x.1
 
 -- a connection in this phase, for the definitions on responses
-abbrev pub in_phase : Wanted → Doing → Conn
-in_phase w d = record { kept = []; q = serve w; doing = d }
+abbrev pub in_phase : Wanted → Phase → Conn
+in_phase w d = record { kept = []; q = serve w; phase = d }
 
 module _ (job : (fd : ℕ) → List ℕ) where
   abbrev pub step_wants : (fd : ℕ) → Wanted → Run → Step → Call
@@ -129,7 +129,7 @@ module _ (job : (fd : ℕ) → List ℕ) where
   step_wants fd w run (Lets j) = call.AggDrop j
   step_wants fd w run Heads = call.AggMake (script_text w)
   step_wants fd w run (Sending d frame) = conn.wants fd (in_phase w d)
-  step_wants fd w run (Hears held frame) = call.IolRead run.from (CHUNK_BYTES - held_size held)
+  step_wants fd w run (Receives held frame) = call.IolRead run.from (CHUNK_BYTES - held_size held)
   step_wants fd w run (Spills a frame) = call.AggDrop a
   step_wants fd w run (Gathers held size piece len frame) = call.AggJoin held piece
   step_wants fd w run (Frames held) = call.AggMake (frame_of CHUNK_BYTES)
@@ -154,7 +154,7 @@ module _ (job : (fd : ℕ) → List ℕ) where
   wants fd w (Leaves d) = conn.wants fd (in_phase w d)
   wants fd w Closes = call.Close fd
 
--- ---- its state after the reply to its call; `heard` is the contents of the aggregate in the reply
+-- ---- its state after the reply to its call; `received` is the contents of the aggregate in the reply
 
 -- whether the call is retried
 abbrev pub is_again : Refusal → Bool
@@ -169,46 +169,46 @@ abbrev pub broken : Run → Run
 broken run = record run { broken = true }
 
 -- a free worker runs it
-abbrev pub told_awaits : (worker : ℕ) → Reply → Running
-told_awaits worker (reply.Fds from write) = Runs (record { worker = worker; from = from; broken = false }) (Gives write)
-told_awaits worker r = Awaits
+abbrev pub after_wait : (worker : ℕ) → Reply → Running
+after_wait worker (reply.Fds from write) = Runs (record { worker = worker; from = from; broken = false }) (Gives write)
+after_wait worker r = Awaits
 
-abbrev pub told_gives : (write : ℕ) → Reply → Step
-told_gives write (reply.Fd f) = Makes f
-told_gives write (reply.Refused x) = if is_again x then Gives write else Returns write
-told_gives write r = Gives write
+abbrev pub after_give : (write : ℕ) → Reply → Step
+after_give write (reply.Fd f) = Makes f
+after_give write (reply.Refused x) = if is_again x then Gives write else Returns write
+after_give write r = Gives write
 
-abbrev pub told_makes : (fd : ℕ) → Reply → Step
-told_makes f (reply.Agg n) = Hands n f
-told_makes f r = Makes f
+abbrev pub after_make : (fd : ℕ) → Reply → Step
+after_make f (reply.Agg n) = Hands n f
+after_make f r = Makes f
 
-abbrev pub told_hands : (job fd : ℕ) → Reply → Step
-told_hands j f (reply.Count n) = Lets j
-told_hands j f (reply.Refused x) = if is_again x then Hands j f else Lapses j
-told_hands j f r = Hands j f
+abbrev pub after_hand : (job fd : ℕ) → Reply → Step
+after_hand j f (reply.Count n) = Lets j
+after_hand j f (reply.Refused x) = if is_again x then Hands j f else Lapses j
+after_hand j f r = Hands j f
 
-abbrev pub told_lets : (job : ℕ) → Reply → Step
-told_lets j reply.Done = Heads
-told_lets j r = Lets j
+abbrev pub after_release_job : (job : ℕ) → Reply → Step
+after_release_job j reply.Done = Heads
+after_release_job j r = Lets j
 
-abbrev pub told_heads : Reply → (heard : List ℕ) → Step
-told_heads (reply.Agg n) heard = Sending (doing.Sends n (count_of heard) 0 None) None
-told_heads r heard = Heads
+abbrev pub after_head : Reply → (received : List ℕ) → Step
+after_head (reply.Agg n) received = Sending (phase.Sends n (count_of received) 0 None) None
+after_head r received = Heads
 
 -- a part is sent by the same phases as the response of a file
-abbrev pub told_part : Doing → Reply → Doing
-told_part (doing.Sends a len taken more) r = conn.told_sends a len taken more r
-told_part (doing.Cuts a from len taken more) r = conn.told_cuts a from len taken more r
-told_part (doing.Offers a from len piece taken more) r = conn.told_offers a from len piece taken more r
-told_part (doing.Swaps a from len piece taken more) r = conn.told_swaps a from len piece taken more r
-told_part (doing.Breaks piece a more) r = conn.told_breaks piece a more r
-told_part d r = d
+abbrev pub after_part : Phase → Reply → Phase
+after_part (phase.Sends a len taken more) r = conn.after_send a len taken more r
+after_part (phase.Cuts a from len taken more) r = conn.after_cut a from len taken more r
+after_part (phase.Offers a from len piece taken more) r = conn.after_offer a from len piece taken more r
+after_part (phase.Swaps a from len piece taken more) r = conn.after_swap a from len piece taken more r
+after_part (phase.Breaks piece a more) r = conn.after_break piece a more r
+after_part d r = d
 
 -- after it was sent, or aborted, output is read
-abbrev pub told_sending : Run → Doing → (frame : Option ℕ) → Reply → Running
-told_sending run (doing.Sent a taken None) frame reply.Done = Runs run (Hears None frame)
-told_sending run (doing.Drops a None) frame reply.Done = Runs (broken run) (Hears None frame)
-told_sending run d frame r = Runs run (Sending (told_part d r) frame)
+abbrev pub after_sending : Run → Phase → (frame : Option ℕ) → Reply → Running
+after_sending run (phase.Sent a taken None) frame reply.Done = Runs run (Receives None frame)
+after_sending run (phase.Drops a None) frame reply.Done = Runs (broken run) (Receives None frame)
+after_sending run d frame r = Runs run (Sending (after_part d r) frame)
 
 abbrev pub filled : (held : ℕ) → (frame : Option ℕ) → Step
 filled held None = Frames held
@@ -216,12 +216,12 @@ filled held (Some f) = Wraps held f
 
 -- held bytes are buffered: if they are those of a chunk, it is made
 abbrev pub holding : (held size : ℕ) → (frame : Option ℕ) → Step
-holding held size frame = if nat_lt size CHUNK_BYTES then Hears (Some (held, size)) frame else filled held frame
+holding held size frame = if nat_lt size CHUNK_BYTES then Receives (Some (held, size)) frame else filled held frame
 
 -- some output was read
 abbrev pub hearing : (broken chunked : Bool) → Following → (frame : Option ℕ) → (agg len : ℕ) → Step
 hearing true chunked held frame a len = Spills a frame
-hearing false false held frame a len = Sending (doing.Sends a len 0 None) frame
+hearing false false held frame a len = Sending (phase.Sends a len 0 None) frame
 hearing false true None frame a len = holding a len frame
 hearing false true (Some x) frame a len = Gathers x.0 x.1 a len frame
 
@@ -230,44 +230,44 @@ abbrev pub unread : Following → (frame : Option ℕ) → Step
 unread None frame = Stops None frame
 unread (Some x) frame = Unholds x.0 frame
 
-abbrev pub told_hears : Wanted → Run → Following → (frame : Option ℕ) → Reply → (heard : List ℕ) → Running
-told_hears w run held frame (reply.Agg n) [] = Runs run (Ended n held frame)
-told_hears w run held frame (reply.Agg n) (b ∷ heard) =
-    Runs run (hearing run.broken w.chunked held frame n (count_of (b ∷ heard)))
-told_hears w run held frame (reply.Refused (no.Denied p)) heard = Runs (broken run) (unread held frame)
-told_hears w run held frame r heard = Runs run (Hears held frame)
+abbrev pub after_output : Wanted → Run → Following → (frame : Option ℕ) → Reply → (received : List ℕ) → Running
+after_output w run held frame (reply.Agg n) [] = Runs run (Ended n held frame)
+after_output w run held frame (reply.Agg n) (b ∷ received) =
+    Runs run (hearing run.broken w.chunked held frame n (count_of (b ∷ received)))
+after_output w run held frame (reply.Refused (no.Denied p)) received = Runs (broken run) (unread held frame)
+after_output w run held frame r received = Runs run (Receives held frame)
 
-abbrev pub told_spills : (agg : ℕ) → (frame : Option ℕ) → Reply → Step
-told_spills a frame reply.Done = Hears None frame
-told_spills a frame r = Spills a frame
+abbrev pub after_spill : (agg : ℕ) → (frame : Option ℕ) → Reply → Step
+after_spill a frame reply.Done = Receives None frame
+after_spill a frame r = Spills a frame
 
 -- the total length of two aggregates, as a 32-bit number
 abbrev pub both : (size len : ℕ) → ℕ
 both size len = min (size + len) 4294967295
 
-abbrev pub told_gathers : (held size piece len : ℕ) → (frame : Option ℕ) → Reply → Step
-told_gathers held size piece len frame (reply.Agg n) = holding n (both size len) frame
-told_gathers held size piece len frame r = Gathers held size piece len frame
+abbrev pub after_gather : (held size piece len : ℕ) → (frame : Option ℕ) → Reply → Step
+after_gather held size piece len frame (reply.Agg n) = holding n (both size len) frame
+after_gather held size piece len frame r = Gathers held size piece len frame
 
-abbrev pub told_frames : (held : ℕ) → Reply → Step
-told_frames held (reply.Agg n) = Wraps held n
-told_frames held r = Frames held
+abbrev pub after_frame : (held : ℕ) → Reply → Step
+after_frame held (reply.Agg n) = Wraps held n
+after_frame held r = Frames held
 
-abbrev pub told_wraps : (held frame : ℕ) → Reply → (heard : List ℕ) → Step
-told_wraps held frame (reply.Agg n) heard = Trims held n (count_of heard) frame
-told_wraps held frame r heard = Wraps held frame
+abbrev pub after_wrap : (held frame : ℕ) → Reply → (received : List ℕ) → Step
+after_wrap held frame (reply.Agg n) received = Trims held n (count_of received) frame
+after_wrap held frame r received = Wraps held frame
 
-abbrev pub told_trims : (held chunk len frame : ℕ) → Reply → Step
-told_trims held chunk len frame reply.Done = Sending (doing.Sends chunk len 0 None) (Some frame)
-told_trims held chunk len frame r = Trims held chunk len frame
+abbrev pub after_trim : (held chunk len frame : ℕ) → Reply → Step
+after_trim held chunk len frame reply.Done = Sending (phase.Sends chunk len 0 None) (Some frame)
+after_trim held chunk len frame r = Trims held chunk len frame
 
-abbrev pub told_ended : (agg : ℕ) → Following → (frame : Option ℕ) → Reply → Step
-told_ended a held frame reply.Done = Stops held frame
-told_ended a held frame r = Ended a held frame
+abbrev pub after_ended : (agg : ℕ) → Following → (frame : Option ℕ) → Reply → Step
+after_ended a held frame reply.Done = Stops held frame
+after_ended a held frame r = Ended a held frame
 
-abbrev pub told_unholds : (held : ℕ) → (frame : Option ℕ) → Reply → Step
-told_unholds held frame reply.Done = Stops None frame
-told_unholds held frame r = Unholds held frame
+abbrev pub after_release_held : (held : ℕ) → (frame : Option ℕ) → Reply → Step
+after_release_held held frame reply.Done = Stops None frame
+after_release_held held frame r = Unholds held frame
 
 -- the end of the body is made, if the body is in chunks and is still sent
 abbrev pub finishing : (broken chunked : Bool) → Run → Following → Running
@@ -278,76 +278,76 @@ abbrev pub stopped : Wanted → Run → Following → (frame : Option ℕ) → R
 stopped w run held (Some f) = Runs run (Unframes f held)
 stopped w run held None = finishing run.broken w.chunked run held
 
-abbrev pub told_stops : Wanted → Run → Following → (frame : Option ℕ) → Reply → Running
-told_stops w run held frame reply.Done = stopped w run held frame
-told_stops w run held frame r = Runs run (Stops held frame)
+abbrev pub after_stop : Wanted → Run → Following → (frame : Option ℕ) → Reply → Running
+after_stop w run held frame reply.Done = stopped w run held frame
+after_stop w run held frame r = Runs run (Stops held frame)
 
-abbrev pub told_unframes : Wanted → Run → (frame : ℕ) → Following → Reply → Running
-told_unframes w run f held reply.Done = finishing run.broken w.chunked run held
-told_unframes w run f held r = Runs run (Unframes f held)
+abbrev pub after_release_frame : Wanted → Run → (frame : ℕ) → Following → Reply → Running
+after_release_frame w run f held reply.Done = finishing run.broken w.chunked run held
+after_release_frame w run f held r = Runs run (Unframes f held)
 
 -- the end of the body is sent by itself, or is set around the buffered output
 abbrev pub ending : Run → Following → (agg len : ℕ) → Running
-ending run None a len = Leaves (doing.Sends a len 0 None)
+ending run None a len = Leaves (phase.Sends a len 0 None)
 ending run (Some x) a len = Runs run (WrapsLast x.0 x.1 a)
 
-abbrev pub told_lasts : Run → Following → Reply → (heard : List ℕ) → Running
-told_lasts run held (reply.Agg n) heard = ending run held n (count_of heard)
-told_lasts run held r heard = Runs run (Lasts held)
+abbrev pub after_last : Run → Following → Reply → (received : List ℕ) → Running
+after_last run held (reply.Agg n) received = ending run held n (count_of received)
+after_last run held r received = Runs run (Lasts held)
 
-abbrev pub told_wraps_last : (held size frame : ℕ) → Reply → (heard : List ℕ) → Step
-told_wraps_last held size frame (reply.Agg n) heard = TrimsLast held n (count_of heard) frame
-told_wraps_last held size frame r heard = WrapsLast held size frame
+abbrev pub after_wrap_last : (held size frame : ℕ) → Reply → (received : List ℕ) → Step
+after_wrap_last held size frame (reply.Agg n) received = TrimsLast held n (count_of received) frame
+after_wrap_last held size frame r received = WrapsLast held size frame
 
-abbrev pub told_trims_last : (held chunk len frame : ℕ) → Reply → Step
-told_trims_last held chunk len frame reply.Done = Unwraps frame chunk len
-told_trims_last held chunk len frame r = TrimsLast held chunk len frame
+abbrev pub after_trim_last : (held chunk len frame : ℕ) → Reply → Step
+after_trim_last held chunk len frame reply.Done = Unwraps frame chunk len
+after_trim_last held chunk len frame r = TrimsLast held chunk len frame
 
-abbrev pub told_unwraps : Run → (frame chunk len : ℕ) → Reply → Running
-told_unwraps run frame chunk len reply.Done = Leaves (doing.Sends chunk len 0 None)
-told_unwraps run frame chunk len r = Runs run (Unwraps frame chunk len)
+abbrev pub after_unwrap : Run → (frame chunk len : ℕ) → Reply → Running
+after_unwrap run frame chunk len reply.Done = Leaves (phase.Sends chunk len 0 None)
+after_unwrap run frame chunk len r = Runs run (Unwraps frame chunk len)
 
-abbrev pub told_returns : (write : ℕ) → Reply → Step
-told_returns write reply.Done = Fails
-told_returns write r = Returns write
+abbrev pub after_return : (write : ℕ) → Reply → Step
+after_return write reply.Done = Fails
+after_return write r = Returns write
 
-abbrev pub told_lapses : (job : ℕ) → Reply → Step
-told_lapses j reply.Done = Fails
-told_lapses j r = Lapses j
+abbrev pub after_lapse : (job : ℕ) → Reply → Step
+after_lapse j reply.Done = Fails
+after_lapse j r = Lapses j
 
 -- a script that cannot run now gets an error response (RFC 9110, section 15.6.4)
-abbrev pub told_fails : Run → Reply → Running
-told_fails run reply.Done = Leaves (doing.Heads (Error 503))
-told_fails run r = Runs run Fails
+abbrev pub after_fail : Run → Reply → Running
+after_fail run reply.Done = Leaves (phase.Heads (Error 503))
+after_fail run r = Runs run Fails
 
-abbrev pub told_step : Wanted → Run → Step → Reply → (heard : List ℕ) → Running
-told_step w run (Gives write) r heard = Runs run (told_gives write r)
-told_step w run (Makes f) r heard = Runs run (told_makes f r)
-told_step w run (Hands j f) r heard = Runs run (told_hands j f r)
-told_step w run (Lets j) r heard = Runs run (told_lets j r)
-told_step w run Heads r heard = Runs run (told_heads r heard)
-told_step w run (Sending d frame) r heard = told_sending run d frame r
-told_step w run (Hears held frame) r heard = told_hears w run held frame r heard
-told_step w run (Spills a frame) r heard = Runs run (told_spills a frame r)
-told_step w run (Gathers held size piece len frame) r heard = Runs run (told_gathers held size piece len frame r)
-told_step w run (Frames held) r heard = Runs run (told_frames held r)
-told_step w run (Wraps held frame) r heard = Runs run (told_wraps held frame r heard)
-told_step w run (Trims held chunk len frame) r heard = Runs run (told_trims held chunk len frame r)
-told_step w run (Ended a held frame) r heard = Runs run (told_ended a held frame r)
-told_step w run (Unholds held frame) r heard = Runs run (told_unholds held frame r)
-told_step w run (Stops held frame) r heard = told_stops w run held frame r
-told_step w run (Unframes frame held) r heard = told_unframes w run frame held r
-told_step w run (Lasts held) r heard = told_lasts run held r heard
-told_step w run (WrapsLast held size frame) r heard = Runs run (told_wraps_last held size frame r heard)
-told_step w run (TrimsLast held chunk len frame) r heard = Runs run (told_trims_last held chunk len frame r)
-told_step w run (Unwraps frame chunk len) r heard = told_unwraps run frame chunk len r
-told_step w run (Returns write) r heard = Runs run (told_returns write r)
-told_step w run (Lapses j) r heard = Runs run (told_lapses j r)
-told_step w run Fails r heard = told_fails run r
+abbrev pub after_step : Wanted → Run → Step → Reply → (received : List ℕ) → Running
+after_step w run (Gives write) r received = Runs run (after_give write r)
+after_step w run (Makes f) r received = Runs run (after_make f r)
+after_step w run (Hands j f) r received = Runs run (after_hand j f r)
+after_step w run (Lets j) r received = Runs run (after_release_job j r)
+after_step w run Heads r received = Runs run (after_head r received)
+after_step w run (Sending d frame) r received = after_sending run d frame r
+after_step w run (Receives held frame) r received = after_output w run held frame r received
+after_step w run (Spills a frame) r received = Runs run (after_spill a frame r)
+after_step w run (Gathers held size piece len frame) r received = Runs run (after_gather held size piece len frame r)
+after_step w run (Frames held) r received = Runs run (after_frame held r)
+after_step w run (Wraps held frame) r received = Runs run (after_wrap held frame r received)
+after_step w run (Trims held chunk len frame) r received = Runs run (after_trim held chunk len frame r)
+after_step w run (Ended a held frame) r received = Runs run (after_ended a held frame r)
+after_step w run (Unholds held frame) r received = Runs run (after_release_held held frame r)
+after_step w run (Stops held frame) r received = after_stop w run held frame r
+after_step w run (Unframes frame held) r received = after_release_frame w run frame held r
+after_step w run (Lasts held) r received = after_last run held r received
+after_step w run (WrapsLast held size frame) r received = Runs run (after_wrap_last held size frame r received)
+after_step w run (TrimsLast held chunk len frame) r received = Runs run (after_trim_last held chunk len frame r)
+after_step w run (Unwraps frame chunk len) r received = after_unwrap run frame chunk len r
+after_step w run (Returns write) r received = Runs run (after_return write r)
+after_step w run (Lapses j) r received = Runs run (after_lapse j r)
+after_step w run Fails r received = after_fail run r
 
 -- Its state after the reply to its call; `worker` is a free worker.
-abbrev pub told : (worker : ℕ) → Wanted → Running → Reply → (heard : List ℕ) → Running
-told worker w Awaits r heard = told_awaits worker r
-told worker w (Runs run step) r heard = told_step w run step r heard
-told worker w (Leaves d) r heard = Leaves (conn.told (in_phase w d) r heard).doing
-told worker w Closes r heard = Closes
+abbrev pub after_reply : (worker : ℕ) → Wanted → Running → Reply → (received : List ℕ) → Running
+after_reply worker w Awaits r received = after_wait worker r
+after_reply worker w (Runs run step) r received = after_step w run step r received
+after_reply worker w (Leaves d) r received = Leaves (conn.after_reply (in_phase w d) r received).phase
+after_reply worker w Closes r received = Closes

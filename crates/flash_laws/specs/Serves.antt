@@ -17,27 +17,27 @@ use Rattle.flash_laws.specs.Client.{Client, wants, Readies}
 use Rattle.flash_laws.specs.Site.Places.{has_free, may_go, runs_scripts, filed}
 use Rattle.flash_laws.specs.Site.{server}
 use Rattle.flash_laws.specs.Site.OtherConns.{with_at}
-use Rattle.flash_laws.specs.declared.phase.Flight.{Flight}
-use Rattle.flash_laws.specs.declared.phase.Flight.TheVariants.{Nothing, Accepting, At}
+use Rattle.flash_laws.specs.declared.phase.PendingCall.{PendingCall}
+use Rattle.flash_laws.specs.declared.phase.PendingCall.TheVariants.{Nothing, Accepting, At}
 
--- the state of the server: the client of each of its descriptors, the pending call, and the number of workers that run its
--- scripts
+-- the state of the server: the client of each of its descriptors, the pending call, and the number of workers that run
+-- its scripts
 pub record Server : Type 0 where
   pub clients : List (Option Client)
-  pub flight : Flight
+  pub pending_call : PendingCall
   pub workers : ℕ
 
 -- a server without workers, for which a script is a file like any other
 abbrev pub new_server : Server
-new_server = record { clients = []; flight = Nothing; workers = 0 }
+new_server = record { clients = []; pending_call = Nothing; workers = 0 }
 
 -- the bytes of the aggregate of a reply
-abbrev pub heard_of : Reply → (lent : ℕ → Option (List ℕ)) → List ℕ
-heard_of (reply.Agg a) lent = unwrap_or (lent a) []
-heard_of r lent = []
+abbrev pub received_of : Reply → (readable : ℕ → Option (List ℕ)) → List ℕ
+received_of (reply.Agg a) readable = unwrap_or (readable a) []
+received_of r readable = []
 
--- The client at this index becomes ready, and its call is made. A client that waits for a worker takes a turn only if one is
--- free.
+-- The client at this index becomes ready, and its call is made. A client that waits for a worker takes a turn only if
+-- one is free.
 pub record PicksAt (workers : ℕ) (clients : List (Option Client)) (fd : ℕ) (made : Turn)
     (after : List (Option Client)) : Type 0 where
   pub was : Client
@@ -49,29 +49,29 @@ pub record PicksAt (workers : ℕ) (clients : List (Option Client)) (fd : ℕ) (
   pub call_is : made ≡ turn.Make (wants (runs_scripts workers) fd ready)
 
 -- the choices: to yield, to accept, or the client at an index
-abbrev pub Picks : (workers : ℕ) → List (Option Client) → Flight → (made : Turn) → (after : List (Option Client))
+abbrev pub Picks : (workers : ℕ) → List (Option Client) → PendingCall → (made : Turn) → (after : List (Option Client))
     → Type 0
 Picks workers clients Nothing made after = (after ≡ clients) × (made ≡ turn.Yield)
 Picks workers clients Accepting made after = (after ≡ clients) × (made ≡ turn.Make call.Accept)
 Picks workers clients (At fd) made after = PicksAt workers clients fd made after
 
--- The choices that are permitted next, given the number of workers, the clients after the last reply is processed, and the call
--- to which it belongs.
+-- The choices that are permitted next, given the number of workers, the clients after the last reply is processed, and
+-- the call to which it belongs.
 abbrev pub Policy : Type 1
-Policy = (workers : ℕ) → List (Option Client) → (was : Flight) → (last : Reply) → (next : Flight) → Type 0
+Policy = (workers : ℕ) → List (Option Client) → (was : PendingCall) → (last : Reply) → (next : PendingCall) → Type 0
 
 -- all choices
 abbrev pub any : Policy
 any workers clients was last next = Unit {0}
 
 -- the clients after the last reply is processed
-abbrev pub filed_in : Server → (last : Reply) → (lent : ℕ → Option (List ℕ)) → List (Option Client)
-filed_in s last lent = filed s.workers s.clients s.flight last (heard_of last lent)
+abbrev pub filed_in : Server → (last : Reply) → (readable : ℕ → Option (List ℕ)) → List (Option Client)
+filed_in s last readable = filed s.workers s.clients s.pending_call last (received_of last readable)
 
 -- The account of the server: a choice that the policy permits is made, with its call.
-abbrev pub server_turns : Policy → Server → Reply → (lent : ℕ → Option (List ℕ)) → Turn → Server → Type 0
-server_turns may s last lent made t = may s.workers (filed_in s last lent) s.flight last t.flight
-    × Picks s.workers (filed_in s last lent) t.flight made t.clients
+abbrev pub server_turns : Policy → Server → Reply → (readable : ℕ → Option (List ℕ)) → Turn → Server → Type 0
+server_turns may s last readable made t = may s.workers (filed_in s last readable) s.pending_call last t.pending_call
+    × Picks s.workers (filed_in s last readable) t.pending_call made t.clients
     × (t.workers ≡ s.workers)
 
 -- the result of a turn

@@ -1,8 +1,9 @@
--- The files of a site and their access lists: the meaning of a list of outcomes by name, and the steps that leave it unchanged.
+-- The files of a site and their access lists: the meaning of a list of outcomes by name, and the steps that leave it
+-- unchanged.
 pub mod Past
 pub mod OtherConns
 pub mod Places
-pub mod ClientTies
+pub mod ClientConsistency
 use Rattle.std.specs.Prelude.{◌≡◌, ◌≢◌, ◌≤◌, ℕ, true, false, List, length, Option, Some, None, if◌then◌else◌}
 use Rattle.iol_core.specs.State.{State, content, file, may_read, is_live}
 use Rattle.iol_core.specs.Calls.Files.{file_called}
@@ -10,7 +11,7 @@ use Rattle.iol_core.specs.Run.{StepsTo}
 use Rattle.iol_core.specs.declared.events.Event.{Event}
 use Rattle.iol_core.specs.declared.events.Reply.{Reply}
 use Rattle.iol_laws.specs.Frame.{changes_files, admits_to}
-use Rattle.flash_laws.specs.Answers.{Outcome, Found, Failed, Shelf}
+use Rattle.flash_laws.specs.Answers.{Outcome, Found, Failed, SiteContents}
 use Rattle.flash_laws.specs.Conn.{most_read}
 
 -- the server's domain
@@ -29,11 +30,11 @@ found_in m (Some f) = if may_read m server (file m f).pool then Found (content m
 abbrev pub outcome_in : State → (name : List ℕ) → Outcome
 outcome_in m name = found_in m (file_called m name)
 
--- The files and their access lists are those of the site contents; each file is within the limit of one read of the server and
--- in a pool with a reader; only the server may read the net; and the server is live.
-pub record IsFixed (shelf : Shelf) (m : State) : Type 0 where
+-- The files and their access lists are those of the site contents; each file is within the limit of one read of the
+-- server and in a pool with a reader; only the server may read the net; and the server is live.
+pub record IsFixed (site_contents : SiteContents) (m : State) : Type 0 where
   pub lives : is_live m server ≡ true
-  pub outcomes : (name : List ℕ) → outcome_in m name ≡ shelf name
+  pub outcomes : (name : List ℕ) → outcome_in m name ≡ site_contents name
   pub lengths : (name : List ℕ) (f : ℕ) → file_called m name ≡ Some f
       → length (content m f) ≤ most_read
   pub read_by : (name : List ℕ) (f : ℕ) → file_called m name ≡ Some f → (d : ℕ)
@@ -51,5 +52,5 @@ pub record KeepsSite (m n : State) : Type 0 where
 
 -- each step that may change no file, and that admits no domain to a pool, leaves the site unchanged
 abbrev pub SiteStays : Type 0
-SiteStays = (shelf : Shelf) (m n : State) (e : Event) (r : Reply) → IsFixed shelf m → StepsTo m e r n
+SiteStays = (site_contents : SiteContents) (m n : State) (e : Event) (r : Reply) → IsFixed site_contents m → StepsTo m e r n
     → changes_files m e ≡ false → ((p : ℕ) → admits_to e p ≡ false) → KeepsSite m n

@@ -1,7 +1,7 @@
 //! Laws of refusals and answers: the runs that are fair, and that a stream has one answer if
 //! nothing is refused. The functions have no effect; their contracts are the laws.
-ghost use Rattle.flash_laws.specs.Shelf.OneAnswer.{StreamsHaveOneAnswer};
-ghost use Rattle.flash_laws.specs.World.Fair.{AnyIsFair, NoneRefusesNothing, OwnIsFair, OwnIsLeast, SmoothIsFair};
+ghost use Rattle.flash_laws.specs.SiteContents.OneAnswer.{StreamsHaveOneAnswer};
+ghost use Rattle.flash_laws.specs.World.Fair.{AnyIsFair, NoneRefusesNothing, OwnIsFair, OwnIsLeast, FailureFreeIsFair};
 
 use flash_http::one_answer;
 
@@ -10,7 +10,7 @@ use flash_http::one_answer;
 /// with the refusals allowed that its turns got. These are the least set with which it is fair.
 /// With no refusal allowed, nothing is refused (`RefusesNothing`).
 pub fn runs_are_fair()
-    ensures smooth { SmoothIsFair }
+    ensures failure_free { FailureFreeIsFair }
     ensures any { AnyIsFair }
     ensures own { OwnIsFair }
     ensures least { OwnIsLeast }

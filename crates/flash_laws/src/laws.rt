@@ -9,11 +9,12 @@ ghost use Rattle.flash_laws.specs.Site.{SiteStays};
 
 use iol_laws::laws;
 
-/// The bytes that the server offers for a request are the next bytes of the response to it, for
-/// the outcome of the calls made for it. The first of these calls opens the file of its name. Each
+/// The bytes that the server offers for a request are the next bytes of the response to it, for the
+/// outcome of the calls made for it. The first of these calls opens the file of its name. Each
 /// reply reduces the rank of the request, unless its call is retried later; so only finitely many
-/// of its calls are not retried. The law is about single steps, calm or not, during which no call
-/// consumes or moves what the connection uses. That this is so over a whole run is not stated here.
+/// of its calls are not retried. The law is about single steps, undisturbed or not, during which no
+/// call consumes or moves what the connection uses. That this is so over a whole run is not stated
+/// here.
 pub fn offers_law()
     ensures { OffersTheResponse }
 {
@@ -27,7 +28,7 @@ pub fn offers_law()
 /// The server keeps nothing of a finished response: the result of a call belongs to the connection
 /// for which it was made, and aggregates and file descriptors that the connection no longer uses
 /// are dropped or closed. Its calls touch only what it has. The law is about each call of the
-/// server, calm or not, and not about what other domains give to the server.
+/// server, undisturbed or not, and not about what other domains give to the server.
 pub fn keeping_law()
     ensures { KeepsNothing }
 {
@@ -37,7 +38,8 @@ pub fn keeping_law()
 }
 
 /// A step that may change no file, and that admits no domain to a pool, leaves the site unchanged.
-/// So an external call is mild unless it is `file_new`, `pool_admit` or a write to a file.
+/// So an external call is site-preserving unless it is `file_new`, `pool_admit` or a write to a
+/// file.
 pub fn site_law()
     ensures { SiteStays }
 {

@@ -6,7 +6,7 @@ use iol_core::numbers::{AggId, Fd};
 /// which the response is an error. For a script, an aggregate of its text, and `runs` is whether
 /// the script can run.
 #[derive(Clone, Copy, Debug, PartialEq, Eq)]
-pub enum Learnt {
+pub enum FileResult {
     File { agg: AggId, len: u32 },
     Length { len: u32 },
     Fails { status: StatusCode },
@@ -16,7 +16,7 @@ pub enum Learnt {
 /// The body of a response: `size` bytes of a file of `len` bytes, in an aggregate; none of the
 /// bytes of such a file; an error; or the output of a script.
 #[derive(Clone, Copy, Debug, PartialEq, Eq)]
-pub enum Content {
+pub enum Payload {
     Body { agg: AggId, size: u32, len: u32 },
     Bare { len: u32 },
     Error { status: StatusCode },
@@ -28,7 +28,7 @@ pub enum Content {
 /// While a response is sent, `taken` of its bytes are taken, and `more` is the aggregate after the
 /// one that is being sent, with its length.
 #[derive(Clone, Copy, Debug, PartialEq, Eq)]
-pub enum Doing {
+pub enum Phase {
     /// Idle: begins the first buffered request, or reads more of the stream.
     Rests,
 
@@ -48,7 +48,7 @@ pub enum Doing {
     /// Closes the file.
     Shuts {
         file: Fd,
-        learnt: Learnt,
+        file_result: FileResult,
     },
 
     /// Cuts a part of the bytes read.
@@ -62,12 +62,12 @@ pub enum Doing {
     /// Drops the whole of the bytes read.
     Spares {
         agg: AggId,
-        content: Content,
+        content: Payload,
     },
 
     /// Makes the head.
     Heads {
-        content: Content,
+        content: Payload,
     },
 
     /// Joins a head of `size` bytes and a body of `len` bytes.
@@ -144,7 +144,7 @@ pub enum Doing {
 
 /// The pending call: none, an accept, or one for the connection of a descriptor.
 #[derive(Clone, Copy, Debug, PartialEq, Eq)]
-pub enum Flight {
+pub enum PendingCall {
     Nothing,
     Accepting,
     At { fd: u32 },

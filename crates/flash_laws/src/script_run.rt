@@ -1,6 +1,6 @@
 //! The state of a script: its run, from the time when its text is read to the last bytes of its
 //! output.
-use crate::phase::Doing;
+use crate::phase::Phase;
 use iol_core::numbers::{AggId, Fd};
 
 /// The number of bytes of a chunk of a script's output, except for the last one.
@@ -51,12 +51,12 @@ pub enum Step {
 
     /// Sends a part of the response, by the phases of any response.
     Sending {
-        doing: Doing,
+        phase: Phase,
         frame: Option<AggId>,
     },
 
     /// Reads output.
-    Hears {
+    Receives {
         held: Option<(AggId, u32)>,
         frame: Option<AggId>,
     },
@@ -171,7 +171,7 @@ pub enum Running {
     Runs { run: Run, step: Step },
 
     /// The worker is free, and the rest of the response, or an error, is sent as for a file.
-    Leaves { doing: Doing },
+    Leaves { phase: Phase },
 
     /// The worker is free, and the connection is to be closed: all of the response is taken, or it
     /// is not sent any more.

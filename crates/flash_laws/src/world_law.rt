@@ -3,51 +3,51 @@
 ghost use Rattle.std.specs.Prelude.{ℕ, Bool, List};
 ghost use Rattle.iol_core.specs.Prelude.{State};
 ghost use Rattle.iol_core.specs.declared.events.Reply.{Reply};
-ghost use Rattle.iol_proc.specs.Prelude.{Settles, Account};
-ghost use Rattle.iol_proc.specs.declared.seat.Seat.{Seat};
+ghost use Rattle.iol_proc.specs.Prelude.{Quiesces, TransitionRelation};
+ghost use Rattle.iol_proc.specs.declared.process_slot.ProcessSlot.{ProcessSlot};
 ghost use Rattle.flash_cgi.specs.Prelude.{Made};
-ghost use Rattle.flash_laws.specs.Workers.Crews.{OfEach, OfSome};
-ghost use Rattle.flash_laws.specs.World.Settles.{ActorsSettle};
+ghost use Rattle.flash_laws.specs.Workers.WorkerSets.{OfEach, OfSome};
+ghost use Rattle.flash_laws.specs.World.Quiesces.{ActorsQuiesce};
 ghost use Rattle.flash_laws.specs.Serves.Rounds.{in_rounds};
 ghost use Rattle.flash_laws.specs.Serves.{any};
 ghost use Rattle.flash_laws.specs.Workers.{WorkersRun};
-ghost use Rattle.flash_laws.specs.World.{ARunIsCalm, RunKeepsTie, StepKeepsTie, TiedAtFirst, TiedIsAnswered, TiedIsWhole};
+ghost use Rattle.flash_laws.specs.World.{ARunIsUndisturbed, RunKeepsConsistency, StepKeepsConsistency, ConsistentAtFirst, ConsistentIsAnswered, ConsistentIsWhole};
 ghost use Rattle.flash_laws.specs.World.Done.{IdleIsDone};
 ghost use Rattle.flash_laws.specs.World.Host.{HostIsRight};
 
 use crate::run_laws::{run_keeping_law, runs_law};
-use crate::worker_laws::due_may_come;
-use flash_cgi::laws::others_hear;
+use crate::worker_laws::expected_may_come;
+use flash_cgi::laws::others_receive;
 use flash_http::{served_requests, window_fits, window_stays};
 use iol_laws::laws;
 
 /// The requirements of the law on workers that run scripts.
 pub trait RunsScripts: Drop {
     /// Its account: the turns that it may take, and when it may run out of memory.
-    ghost turns: { Account Self };
+    ghost turns: { TransitionRelation Self };
 
-    /// Its condition when idle, as in `iol_proc::idle::Settling`.
-    ghost settled: { ℕ → ℕ → Self → Reply → State → Type 0 };
+    /// Its condition when idle, as in `iol_proc::idle::Quiescence`.
+    ghost quiescent: { ℕ → ℕ → Self → Reply → State → Type 0 };
 
     /// A free worker, with its output in these pools, and with this job pipe.
-    ghost free: { (ℕ → Bool) → State → ℕ → Seat Self → Type 0 };
+    ghost free: { (ℕ → Bool) → State → ℕ → ProcessSlot Self → Type 0 };
 
-    /// A worker with a due text: its pools, the machine, the pipes of its jobs and of the text,
-    /// the output of its script, and the text.
-    ghost due: { (ℕ → Bool) → State → ℕ → ℕ → Seat Self → Made → List ℕ → Type 0 };
+    /// A worker with an expected text: its pools, the machine, the pipes of its jobs and of the
+    /// text, the output of its script, and the text.
+    ghost expected: { (ℕ → Bool) → State → ℕ → ℕ → ProcessSlot Self → Made → List ℕ → Type 0 };
 
     /// Shows that a script outputs one text. The function has no effect.
     fn runs()
-        ensures { (pools : ℕ → Bool) → WorkersRun turns settled pools (free pools) (due pools) };
+        ensures { (pools : ℕ → Bool) → WorkersRun turns quiescent pools (free pools) (expected pools) };
 
     /// Shows that it preserves its condition. The function has no effect.
-    fn settles()
-        ensures { Settles settled turns };
+    fn quiesces()
+        ensures { Quiesces quiescent turns };
 }
 
 /// Connections do not interfere, with any number of workers with distinct job pipes. A new world
 /// has the invariant. Each step and each run preserve it, in rounds or with any policy of the
-/// server, if external calls are mild and turns are fair (`AreFair`): they get TooMany,
+/// server, if external calls are site-preserving and turns are fair (`AreFair`): they get TooMany,
 /// NoRoom, Fault and Memory only as the site contents permit. In a world with the invariant, the
 /// bytes sent on each connection of the net begin an answer to its input, with files and output of
 /// scripts, and are all of it once the connection is closed, unless its peer left; and the server
@@ -57,23 +57,23 @@ pub trait RunsScripts: Drop {
 /// wait while the server has the maximum number; and each aggregate of the server is used by a
 /// client with a full output queue, or came from outside.
 pub fn world_law<W: RunsScripts>()
-    ensures first { OfEach W.turns W.settled W.free W.due TiedAtFirst }
-    ensures step { OfEach W.turns W.settled W.free W.due (StepKeepsTie in_rounds) }
-    ensures run { OfEach W.turns W.settled W.free W.due (RunKeepsTie in_rounds) }
-    ensures free_step { OfEach W.turns W.settled W.free W.due (StepKeepsTie any) }
-    ensures free_run { OfEach W.turns W.settled W.free W.due (RunKeepsTie any) }
-    ensures answered { OfEach W.turns W.settled W.free W.due TiedIsAnswered }
-    ensures whole { OfEach W.turns W.settled W.free W.due TiedIsWhole }
-    ensures settles { ActorsSettle W.turns W.settled }
-    ensures idle { OfEach W.turns W.settled W.free W.due IdleIsDone }
-    ensures host { OfEach W.turns W.settled W.free W.due HostIsRight }
+    ensures first { OfEach W.turns W.quiescent W.free W.expected ConsistentAtFirst }
+    ensures step { OfEach W.turns W.quiescent W.free W.expected (StepKeepsConsistency in_rounds) }
+    ensures run { OfEach W.turns W.quiescent W.free W.expected (RunKeepsConsistency in_rounds) }
+    ensures free_step { OfEach W.turns W.quiescent W.free W.expected (StepKeepsConsistency any) }
+    ensures free_run { OfEach W.turns W.quiescent W.free W.expected (RunKeepsConsistency any) }
+    ensures answered { OfEach W.turns W.quiescent W.free W.expected ConsistentIsAnswered }
+    ensures whole { OfEach W.turns W.quiescent W.free W.expected ConsistentIsWhole }
+    ensures quiesces { ActorsQuiesce W.turns W.quiescent }
+    ensures idle { OfEach W.turns W.quiescent W.free W.expected IdleIsDone }
+    ensures host { OfEach W.turns W.quiescent W.free W.expected HostIsRight }
 {
     W::runs();
-    W::settles();
+    W::quiesces();
     runs_law();
     run_keeping_law();
-    due_may_come();
-    others_hear();
+    expected_may_come();
+    others_receive();
     served_requests();
     laws::each_step_leaves_the_rest();
     laws::each_step_keeps_order();
@@ -93,9 +93,9 @@ pub fn world_law<W: RunsScripts>()
 }
 
 /// The premises of the law can be met, for all workers: there is a new world, with only the
-/// server, and a calm run of it in which a connection of the net is created and accepted.
+/// server, and an undisturbed run of it in which a connection of the net is created and accepted.
 pub fn premises_can_be_met<W: RunsScripts>()
-    ensures { OfSome W.turns W.settled W.free W.due ARunIsCalm }
+    ensures { OfSome W.turns W.quiescent W.free W.expected ARunIsUndisturbed }
 {
     laws::each_step_keeps_order();
     laws::descriptors_come_by_replies();

@@ -6,14 +6,14 @@ use Rattle.iol_core.specs.NumberedLists.{in_place, taken}
 use Rattle.iol_core.specs.declared.events.Reply.{Reply}
 use Rattle.iol_core.specs.declared.events.Reply.TheVariants as reply
 use Rattle.iol_proc.specs.declared.process.Turn.{Turn}
-use Rattle.flash_laws.specs.Client.{Client, new_client, told, left_over}
-use Rattle.flash_laws.specs.Site.Places.{first_free, runs_scripts, told_at, filed}
-use Rattle.flash_laws.specs.Conn.Policy.{door, flight_to, most_conns}
-use Rattle.flash_laws.specs.Serves.Rounds.{next_flight, next_place, place_after}
+use Rattle.flash_laws.specs.Client.{Client, new_client, after_reply, left_over}
+use Rattle.flash_laws.specs.Site.Places.{first_free, runs_scripts, after_reply_at, filed}
+use Rattle.flash_laws.specs.Conn.Policy.{accept_step, pending_call_to, most_conns}
+use Rattle.flash_laws.specs.Serves.Rounds.{next_pending_call, next_place, place_after}
 use Rattle.flash_laws.specs.Serves.{Picks}
 use Rattle.flash_laws.specs.Site.OtherConns.{with_at}
-use Rattle.flash_laws.specs.declared.phase.Flight.{Flight}
-use Rattle.flash_laws.specs.declared.phase.Flight.TheVariants.{Nothing, Accepting, At}
+use Rattle.flash_laws.specs.declared.phase.PendingCall.{PendingCall}
+use Rattle.flash_laws.specs.declared.phase.PendingCall.TheVariants.{Nothing, Accepting, At}
 use Rattle.flash_lite.specs.Few.{most_in, IsFew}
 use Rattle.flash_lite.proofs.Places.{at_within, taken_kept, within}
 
@@ -56,36 +56,36 @@ few_admitted clients fd x few =
 
 -- ---- what is picked
 
-few_door : (clients : List (Option Client)) → taken clients ≤ 256 → IsFew clients (door clients)
-few_door clients few = by (nat_lt (taken clients) most_conns) refl
+few_accept_step : (clients : List (Option Client)) → taken clients ≤ 256 → IsFew clients (accept_step clients)
+few_accept_step clients few = by (nat_lt (taken clients) most_conns) refl
   where
     by : (b : Bool) → nat_lt (taken clients) most_conns ≡ b → taken clients ≤ most_in (if b then Accepting else Nothing)
     by true lt = grind (arith, nat_tests, lt)
     by false lt = few
 
-few_to : (clients : List (Option Client)) (found : Option ℕ) → taken clients ≤ 256 → IsFew clients (flight_to clients found)
-few_to clients None few = few_door clients few
+few_to : (clients : List (Option Client)) (found : Option ℕ) → taken clients ≤ 256 → IsFew clients (pending_call_to clients found)
+few_to clients None few = few_accept_step clients few
 few_to clients (Some place) few = few
 
 -- ---- a turn
 
-few_next : (workers : ℕ) (l : List (Option Client)) (was : Flight) (r : Reply) → taken l ≤ 256 → IsFew l (next_flight workers l was r)
+few_next : (workers : ℕ) (l : List (Option Client)) (was : PendingCall) (r : Reply) → taken l ≤ 256 → IsFew l (next_pending_call workers l was r)
 few_next workers l Nothing r few = few_to l (next_place workers l 0) few
 few_next workers l (At fd) r few = few_to l (next_place workers l (place_after fd (in_place l fd) r)) few
-few_next workers l Accepting (reply.Fd fd) few = few_door l few
+few_next workers l Accepting (reply.Fd fd) few = few_accept_step l few
 few_next workers l Accepting r few = few
 
-few_filed : (workers : ℕ) (clients : List (Option Client)) (was : Flight) (r : Reply) (heard : List ℕ) → IsFew clients was → taken (filed workers clients was r heard) ≤ 256
-few_filed workers clients Nothing r heard few = few
-few_filed workers clients Accepting (reply.Fd fd) heard few = few_admitted clients fd new_client few
-few_filed workers clients Accepting r heard few = omega (arith, few)
-few_filed workers clients (At fd) r heard few = by (in_place clients fd) refl
+few_filed : (workers : ℕ) (clients : List (Option Client)) (was : PendingCall) (r : Reply) (received : List ℕ) → IsFew clients was → taken (filed workers clients was r received) ≤ 256
+few_filed workers clients Nothing r received few = few
+few_filed workers clients Accepting (reply.Fd fd) received few = few_admitted clients fd new_client few
+few_filed workers clients Accepting r received few = omega (arith, few)
+few_filed workers clients (At fd) r received few = by (in_place clients fd) refl
   where
-    by : (o : Option Client) → in_place clients fd ≡ o → taken (told_at workers clients fd o r heard) ≤ 256
+    by : (o : Option Client) → in_place clients fd ≡ o → taken (after_reply_at workers clients fd o r received) ≤ 256
     by None is = few
-    by (Some x) is = let less = no_more_at clients fd x (left_over (told (runs_scripts workers) (first_free workers clients) x r heard)) is in omega (arith, less, few)
+    by (Some x) is = let less = no_more_at clients fd x (left_over (after_reply (runs_scripts workers) (first_free workers clients) x r received)) is in omega (arith, less, few)
 
-few_picks : (workers : ℕ) (l : List (Option Client)) (flight : Flight) (made : Turn) (after : List (Option Client)) → IsFew l flight → Picks workers l flight made after → IsFew after flight
+few_picks : (workers : ℕ) (l : List (Option Client)) (pending_call : PendingCall) (made : Turn) (after : List (Option Client)) → IsFew l pending_call → Picks workers l pending_call made after → IsFew after pending_call
 few_picks workers l Nothing made after few p = subst (λ (m : List (Option Client)). IsFew m Nothing) (sym p.0) few
 few_picks workers l Accepting made after few p = subst (λ (m : List (Option Client)). IsFew m Accepting) (sym p.0) few
 few_picks workers l (At fd) made after few p =
@@ -93,8 +93,8 @@ few_picks workers l (At fd) made after few p =
     subst (λ (m : List (Option Client)). taken m ≤ 256) (sym p.after_is) (let small : taken (with_at l fd (Some p.ready)) ≤ 256 = omega (arith, less, few) in small)
 
 -- it leaves few where there were few
-pub few_turn : (workers : ℕ) (clients : List (Option Client)) (was : Flight) (r : Reply) (heard : List ℕ) (flight : Flight) (made : Turn) (after : List (Option Client)) → IsFew clients was
-    → Picks workers (filed workers clients was r heard) flight made after → flight ≡ next_flight workers (filed workers clients was r heard) was r → IsFew after flight
-few_turn workers clients was r heard flight made after few picks policy =
-    let l : List (Option Client) = filed workers clients was r heard in
-    few_picks workers l flight made after (subst (λ (f : Flight). IsFew l f) (sym policy) (few_next workers l was r (few_filed workers clients was r heard few))) picks
+pub few_turn : (workers : ℕ) (clients : List (Option Client)) (was : PendingCall) (r : Reply) (received : List ℕ) (pending_call : PendingCall) (made : Turn) (after : List (Option Client)) → IsFew clients was
+    → Picks workers (filed workers clients was r received) pending_call made after → pending_call ≡ next_pending_call workers (filed workers clients was r received) was r → IsFew after pending_call
+few_turn workers clients was r received pending_call made after few picks policy =
+    let l : List (Option Client) = filed workers clients was r received in
+    few_picks workers l pending_call made after (subst (λ (f : PendingCall). IsFew l f) (sym policy) (few_next workers l was r (few_filed workers clients was r received few))) picks

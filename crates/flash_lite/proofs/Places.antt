@@ -10,19 +10,19 @@ use Rattle.iol_core.specs.declared.events.Call.{Call}
 use Rattle.iol_core.specs.declared.events.Reply.{Reply}
 use Rattle.iol_proc.specs.declared.process.Turn.{Turn}
 use Rattle.iol_proc.specs.declared.process.Turn.TheVariants as turn
-use Rattle.flash_laws.specs.Client.{Client, told, left_over}
-use Rattle.flash_laws.specs.Site.Places.{first_free, has_free, may_go, runs_scripts, told_at, filed}
-use Rattle.flash_laws.specs.Conn.Policy.{door, flight_to, most_conns}
-use Rattle.flash_laws.specs.Serves.Rounds.{goes_in, leaves_off, flight_from, place_after}
+use Rattle.flash_laws.specs.Client.{Client, after_reply, left_over}
+use Rattle.flash_laws.specs.Site.Places.{first_free, has_free, may_go, runs_scripts, after_reply_at, filed}
+use Rattle.flash_laws.specs.Conn.Policy.{accept_step, pending_call_to, most_conns}
+use Rattle.flash_laws.specs.Serves.Rounds.{goes_in, leaves_off, pending_call_from, place_after}
 use Rattle.flash_laws.specs.Serves.Rounds.{next_in}
 use Rattle.flash_laws.specs.Serves.{Picks}
 use Rattle.flash_laws.specs.Site.OtherConns.{with_at, left_by}
-use Rattle.flash_laws.specs.declared.phase.Doing.{Doing}
-use Rattle.flash_laws.specs.declared.phase.Doing.TheVariants.{Rests, Got, Opens, Reads, Shuts, Picks as Picking, Spares, Heads, Joins, Sends, Cuts, Offers, Swaps, Sent, Breaks, Drops, Closes, Over}
-use Rattle.flash_laws.specs.declared.phase.Flight.{Flight}
-use Rattle.flash_laws.specs.declared.phase.Flight.TheVariants.{Nothing, Accepting, At}
+use Rattle.flash_laws.specs.declared.phase.Phase.{Phase}
+use Rattle.flash_laws.specs.declared.phase.Phase.TheVariants.{Rests, Got, Opens, Reads, Shuts, Picks as Picking, Spares, Heads, Joins, Sends, Cuts, Offers, Swaps, Sent, Breaks, Drops, Closes, Over}
+use Rattle.flash_laws.specs.declared.phase.PendingCall.{PendingCall}
+use Rattle.flash_laws.specs.declared.phase.PendingCall.TheVariants.{Nothing, Accepting, At}
 use Rattle.flash_lite.specs.Course.{left_with, remains}
-use Rattle.flash_lite.specs.ServerTurn.{AtDoor, Makes, PicksFrom, door_to, ends, flight_by, left_as, left_at, most_with}
+use Rattle.flash_lite.specs.ServerTurn.{AtAcceptStep, Makes, PicksFrom, accept_step_to, ends, pending_call_by, left_as, left_at, most_with}
 use Rattle.flash_lite.specs.declared.client.Left.{Left}
 use Rattle.flash_lite.specs.declared.client.Left.TheVariants as left
 use Rattle.flash_lite.proofs.Calls.FileCalls.{position-here}
@@ -60,23 +60,23 @@ set_twice clients fd x y lt =
 -- ---- filing, where the place has a client
 
 -- what it is by the words
-abbrev pub told_by : (workers : ℕ) → List (Option Client) → Client → Reply → (heard : List ℕ) → Client
-told_by workers clients x r heard = told (runs_scripts workers) (first_free workers clients) x r heard
+abbrev pub after_reply_by : (workers : ℕ) → List (Option Client) → Client → Reply → (received : List ℕ) → Client
+after_reply_by workers clients x r received = after_reply (runs_scripts workers) (first_free workers clients) x r received
 
-pub filed_there : (workers : ℕ) (clients : List (Option Client)) (fd : ℕ) (x : Client) (r : Reply) (heard : List ℕ) → in_place clients fd ≡ Some x → fd < length clients
-    → filed workers clients (At fd) r heard ≡ slice_set clients fd (left_over (told_by workers clients x r heard))
-filed_there workers clients fd x r heard there lt =
-    ap (λ (o : Option Client). told_at workers clients fd o r heard) there ∙ at_within clients fd (left_over (told_by workers clients x r heard)) lt
+pub filed_there : (workers : ℕ) (clients : List (Option Client)) (fd : ℕ) (x : Client) (r : Reply) (received : List ℕ) → in_place clients fd ≡ Some x → fd < length clients
+    → filed workers clients (At fd) r received ≡ slice_set clients fd (left_over (after_reply_by workers clients x r received))
+filed_there workers clients fd x r received there lt =
+    ap (λ (o : Option Client). after_reply_at workers clients fd o r received) there ∙ at_within clients fd (left_over (after_reply_by workers clients x r received)) lt
 
-pub filed_none : (workers : ℕ) (clients : List (Option Client)) (fd : ℕ) (r : Reply) (heard : List ℕ) → in_place clients fd ≡ None
-    → filed workers clients (At fd) r heard ≡ clients
-filed_none workers clients fd r heard none = ap (λ (o : Option Client). told_at workers clients fd o r heard) none
+pub filed_none : (workers : ℕ) (clients : List (Option Client)) (fd : ℕ) (r : Reply) (received : List ℕ) → in_place clients fd ≡ None
+    → filed workers clients (At fd) r received ≡ clients
+filed_none workers clients fd r received none = ap (λ (o : Option Client). after_reply_at workers clients fd o r received) none
 
-pub filed_left : (workers : ℕ) (clients : List (Option Client)) (fd : ℕ) (x t : Client) (l : Left) (r : Reply) (heard : List ℕ) → in_place clients fd ≡ Some x → fd < length clients
-    → t ≡ told_by workers clients x r heard → t ≡ left_with x l → left_over t ≡ remains l t → filed workers clients (At fd) r heard ≡ left_at clients fd l
-filed_left workers clients fd x t l r heard there lt told_is with_is over =
-    filed_there workers clients fd x r heard there lt
-    ∙ (ap (λ (z : Client). slice_set clients fd (left_over z)) (sym told_is)
+pub filed_left : (workers : ℕ) (clients : List (Option Client)) (fd : ℕ) (x t : Client) (l : Left) (r : Reply) (received : List ℕ) → in_place clients fd ≡ Some x → fd < length clients
+    → t ≡ after_reply_by workers clients x r received → t ≡ left_with x l → left_over t ≡ remains l t → filed workers clients (At fd) r received ≡ left_at clients fd l
+filed_left workers clients fd x t l r received there lt after_reply_is with_is over =
+    filed_there workers clients fd x r received there lt
+    ∙ (ap (λ (z : Client). slice_set clients fd (left_over z)) (sym after_reply_is)
     ∙ (ap (λ (o : Option Client). slice_set clients fd o) over
     ∙ (ap (λ (z : Client). slice_set clients fd (remains l z)) with_is
     ∙ ap (λ (o : Option Client). slice_set clients fd (left_as o l)) (sym there))))
@@ -117,10 +117,10 @@ never_none free clients from place is none =
     let no_one : goes_in free (in_place clients place) ≡ false = ap (λ (o : Option Client). goes_in free o) none in
     absurd (cc)
 
-pub door_makes : (scripts : Bool) (clients : List (Option Client)) (from : ℕ) (flight : Flight) (made : Turn) → AtDoor flight made → Makes scripts clients from flight made
-door_makes scripts clients from Nothing made at = at
-door_makes scripts clients from Accepting made at = at
-door_makes scripts clients from (At place) made at = absurd at
+pub accept_step_makes : (scripts : Bool) (clients : List (Option Client)) (from : ℕ) (pending_call : PendingCall) (made : Turn) → AtAcceptStep pending_call made → Makes scripts clients from pending_call made
+accept_step_makes scripts clients from Nothing made at = at
+accept_step_makes scripts clients from Accepting made at = at
+accept_step_makes scripts clients from (At place) made at = absurd at
 
 -- ---- what is picked
 
@@ -152,21 +152,21 @@ next-same free from l clients same = ap (λ (rest : List (Option Client)). optio
 goes-there : (free : Bool) (o : Option Client) (x : Client) → o ≡ Some x → goes_in free o ≡ true → may_go free x ≡ true
 goes-there free o x is goes = ap (λ (z : Option Client). goes_in free z) (sym is) ∙ goes
 
-flight-at : (clients : List (Option Client)) (most place : ℕ) (found : Option ℕ) → At place ≡ flight_by clients most found → found ≡ Some place
-flight-at clients most place (Some g) is = let e : place ≡ g = cc in ap (λ k. Some k) (sym e)
-flight-at clients most place None is = absurd (never (nat_lt (taken clients) most) is)
+pending_call-at : (clients : List (Option Client)) (most place : ℕ) (found : Option ℕ) → At place ≡ pending_call_by clients most found → found ≡ Some place
+pending_call-at clients most place (Some g) is = let e : place ≡ g = cc in ap (λ k. Some k) (sym e)
+pending_call-at clients most place None is = absurd (never (nat_lt (taken clients) most) is)
   where
     never : (b : Bool) → At place ≡ (if b then Accepting else Nothing) → ⊥
     never true is = cc (is)
     never false is = cc (is)
 
 -- the pick from the clients that were is the one from those that are filed, where they are the same from there on
-pub picks_filed : (workers : ℕ) (from most : ℕ) (clients l : List (Option Client)) (flight : Flight) (made : Turn) (after : List (Option Client)) → SameFrom from l clients
-    → PicksFrom (runs_scripts workers) (has_free workers l) clients from most flight made → after ≡ l → Picks workers l flight made after
+pub picks_filed : (workers : ℕ) (from most : ℕ) (clients l : List (Option Client)) (pending_call : PendingCall) (made : Turn) (after : List (Option Client)) → SameFrom from l clients
+    → PicksFrom (runs_scripts workers) (has_free workers l) clients from most pending_call made → after ≡ l → Picks workers l pending_call made after
 picks_filed workers from most clients l Nothing made after same p is = (is, p.makes)
 picks_filed workers from most clients l Accepting made after same p is = (is, p.makes)
 picks_filed workers from most clients l (At g) made after same p is =
-    let found = found_in (has_free workers l) clients from g (flight-at clients most g (next_in (has_free workers l) clients from) p.flight_is) in
+    let found = found_in (has_free workers l) clients from g (pending_call-at clients most g (next_in (has_free workers l) clients from) p.pending_call_is) in
     let there : in_place l g ≡ Some p.makes.3.was = same.each g p.makes.0 ∙ p.makes.3.there in
     record {
       was = p.makes.3.was;
@@ -178,16 +178,16 @@ picks_filed workers from most clients l (At g) made after same p is =
       call_is = p.makes.2 ∙ ap (λ (z : Call). turn.Make z) p.makes.3.call_is;
     }
 
-flight-same : (clients l : List (Option Client)) (most : ℕ) (found : Option ℕ) → door_to clients most ≡ door l → flight_by clients most found ≡ flight_to l found
-flight-same clients l most None e = e
-flight-same clients l most (Some place) e = refl
+pending_call-same : (clients l : List (Option Client)) (most : ℕ) (found : Option ℕ) → accept_step_to clients most ≡ accept_step l → pending_call_by clients most found ≡ pending_call_to l found
+pending_call-same clients l most None e = e
+pending_call-same clients l most (Some place) e = refl
 
-pub flight_filed : (workers : ℕ) (from most : ℕ) (clients l : List (Option Client)) (flight : Flight) (made : Turn) → SameFrom from l clients → door_to clients most ≡ door l
-    → PicksFrom (runs_scripts workers) (has_free workers l) clients from most flight made → flight ≡ flight_from workers l from
-flight_filed workers from most clients l flight made same e p =
-    p.flight_is
-    ∙ (flight-same clients l most (next_in (has_free workers l) clients from) e
-    ∙ ap (λ (o : Option ℕ). flight_to l o) (sym (next-same (has_free workers l) from l clients same)))
+pub pending_call_filed : (workers : ℕ) (from most : ℕ) (clients l : List (Option Client)) (pending_call : PendingCall) (made : Turn) → SameFrom from l clients → accept_step_to clients most ≡ accept_step l
+    → PicksFrom (runs_scripts workers) (has_free workers l) clients from most pending_call made → pending_call ≡ pending_call_from workers l from
+pending_call_filed workers from most clients l pending_call made same e p =
+    p.pending_call_is
+    ∙ (pending_call-same clients l most (next_in (has_free workers l) clients from) e
+    ∙ ap (λ (o : Option ℕ). pending_call_to l o) (sym (next-same (has_free workers l) from l clients same)))
 
 -- ---- how many there are
 
@@ -209,17 +209,17 @@ lt_more : (a b n : ℕ) → suc a ≡ b → nat_lt b (n + 1) ≡ nat_lt a n
 lt_more a b n e = grind (arith, nat_tests, e)
 
 -- one that is over makes room for one more
-pub door_left : (clients : List (Option Client)) (fd : ℕ) (x : Client) (l : Left) → in_place clients fd ≡ Some x → door_to clients (most_with l) ≡ door (left_at clients fd l)
-door_left clients fd x l there =
-    by l ∙ ap (λ (o : Option Client). door (slice_set clients fd (left_as o l))) (sym there)
+pub accept_step_left : (clients : List (Option Client)) (fd : ℕ) (x : Client) (l : Left) → in_place clients fd ≡ Some x → accept_step_to clients (most_with l) ≡ accept_step (left_at clients fd l)
+accept_step_left clients fd x l there =
+    by l ∙ ap (λ (o : Option Client). accept_step (slice_set clients fd (left_as o l))) (sym there)
   where
-    kept : (z : Client) → door_to clients most_conns ≡ door (slice_set clients fd (Some z))
+    kept : (z : Client) → accept_step_to clients most_conns ≡ accept_step (slice_set clients fd (Some z))
     kept z = ap (λ k. if nat_lt k most_conns then Accepting else Nothing) (sym (taken_kept clients fd x z there))
 
-    gone : door_to clients (most_conns + 1) ≡ door (slice_set clients fd None)
+    gone : accept_step_to clients (most_conns + 1) ≡ accept_step (slice_set clients fd None)
     gone = ap (λ b. if b then Accepting else Nothing) (lt_more (taken (slice_set clients fd None)) (taken clients) most_conns (taken_gone clients fd x there))
 
-    going : (d : Doing) (z : Client) → door_to clients (most_with (left.Goes d)) ≡ door (slice_set clients fd (left_by d z))
+    going : (d : Phase) (z : Client) → accept_step_to clients (most_with (left.Goes d)) ≡ accept_step (slice_set clients fd (left_by d z))
     going Over z = gone
     going Rests z = kept z
     going (Got a) z = kept z
@@ -239,13 +239,13 @@ door_left clients fd x l there =
     going (Drops a more) z = kept z
     going Closes z = kept z
 
-    same : (d : Doing) → most_with (left.Ends d) ≡ most_with (left.Goes d)
+    same : (d : Phase) → most_with (left.Ends d) ≡ most_with (left.Goes d)
     same Over = refl
     same d = refl
 
-    by : (l : Left) → door_to clients (most_with l) ≡ door (slice_set clients fd (remains l (left_with x l)))
+    by : (l : Left) → accept_step_to clients (most_with l) ≡ accept_step (slice_set clients fd (remains l (left_with x l)))
     by (left.Goes d) = going d (left_with x (left.Goes d))
-    by (left.Ends d) = ap (λ k. door_to clients k) (same d) ∙ going d (left_with x (left.Ends d))
+    by (left.Ends d) = ap (λ k. accept_step_to clients k) (same d) ∙ going d (left_with x (left.Ends d))
     by left.Begins = kept (left_with x left.Begins)
     by (left.Continues d) = kept (left_with x (left.Continues d))
     by left.Stays = kept x
@@ -266,10 +266,10 @@ drop-there (o ∷ l) (suc i) x there = drop-there l i x there
 
 -- where the client that is there may go, it is the first from its place on
 pub next_there : (workers : ℕ) (clients : List (Option Client)) (fd : ℕ) (x : Client) → in_place clients fd ≡ Some x → may_go (has_free workers clients) x ≡ true
-    → flight_from workers clients fd ≡ At fd
+    → pending_call_from workers clients fd ≡ At fd
 next_there workers clients fd x there may =
     let e : fd + 0 ≡ fd = omega arith in
     let first : position (λ o. goes_in (has_free workers clients) o) (drop fd clients) ≡ Some 0 =
     ap (λ (l : List (Option Client)). position (λ o. goes_in (has_free workers clients) o) l) (drop-there clients fd x there)
     ∙ position-here (λ o. goes_in (has_free workers clients) o) (Some x) (drop (suc fd) clients) may in
-    ap (λ (o : Option ℕ). flight_to clients (option_map (λ k. fd + k) o)) first ∙ ap (λ (k : ℕ). At k) e
+    ap (λ (o : Option ℕ). pending_call_to clients (option_map (λ k. fd + k) o)) first ∙ ap (λ (k : ℕ). At k) e

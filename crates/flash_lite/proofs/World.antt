@@ -1,10 +1,10 @@
 pub mod Apart
-pub mod Seats
-pub mod Desks
+pub mod ProcessSlots
+pub mod JobQueues
 pub mod FixedMachine
 pub mod NewSite
 pub mod FixedSite
-pub mod SiteSeats
+pub mod SiteProcessSlots
 pub mod SiteWorld
 pub mod SiteStart
 pub mod HostedWorld

@@ -10,13 +10,13 @@ use Rattle.iol_proc.specs.World.{Stage}
 use Rattle.iol_proc.specs.declared.choice.Choice.{Choice}
 use Rattle.iol_proc.specs.declared.choice.Choice.TheVariants as choice
 use Rattle.flash_cgi.specs.declared.worker.Worker.{Worker}
-use Rattle.flash_laws.specs.Shelf.{Refusals}
+use Rattle.flash_laws.specs.SiteContents.{Refusals}
 use Rattle.flash_laws.specs.Site.{server}
-use Rattle.flash_laws.specs.World.Tie.{Actor}
+use Rattle.flash_laws.specs.World.Consistency.{Actor}
 use Rattle.flash_laws.specs.World.{AreFair}
 use Rattle.flash_laws.specs.World.Fair.{any_refusal, no_refusal}
 use Rattle.flash_laws.specs.World.Host.{IsRight}
-use Rattle.flash_lite.specs.Crew.{crew_of}
+use Rattle.flash_lite.specs.WorkerSet.{worker_set_of}
 use Rattle.flash_lite.specs.HostedSite.{HasFairTurns, Hosts, IsMildlyUsed, refusals_of}
 use Rattle.flash_lite.specs.Library.{library_of}
 use Rattle.flash_lite.specs.Setup.{workers_used}
@@ -39,9 +39,9 @@ IsHarmless workers x = Unit {0}
 abbrev pub AreHarmless : Site → List Choice → Type 0
 AreHarmless s xs = AllByRecursion (λ x. IsHarmless (workers_used s) x) xs
 
--- Harmless choices are mild, whatever is hosted, if their turns were fair.
-abbrev pub HarmlessIsMild : Type 0
-HarmlessIsMild = (s : Site) (slots : List (List ℕ)) (xs : List Choice) (rs : List Reply) (turns : ℕ)
+-- Harmless choices are site-preserving, whatever is hosted, if their turns were fair.
+abbrev pub HarmlessIsSitePreserving : Type 0
+HarmlessIsSitePreserving = (s : Site) (slots : List (List ℕ)) (xs : List Choice) (rs : List Reply) (turns : ℕ)
     (idle : Bool) (after : Stage State (Actor Worker)) (hosts : Hosts s slots xs rs turns idle after)
     → (refuses : Refusals) → AreHarmless s xs → AreFair refuses xs rs
     → IsMildlyUsed s slots xs rs turns idle after hosts
@@ -50,14 +50,14 @@ HarmlessIsMild = (s : Site) (slots : List (List ℕ)) (xs : List Choice) (rs : L
 module _ (s : Site) (slots : List (List ℕ)) (xs : List Choice) (rs : List Reply) (turns : ℕ) (idle : Bool)
     (after : Stage State (Actor Worker)) (hosts : Hosts s slots xs rs turns idle after) where
   abbrev pub IsRightNow : (refuses : Refusals) → Type 0
-  IsRightNow refuses = IsRight (crew_of s) (library_of s slots refuses) xs rs idle after
+  IsRightNow refuses = IsRight (worker_set_of s) (library_of s slots refuses) xs rs idle after
 
   pub record IsRightIfHarmless : Type 0 where
     -- if its turns got no other refusals
     pub fair : (refuses : Refusals) → AreHarmless s xs → HasFairTurns s slots xs rs turns idle after hosts refuses
         → IsRightNow refuses
-    -- with none, if the world's rough flag is clear
-    pub smooth : AreHarmless s xs → after.rough ≡ false → IsRightNow no_refusal
+    -- with none, if the world's failure flag is clear
+    pub failure_free : AreHarmless s xs → after.resource_failure ≡ false → IsRightNow no_refusal
     -- with those that the turns of the server and the workers got, whatever was refused
     pub own : AreHarmless s xs → IsRightNow (refusals_of s slots xs rs turns idle after hosts)
     -- with TooMany, NoRoom, Fault and Memory, whatever was refused

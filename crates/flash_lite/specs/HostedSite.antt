@@ -11,30 +11,31 @@ use Rattle.iol_proc.specs.World.{Stage, copied, copying, sharing, WorldRun, doma
 use Rattle.iol_proc.specs.declared.choice.Choice.{Choice}
 use Rattle.iol_system.specs.Machine.{SystemState}
 use Rattle.flash_cgi.specs.declared.worker.Worker.{Worker}
-use Rattle.flash_laws.specs.Shelf.{Refusals}
-use Rattle.flash_laws.specs.World.Calm.{AreMild}
+use Rattle.flash_laws.specs.SiteContents.{Refusals}
+use Rattle.flash_laws.specs.World.Undisturbed.{AreSitePreserving}
 use Rattle.flash_laws.specs.Serves.Rounds.{in_rounds}
-use Rattle.flash_laws.specs.World.Tie.{Actor, actor_turns}
+use Rattle.flash_laws.specs.World.Consistency.{Actor, actor_turns}
 use Rattle.flash_laws.specs.World.{AreFair, IsNew}
 use Rattle.flash_laws.specs.World.Fair.{any_refusal, no_refusal, refusals_in}
 use Rattle.flash_laws.specs.World.Host.{IsRight}
-use Rattle.flash_lite.specs.Crew.{crew_of}
+use Rattle.flash_lite.specs.WorkerSet.{worker_set_of}
 use Rattle.flash_lite.specs.Library.{library_of}
-use Rattle.flash_lite.specs.NewWorld.{AreSeated}
+use Rattle.flash_lite.specs.NewWorld.{AreInSlots}
 use Rattle.flash_lite.specs.SiteState.{state_of}
 use Rattle.flash_lite.specs.SiteStart.{Starts}
 use Rattle.flash_lite.specs.Workers.{worker_turns}
 use Rattle.flash_lite.specs.declared.site.Site.{Site}
 
--- The world of a site that was set up over these slots, before its first turn: it is new in the sense of the law over whole
--- worlds, whichever refusals calls may get later.
+-- The world of a site that was set up over these slots, before its first turn: it is new in the sense of the law over
+-- whole worlds, whichever refusals calls may get later.
 pub record IsNewWorld (s : Site) (slots : List (List ℕ)) (w : Stage State (Actor Worker)) : Type 0 where
   pub machine : w.machine ≡ state_of s slots
-  pub seats : AreSeated s w.seats
-  pub smooth : w.rough ≡ false
-  pub new : (refuses : Refusals) → IsNew (library_of s slots refuses) (crew_of s) w
+  pub process_slots : AreInSlots s w.process_slots
+  pub failure_free : w.resource_failure ≡ false
+  pub new : (refuses : Refusals) → IsNew (library_of s slots refuses) (worker_set_of s) w
 
--- A site over these slots executes its choices, with these replies, and then takes at most this number of turns in rounds.
+-- A site over these slots executes its choices, with these replies, and then takes at most this number of turns in
+-- rounds.
 pub record Hosts (s : Site) (slots : List (List ℕ)) (xs : List Choice) (rs : List Reply)
     (turns : ℕ) (idle : Bool) (after : Stage State (Actor Worker)) : Type 0 where
   pub first : Stage State (Actor Worker)
@@ -55,7 +56,8 @@ pub record HostsOver (config : Config) (store : Disk) (s : Site) (xs : List Choi
   pub events : HasEvents starts.begun after.machine
   pub honest : after.machine.disk.honest ≡ store.honest
 
--- Over an honest store, the world of a system in the copying machine is new over the store's slots before its first turn.
+-- Over an honest store, the world of a system in the copying machine is new over the store's slots before its first
+-- turn.
 abbrev pub IsNewIfHonest : (store : Disk) → Site → Stage SystemState (Actor Worker) → Type 0
 IsNewIfHonest store s w = IfHonest store (IsNewWorld s (slots_of store.slots) (copied w))
 
@@ -66,31 +68,31 @@ HostsIfHonest store s xs rs turns idle after = IfHonest store (Hosts s (slots_of
 
 module _ (s : Site) (slots : List (List ℕ)) (xs : List Choice) (rs : List Reply) (turns : ℕ) (idle : Bool)
     (after : Stage State (Actor Worker)) (hosts : Hosts s slots xs rs turns idle after) where
-  -- external calls were mild
+  -- external calls were site-preserving
   abbrev pub IsMildlyUsed : Type 0
-  IsMildlyUsed = AreMild (actor_turns in_rounds worker_turns) hosts.first xs rs hosts.mid hosts.run
+  IsMildlyUsed = AreSitePreserving (actor_turns in_rounds worker_turns) hosts.first xs rs hosts.mid hosts.run
 
   -- the turns among the choices, and those in rounds, were fair if these refusals are allowed
   abbrev pub HasFairTurns : (refuses : Refusals) → Type 0
   HasFairTurns refuses = AreFair refuses xs rs
-      × AreFair refuses (rounds (domains_of hosts.mid.seats) 0 (length hosts.ends.went)) (map (λ t. t.1) hosts.ends.went)
+      × AreFair refuses (rounds (domains_of hosts.mid.process_slots) 0 (length hosts.ends.went)) (map (λ t. t.1) hosts.ends.went)
 
   -- the refusals among TooMany, NoRoom, Fault and Memory that its turns got
   abbrev pub refusals_of : Refusals
-  refusals_of = refusals_in (xs ++ rounds (domains_of hosts.mid.seats) 0 (length hosts.ends.went)) (rs ++ map (λ t. t.1) hosts.ends.went)
+  refusals_of = refusals_in (xs ++ rounds (domains_of hosts.mid.process_slots) 0 (length hosts.ends.went)) (rs ++ map (λ t. t.1) hosts.ends.went)
 
   -- The whole result is right if these refusals are allowed.
   abbrev pub IsRightAfter : (refuses : Refusals) → Type 0
-  IsRightAfter refuses = IsRight (crew_of s) (library_of s slots refuses)
-      (xs ++ rounds (domains_of hosts.mid.seats) 0 (length hosts.ends.went))
+  IsRightAfter refuses = IsRight (worker_set_of s) (library_of s slots refuses)
+      (xs ++ rounds (domains_of hosts.mid.process_slots) 0 (length hosts.ends.went))
       (rs ++ map (λ t. t.1) hosts.ends.went) idle after
 
-  -- A hosted site is right if external calls were mild.
+  -- A hosted site is right if external calls were site-preserving.
   pub record IsRightAsHosted : Type 0 where
     -- if its turns got no other refusals
     pub fair : (refuses : Refusals) → IsMildlyUsed → HasFairTurns refuses → IsRightAfter refuses
-    -- with none, if the world's rough flag is clear
-    pub smooth : IsMildlyUsed → after.rough ≡ false → IsRightAfter no_refusal
+    -- with none, if the world's failure flag is clear
+    pub failure_free : IsMildlyUsed → after.resource_failure ≡ false → IsRightAfter no_refusal
     -- with those that the turns of the server and the workers got, whatever was refused
     pub own : IsMildlyUsed → IsRightAfter refusals_of
     -- with TooMany, NoRoom, Fault and Memory, whatever was refused

@@ -1,6 +1,6 @@
 pub mod Table
 pub mod Few
-pub mod HeardBytes
+pub mod ReceivedBytes
 pub mod Small
 pub mod Texts
 pub mod Onward
@@ -11,10 +11,10 @@ pub mod Actors
 pub mod Accounts
 pub mod Setup
 pub mod SiteState
-pub mod Shelf
+pub mod SiteContents
 pub mod NewWorld
 pub mod Library
-pub mod Crew
+pub mod WorkerSet
 pub mod SiteWorld
 pub mod SiteStart
 pub mod HostedSite

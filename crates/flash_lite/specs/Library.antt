@@ -3,10 +3,10 @@ use Rattle.std.specs.Prelude.{ℕ, List, [], Option, Some, None, if◌then◌els
 use Rattle.std.specs.List.{slice_get}
 use Rattle.iol_core.specs.declared.refusals.Refusal.TheVariants.{Denied, NoFile}
 use Rattle.flash_cgi.specs.Output.{Outcome, Failed, Found}
-use Rattle.flash_laws.specs.Shelf.Due.{Seen}
-use Rattle.flash_laws.specs.Shelf.{Shelf, Refusals}
+use Rattle.flash_laws.specs.SiteContents.Expected.{Seen}
+use Rattle.flash_laws.specs.SiteContents.{SiteContents, Refusals}
 use Rattle.flash_lite.specs.Setup.{has_script}
-use Rattle.flash_lite.specs.Shelf.{shelf_of}
+use Rattle.flash_lite.specs.SiteContents.{site_contents_of}
 use Rattle.flash_lite.specs.declared.site.Site.{Site}
 use Rattle.flash_lite.specs.declared.site.SiteFile.{SiteFile}
 
@@ -25,9 +25,9 @@ abbrev pub seen_of : Site → (slots : List (List ℕ)) → Seen
 seen_of s slots name = seen_at s slots (position (λ f. bytes_eq f.name.items name) s.files.items)
 
 -- For both; scripts are run if there is one, and calls may get these refusals.
-abbrev pub library_of : Site → (slots : List (List ℕ)) → Refusals → Shelf
+abbrev pub library_of : Site → (slots : List (List ℕ)) → Refusals → SiteContents
 library_of s slots refuses = record {
-  finds = shelf_of s slots;
+  finds = site_contents_of s slots;
   shows = seen_of s slots;
   scripts = has_script s;
   refuses = refuses;

@@ -4,72 +4,72 @@ use Rattle.iol_core.specs.declared.events.Reply.{Reply}
 use Rattle.iol_core.specs.declared.events.Reply.TheVariants.{Agg}
 use Rattle.flash_http.specs.Request.{Answer}
 use Rattle.flash_http.specs.Window.{window_in}
-use Rattle.flash_laws.specs.Conn.{Conn, begins, told, told_rests, wants, Starts, Readies, IsAwaiting}
+use Rattle.flash_laws.specs.Conn.{Conn, begins, after_reply, after_receive, wants, Starts, Readies, IsAwaiting}
 use Rattle.flash_laws.specs.Conn.Policy.{has_answered, is_later, is_bare, leaves_off}
 use Rattle.flash_laws.specs.Conn.Wants.{can_begin}
 use Rattle.flash_laws.specs.Site.OtherConns.{left_over}
-use Rattle.flash_laws.specs.declared.phase.Doing.{Doing}
-use Rattle.flash_laws.specs.declared.phase.Doing.TheVariants.{Rests, Over}
+use Rattle.flash_laws.specs.declared.phase.Phase.{Phase}
+use Rattle.flash_laws.specs.declared.phase.Phase.TheVariants.{Rests, Over}
 use Rattle.flash_lite.specs.Small.{IsSmall}
 use Rattle.flash_lite.specs.declared.conn.Onward.{Onward}
 use Rattle.flash_lite.specs.declared.conn.Onward.TheVariants.{Asks, Leaves}
 
-abbrev pub is_over : Doing → Bool
+abbrev pub is_over : Phase → Bool
 is_over Over = true
 is_over d = false
 
 -- a connection in this phase
-abbrev pub in_doing : Conn → Doing → Conn
-in_doing x d = record x { doing = d }
+abbrev pub in_phase : Conn → Phase → Conn
+in_phase x d = record x { phase = d }
 
 -- more of its stream was read
-abbrev pub with_heard : Conn → (agg : ℕ) → (heard : List ℕ) → Conn
-with_heard x agg heard = told_rests x.kept x.q (Agg agg) heard
+abbrev pub with_received : Conn → (agg : ℕ) → (received : List ℕ) → Conn
+with_received x agg received = after_receive x.kept x.q (Agg agg) received
 
 -- a request was begun, whose head ends after the first len bytes of the buffered input
 abbrev pub begun_with : (len : ℕ) → Answer → Conn → Conn
-begun_with len q x = record { kept = drop len x.kept; q = q; doing = begins q }
+begun_with len q x = record { kept = drop len x.kept; q = q; phase = begins q }
 
 -- a phase in which the turn of a connection may pass to others
-pub record CanRest (x : Conn) (d : Doing) : Type 0 where
+pub record CanRest (x : Conn) (d : Phase) : Type 0 where
   pub small : IsSmall d
-  pub awaits : IsAwaiting (record x { doing = d })
+  pub awaits : IsAwaiting (record x { phase = d })
 
 -- it continues at once: the reply is processed, it becomes ready, and this is its call
-pub record GoesOn (x : Conn) (r : Reply) (heard : List ℕ) (y : Conn) : Type 0 where
-  pub on : leaves_off (left_over (told x r heard)) r ≡ false
-  pub stays : left_over (told x r heard) ≡ Some (told x r heard)
-  pub readies : Readies (told x r heard) y
+pub record Proceeds (x : Conn) (r : Reply) (received : List ℕ) (y : Conn) : Type 0 where
+  pub on : leaves_off (left_over (after_reply x r received)) r ≡ false
+  pub stays : left_over (after_reply x r received) ≡ Some (after_reply x r received)
+  pub readies : Readies (after_reply x r received) y
 
 -- its turn passes to others, it is unchanged, and the reply is processed by the phase in which it continues
-pub record IsLeft (x : Conn) (r : Reply) (heard : List ℕ) (d : Doing) (y : Conn) : Type 0 where
-  pub off : leaves_off (left_over (told x r heard)) r ≡ true
-  pub told_is : told x r heard ≡ record x { doing = d }
+pub record IsLeft (x : Conn) (r : Reply) (received : List ℕ) (d : Phase) (y : Conn) : Type 0 where
+  pub off : leaves_off (left_over (after_reply x r received)) r ≡ true
+  pub after_reply_is : after_reply x r received ≡ record x { phase = d }
   pub can_rest : CanRest x d
   pub as_it_was : y ≡ x
 
-abbrev pub IsOnward : (fd : ℕ) → Conn → Reply → (heard : List ℕ) → Onward → Conn → Type 0
-IsOnward fd x r heard (Asks call) y = GoesOn x r heard y × (call ≡ wants fd y)
-IsOnward fd x r heard (Leaves d) y = IsLeft x r heard d y
+abbrev pub IsOnward : (fd : ℕ) → Conn → Reply → (received : List ℕ) → Onward → Conn → Type 0
+IsOnward fd x r received (Asks call) y = Proceeds x r received y × (call ≡ wants fd y)
+IsOnward fd x r received (Leaves d) y = IsLeft x r received d y
 
 -- From a phase that becomes idle: the first buffered request begins, or there is none.
 abbrev pub Frees : (fd : ℕ) → Conn → Onward → Conn → Type 0
 Frees fd x (Asks call) y =
-    (is_bare (record x { doing = Rests }) ≡ false)
-    × Starts (record x { doing = Rests }) y
+    (is_bare (record x { phase = Rests }) ≡ false)
+    × Starts (record x { phase = Rests }) y
     × (call ≡ wants fd y)
 Frees fd x (Leaves d) y = (d ≡ Rests) × (x.kept ≡ []) × (y ≡ x)
 
 -- an idle connection has buffered input, and a request can begin
 abbrev pub WantsToStart : Conn → Type 0
-WantsToStart x = (is_bare (record x { doing = Rests }) ≡ false) × (can_begin (window_in x.kept) ≡ true)
+WantsToStart x = (is_bare (record x { phase = Rests }) ≡ false) × (can_begin (window_in x.kept) ≡ true)
 
--- whether its turn passes in this phase: its call is to be retried later, or its response is taken whole and more input is
--- buffered
-abbrev pub passes : Conn → Doing → Reply → Bool
-passes x d r = is_later r || has_answered (in_doing x d)
+-- whether its turn passes in this phase: its call is to be retried later, or its response is taken whole and more input
+-- is buffered
+abbrev pub passes : Conn → Phase → Reply → Bool
+passes x d r = is_later r || has_answered (in_phase x d)
 
 -- From a phase that is not idle: it continues now or later.
-abbrev pub GoesWith : (fd : ℕ) → Conn → Reply → Doing → Onward → Conn → Type 0
-GoesWith fd x r d (Asks call) y = (passes x d r ≡ false) × (y ≡ in_doing x d) × (call ≡ wants fd y)
+abbrev pub GoesWith : (fd : ℕ) → Conn → Reply → Phase → Onward → Conn → Type 0
+GoesWith fd x r d (Asks call) y = (passes x d r ≡ false) × (y ≡ in_phase x d) × (call ≡ wants fd y)
 GoesWith fd x r d (Leaves e) y = (passes x d r ≡ true) × (e ≡ d) × (y ≡ x)

@@ -20,7 +20,8 @@ marked places place there =
 abbrev pub goers : (free : Bool) → List (Option Client) → List ℕ
 goers free clients = places_from (λ o. goes_in free o) 0 clients
 
--- was is whether the index is among these; there is whether it is inserted or removed. The indices ascend, and there is room.
+-- was is whether the index is among these; there is whether it is inserted or removed. The indices ascend, and there is
+-- room.
 pub record CanMark (places : List ℕ) (place : ℕ) (was there : Bool) (room : ℕ) : Type 0 where
   pub ascends : IsStrictlyIncreasing places
   pub stands : marked places place was ≡ places
@@ -32,9 +33,9 @@ pub record CanNote (free : Bool) (clients : List (Option Client)) (places : List
   pub can : CanMark places place was (goes_in free (in_place clients place)) room
   pub noted : marked places place (goes_in free (in_place clients place)) ≡ goers free clients
 
--- These are the indices of all clients, and of those that may take a turn while no worker is free; there is room for each
--- index.
-pub record TellsWhoGoes (clients : List (Option Client)) (held going : List ℕ) (held_room going_room : ℕ) : Type 0 where
+-- These are the indices of all clients, and of those that may take a turn while no worker is free; there is room for
+-- each index.
+pub record ReportsWhoGoes (clients : List (Option Client)) (held going : List ℕ) (held_room going_room : ℕ) : Type 0 where
   pub held_is : held ≡ goers true clients
   pub going_is : going ≡ goers false clients
   pub holds : length clients ≤ held_room

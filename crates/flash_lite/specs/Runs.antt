@@ -7,11 +7,11 @@ use Rattle.flash_http.specs.Request.{Wanted}
 use Rattle.flash_laws.specs.Conn.{Following}
 use Rattle.flash_laws.specs.Conn as conn
 use Rattle.flash_laws.specs.Run.{is_left, hearing, in_phase, step_wants, wants}
-use Rattle.flash_laws.specs.declared.phase.Doing.{Doing}
+use Rattle.flash_laws.specs.declared.phase.Phase.{Phase}
 use Rattle.flash_laws.specs.declared.script_run.TheConstants.{CHUNK_BYTES}
 use Rattle.flash_laws.specs.declared.script_run.Run.{Run}
 use Rattle.flash_laws.specs.declared.script_run.Step.{Step}
-use Rattle.flash_laws.specs.declared.script_run.Step.TheVariants.{Sending, Hears, Gathers, Ended, Stops, Unframes, Lasts, WrapsLast}
+use Rattle.flash_laws.specs.declared.script_run.Step.TheVariants.{Sending, Receives, Gathers, Ended, Stops, Unframes, Lasts, WrapsLast}
 use Rattle.flash_laws.specs.declared.script_run.Running.{Running}
 use Rattle.flash_laws.specs.declared.script_run.Running.TheVariants.{Awaits, Runs, Leaves}
 use Rattle.flash_lite.specs.Small.{IsSmall}
@@ -23,13 +23,13 @@ IsPiece None = Unit {0}
 IsPiece (Some x) = (0 < x.1) × (x.1 < CHUNK_BYTES)
 
 -- the rest of a response is being made or sent
-pub record IsGoing (d : Doing) : Type 0 where
+pub record IsGoing (d : Phase) : Type 0 where
   pub small : IsSmall d
   pub left : is_left d ≡ true
 
 abbrev pub IsSmallStep : Step → Type 0
 IsSmallStep (Sending d frame) = IsGoing d
-IsSmallStep (Hears held frame) = IsPiece held
+IsSmallStep (Receives held frame) = IsPiece held
 IsSmallStep (Gathers held size piece len frame) = IsPiece (Some (held, size))
 IsSmallStep (Ended a held frame) = IsPiece held
 IsSmallStep (Stops held frame) = IsPiece held
@@ -69,12 +69,12 @@ abbrev pub step_call : Wanted → (script : List ℕ) → (fd : ℕ) → Run →
 step_call w script fd run step = step_wants (job_for w script) fd w run step
 
 -- the call of a part of the response, as made by a connection in this phase
-abbrev pub part_call_for : (fd : ℕ) → Wanted → Doing → Call
+abbrev pub part_call_for : (fd : ℕ) → Wanted → Phase → Call
 part_call_for fd w d = conn.wants fd (in_phase w d)
 
 -- the phase after the reply to a part of the response
-abbrev pub told_left : Wanted → Doing → Reply → (heard : List ℕ) → Doing
-told_left w d r heard = (conn.told (in_phase w d) r heard).doing
+abbrev pub after_reply_left : Wanted → Phase → Reply → (received : List ℕ) → Phase
+after_reply_left w d r received = (conn.after_reply (in_phase w d) r received).phase
 
 -- len bytes of output were read, or its end
 abbrev pub reading : (broken chunked : Bool) → (held : Following) → (frame : Option ℕ) → (agg len : ℕ) → Step

@@ -19,7 +19,7 @@ use Rattle.flash_cgi.specs.declared.worker.Worker.{Worker}
 use Rattle.flash_laws.specs.Run.{worker_domain}
 use Rattle.flash_laws.specs.Serves.{Server, new_server}
 use Rattle.flash_laws.specs.Site.{server}
-use Rattle.flash_laws.specs.World.Tie.{Actor, Serving, Working}
+use Rattle.flash_laws.specs.World.Consistency.{Actor, Serving, Working}
 use Rattle.flash_lite.specs.declared.site.Site.{Site}
 use Rattle.flash_lite.specs.declared.site.SiteFile.{SiteFile}
 use Rattle.flash_lite.specs.declared.site.TheConstants.{MAX_WORKERS, MAX_GUESTS}

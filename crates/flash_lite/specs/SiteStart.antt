@@ -12,13 +12,14 @@ use Rattle.iol_proc.specs.World.{Stage}
 use Rattle.iol_system.specs.Machine.{SystemState, machine_of}
 use Rattle.iol_system.specs.Safe.{IsSafe}
 use Rattle.flash_cgi.specs.declared.worker.Worker.{Worker}
-use Rattle.flash_laws.specs.World.Tie.{Actor}
-use Rattle.flash_lite.specs.NewWorld.{AreSeated}
+use Rattle.flash_laws.specs.World.Consistency.{Actor}
+use Rattle.flash_lite.specs.NewWorld.{AreInSlots}
 use Rattle.flash_lite.specs.Setup.{IsMade, IsRefused, is_in_range}
 use Rattle.flash_lite.specs.SiteState.{IsSetUp}
 use Rattle.flash_lite.specs.declared.site.Site.{Site}
 
--- A new system with these parameters over this store: none of its pages was used, no sum is remembered, and no file is cached.
+-- A new system with these parameters over this store: none of its pages was used, no sum is remembered, and no file is
+-- cached.
 pub record IsNewSystem (config : Config) (store : Disk) (s : SystemState) : Type 0 where
   pub machine : machine_of s ≡ new_state (slots_of store.slots)
   pub disk : s.disk ≡ store
@@ -30,15 +31,15 @@ pub record IsNewSystem (config : Config) (store : Disk) (s : SystemState) : Type
   pub orders : s.kernel.cache.orders ≡ []
   pub safe : IsSafe s
 
--- The world of a site on such a system, which executed the calls of the site, none refused: it is set up, and each process has
--- Done as its last reply.
+-- The world of a site on such a system, which executed the calls of the site, none refused: it is set up, and each
+-- process has Done as its last reply.
 pub record Starts (config : Config) (store : Disk) (s : Site) (w : Stage SystemState (Actor Worker)) : Type 0 where
   pub begun : SystemState
   pub new : IsNewSystem config store begun
   pub made : IsMade s begun w.machine
   pub site : IsSetUp s (machine_of w.machine)
-  pub seats : AreSeated s w.seats
-  pub smooth : w.rough ≡ false
+  pub process_slots : AreInSlots s w.process_slots
+  pub failure_free : w.resource_failure ≡ false
 
 -- parameters, or a site, outside their limits
 abbrev pub IsOutOfRange : Config → Site → Type 0
@@ -51,7 +52,8 @@ pub record IsRefusedNew (config : Config) (store : Disk) (s : Site) (x : Refusal
   pub new : IsNewSystem config store begun
   pub refused : IsRefused s x begun after
 
--- the reason for which there is no world: something is outside its limits, memory ran out, or a call of the site is refused
+-- the reason for which there is no world: something is outside its limits, memory ran out, or a call of the site is
+-- refused
 abbrev pub WhyNone : Config → (store : Disk) → Site → Refusal → Type 0
 WhyNone config store s x =
     ((x ≡ BadRange) × IsOutOfRange config s) ⊎ (x ≡ Memory) ⊎ IsRefusedNew config store s x

@@ -60,17 +60,17 @@ state_of s slots = record {
 }
 
 -- Worker k, counted from 0, has the read end of its job pipe, the server the write end, and the pipe is empty.
-pub record HasDesk (m : State) (k : ℕ) : Type 0 where
+pub record HasJobQueue (m : State) (k : ℕ) : Type 0 where
   pub reads : descriptor m (worker_domain k) 0 ≡ Some (on.ReadEnd k)
   pub writes : descriptor m server (job_pipe k) ≡ Some (on.WriteEnd k)
   pub new : pipe_at m k ≡ new_pipe
 
--- The machine of a site, for all contents of its slots: each file of the site is found by its name, and each worker has its job
--- pipe.
+-- The machine of a site, for all contents of its slots: each file of the site is found by its name, and each worker has
+-- its job pipe.
 pub record IsSetUp (s : Site) (m : State) : Type 0 where
   pub state : m ≡ state_of s m.slots
   pub named : (i : ℕ) (f : SiteFile) → slice_get s.files.items i ≡ Some f → file_called m f.name.items ≡ Some (i + 1)
-  pub desks : (k : ℕ) → k < s.workers → HasDesk m k
+  pub job_queues : (k : ℕ) → k < s.workers → HasJobQueue m k
 
 -- the result of the calls of a site in a new machine
 abbrev pub LeavesSite : Site → (old new : State) → Type 0

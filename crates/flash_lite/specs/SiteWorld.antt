@@ -6,28 +6,28 @@ use Rattle.iol_core.specs.declared.limits.TheConstants.{MAX_FILES}
 use Rattle.iol_proc.specs.World.{Stage}
 use Rattle.iol_system.specs.Machine.{SystemState, machine_of}
 use Rattle.flash_cgi.specs.declared.worker.Worker.{Worker}
-use Rattle.flash_laws.specs.Shelf.{Refusals}
-use Rattle.flash_laws.specs.World.Tie.{Actor}
+use Rattle.flash_laws.specs.SiteContents.{Refusals}
+use Rattle.flash_laws.specs.World.Consistency.{Actor}
 use Rattle.flash_laws.specs.World.{IsNew}
-use Rattle.flash_lite.specs.Crew.{crew_of}
+use Rattle.flash_lite.specs.WorkerSet.{worker_set_of}
 use Rattle.flash_lite.specs.Library.{library_of}
-use Rattle.flash_lite.specs.NewWorld.{AreSeated}
+use Rattle.flash_lite.specs.NewWorld.{AreInSlots}
 use Rattle.flash_lite.specs.Setup.{SetsUp, is_in_range}
 use Rattle.flash_lite.specs.declared.site.Site.{Site}
 
--- The world is new, with the files in the slots and the workers of the site, if the machine was new and had enough slots,
--- whichever refusals calls may get later.
+-- The world is new, with the files in the slots and the workers of the site, if the machine was new and had enough
+-- slots, whichever refusals calls may get later.
 abbrev pub IsNewFor : Site → (old : State) → Stage State (Actor Worker) → Type 0
 IsNewFor s old w = (slots : List (List ℕ)) (refuses : Refusals) → old ≡ new_state slots → MAX_FILES ≤ length slots
-    → IsNew (library_of s slots refuses) (crew_of s) w
+    → IsNew (library_of s slots refuses) (worker_set_of s) w
 
--- each world of the site's processes on this machine is new, with the contents of the slots, if the machine was new and had
--- enough slots
+-- each world of the site's processes on this machine is new, with the contents of the slots, if the machine was new and
+-- had enough slots
 abbrev pub IsNewAt : Site → (old new : State) → Type 0
-IsNewAt s old new = (w : Stage State (Actor Worker)) → w.machine ≡ new → AreSeated s w.seats → IsNewFor s old w
+IsNewAt s old new = (w : Stage State (Actor Worker)) → w.machine ≡ new → AreInSlots s w.process_slots → IsNewFor s old w
 
--- A system is set up for a site: its machine executes the site's calls, the slots are unchanged, and each world of the site's
--- processes on it is new, if the machine was new and had enough slots.
+-- A system is set up for a site: its machine executes the site's calls, the slots are unchanged, and each world of the
+-- site's processes on it is new, if the machine was new and had enough slots.
 pub record SetsUpWorld (s : Site) (before after : SystemState) : Type 0 where
   pub set_up : SetsUp s (machine_of before) (machine_of after)
   pub slots : (machine_of after).slots ≡ (machine_of before).slots
@@ -37,8 +37,8 @@ pub record SetsUpWorld (s : Site) (before after : SystemState) : Type 0 where
 abbrev pub SetsUpIfHonest : Site → (old new : SystemState) → Type 0
 SetsUpIfHonest s old new = IfHonest old.disk (SetsUpWorld s old new)
 
--- The world of a site within its limits is new after the site's calls, none refused, with its processes in their seats, if the
--- machine was new and had enough slots.
+-- The world of a site within its limits is new after the site's calls, none refused, with its processes in their
+-- process slots, if the machine was new and had enough slots.
 abbrev pub SetUpIsANewWorld : Type 0
 SetUpIsANewWorld = (s : Site) (old : State) (w : Stage State (Actor Worker)) → is_in_range s ≡ true → SetsUp s old w.machine
-    → AreSeated s w.seats → IsNewFor s old w
+    → AreInSlots s w.process_slots → IsNewFor s old w

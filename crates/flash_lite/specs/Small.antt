@@ -6,16 +6,16 @@ use Rattle.iol_core.specs.declared.events.Call.TheVariants as call
 use Rattle.iol_core.specs.declared.limits.TheConstants.{MAX_AGGREGATE_BYTES}
 use Rattle.flash_http.specs.Request.{Answer, serve, refuse}
 use Rattle.flash_laws.specs.Conn.{Following, is_head_only, most_read, text_of}
-use Rattle.flash_laws.specs.declared.phase.Content.TheVariants.{Error}
-use Rattle.flash_laws.specs.declared.phase.Doing.{Doing}
-use Rattle.flash_laws.specs.declared.phase.Doing.TheVariants.{Joins, Sends, Cuts, Offers, Swaps, Sent}
+use Rattle.flash_laws.specs.declared.phase.Payload.TheVariants.{Error}
+use Rattle.flash_laws.specs.declared.phase.Phase.{Phase}
+use Rattle.flash_laws.specs.declared.phase.Phase.TheVariants.{Joins, Sends, Cuts, Offers, Swaps, Sent}
 
 abbrev pub size_of : Following → ℕ
 size_of None = 0
 size_of (Some x) = x.1
 
 -- the bytes of a response that are taken, and those that are left
-abbrev pub reach : Doing → ℕ
+abbrev pub reach : Phase → ℕ
 reach (Sends a len taken more) = taken + len + size_of more
 reach (Cuts a from len taken more) = taken + (len - from) + size_of more
 reach (Offers a from len piece taken more) = taken + (len - from) + size_of more
@@ -23,7 +23,7 @@ reach (Swaps a from len piece taken more) = taken + (len - from) + size_of more
 reach (Sent a taken more) = taken + size_of more
 reach d = 0
 
-abbrev pub IsSmall : Doing → Type 0
+abbrev pub IsSmall : Phase → Type 0
 IsSmall (Joins a size body len) = size + len ≤ MAX_AGGREGATE_BYTES
 IsSmall d = reach d ≤ 2 ^ 40
 

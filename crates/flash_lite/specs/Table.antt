@@ -4,35 +4,35 @@ use Rattle.flash_laws.specs.Client.{Client}
 use Rattle.flash_laws.specs.Site.Places.{NoneRuns, is_free}
 use Rattle.flash_laws.specs.Serves.{Server}
 use Rattle.flash_laws.specs.Workers.OwnWorkers.{IsShared}
-use Rattle.flash_laws.specs.declared.phase.Flight.{Flight}
-use Rattle.flash_laws.specs.declared.phase.Flight.TheVariants.{Nothing}
+use Rattle.flash_laws.specs.declared.phase.PendingCall.{PendingCall}
+use Rattle.flash_laws.specs.declared.phase.PendingCall.TheVariants.{Nothing}
 use Rattle.flash_lite.specs.Few.{IsFew}
 use Rattle.flash_lite.specs.declared.site.TheConstants.{MAX_WORKERS}
 
 pub record Table : Type 0 where
   pub clients : List (Option Client)
-  pub flight : Flight
+  pub pending_call : PendingCall
   pub workers : ℕ
   -- for each possible number of a worker, whether it is free
   pub free : List Bool
 
 -- without clients, and with workers workers, all free
 abbrev pub new_table : (workers : ℕ) → Table
-new_table workers = record { clients = []; flight = Nothing; workers = workers; free = replicate 8 true }
+new_table workers = record { clients = []; pending_call = Nothing; workers = workers; free = replicate 8 true }
 
 -- the state of the server that it represents
 abbrev pub serving : Table → Server
-serving t = record { clients = t.clients; flight = t.flight; workers = t.workers }
+serving t = record { clients = t.clients; pending_call = t.pending_call; workers = t.workers }
 
 -- the list has the workers that run none of these clients' scripts
-pub record TellsFree (free : List Bool) (clients : List (Option Client)) : Type 0 where
+pub record ReportsFree (free : List Bool) (clients : List (Option Client)) : Type 0 where
   pub long : length free ≡ MAX_WORKERS
   pub each : (worker : ℕ) → worker < MAX_WORKERS → get_or free worker false ≡ is_free clients worker
 
 -- between two turns
 pub record IsKept (t : Table) : Type 0 where
-  pub few : IsFew t.clients t.flight
+  pub few : IsFew t.clients t.pending_call
   pub hired : t.workers ≤ MAX_WORKERS
   pub shared : IsShared (serving t)
-  pub tells : TellsFree t.free t.clients
+  pub reports : ReportsFree t.free t.clients
   pub none : t.workers ≡ 0 → NoneRuns t.clients

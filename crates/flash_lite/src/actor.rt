@@ -1,6 +1,6 @@
 //! The processes of a site.
 ghost use Rattle.std.specs.Prelude.{◌≡◌, IfOk, OnErr};
-ghost use Rattle.iol_proc.specs.Prelude.{lent, IsQuiet};
+ghost use Rattle.iol_proc.specs.Prelude.{readable, IsCopyFree};
 ghost use Rattle.flash_cgi.specs.Prelude.{IsNew};
 ghost use Rattle.flash_laws.specs.Prelude.{in_rounds, actor_turns, actor_wants};
 ghost use Rattle.flash_lite.specs.Accounts.{acts, works};
@@ -12,8 +12,8 @@ use flash_cgi::worker::Worker as Runner;
 use flash_laws::worker_laws::workers_run;
 use flash_laws::world_law::RunsScripts;
 use iol_core::events::Reply;
-use iol_proc::idle::Settling;
-use iol_proc::look::Look;
+use iol_proc::byte_view::ByteView;
+use iol_proc::idle::Quiescence;
 use iol_proc::process::{Process, Turn};
 use std::alloc::{AllocError, Global};
 use std::marker::Model;
@@ -47,37 +47,37 @@ impl Worker {
 impl Process for Worker {
     ghost turns = { worker_turns };
 
-    fn next(&mut self, last: &Reply, look: &Look<'_>) -> Result<Turn, AllocError>
+    fn next(&mut self, last: &Reply, byte_view: &ByteView<'_>) -> Result<Turn, AllocError>
         ensures turn { IfOk result
-            (λ turn. works self.old last.now (lent look.now) turn self.new) }
-        ensures quiet { IfOk result IsQuiet }
+            (λ turn. works self.old last.now (readable byte_view.now) turn self.new) }
+        ensures quiet { IfOk result IsCopyFree }
         ensures err { OnErr result (self.new ≡ self.old) }
 
         // It needs memory only to parse a job, and for the bytes of its calls.
-        ensures wants { OnErr result (worker_turns.may_want self.old last.now (lent look.now)) }
+        ensures wants { OnErr result (worker_turns.may_want self.old last.now (readable byte_view.now)) }
     {
-        self.runner.next(last, look)
+        self.runner.next(last, byte_view)
     }
 }
 
 impl RunsScripts for Worker {
-    ghost use Rattle.flash_laws.specs.Prelude.{IsDueOf, IsFreeFor};
-    ghost use Rattle.flash_lite.specs.Workers.{worker_settled};
+    ghost use Rattle.flash_laws.specs.Prelude.{IsExpectedOf, IsFreeFor};
+    ghost use Rattle.flash_lite.specs.Workers.{worker_quiescent};
 
     ghost turns = { worker_turns };
 
-    ghost settled = { worker_settled };
+    ghost quiescent = { worker_quiescent };
 
     ghost free = { IsFreeFor };
 
-    ghost due = { IsDueOf };
+    ghost expected = { IsExpectedOf };
 
     fn runs() {
         workers_run();
     }
 
-    fn settles() {
-        Runner::settles();
+    fn quiesces() {
+        Runner::quiesces();
     }
 }
 
@@ -107,29 +107,29 @@ impl Model for Actor {
 impl Process for Actor {
     ghost turns = { actor_turns in_rounds worker_turns };
 
-    fn next(&mut self, last: &Reply, look: &Look<'_>) -> Result<Turn, AllocError>
-        ensures turn { IfOk result (λ turn. acts self.old last.now (lent look.now) turn self.new) }
-        ensures quiet { IfOk result IsQuiet }
+    fn next(&mut self, last: &Reply, byte_view: &ByteView<'_>) -> Result<Turn, AllocError>
+        ensures turn { IfOk result (λ turn. acts self.old last.now (readable byte_view.now) turn self.new) }
+        ensures quiet { IfOk result IsCopyFree }
         ensures err { OnErr result (self.new ≡ self.old) }
 
         // The server needs memory only for its buffers and the bytes of its calls, and a worker
         // for a job and the bytes of its calls.
-        ensures wants { OnErr result (actor_wants worker_turns self.old last.now (lent look.now)) }
+        ensures wants { OnErr result (actor_wants worker_turns self.old last.now (readable byte_view.now)) }
     {
         match &mut self.role {
-            Role::Server(server) => server.next(last, look),
-            Role::Worker(worker) => worker.next(last, look),
+            Role::Server(server) => server.next(last, byte_view),
+            Role::Worker(worker) => worker.next(last, byte_view),
         }
     }
 }
 
-impl Settling for Actor {
-    ghost use Rattle.flash_laws.specs.Prelude.{actor_settled};
-    ghost use Rattle.flash_lite.specs.Workers.{worker_settled};
+impl Quiescence for Actor {
+    ghost use Rattle.flash_laws.specs.Prelude.{actor_quiescent};
+    ghost use Rattle.flash_lite.specs.Workers.{worker_quiescent};
 
-    ghost settled = { actor_settled worker_settled };
+    ghost quiescent = { actor_quiescent worker_quiescent };
 
-    fn settles() {
+    fn quiesces() {
         connections_do_not_meet();
     }
 }

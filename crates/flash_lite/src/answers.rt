@@ -4,11 +4,11 @@ ghost use Rattle.flash_http.specs.Prelude.{wanted, answer, head_text};
 ghost use Rattle.flash_lite.specs.Texts as texts;
 ghost use Rattle.flash_laws.specs.Answers as spec;
 ghost use Rattle.flash_laws.specs.Conn as conn;
-ghost use Rattle.flash_laws.specs.declared.phase.Content.TheVariants.{Bare};
+ghost use Rattle.flash_laws.specs.declared.phase.Payload.TheVariants.{Bare};
 
 use crate::run::texts::script_text;
 use flash_http::{Asked, MediaType, Request, ResponseHead, error_body, select};
-use flash_laws::phase::Content;
+use flash_laws::phase::Payload;
 use http::StatusCode;
 use std::alloc::{AllocError, Global};
 
@@ -85,20 +85,20 @@ fn bare_text(alloc: Global, request: &Request, len: u32) -> Result<Vec<u8>, Allo
 pub(crate) fn served_text(
     alloc: Global,
     request: &Request,
-    content: &Content,
+    content: &Payload,
 ) -> Result<Vec<u8>, AllocError>
     ensures { IfOk result
         (λ bytes. bytes.items ≡ texts.text_for (wanted request.now) content.now) }
 {
     match *content {
-        Content::Body {
+        Payload::Body {
             agg: _,
             size: _,
             len,
         } => file_text(alloc, request, u64::from(len)),
-        Content::Bare { len } => bare_text(alloc, request, len),
-        Content::Error { status } => error_text(alloc, status, request.head_only, !request.keep),
-        Content::Script => script_text(alloc, request),
+        Payload::Bare { len } => bare_text(alloc, request, len),
+        Payload::Error { status } => error_text(alloc, status, request.head_only, !request.keep),
+        Payload::Script => script_text(alloc, request),
     }
 }
 
@@ -106,7 +106,7 @@ pub(crate) fn served_text(
 pub(crate) fn text_of(
     alloc: Global,
     asked: &Asked,
-    content: &Content,
+    content: &Payload,
 ) -> Result<Vec<u8>, AllocError>
     ensures { IfOk result (λ bytes. bytes.items ≡ conn.text_of (answer asked.now) content.now) }
 {

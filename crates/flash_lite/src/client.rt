@@ -6,21 +6,21 @@ ghost use Rattle.flash_laws.specs.Client as spec;
 ghost use Rattle.flash_laws.specs.Prelude.{has_bytes, makes_bytes, makes_any, is_over};
 ghost use Rattle.flash_laws.specs.Conn as conn;
 ghost use Rattle.flash_laws.specs.Run.{is_left};
-ghost use Rattle.flash_laws.specs.declared.phase.Doing.TheVariants.{Rests, Over};
+ghost use Rattle.flash_laws.specs.declared.phase.Phase.TheVariants.{Rests, Over};
 ghost use Rattle.flash_laws.specs.declared.script_run.Running.TheVariants.{Leaves};
-ghost use Rattle.flash_lite.specs.Course.{CanRest, EndsRun, GoesOnAlone, GoesOnFile, GoesOnTold, HearsText, RunsOn, WantsToEnd};
+ghost use Rattle.flash_lite.specs.Course.{CanRest, EndsRun, ProceedsAlone, ProceedsFile, ProceedsAfterReply, ReceivesText, RunsOn, WantsToEnd};
 ghost use Rattle.flash_lite.specs.Course.{call_of_run, has_answered_by, left_with, run_after, with_run, worker_of};
-ghost use Rattle.flash_lite.specs.HeardBytes.{heard};
+ghost use Rattle.flash_lite.specs.ReceivedBytes.{received};
 ghost use Rattle.flash_lite.specs.Runs.{IsSmallRunning};
 ghost use Rattle.flash_lite.specs.Small.{IsSmall};
 ghost use Rattle.flash_lite.specs.declared.site.TheConstants.{MAX_WORKERS};
 
 use crate::conn::{Conn, Onward, is_later};
 use crate::request_calls::is_head_only;
-use crate::run::{after_run, keeps_text, next_call, run_worker, told, waits};
-use crate::scripts::{Found, heard_text, is_for_script, tells, whole};
+use crate::run::{after_reply, after_run, keeps_text, next_call, run_worker, waits};
+use crate::scripts::{Found, is_for_script, received_text, reports, whole};
 use flash_http::Asked;
-use flash_laws::phase::{Content, Doing, Learnt};
+use flash_laws::phase::{FileResult, Payload, Phase};
 use flash_laws::script_run::Running;
 use iol_agg::Parts;
 use iol_core::events::{Call, Reply};
@@ -32,16 +32,16 @@ use std::marker::Model;
 #[derive(Clone, Copy, Debug, PartialEq, Eq)]
 pub enum Left {
     /// Its connection is in this phase.
-    Goes { doing: Doing },
+    Goes { phase: Phase },
 
     /// Its run is over, and its connection is in this phase.
-    Ends { doing: Doing },
+    Ends { phase: Phase },
 
     /// A run begins: it waits for a worker.
     Begins,
 
     /// Its run continues with this phase of its response. It has no worker.
-    Continues { doing: Doing },
+    Continues { phase: Phase },
 
     /// Unchanged: its call is retried.
     Stays,
@@ -99,12 +99,12 @@ impl Client {
             self.now.conn }
     {
         let script = is_for_script(scripts, self.conn.asked());
-        whole(script, self.conn.doing(), call)
+        whole(script, self.conn.phase(), call)
     }
 
     // The action of its connection, if no script runs.
     #[tactic(auto, using(crate::proofs::Responses::Clients::asks_alone, crate::proofs::Responses::Clients::leaves_alone))]
-    fn go_on_alone(
+    fn advance_alone(
         &mut self,
         scripts: bool,
         fd: Fd,
@@ -112,17 +112,17 @@ impl Client {
         parts: Option<Parts<'_>>,
     ) -> Result<Course, AllocError>
         requires { self.old.run ≡ None }
-        ensures { GoesOnAlone scripts fd self.old last.now (heard parts.entry) result self.new }
+        ensures { ProceedsAlone scripts fd self.old last.now (received parts.entry) result self.new }
     {
-        match self.conn.go_on(fd, last, parts)? {
+        match self.conn.advance(fd, last, parts)? {
             Onward::Asks(call) => Ok(Course::Asks(self.file_call(scripts, fd, call))),
-            Onward::Leaves(doing) => Ok(Course::Leaves(Left::Goes { doing })),
+            Onward::Leaves(phase) => Ok(Course::Leaves(Left::Goes { phase })),
         }
     }
 
     // After reading the text of a script: keeps it, if it will run, and closes the file.
-    #[tactic(auto, using(crate::proofs::Responses::Clients::heard_goes))]
-    fn hear(
+    #[tactic(auto, using(crate::proofs::Responses::Clients::received_goes))]
+    fn receive(
         &mut self,
         scripts: bool,
         fd: Fd,
@@ -131,19 +131,19 @@ impl Client {
         parts: Option<Parts<'_>>,
     ) -> Result<Course, AllocError>
         requires { self.old.run ≡ None }
-        ensures { HearsText scripts fd file agg self.old (heard parts.entry) result self.new }
+        ensures { ReceivesText scripts fd file agg self.old (received parts.entry) result self.new }
     {
         let head_only = is_head_only(self.conn.asked());
-        let (runs, text) = heard_text(self.alloc, head_only, parts)?;
-        let learnt = Learnt::Text { agg, runs };
-        let call = self.conn.proceed(fd, Doing::Shuts { file, learnt })?;
+        let (runs, text) = received_text(self.alloc, head_only, parts)?;
+        let file_result = FileResult::Text { agg, runs };
+        let call = self.conn.proceed(fd, Phase::Shuts { file, file_result })?;
         self.script = text;
         Ok(Course::Asks(self.file_call(scripts, fd, call)))
     }
 
     // The action after the reply to a call for a file, or for a script's text, if no script runs.
     #[tactic(auto, using(crate::proofs::Responses::Clients::file_rules))]
-    fn go_on_file(
+    fn advance_file(
         &mut self,
         scripts: bool,
         fd: Fd,
@@ -151,18 +151,18 @@ impl Client {
         parts: Option<Parts<'_>>,
     ) -> Result<Course, AllocError>
         requires { self.old.run ≡ None }
-        ensures { GoesOnFile scripts fd self.old last.now (heard parts.entry) result self.new }
+        ensures { ProceedsFile scripts fd self.old last.now (received parts.entry) result self.new }
     {
         let asked = self.conn.asked();
         let script = is_for_script(scripts, asked);
-        match tells(script, self.conn.doing(), last, is_head_only(asked)) {
+        match reports(script, self.conn.phase(), last, is_head_only(asked)) {
             Found::Text { file, agg } => {
-                let course = self.hear(scripts, fd, file, agg, parts)?;
+                let course = self.receive(scripts, fd, file, agg, parts)?;
                 Ok(course)
             }
             Found::Runs => Ok(Course::Leaves(Left::Begins)),
             Found::AsFile => {
-                let course = self.go_on_alone(scripts, fd, last, parts)?;
+                let course = self.advance_alone(scripts, fd, last, parts)?;
                 Ok(course)
             }
         }
@@ -179,11 +179,11 @@ impl Client {
         requires worker { worker < MAX_WORKERS }
         requires goes { IsSmallRunning running.now × (is_over running.now ≡ false) }
         ensures after { result
-            ≡ run_after worker self.now.conn.q running.now last.now (heard parts.entry) }
+            ≡ run_after worker self.now.conn.q running.now last.now (received parts.entry) }
         ensures small { IsSmallRunning result }
     {
         match self.conn.asked() {
-            Asked::Serve(request) => told(worker, request, *running, last, parts),
+            Asked::Serve(request) => after_reply(worker, request, *running, last, parts),
             Asked::Refuse {
                 status: _,
                 head_only: _,
@@ -241,7 +241,7 @@ impl Client {
     fn run_on(&mut self, fd: Fd, was: &Running, next: Running) -> Result<Call, AllocError>
         requires { IsSmallRunning next × (is_over next ≡ false) }
         ensures on { IfOk result
-            (λ _. self.new ≡ spec.goes_on false false self.old was.now next) }
+            (λ _. self.new ≡ spec.proceeds false false self.old was.now next) }
         ensures call { IfOk result
             (λ call. call ≡ call_of_run fd self.new self.new.script next) }
         ensures err { OnErr result (self.new ≡ self.old) }
@@ -261,23 +261,23 @@ impl Client {
     fn end_free(&mut self, scripts: bool, fd: Fd) -> Result<Course, AllocError>
         ensures { EndsRun scripts fd Rests self.old (WantsToEnd self.old Rests) result self.new }
     {
-        match self.conn.go_on_free(fd)? {
+        match self.conn.advance_free(fd)? {
             Onward::Asks(call) => {
                 self.run = None;
                 self.script = Vec::new(self.alloc);
                 Ok(Course::Asks(self.file_call(scripts, fd, call)))
             }
-            Onward::Leaves(doing) => Ok(Course::Leaves(Left::Ends { doing })),
+            Onward::Leaves(phase) => Ok(Course::Leaves(Left::Ends { phase })),
         }
     }
 
     // The run is over, and the connection continues in this phase.
     #[tactic(auto, using(crate::proofs::Responses::Clients::ends_asks, crate::proofs::Responses::Clients::ends_wants))]
-    fn end_with(&mut self, scripts: bool, fd: Fd, doing: Doing) -> Result<Course, AllocError>
-        requires { (doing ≢ Rests) × (doing ≢ Over) × IsSmall doing × (is_left doing ≡ false) }
-        ensures { EndsRun scripts fd doing self.old (has_bytes doing ≡ true) result self.new }
+    fn end_with(&mut self, scripts: bool, fd: Fd, phase: Phase) -> Result<Course, AllocError>
+        requires { (phase ≢ Rests) × (phase ≢ Over) × IsSmall phase × (is_left phase ≡ false) }
+        ensures { EndsRun scripts fd phase self.old (has_bytes phase ≡ true) result self.new }
     {
-        let call = self.conn.proceed(fd, doing)?;
+        let call = self.conn.proceed(fd, phase)?;
         self.run = None;
         self.script = Vec::new(self.alloc);
         Ok(Course::Asks(self.file_call(scripts, fd, call)))
@@ -285,33 +285,33 @@ impl Client {
 
     // The run is over.
     #[tactic(auto, using(crate::proofs::Responses::Clients::over_leaves, crate::proofs::Responses::Clients::ends_wants))]
-    fn end(&mut self, scripts: bool, fd: Fd, doing: Doing) -> Result<Course, AllocError>
-        requires { IsSmall doing × (is_left doing ≡ false) }
-        ensures { EndsRun scripts fd doing self.old (WantsToEnd self.old doing) result self.new }
+    fn end(&mut self, scripts: bool, fd: Fd, phase: Phase) -> Result<Course, AllocError>
+        requires { IsSmall phase × (is_left phase ≡ false) }
+        ensures { EndsRun scripts fd phase self.old (WantsToEnd self.old phase) result self.new }
     {
-        match doing {
-            Doing::Rests => {
+        match phase {
+            Phase::Rests => {
                 let course = self.end_free(scripts, fd)?;
                 Ok(course)
             }
-            Doing::Over => Ok(Course::Leaves(Left::Ends { doing })),
+            Phase::Over => Ok(Course::Leaves(Left::Ends { phase })),
             _ => {
-                let course = self.end_with(scripts, fd, doing)?;
+                let course = self.end_with(scripts, fd, phase)?;
                 Ok(course)
             }
         }
     }
 
     // The phase of a run whose response is taken whole, if more input is buffered.
-    fn answered(&self, running: &Running) -> Option<Doing>
+    fn answered(&self, running: &Running) -> Option<Phase>
         ensures none { IfNone result (has_answered_by self.now.conn running.now ≡ false) }
         ensures some { OnSome result (has_answered_by self.now.conn running.now ≡ true) }
-        ensures phase { IfSome result (λ doing. running.now ≡ Leaves doing) }
+        ensures phase { IfSome result (λ phase. running.now ≡ Leaves phase) }
     {
         match *running {
-            Running::Leaves { doing } => {
-                if self.conn.has_answered(&doing) {
-                    Some(doing)
+            Running::Leaves { phase } => {
+                if self.conn.has_answered(&phase) {
+                    Some(phase)
                 } else {
                     None
                 }
@@ -322,7 +322,7 @@ impl Client {
 
     // The action after the reply to the call of its run.
     #[tactic(auto, using(crate::proofs::Responses::RunsOn::run_rules))]
-    fn go_on_running(
+    fn advance_running(
         &mut self,
         scripts: bool,
         fd: Fd,
@@ -334,7 +334,7 @@ impl Client {
         requires worker { worker < MAX_WORKERS }
         requires runs { self.old.run ≡ Some running }
         requires goes { IsSmallRunning running × (is_over running ≡ false) }
-        ensures { RunsOn scripts fd worker running self.old last.now (heard parts.entry) result self.new }
+        ensures { RunsOn scripts fd worker running self.old last.now (received parts.entry) result self.new }
     {
         if is_later(last) {
             return Ok(Course::Leaves(Left::Stays));
@@ -343,12 +343,12 @@ impl Client {
         if waits(&next) {
             return Ok(Course::Leaves(Left::Stays));
         }
-        if let Some(doing) = self.answered(&next) {
-            return Ok(Course::Leaves(Left::Continues { doing }));
+        if let Some(phase) = self.answered(&next) {
+            return Ok(Course::Leaves(Left::Continues { phase }));
         }
         match after_run(&next) {
-            Some(doing) => {
-                let course = self.end(scripts, fd, doing)?;
+            Some(phase) => {
+                let course = self.end(scripts, fd, phase)?;
                 Ok(course)
             }
             None => {
@@ -362,7 +362,7 @@ impl Client {
     /// `scripts` is whether scripts are run, and `worker` is a free worker, if the client waits
     /// for one. If memory runs out it is unchanged. It needs memory only to buffer bytes that it
     /// reads, to begin a request, or for a call with bytes of its own.
-    pub fn go_on(
+    pub fn advance(
         &mut self,
         scripts: bool,
         fd: Fd,
@@ -371,15 +371,15 @@ impl Client {
         parts: Option<Parts<'_>>,
     ) -> Result<Course, AllocError>
         requires { worker < MAX_WORKERS }
-        ensures { GoesOnTold scripts fd worker self.old last.now (heard parts.entry) result self.new }
+        ensures { ProceedsAfterReply scripts fd worker self.old last.now (received parts.entry) result self.new }
     {
         match self.run {
             Some(running) => {
-                let course = self.go_on_running(scripts, fd, worker, running, last, parts)?;
+                let course = self.advance_running(scripts, fd, worker, running, last, parts)?;
                 Ok(course)
             }
             None => {
-                let course = self.go_on_file(scripts, fd, last, parts)?;
+                let course = self.advance_file(scripts, fd, last, parts)?;
                 Ok(course)
             }
         }
@@ -412,19 +412,19 @@ impl Client {
         ensures { self.new ≡ left_with self.old left }
     {
         match left {
-            Left::Goes { doing } => self.conn.leave(doing),
-            Left::Ends { doing } => {
-                self.conn.leave(doing);
+            Left::Goes { phase } => self.conn.leave(phase),
+            Left::Ends { phase } => {
+                self.conn.leave(phase);
                 self.run = None;
                 self.script = Vec::new(self.alloc);
             }
             Left::Begins => {
-                self.conn.leave(Doing::Heads {
-                    content: Content::Script,
+                self.conn.leave(Phase::Heads {
+                    content: Payload::Script,
                 });
                 self.run = Some(Running::Awaits);
             }
-            Left::Continues { doing } => self.run = Some(Running::Leaves { doing }),
+            Left::Continues { phase } => self.run = Some(Running::Leaves { phase }),
             Left::Stays => {}
         }
     }

@@ -6,17 +6,19 @@ ghost use Rattle.flash_laws.specs.Conn as spec;
 ghost use Rattle.flash_laws.specs.Prelude.{is_later, can_begin, has_bytes};
 ghost use Rattle.flash_laws.specs.Conn.Policy.{has_answered};
 ghost use Rattle.flash_laws.specs.Conn.Wants.{WantsOn};
-ghost use Rattle.flash_laws.specs.declared.phase.Doing.TheVariants.{Rests};
-ghost use Rattle.flash_lite.specs.HeardBytes.{heard};
-ghost use Rattle.flash_lite.specs.Onward.{IsOnward, Frees, GoesWith, CanRest, WantsToStart, begun_with, in_doing, is_over, with_heard};
+ghost use Rattle.flash_laws.specs.declared.phase.Phase.TheVariants.{Rests};
+ghost use Rattle.flash_lite.specs.ReceivedBytes.{received};
+ghost use Rattle.flash_lite.specs.Onward.{IsOnward, Frees, GoesWith, CanRest, WantsToStart, begun_with, in_phase, is_over, with_received};
 ghost use Rattle.flash_lite.specs.Small.{IsSmall};
 
-use crate::find::{begins, told_got, told_opens, told_picks, told_reads, told_shuts, told_spares};
-use crate::heard::append;
+use crate::find::{
+    after_close_file, after_discard, after_drop_whole, after_open, after_read, after_slice, begins,
+};
+use crate::received::append;
 use crate::request_calls::{cut_call, first_call, join_call, make_call, open_call, read_call};
-use crate::send::{told_closes, told_drops, told_heads, told_joins, told_part, told_sent};
+use crate::send::{after_disconnect, after_drop, after_head, after_join, after_part, after_taken};
 use flash_http::{Asked, MAX_HEAD_BYTES, Window, read_head, window_of};
-use flash_laws::phase::Doing;
+use flash_laws::phase::Phase;
 use http::StatusCode;
 use iol_agg::Parts;
 use iol_core::events::{Call, Reply};
@@ -33,7 +35,7 @@ pub enum Onward {
     Asks(Call),
 
     /// Its turn passes to others, and it continues in this phase afterwards.
-    Leaves(Doing),
+    Leaves(Phase),
 }
 
 /// One connection of the server: its buffered input, the last request, and its phase.
@@ -42,7 +44,7 @@ pub struct Conn {
     alloc: Global,
     kept: Vec<u8>,
     asked: Asked,
-    doing: Doing,
+    phase: Phase,
 }
 
 impl Model for Conn {
@@ -52,10 +54,10 @@ impl Model for Conn {
 
     ghost Value = { Kept };
 
-    ghost view = { λ x. record { kept = x.kept.items; q = answer x.asked; doing = x.doing } };
+    ghost view = { λ x. record { kept = x.kept.items; q = answer x.asked; phase = x.phase } };
 
-    ghost invariant = { λ x. IsSmall x.doing
-        × IsAwaiting (record { kept = x.kept.items; q = answer x.asked; doing = x.doing }) };
+    ghost invariant = { λ x. IsSmall x.phase
+        × IsAwaiting (record { kept = x.kept.items; q = answer x.asked; phase = x.phase }) };
 }
 
 /// Returns whether the call is retried in a later turn.
@@ -109,7 +111,7 @@ impl Conn {
             alloc,
             kept: Vec::new(alloc),
             asked: no_request(),
-            doing: Doing::Rests,
+            phase: Phase::Rests,
         }
     }
 
@@ -121,67 +123,72 @@ impl Conn {
     }
 
     /// The phase.
-    pub(crate) fn doing(&self) -> Doing
-        ensures { result ≡ self.now.doing }
+    pub(crate) fn phase(&self) -> Phase
+        ensures { result ≡ self.now.phase }
     {
-        self.doing
+        self.phase
     }
 
     // After reading more of the stream. No bytes are its end.
-    #[tactic(auto, using(crate::proofs::Responses::FirstCall::rests_heard))]
-    fn hear(&mut self, fd: Fd, agg: AggId, parts: Option<Parts<'_>>) -> Result<Call, AllocError>
-        ensures told { IfOk result
-            (λ _. self.new ≡ with_heard self.old agg (heard parts.entry)) }
+    #[tactic(auto, using(crate::proofs::Responses::FirstCall::rests_received))]
+    fn receive(&mut self, fd: Fd, agg: AggId, parts: Option<Parts<'_>>) -> Result<Call, AllocError>
+        ensures after_reply { IfOk result
+            (λ _. self.new ≡ with_received self.old agg (received parts.entry)) }
         ensures call { IfOk result (λ call. call ≡ spec.wants fd self.new) }
-        ensures stays { IfOk result (λ _. is_over self.new.doing ≡ false) }
+        ensures stays { IfOk result (λ _. is_over self.new.phase ≡ false) }
         ensures err { OnErr result (self.new ≡ self.old) }
-        ensures wants { OnErr result (0 < length (heard parts.entry)) }
+        ensures wants { OnErr result (0 < length (received parts.entry)) }
     {
         let len = self.kept.len();
         append(&mut self.kept, parts)?;
-        self.doing = if self.kept.len() == len {
-            Doing::Drops { agg, more: None }
+        self.phase = if self.kept.len() == len {
+            Phase::Drops { agg, more: None }
         } else {
-            Doing::Got { agg }
+            Phase::Got { agg }
         };
         Ok(Call::AggDrop { agg })
     }
 
     // The phase after the reply to the call of a phase that is not idle.
-    fn next_doing(&self, last: &Reply, parts: Option<Parts<'_>>) -> Doing
-        requires { self.now.doing ≢ Rests }
-        ensures told { spec.told self.now last.now (heard parts.entry) ≡ in_doing self.now result }
+    fn next_phase(&self, last: &Reply, parts: Option<Parts<'_>>) -> Phase
+        requires { self.now.phase ≢ Rests }
+        ensures after_reply { spec.after_reply self.now last.now (received parts.entry) ≡ in_phase self.now result }
         ensures small { IsSmall result }
     {
-        match self.doing {
-            Doing::Rests => Doing::Rests,
-            Doing::Got { agg } => told_got(agg, last),
-            Doing::Opens => told_opens(last),
-            Doing::Reads { file } => told_reads(file, last, parts),
-            Doing::Shuts { file, learnt } => told_shuts(&self.asked, file, learnt, last),
-            Doing::Picks {
+        match self.phase {
+            Phase::Rests => Phase::Rests,
+            Phase::Got { agg } => after_discard(agg, last),
+            Phase::Opens => after_open(last),
+            Phase::Reads { file } => after_read(file, last, parts),
+            Phase::Shuts { file, file_result } => after_close_file(
+                &self.asked,
+                file,
+                file_result,
+                last,
+            ),
+            Phase::Picks {
                 agg,
                 first,
                 last: to,
                 len,
-            } => told_picks(agg, first, to, len, last),
-            Doing::Spares { agg, content } => told_spares(agg, content, last),
-            Doing::Heads { content } => told_heads(content, last, parts),
-            Doing::Joins {
+            } => after_slice(agg, first, to, len, last),
+            Phase::Spares { agg, content } => after_drop_whole(agg, content, last),
+            Phase::Heads { content } => after_head(content, last, parts),
+            Phase::Joins {
                 head,
                 size,
                 body,
                 len,
-            } => told_joins(head, size, body, len, last),
-            Doing::Sends { .. }
-            | Doing::Cuts { .. }
-            | Doing::Offers { .. }
-            | Doing::Swaps { .. }
-            | Doing::Breaks { .. } => told_part(self.doing, last),
-            Doing::Sent { agg, taken, more } => told_sent(&self.asked, agg, taken, more, last),
-            Doing::Drops { agg, more } => told_drops(agg, more, last),
-            Doing::Closes => told_closes(last),
-            Doing::Over => Doing::Over,
+            } => after_join(head, size, body, len, last),
+            Phase::Sends { .. }
+            | Phase::Cuts { .. }
+            | Phase::Offers { .. }
+            | Phase::Swaps { .. }
+            | Phase::Breaks { .. } => after_part(self.phase, last),
+            Phase::Sent { agg, taken, more } => after_taken(&self.asked, agg, taken, more, last),
+            Phase::Drops { agg, more } => after_drop(agg, more, last),
+            Phase::Closes => after_disconnect(last),
+            Phase::Over => Phase::Over,
         }
     }
 
@@ -194,7 +201,7 @@ impl Conn {
     {
         let call = first_call(self.alloc, &asked)?;
         drop_first(&mut self.kept, len);
-        self.doing = begins(&asked);
+        self.phase = begins(&asked);
         self.asked = asked;
         Ok(call)
     }
@@ -210,14 +217,14 @@ impl Conn {
     // From an idle phase, begins the first buffered request, or reads more of the stream.
     fn start(&mut self, fd: Fd) -> Result<Call, AllocError>
         ensures starts { IfOk result
-            (λ _. spec.Starts (record self.old { doing = Rests }) self.new) }
+            (λ _. spec.Starts (record self.old { phase = Rests }) self.new) }
         ensures call { IfOk result (λ call. call ≡ spec.wants fd self.new) }
         ensures err { OnErr result (self.new ≡ self.old) }
         ensures wants { OnErr result (can_begin (window_in self.old.kept) ≡ true) }
     {
         match window_of(self.kept.as_slice()) {
             Window::Wait => {
-                self.doing = Doing::Rests;
+                self.phase = Phase::Rests;
                 Ok(self.read(fd))
             }
             Window::TooLarge => self.begin(fd, no_request(), 0),
@@ -229,131 +236,131 @@ impl Conn {
     }
 
     // The call of a phase.
-    fn call_of(&self, fd: Fd, doing: &Doing) -> Result<Call, AllocError>
+    fn call_of(&self, fd: Fd, phase: &Phase) -> Result<Call, AllocError>
         ensures call { IfOk result
-            (λ call. call ≡ spec.wants fd (record self.now { doing = doing.now })) }
-        ensures wants { OnErr result (has_bytes doing.now ≡ true) }
+            (λ call. call ≡ spec.wants fd (record self.now { phase = phase.now })) }
+        ensures wants { OnErr result (has_bytes phase.now ≡ true) }
     {
-        Ok(match *doing {
-            Doing::Rests => self.read(fd),
-            Doing::Opens => open_call(self.alloc, &self.asked)?,
-            Doing::Reads { file } => read_call(&self.asked, file),
-            Doing::Shuts { file, .. } => Call::Close { fd: file },
-            Doing::Picks {
+        Ok(match *phase {
+            Phase::Rests => self.read(fd),
+            Phase::Opens => open_call(self.alloc, &self.asked)?,
+            Phase::Reads { file } => read_call(&self.asked, file),
+            Phase::Shuts { file, .. } => Call::Close { fd: file },
+            Phase::Picks {
                 agg,
                 first,
                 last,
                 ..
             } => cut_call(agg, first, last),
-            Doing::Heads { content } => make_call(self.alloc, &self.asked, &content)?,
-            Doing::Joins { head, body, .. } => join_call(head, body),
-            Doing::Sends { agg, .. } => Call::IolWrite { fd, agg },
-            Doing::Cuts { agg, from, len, .. } => cut_call(agg, from, piece_end(from, len)),
-            Doing::Offers { piece, .. } => Call::IolWrite { fd, agg: piece },
-            Doing::Got { agg } => Call::AggDrop { agg },
-            Doing::Spares { agg, .. } => Call::AggDrop { agg },
-            Doing::Swaps { piece, .. } => Call::AggDrop { agg: piece },
-            Doing::Sent { agg, .. } => Call::AggDrop { agg },
-            Doing::Breaks { piece, .. } => Call::AggDrop { agg: piece },
-            Doing::Drops { agg, .. } => Call::AggDrop { agg },
-            Doing::Closes | Doing::Over => Call::Close { fd },
+            Phase::Heads { content } => make_call(self.alloc, &self.asked, &content)?,
+            Phase::Joins { head, body, .. } => join_call(head, body),
+            Phase::Sends { agg, .. } => Call::IolWrite { fd, agg },
+            Phase::Cuts { agg, from, len, .. } => cut_call(agg, from, piece_end(from, len)),
+            Phase::Offers { piece, .. } => Call::IolWrite { fd, agg: piece },
+            Phase::Got { agg } => Call::AggDrop { agg },
+            Phase::Spares { agg, .. } => Call::AggDrop { agg },
+            Phase::Swaps { piece, .. } => Call::AggDrop { agg: piece },
+            Phase::Sent { agg, .. } => Call::AggDrop { agg },
+            Phase::Breaks { piece, .. } => Call::AggDrop { agg: piece },
+            Phase::Drops { agg, .. } => Call::AggDrop { agg },
+            Phase::Closes | Phase::Over => Call::Close { fd },
         })
     }
 
     /// Continues with a phase that is not idle.
     #[tactic(auto, using(crate::proofs::Responses::Waits::busy_awaits))]
-    pub(crate) fn proceed(&mut self, fd: Fd, doing: Doing) -> Result<Call, AllocError>
-        requires { (doing ≢ Rests) × IsSmall doing }
-        ensures doing { IfOk result (λ _. self.new ≡ record self.old { doing = doing }) }
+    pub(crate) fn proceed(&mut self, fd: Fd, phase: Phase) -> Result<Call, AllocError>
+        requires { (phase ≢ Rests) × IsSmall phase }
+        ensures phase { IfOk result (λ _. self.new ≡ record self.old { phase = phase }) }
         ensures call { IfOk result (λ call. call ≡ spec.wants fd self.new) }
         ensures err { OnErr result (self.new ≡ self.old) }
-        ensures wants { OnErr result (has_bytes doing ≡ true) }
+        ensures wants { OnErr result (has_bytes phase ≡ true) }
     {
-        let call = self.call_of(fd, &doing)?;
-        self.doing = doing;
+        let call = self.call_of(fd, &phase)?;
+        self.phase = phase;
         Ok(call)
     }
 
     /// Whether the response is taken whole in this phase, and more input is buffered.
-    pub(crate) fn has_answered(&self, doing: &Doing) -> bool
-        ensures { result ≡ has_answered (in_doing self.now doing.now) }
+    pub(crate) fn has_answered(&self, phase: &Phase) -> bool
+        ensures { result ≡ has_answered (in_phase self.now phase.now) }
     {
-        matches!(*doing, Doing::Sent { more: None, .. }) && !self.kept.is_empty()
+        matches!(*phase, Phase::Sent { more: None, .. }) && !self.kept.is_empty()
     }
 
     // Continues with a phase that is not idle, unless its call is retried later, or the response is
     // taken whole and more input is buffered.
-    fn go_on_with(&mut self, fd: Fd, doing: Doing, last: &Reply) -> Result<Onward, AllocError>
-        requires { (doing ≢ Rests) × IsSmall doing }
-        ensures goes { IfOk result (λ o. GoesWith fd self.old last.now doing o self.new) }
+    fn advance_with(&mut self, fd: Fd, phase: Phase, last: &Reply) -> Result<Onward, AllocError>
+        requires { (phase ≢ Rests) × IsSmall phase }
+        ensures goes { IfOk result (λ o. GoesWith fd self.old last.now phase o self.new) }
         ensures err { OnErr result (self.new ≡ self.old) }
-        ensures wants { OnErr result ((is_later last.now ≡ false) × (has_bytes doing ≡ true)) }
+        ensures wants { OnErr result ((is_later last.now ≡ false) × (has_bytes phase ≡ true)) }
     {
-        if is_later(last) || self.has_answered(&doing) {
-            return Ok(Onward::Leaves(doing));
+        if is_later(last) || self.has_answered(&phase) {
+            return Ok(Onward::Leaves(phase));
         }
-        let call = self.proceed(fd, doing)?;
+        let call = self.proceed(fd, phase)?;
         Ok(Onward::Asks(call))
     }
 
     /// A phase that was not idle becomes idle after a reply: continues with the buffered stream.
-    pub(crate) fn go_on_free(&mut self, fd: Fd) -> Result<Onward, AllocError>
+    pub(crate) fn advance_free(&mut self, fd: Fd) -> Result<Onward, AllocError>
         ensures asks { IfOk result (λ o. Frees fd self.old o self.new) }
         ensures err { OnErr result (self.new ≡ self.old) }
         ensures wants { OnErr result (WantsToStart self.old) }
     {
         if self.kept.is_empty() {
-            return Ok(Onward::Leaves(Doing::Rests));
+            return Ok(Onward::Leaves(Phase::Rests));
         }
         let call = self.start(fd)?;
         Ok(Onward::Asks(call))
     }
 
     // After the reply to a call of a phase that was not idle.
-    fn go_on_busy(
+    fn advance_busy(
         &mut self,
         fd: Fd,
         last: &Reply,
         parts: Option<Parts<'_>>,
     ) -> Result<Onward, AllocError>
-        requires { self.old.doing ≢ Rests }
+        requires { self.old.phase ≢ Rests }
         ensures onward { IfOk result
-            (λ o. IsOnward fd self.old last.now (heard parts.entry) o self.new) }
+            (λ o. IsOnward fd self.old last.now (received parts.entry) o self.new) }
         ensures err { OnErr result (self.new ≡ self.old) }
-        ensures wants { OnErr result (WantsOn self.old last.now (heard parts.entry)) }
+        ensures wants { OnErr result (WantsOn self.old last.now (received parts.entry)) }
     {
-        let doing = self.next_doing(last, parts);
-        match doing {
-            Doing::Rests => self.go_on_free(fd),
-            Doing::Over => Ok(Onward::Leaves(doing)),
-            _ => self.go_on_with(fd, doing, last),
+        let phase = self.next_phase(last, parts);
+        match phase {
+            Phase::Rests => self.advance_free(fd),
+            Phase::Over => Ok(Onward::Leaves(phase)),
+            _ => self.advance_with(fd, phase, last),
         }
     }
 
     // After reading the stream, or its refusal.
-    fn go_on_resting(
+    fn advance_resting(
         &mut self,
         fd: Fd,
         last: &Reply,
         parts: Option<Parts<'_>>,
     ) -> Result<Onward, AllocError>
-        requires { self.old.doing ≡ Rests }
+        requires { self.old.phase ≡ Rests }
         ensures onward { IfOk result
-            (λ o. IsOnward fd self.old last.now (heard parts.entry) o self.new) }
+            (λ o. IsOnward fd self.old last.now (received parts.entry) o self.new) }
         ensures err { OnErr result (self.new ≡ self.old) }
-        ensures wants { OnErr result (WantsOn self.old last.now (heard parts.entry)) }
+        ensures wants { OnErr result (WantsOn self.old last.now (received parts.entry)) }
     {
         let _kept = &self.kept;
         match last {
             Reply::Agg(agg) => {
-                let call = self.hear(fd, *agg, parts)?;
+                let call = self.receive(fd, *agg, parts)?;
                 Ok(Onward::Asks(call))
             }
             _ => {
                 if is_later(last) {
-                    return Ok(Onward::Leaves(Doing::Rests));
+                    return Ok(Onward::Leaves(Phase::Rests));
                 }
-                self.go_on_free(fd)
+                self.advance_free(fd)
             }
         }
     }
@@ -363,29 +370,29 @@ impl Conn {
     /// input is buffered, it is idle without buffered input, or it is over. If memory runs out it
     /// is unchanged. It needs memory only to buffer bytes that it reads, to begin a request, or for
     /// a call with bytes of its own.
-    pub fn go_on(
+    pub fn advance(
         &mut self,
         fd: Fd,
         last: &Reply,
         parts: Option<Parts<'_>>,
     ) -> Result<Onward, AllocError>
         ensures onward { IfOk result
-            (λ o. IsOnward fd self.old last.now (heard parts.entry) o self.new) }
+            (λ o. IsOnward fd self.old last.now (received parts.entry) o self.new) }
         ensures err { OnErr result (self.new ≡ self.old) }
-        ensures wants { OnErr result (WantsOn self.old last.now (heard parts.entry)) }
+        ensures wants { OnErr result (WantsOn self.old last.now (received parts.entry)) }
     {
-        match self.doing {
-            Doing::Rests => self.go_on_resting(fd, last, parts),
-            _ => self.go_on_busy(fd, last, parts),
+        match self.phase {
+            Phase::Rests => self.advance_resting(fd, last, parts),
+            _ => self.advance_busy(fd, last, parts),
         }
     }
 
     /// Its turn passes to others, and it continues in this phase afterwards.
-    pub fn leave(&mut self, doing: Doing)
-        requires { CanRest self.old doing }
-        ensures { self.new ≡ record self.old { doing = doing } }
+    pub fn leave(&mut self, phase: Phase)
+        requires { CanRest self.old phase }
+        ensures { self.new ≡ record self.old { phase = phase } }
     {
-        self.doing = doing;
+        self.phase = phase;
     }
 
     /// Its next call.
@@ -393,8 +400,8 @@ impl Conn {
     pub fn next_call(&self, fd: Fd) -> Result<Call, AllocError>
         ensures call { IfOk result (λ call. call ≡ spec.wants fd self.now) }
         ensures ready { spec.Readies self.now self.now }
-        ensures wants { OnErr result (has_bytes self.now.doing ≡ true) }
+        ensures wants { OnErr result (has_bytes self.now.phase ≡ true) }
     {
-        self.call_of(fd, &self.doing)
+        self.call_of(fd, &self.phase)
     }
 }

@@ -3,12 +3,12 @@
 ghost use Rattle.std.specs.Prelude.{◌≡◌};
 ghost use Rattle.flash_http.specs.Prelude.{wanted, answer, selected};
 ghost use Rattle.flash_laws.specs.Conn as spec;
-ghost use Rattle.flash_lite.specs.HeardBytes.{heard};
+ghost use Rattle.flash_lite.specs.ReceivedBytes.{received};
 ghost use Rattle.flash_lite.specs.Small.{IsSmall};
 
-use crate::heard::count;
+use crate::received::count;
 use flash_http::{Asked, Request, Selection, select};
-use flash_laws::phase::{Content, Doing, Learnt};
+use flash_laws::phase::{FileResult, Payload, Phase};
 use http::StatusCode;
 use iol_agg::Parts;
 use iol_core::events::Reply;
@@ -28,136 +28,136 @@ fn status_of(refusal: Refusal) -> StatusCode
 }
 
 /// The first phase of a request.
-pub(crate) fn begins(asked: &Asked) -> Doing
+pub(crate) fn begins(asked: &Asked) -> Phase
     ensures begins { result ≡ spec.begins (answer asked.now) }
     ensures small { IsSmall result }
 {
     match asked {
-        Asked::Serve(_) => Doing::Opens,
+        Asked::Serve(_) => Phase::Opens,
         Asked::Refuse {
             status,
             head_only: _,
             close: _,
-        } => Doing::Heads {
-            content: Content::Error { status: *status },
+        } => Phase::Heads {
+            content: Payload::Error { status: *status },
         },
     }
 }
 
 /// After dropping the aggregate of a read of the stream.
-pub(crate) fn told_got(agg: AggId, last: &Reply) -> Doing
-    ensures told { result ≡ spec.told_got agg last.now }
+pub(crate) fn after_discard(agg: AggId, last: &Reply) -> Phase
+    ensures after_reply { result ≡ spec.after_discard agg last.now }
     ensures small { IsSmall result }
 {
     match last {
-        Reply::Done => Doing::Rests,
-        _ => Doing::Got { agg },
+        Reply::Done => Phase::Rests,
+        _ => Phase::Got { agg },
     }
 }
 
 /// After opening the file.
-pub(crate) fn told_opens(last: &Reply) -> Doing
-    ensures told { result ≡ spec.told_opens last.now }
+pub(crate) fn after_open(last: &Reply) -> Phase
+    ensures after_reply { result ≡ spec.after_open last.now }
     ensures small { IsSmall result }
 {
     match last {
-        Reply::Fd(file) => Doing::Reads { file: *file },
-        Reply::Refused(Refusal::WouldBlock) => Doing::Opens,
-        Reply::Refused(refusal) => Doing::Heads {
-            content: Content::Error {
+        Reply::Fd(file) => Phase::Reads { file: *file },
+        Reply::Refused(Refusal::WouldBlock) => Phase::Opens,
+        Reply::Refused(refusal) => Phase::Heads {
+            content: Payload::Error {
                 status: status_of(*refusal),
             },
         },
-        _ => Doing::Opens,
+        _ => Phase::Opens,
     }
 }
 
 /// After reading the file, or asking for its length.
-pub(crate) fn told_reads(file: Fd, last: &Reply, parts: Option<Parts<'_>>) -> Doing
-    ensures told { result ≡ spec.told_reads file last.now (heard parts.entry) }
+pub(crate) fn after_read(file: Fd, last: &Reply, parts: Option<Parts<'_>>) -> Phase
+    ensures after_reply { result ≡ spec.after_read file last.now (received parts.entry) }
     ensures small { IsSmall result }
 {
-    let learnt = match last {
-        Reply::Agg(agg) => Learnt::File {
+    let file_result = match last {
+        Reply::Agg(agg) => FileResult::File {
             agg: *agg,
             len: count(parts),
         },
-        Reply::Count(len) => Learnt::Length { len: *len },
-        Reply::Refused(Refusal::WouldBlock) => return Doing::Reads { file },
-        Reply::Refused(refusal) => Learnt::Fails {
+        Reply::Count(len) => FileResult::Length { len: *len },
+        Reply::Refused(Refusal::WouldBlock) => return Phase::Reads { file },
+        Reply::Refused(refusal) => FileResult::Fails {
             status: status_of(*refusal),
         },
-        _ => return Doing::Reads { file },
+        _ => return Phase::Reads { file },
     };
-    Doing::Shuts { file, learnt }
+    Phase::Shuts { file, file_result }
 }
 
 // The phase that sends the selected part of a file that was read.
-fn sends_of(request: &Request, agg: AggId, len: u32) -> Doing
+fn sends_of(request: &Request, agg: AggId, len: u32) -> Phase
     ensures sends { result ≡ spec.sends_of (selected (wanted request.now).range len) agg len }
     ensures small { IsSmall result }
 {
     match select(request.range, u64::from(len)) {
-        Selection::Whole => Doing::Heads {
-            content: Content::Body {
+        Selection::Whole => Phase::Heads {
+            content: Payload::Body {
                 agg,
                 size: len,
                 len,
             },
         },
-        Selection::Bytes { first, last } => Doing::Picks {
+        Selection::Bytes { first, last } => Phase::Picks {
             agg,
             first: first as u32,
             last: (last + 1) as u32,
             len,
         },
-        Selection::Unsatisfiable => Doing::Spares {
+        Selection::Unsatisfiable => Phase::Spares {
             agg,
-            content: Content::Bare { len },
+            content: Payload::Bare { len },
         },
     }
 }
 
 // The body of the response to a request of a script: its output, if it can run.
-fn put_out(runs: bool) -> Content
+fn put_out(runs: bool) -> Payload
     ensures { result ≡ spec.put_out runs }
 {
     if runs {
-        Content::Script
+        Payload::Script
     } else {
-        Content::Error {
+        Payload::Error {
             status: StatusCode::INTERNAL_SERVER_ERROR,
         }
     }
 }
 
 // The phase after the file is closed.
-fn settled(asked: &Asked, learnt: Learnt) -> Doing
-    ensures settled { result ≡ spec.settled (answer asked.now) learnt }
+fn resolved(asked: &Asked, file_result: FileResult) -> Phase
+    ensures resolved { result ≡ spec.resolved (answer asked.now) file_result }
     ensures small { IsSmall result }
 {
-    match learnt {
-        Learnt::File { agg, len } => match asked {
+    match file_result {
+        FileResult::File { agg, len } => match asked {
             Asked::Serve(request) => sends_of(request, agg, len),
             Asked::Refuse {
                 status: _,
                 head_only: _,
                 close: _,
-            } => Doing::Heads {
-                content: Content::Body {
+            } => Phase::Heads {
+                content: Payload::Body {
                     agg,
                     size: len,
                     len,
                 },
             },
         },
-        Learnt::Length { len } => Doing::Heads {
-            content: Content::Bare { len },
+        FileResult::Length { len } => Phase::Heads {
+            content: Payload::Bare { len },
         },
-        Learnt::Fails { status } => Doing::Heads {
-            content: Content::Error { status },
+        FileResult::Fails { status } => Phase::Heads {
+            content: Payload::Error { status },
         },
-        Learnt::Text { agg, runs } => Doing::Spares {
+        FileResult::Text { agg, runs } => Phase::Spares {
             agg,
             content: put_out(runs),
         },
@@ -165,31 +165,36 @@ fn settled(asked: &Asked, learnt: Learnt) -> Doing
 }
 
 /// After closing the file.
-pub(crate) fn told_shuts(asked: &Asked, file: Fd, learnt: Learnt, last: &Reply) -> Doing
-    ensures told { result ≡ spec.told_shuts (answer asked.now) file learnt last.now }
+pub(crate) fn after_close_file(
+    asked: &Asked,
+    file: Fd,
+    file_result: FileResult,
+    last: &Reply,
+) -> Phase
+    ensures after_reply { result ≡ spec.after_close_file (answer asked.now) file file_result last.now }
     ensures small { IsSmall result }
 {
     match last {
-        Reply::Done => settled(asked, learnt),
-        _ => Doing::Shuts { file, learnt },
+        Reply::Done => resolved(asked, file_result),
+        _ => Phase::Shuts { file, file_result },
     }
 }
 
 /// After cutting the requested part.
-pub(crate) fn told_picks(agg: AggId, from: u32, to: u32, len: u32, last: &Reply) -> Doing
-    ensures told { result ≡ spec.told_picks agg from to len last.now }
+pub(crate) fn after_slice(agg: AggId, from: u32, to: u32, len: u32, last: &Reply) -> Phase
+    ensures after_reply { result ≡ spec.after_slice agg from to len last.now }
     ensures small { IsSmall result }
 {
     match last {
-        Reply::Agg(part) => Doing::Spares {
+        Reply::Agg(part) => Phase::Spares {
             agg,
-            content: Content::Body {
+            content: Payload::Body {
                 agg: *part,
                 size: to.saturating_sub(from),
                 len,
             },
         },
-        _ => Doing::Picks {
+        _ => Phase::Picks {
             agg,
             first: from,
             last: to,
@@ -199,12 +204,12 @@ pub(crate) fn told_picks(agg: AggId, from: u32, to: u32, len: u32, last: &Reply)
 }
 
 /// After dropping the bytes that are not sent.
-pub(crate) fn told_spares(agg: AggId, content: Content, last: &Reply) -> Doing
-    ensures told { result ≡ spec.told_spares agg content last.now }
+pub(crate) fn after_drop_whole(agg: AggId, content: Payload, last: &Reply) -> Phase
+    ensures after_reply { result ≡ spec.after_drop_whole agg content last.now }
     ensures small { IsSmall result }
 {
     match last {
-        Reply::Done => Doing::Heads { content },
-        _ => Doing::Spares { agg, content },
+        Reply::Done => Phase::Heads { content },
+        _ => Phase::Spares { agg, content },
     }
 }

@@ -5,9 +5,9 @@ ghost use Rattle.std.specs.Prelude.{OnErr, Some, length, true, false};
 ghost use Rattle.std.specs.Vec.{vec_capacity};
 ghost use Rattle.iol_core.specs.Prelude.{in_place, taken};
 ghost use Rattle.flash_laws.specs.Prelude.{new_client, goes_in, next_in, grown, with_at};
-ghost use Rattle.flash_lite.specs.HeardBytes.{heard};
+ghost use Rattle.flash_lite.specs.ReceivedBytes.{received};
 ghost use Rattle.flash_lite.specs.Order.{CanNote, goers};
-ghost use Rattle.flash_lite.specs.ServerTurn.{MakesCallAt, GoesOnAt, MayRest, left_at, worker_at};
+ghost use Rattle.flash_lite.specs.ServerTurn.{MakesCallAt, ProceedsAt, MayRest, left_at, worker_at};
 ghost use Rattle.flash_lite.specs.declared.site.TheConstants.{MAX_WORKERS};
 
 use crate::client::{Client, Course, Left};
@@ -33,13 +33,13 @@ impl Model for Clients {
     ghost use Rattle.std.specs.Prelude.{◌≤◌, ◌^◌, List, Option, length};
     ghost use Rattle.std.specs.Vec.{vec_capacity};
     ghost use Rattle.flash_laws.specs.Prelude.{Client as Kept};
-    ghost use Rattle.flash_lite.specs.Order.{TellsWhoGoes};
+    ghost use Rattle.flash_lite.specs.Order.{ReportsWhoGoes};
 
     ghost Value = { List (Option Kept) };
 
     ghost view = { λ s. s.places.items };
 
-    ghost invariant = { λ s. (length s.places.items ≤ 2 ^ 32) × TellsWhoGoes s.places.items
+    ghost invariant = { λ s. (length s.places.items ≤ 2 ^ 32) × ReportsWhoGoes s.places.items
         s.held.items s.going.items (vec_capacity s.held) (vec_capacity s.going) };
 }
 
@@ -105,7 +105,7 @@ fn worker_at(clients: &[Option<Client>], place: u32) -> Option<u32>
 }
 
 // The action of the client at an index after the reply to its call, if there is a client.
-fn go_on_at(
+fn advance_at(
     scripts: bool,
     worker: u32,
     clients: &mut Vec<Option<Client>>,
@@ -114,7 +114,7 @@ fn go_on_at(
     parts: Option<Parts<'_>>,
 ) -> Result<Option<Course>, AllocError>
     requires { worker < MAX_WORKERS }
-    ensures goes { GoesOnAt scripts worker clients.old.items fd last.now (heard parts.entry) result
+    ensures goes { ProceedsAt scripts worker clients.old.items fd last.now (received parts.entry) result
         clients.new.items }
     ensures length { length clients.new.items ≡ length clients.old.items }
 {
@@ -124,7 +124,7 @@ fn go_on_at(
     }
     match &mut clients[at] {
         Some(client) => {
-            let course = client.go_on(scripts, Fd::new(fd), worker, last, parts)?;
+            let course = client.advance(scripts, Fd::new(fd), worker, last, parts)?;
             Ok(Some(course))
         }
         None => Ok(None),
@@ -289,7 +289,7 @@ impl Clients {
     }
 
     /// The action of the client at an index after the reply to its call, if there is a client.
-    pub(crate) fn go_on_at(
+    pub(crate) fn advance_at(
         &mut self,
         scripts: bool,
         worker: u32,
@@ -298,10 +298,10 @@ impl Clients {
         parts: Option<Parts<'_>>,
     ) -> Result<Option<Course>, AllocError>
         requires { worker < MAX_WORKERS }
-        ensures { GoesOnAt scripts worker self.old fd last.now (heard parts.entry) result self.new }
+        ensures { ProceedsAt scripts worker self.old fd last.now (received parts.entry) result self.new }
     {
         let was = noted(self.places.as_slice(), fd);
-        match go_on_at(scripts, worker, &mut self.places, fd, last, parts)? {
+        match advance_at(scripts, worker, &mut self.places, fd, last, parts)? {
             Some(course) => {
                 note(
                     self.places.as_slice(),

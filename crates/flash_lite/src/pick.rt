@@ -2,47 +2,47 @@
 //! index a connection is accepted.
 ghost use Rattle.std.specs.Prelude.{◌≡◌, ◌<◌, ◌+◌, IfOk, None, OnErr};
 ghost use Rattle.flash_laws.specs.Prelude.{WantsFrom};
-ghost use Rattle.flash_lite.specs.ServerTurn.{AtDoor, PicksFrom, door_to, ends, most_with};
+ghost use Rattle.flash_lite.specs.ServerTurn.{AtAcceptStep, PicksFrom, accept_step_to, ends, most_with};
 
 use crate::client::Left;
 use crate::held::Clients;
 use crate::server::MAX_CONNS;
-use flash_laws::phase::{Doing, Flight};
+use flash_laws::phase::{PendingCall, Phase};
 use iol_core::events::Call;
 use iol_proc::process::Turn;
 use std::alloc::AllocError;
 
 /// After the last index: accepts the next connection, if fewer than `most` are held.
-pub(crate) fn door(clients: &Clients, most: usize) -> (Flight, Turn)
-    ensures flight { result.0 ≡ door_to clients.now most }
-    ensures makes { AtDoor result.0 result.1 }
+pub(crate) fn accept_step(clients: &Clients, most: usize) -> (PendingCall, Turn)
+    ensures pending_call { result.0 ≡ accept_step_to clients.now most }
+    ensures makes { AtAcceptStep result.0 result.1 }
 {
     if clients.count() < most {
-        (Flight::Accepting, Turn::Make(Call::Accept))
+        (PendingCall::Accepting, Turn::Make(Call::Accept))
     } else {
-        (Flight::Nothing, Turn::Yield)
+        (PendingCall::Nothing, Turn::Yield)
     }
 }
 
 /// The next call: that of the first client from this index on, or an accept after the last index.
 /// `free` is whether a worker is free.
-#[tactic(auto, using(crate::proofs::Places::never_none, crate::proofs::Places::door_makes))]
+#[tactic(auto, using(crate::proofs::Places::never_none, crate::proofs::Places::accept_step_makes))]
 pub(crate) fn pick(
     scripts: bool,
     free: bool,
     clients: &Clients,
     from: usize,
     most: usize,
-) -> Result<(Flight, Turn), AllocError>
+) -> Result<(PendingCall, Turn), AllocError>
     ensures picks { IfOk result (λ p. PicksFrom scripts free clients.now from most p.0 p.1) }
     ensures wants { OnErr result (WantsFrom free clients.now from) }
 {
     match clients.next(free, from) {
         Some(place) => match clients.call_at(scripts, place)? {
-            Some(call) => Ok((Flight::At { fd: place }, Turn::Make(call))),
-            None => Ok((Flight::Nothing, Turn::Yield)),
+            Some(call) => Ok((PendingCall::At { fd: place }, Turn::Make(call))),
+            None => Ok((PendingCall::Nothing, Turn::Yield)),
         },
-        None => Ok(door(clients, most)),
+        None => Ok(accept_step(clients, most)),
     }
 }
 
@@ -51,8 +51,8 @@ pub(crate) fn ends(left: &Left) -> bool
     ensures { result ≡ ends left.now }
 {
     match *left {
-        Left::Goes { doing } => matches!(doing, Doing::Over),
-        Left::Ends { doing } => matches!(doing, Doing::Over),
+        Left::Goes { phase } => matches!(phase, Phase::Over),
+        Left::Ends { phase } => matches!(phase, Phase::Over),
         Left::Begins | Left::Continues { .. } | Left::Stays => false,
     }
 }

@@ -8,7 +8,7 @@ ghost use Rattle.flash_lite.specs.Small.{first_call, read_call};
 
 use crate::answers::text_of;
 use flash_http::Asked;
-use flash_laws::phase::Content;
+use flash_laws::phase::Payload;
 use iol_core::descriptors::Mode;
 use iol_core::events::Call;
 use iol_core::lists::Bytes;
@@ -65,7 +65,7 @@ pub(crate) fn read_call(asked: &Asked, file: Fd) -> Call
 }
 
 /// Makes the head, with the body if it is not that of a file.
-pub(crate) fn make_call(alloc: Global, asked: &Asked, content: &Content) -> Result<Call, AllocError>
+pub(crate) fn make_call(alloc: Global, asked: &Asked, content: &Payload) -> Result<Call, AllocError>
     ensures { IfOk result
         (λ call. call ≡ AggMake (spec.text_of (answer asked.now) content.now)) }
 {
@@ -99,6 +99,6 @@ pub(crate) fn first_call(alloc: Global, asked: &Asked) -> Result<Call, AllocErro
             status,
             head_only: _,
             close: _,
-        } => { make_call(alloc, asked, &Content::Error { status: *status }) }
+        } => { make_call(alloc, asked, &Payload::Error { status: *status }) }
     }
 }

@@ -7,25 +7,25 @@ ghost use Rattle.flash_http.specs.Prelude.{wanted};
 ghost use Rattle.flash_laws.specs.Client as client;
 ghost use Rattle.flash_laws.specs.Prelude.{makes_any};
 ghost use Rattle.flash_laws.specs.Run as spec;
-ghost use Rattle.flash_lite.specs.HeardBytes.{heard};
+ghost use Rattle.flash_lite.specs.ReceivedBytes.{received};
 ghost use Rattle.flash_lite.specs.Runs.{IsSmallRun, IsSmallStep, IsSmallRunning, call_for, run_worker, waits};
 ghost use Rattle.flash_lite.specs.Small.{IsSmall};
 ghost use Rattle.flash_lite.specs.declared.site.TheConstants.{MAX_WORKERS};
 
 use crate::run::calls::step_call;
-use crate::run::chunks::{told_frames, told_trims, told_wraps};
+use crate::run::chunks::{after_frame, after_trim, after_wrap};
 use crate::run::end::{
-    told_ended, told_lasts, told_stops, told_trims_last, told_unframes, told_unholds, told_unwraps,
-    told_wraps_last,
+    after_ended, after_last, after_release_frame, after_release_held, after_stop, after_trim_last,
+    after_unwrap, after_wrap_last,
 };
-use crate::run::output::{told_gathers, told_hears, told_spills};
-use crate::run::parts::{part_call, told_left, told_sending};
+use crate::run::output::{after_gather, after_output, after_spill};
+use crate::run::parts::{after_reply_left, after_sending, part_call};
 use crate::run::start::{
-    told_awaits, told_fails, told_gives, told_hands, told_heads, told_lapses, told_lets,
-    told_makes, told_returns,
+    after_fail, after_give, after_hand, after_head, after_lapse, after_make, after_release_job,
+    after_return, after_wait,
 };
 use flash_http::Request;
-use flash_laws::phase::Doing;
+use flash_laws::phase::Phase;
 use flash_laws::script_run::{Run, Running, Step};
 use iol_agg::Parts;
 use iol_core::events::{Call, Reply};
@@ -41,7 +41,7 @@ mod start;
 pub(crate) mod texts;
 
 // After the reply to the call of a step.
-fn told_step(
+fn after_step(
     request: &Request,
     run: Run,
     step: Step,
@@ -49,59 +49,61 @@ fn told_step(
     parts: Option<Parts<'_>>,
 ) -> Running
     requires { IsSmallRun run × IsSmallStep step }
-    ensures told { result
-        ≡ spec.told_step (wanted request.now) run step last.now (heard parts.entry) }
+    ensures after_reply { result
+        ≡ spec.after_step (wanted request.now) run step last.now (received parts.entry) }
     ensures small { IsSmallRunning result }
 {
     let step = match step {
-        Step::Gives { write } => told_gives(write, last),
-        Step::Makes { fd } => told_makes(fd, last),
-        Step::Hands { job, fd } => told_hands(job, fd, last),
-        Step::Lets { job } => told_lets(job, last),
-        Step::Heads => told_heads(last, parts),
-        Step::Sending { doing, frame } => return told_sending(run, doing, frame, last),
-        Step::Hears { held, frame } => {
-            return told_hears(request, run, held, frame, last, parts);
+        Step::Gives { write } => after_give(write, last),
+        Step::Makes { fd } => after_make(fd, last),
+        Step::Hands { job, fd } => after_hand(job, fd, last),
+        Step::Lets { job } => after_release_job(job, last),
+        Step::Heads => after_head(last, parts),
+        Step::Sending { phase, frame } => return after_sending(run, phase, frame, last),
+        Step::Receives { held, frame } => {
+            return after_output(request, run, held, frame, last, parts);
         }
-        Step::Spills { agg, frame } => told_spills(agg, frame, last),
+        Step::Spills { agg, frame } => after_spill(agg, frame, last),
         Step::Gathers {
             held,
             size,
             piece,
             len,
             frame,
-        } => told_gathers(held, size, piece, len, frame, last),
-        Step::Frames { held } => told_frames(held, last),
-        Step::Wraps { held, frame } => told_wraps(held, frame, last, parts),
+        } => after_gather(held, size, piece, len, frame, last),
+        Step::Frames { held } => after_frame(held, last),
+        Step::Wraps { held, frame } => after_wrap(held, frame, last, parts),
         Step::Trims {
             held,
             chunk,
             len,
             frame,
-        } => told_trims(held, chunk, len, frame, last),
-        Step::Ended { agg, held, frame } => told_ended(agg, held, frame, last),
-        Step::Unholds { held, frame } => told_unholds(held, frame, last),
-        Step::Stops { held, frame } => return told_stops(request, run, held, frame, last),
-        Step::Unframes { frame, held } => return told_unframes(request, run, frame, held, last),
-        Step::Lasts { held } => return told_lasts(run, held, last, parts),
-        Step::WrapsLast { held, size, frame } => told_wraps_last(held, size, frame, last, parts),
+        } => after_trim(held, chunk, len, frame, last),
+        Step::Ended { agg, held, frame } => after_ended(agg, held, frame, last),
+        Step::Unholds { held, frame } => after_release_held(held, frame, last),
+        Step::Stops { held, frame } => return after_stop(request, run, held, frame, last),
+        Step::Unframes { frame, held } => return after_release_frame(
+            request, run, frame, held, last,
+        ),
+        Step::Lasts { held } => return after_last(run, held, last, parts),
+        Step::WrapsLast { held, size, frame } => after_wrap_last(held, size, frame, last, parts),
         Step::TrimsLast {
             held,
             chunk,
             len,
             frame,
-        } => told_trims_last(held, chunk, len, frame, last),
-        Step::Unwraps { frame, chunk, len } => return told_unwraps(run, frame, chunk, len, last),
-        Step::Returns { write } => told_returns(write, last),
-        Step::Lapses { job } => told_lapses(job, last),
-        Step::Fails => return told_fails(run, last),
+        } => after_trim_last(held, chunk, len, frame, last),
+        Step::Unwraps { frame, chunk, len } => return after_unwrap(run, frame, chunk, len, last),
+        Step::Returns { write } => after_return(write, last),
+        Step::Lapses { job } => after_lapse(job, last),
+        Step::Fails => return after_fail(run, last),
     };
     Running::Runs { run, step }
 }
 
 /// The state of a run after the reply to its call, with the bytes of the aggregate in the reply.
 /// `worker` is a free worker.
-pub(crate) fn told(
+pub(crate) fn after_reply(
     worker: u32,
     request: &Request,
     running: Running,
@@ -111,15 +113,15 @@ pub(crate) fn told(
     requires worker { worker < MAX_WORKERS }
     requires small { IsSmallRunning running }
     requires going { spec.is_over running ≡ false }
-    ensures told { result
-        ≡ spec.told worker (wanted request.now) running last.now (heard parts.entry) }
+    ensures after_reply { result
+        ≡ spec.after_reply worker (wanted request.now) running last.now (received parts.entry) }
     ensures small { IsSmallRunning result }
 {
     match running {
-        Running::Awaits => told_awaits(worker, last),
-        Running::Runs { run, step } => told_step(request, run, step, last, parts),
-        Running::Leaves { doing } => Running::Leaves {
-            doing: told_left(request, doing, last, parts),
+        Running::Awaits => after_wait(worker, last),
+        Running::Runs { run, step } => after_step(request, run, step, last, parts),
+        Running::Leaves { phase } => Running::Leaves {
+            phase: after_reply_left(request, phase, last, parts),
         },
         Running::Closes => Running::Closes,
     }
@@ -143,40 +145,40 @@ pub(crate) fn next_call(
     match running {
         Running::Awaits => Ok(Call::Pipe),
         Running::Runs { run, step } => step_call(alloc, fd, request, script, run, step),
-        Running::Leaves { doing } => part_call(alloc, fd, request, doing),
+        Running::Leaves { phase } => part_call(alloc, fd, request, phase),
         Running::Closes => Ok(Call::Close { fd }),
     }
 }
 
 // Returns whether the rest of a response is still to be made, or to be sent.
-fn is_left(doing: &Doing) -> bool
-    ensures { result ≡ spec.is_left doing.now }
+fn is_left(phase: &Phase) -> bool
+    ensures { result ≡ spec.is_left phase.now }
 {
     matches!(
-        *doing,
-        Doing::Heads { .. }
-            | Doing::Sends { .. }
-            | Doing::Cuts { .. }
-            | Doing::Offers { .. }
-            | Doing::Swaps { .. }
-            | Doing::Sent { .. }
-            | Doing::Breaks { .. }
-            | Doing::Drops { .. }
+        *phase,
+        Phase::Heads { .. }
+            | Phase::Sends { .. }
+            | Phase::Cuts { .. }
+            | Phase::Offers { .. }
+            | Phase::Swaps { .. }
+            | Phase::Sent { .. }
+            | Phase::Breaks { .. }
+            | Phase::Drops { .. }
     )
 }
 
 /// The phase of the connection once the run is over, if it is.
-pub(crate) fn after_run(running: &Running) -> Option<Doing>
+pub(crate) fn after_run(running: &Running) -> Option<Phase>
     requires { IsSmallRunning running.now }
     ensures none { IfNone result (spec.is_over running.now ≡ false) }
     ensures over { OnSome result (spec.is_over running.now ≡ true) }
-    ensures after { IfSome result (λ doing. doing ≡ client.after_run running.now) }
-    ensures left { IfSome result (λ doing. spec.is_left doing ≡ false) }
+    ensures after { IfSome result (λ phase. phase ≡ client.after_run running.now) }
+    ensures left { IfSome result (λ phase. spec.is_left phase ≡ false) }
     ensures small { IfSome result IsSmall }
 {
     match *running {
-        Running::Leaves { doing } => { if is_left(&doing) { None } else { Some(doing) } }
-        Running::Closes => Some(Doing::Closes),
+        Running::Leaves { phase } => { if is_left(&phase) { None } else { Some(phase) } }
+        Running::Closes => Some(Phase::Closes),
         Running::Awaits | Running::Runs { .. } => None,
     }
 }

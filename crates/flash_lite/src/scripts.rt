@@ -6,12 +6,12 @@ ghost use Rattle.flash_http.specs.MediaType as names;
 ghost use Rattle.flash_http.specs.Prelude.{answer};
 ghost use Rattle.flash_laws.specs.Client as spec;
 ghost use Rattle.flash_lite.specs.Course as course;
-ghost use Rattle.flash_lite.specs.HeardBytes.{heard};
+ghost use Rattle.flash_lite.specs.ReceivedBytes.{received};
 
 use crate::request_calls::MAX_READ_BYTES;
 use flash_cgi::script::{MAX_SCRIPT_BYTES, Script};
 use flash_http::Asked;
-use flash_laws::phase::{Content, Doing};
+use flash_laws::phase::{Payload, Phase};
 use iol_agg::Parts;
 use iol_core::events::{Call, Reply};
 use iol_core::numbers::{AggId, Fd};
@@ -72,11 +72,11 @@ fn runs(last: &Reply, head_only: bool) -> bool
 }
 
 // The result of the reply to dropping the bytes that are not sent.
-fn spares(content: Content, last: &Reply, head_only: bool) -> Found
+fn spares(content: Payload, last: &Reply, head_only: bool) -> Found
     ensures { result ≡ course.spared content last.now head_only }
 {
     match content {
-        Content::Script => {
+        Payload::Script => {
             if runs(last, head_only) {
                 Found::Runs
             } else {
@@ -88,28 +88,28 @@ fn spares(content: Content, last: &Reply, head_only: bool) -> Found
 }
 
 /// The result of a reply for a file, if it is a script.
-pub(crate) fn tells(script: bool, doing: Doing, last: &Reply, head_only: bool) -> Found
-    ensures { result ≡ course.found script doing last.now head_only }
+pub(crate) fn reports(script: bool, phase: Phase, last: &Reply, head_only: bool) -> Found
+    ensures { result ≡ course.found script phase last.now head_only }
 {
     if !script {
         return Found::AsFile;
     }
-    match doing {
-        Doing::Reads { file } => reads(file, last),
-        Doing::Spares { agg: _, content } => spares(content, last, head_only),
+    match phase {
+        Phase::Reads { file } => reads(file, last),
+        Phase::Spares { agg: _, content } => spares(content, last, head_only),
         _ => Found::AsFile,
     }
 }
 
 /// The call for a script, given that for a file: a script is read whole.
-pub(crate) fn whole(script: bool, doing: Doing, call: Call) -> Call
-    ensures { result ≡ course.whole script doing call }
+pub(crate) fn whole(script: bool, phase: Phase, call: Call) -> Call
+    ensures { result ≡ course.whole script phase call }
 {
     if !script {
         return call;
     }
-    match doing {
-        Doing::Reads { file } => Call::IolRead {
+    match phase {
+        Phase::Reads { file } => Call::IolRead {
             fd: file,
             count: MAX_READ_BYTES,
         },
@@ -139,9 +139,9 @@ fn gather(
     parts: Option<Parts<'_>>,
     most: usize,
 ) -> Result<Option<Vec<u8>>, AllocError>
-    ensures long { IfOk result (λ o. IfNone o (most < length (heard parts.entry))) }
-    ensures bytes { IfOk result (λ o. IfSome o (λ bytes. bytes.items ≡ heard parts.entry)) }
-    ensures wants { OnErr result (0 < length (heard parts.entry)) }
+    ensures long { IfOk result (λ o. IfNone o (most < length (received parts.entry))) }
+    ensures bytes { IfOk result (λ o. IfSome o (λ bytes. bytes.items ≡ received parts.entry)) }
+    ensures wants { OnErr result (0 < length (received parts.entry)) }
 {
     match parts {
         Some(parts) => gather_all(alloc, parts, most),
@@ -176,15 +176,15 @@ fn kept_if(alloc: Global, head_only: bool, runs: bool, text: Vec<u8>) -> Vec<u8>
 /// Returns whether the text that was read is a script, and the text to be kept. A text that
 /// exceeds the limit of a script is not copied, and an empty text needs no memory.
 #[tactic(auto, using(crate::proofs::Responses::Clients::long_runs, crate::proofs::Responses::Clients::long_kept))]
-pub(crate) fn heard_text(
+pub(crate) fn received_text(
     alloc: Global,
     head_only: bool,
     parts: Option<Parts<'_>>,
 ) -> Result<(bool, Vec<u8>), AllocError>
-    ensures runs { IfOk result (λ r. r.0 ≡ spec.can_run (heard parts.entry)) }
+    ensures runs { IfOk result (λ r. r.0 ≡ spec.can_run (received parts.entry)) }
     ensures kept { IfOk result
-        (λ r. r.1.items ≡ course.kept_script head_only (heard parts.entry)) }
-    ensures wants { OnErr result (0 < length (heard parts.entry)) }
+        (λ r. r.1.items ≡ course.kept_script head_only (received parts.entry)) }
+    ensures wants { OnErr result (0 < length (received parts.entry)) }
 {
     match gather(alloc, parts, MAX_SCRIPT_BYTES)? {
         Some(text) => {

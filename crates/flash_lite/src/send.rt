@@ -4,16 +4,16 @@ ghost use Rattle.std.specs.Prelude.{◌≡◌, ◌≤◌, ◌+◌, ◌^◌, Some
 ghost use Rattle.iol_core.specs.declared.events.Reply.TheVariants.{Agg, Count, Done, Refused};
 ghost use Rattle.iol_core.specs.declared.refusals.Refusal.TheVariants.{BrokenPipe};
 ghost use Rattle.flash_http.specs.Prelude.{Answer, answer};
-ghost use Rattle.flash_laws.specs.Prelude.{keeps, told_part};
+ghost use Rattle.flash_laws.specs.Prelude.{keeps, after_part};
 ghost use Rattle.flash_laws.specs.Conn as spec;
-ghost use Rattle.flash_laws.specs.declared.phase.Doing.TheVariants.{Joins, Sends, Sent};
-ghost use Rattle.flash_lite.specs.HeardBytes.{heard};
+ghost use Rattle.flash_laws.specs.declared.phase.Phase.TheVariants.{Joins, Sends, Sent};
+ghost use Rattle.flash_lite.specs.ReceivedBytes.{received};
 ghost use Rattle.flash_lite.specs.Runs.{IsGoing};
 ghost use Rattle.flash_lite.specs.Small.{IsSmall, size_of};
 
-use crate::heard::count;
+use crate::received::count;
 use flash_http::Asked;
-use flash_laws::phase::{Content, Doing};
+use flash_laws::phase::{Payload, Phase};
 use iol_agg::Parts;
 use iol_core::events::Reply;
 use iol_core::limits::MAX_AGGREGATE_BYTES;
@@ -24,31 +24,31 @@ use iol_core::refusals::Refusal;
 pub(crate) type Following = Option<(AggId, u32)>;
 
 // The aggregate that is sent after the head.
-fn following(content: &Content) -> Following
+fn following(content: &Payload) -> Following
     ensures { result ≡ spec.following content.now }
 {
     match *content {
-        Content::Body { agg, size, len: _ } => Some((agg, size)),
-        Content::Bare { len: _ } => None,
-        Content::Error { status: _ } => None,
-        Content::Script => None,
+        Payload::Body { agg, size, len: _ } => Some((agg, size)),
+        Payload::Bare { len: _ } => None,
+        Payload::Error { status: _ } => None,
+        Payload::Script => None,
     }
 }
 
 // Joins a head with its body, if both fit into an aggregate; otherwise the body is sent after it.
-fn with_body(head: AggId, size: u32, body: AggId, len: u32) -> Doing
+fn with_body(head: AggId, size: u32, body: AggId, len: u32) -> Phase
     ensures headed { result ≡ spec.headed head size (Some (body, len)) }
     ensures small { IsSmall result }
 {
     if u64::from(size) + u64::from(len) <= MAX_AGGREGATE_BYTES as u64 {
-        Doing::Joins {
+        Phase::Joins {
             head,
             size,
             body,
             len,
         }
     } else {
-        Doing::Sends {
+        Phase::Sends {
             agg: head,
             len: size,
             taken: 0,
@@ -58,13 +58,13 @@ fn with_body(head: AggId, size: u32, body: AggId, len: u32) -> Doing
 }
 
 // The phase that sends a head and the aggregate after it.
-fn headed(head: AggId, size: u32, more: Following) -> Doing
+fn headed(head: AggId, size: u32, more: Following) -> Phase
     ensures headed { result ≡ spec.headed head size more }
     ensures small { IsSmall result }
 {
     match more {
         Some((body, len)) => with_body(head, size, body, len),
-        None => Doing::Sends {
+        None => Phase::Sends {
             agg: head,
             len: size,
             taken: 0,
@@ -74,30 +74,30 @@ fn headed(head: AggId, size: u32, more: Following) -> Doing
 }
 
 /// After making the head.
-pub(crate) fn told_heads(content: Content, last: &Reply, parts: Option<Parts<'_>>) -> Doing
-    ensures told { result ≡ spec.told_heads content last.now (heard parts.entry) }
+pub(crate) fn after_head(content: Payload, last: &Reply, parts: Option<Parts<'_>>) -> Phase
+    ensures after_reply { result ≡ spec.after_head content last.now (received parts.entry) }
     ensures small { IsSmall result }
 {
     match last {
         Reply::Agg(agg) => headed(*agg, count(parts), following(&content)),
-        _ => Doing::Heads { content },
+        _ => Phase::Heads { content },
     }
 }
 
 /// After joining head and body.
-pub(crate) fn told_joins(head: AggId, size: u32, body: AggId, len: u32, last: &Reply) -> Doing
+pub(crate) fn after_join(head: AggId, size: u32, body: AggId, len: u32, last: &Reply) -> Phase
     requires { IsSmall (Joins head size body len) }
-    ensures told { result ≡ spec.told_joins head size body len last.now }
+    ensures after_reply { result ≡ spec.after_join head size body len last.now }
     ensures small { IsSmall result }
 {
     match last {
-        Reply::Agg(agg) => Doing::Sends {
+        Reply::Agg(agg) => Phase::Sends {
             agg: *agg,
             len: size + len,
             taken: 0,
             more: None,
         },
-        _ => Doing::Joins {
+        _ => Phase::Joins {
             head,
             size,
             body,
@@ -108,13 +108,13 @@ pub(crate) fn told_joins(head: AggId, size: u32, body: AggId, len: u32, last: &R
 
 // After `taken` bytes of an aggregate that was offered whole were taken: all, or the rest is sent
 // in pieces.
-fn taken_of(agg: AggId, count: u32, len: u32, taken: u64, more: Following) -> Doing
+fn taken_of(agg: AggId, count: u32, len: u32, taken: u64, more: Following) -> Phase
     requires { IsSmall (Sends agg len taken more) }
-    ensures told { result ≡ told_part (Sends agg len taken more) (Count count) }
+    ensures after_reply { result ≡ after_part (Sends agg len taken more) (Count count) }
     ensures going { IsGoing result }
 {
     if count < len {
-        Doing::Cuts {
+        Phase::Cuts {
             agg,
             from: count,
             len,
@@ -122,7 +122,7 @@ fn taken_of(agg: AggId, count: u32, len: u32, taken: u64, more: Following) -> Do
             more,
         }
     } else {
-        Doing::Sent {
+        Phase::Sent {
             agg,
             taken: taken + u64::from(len),
             more,
@@ -131,19 +131,19 @@ fn taken_of(agg: AggId, count: u32, len: u32, taken: u64, more: Following) -> Do
 }
 
 // After `count` bytes of the offered ones were taken.
-fn counted(doing: Doing, count: u32) -> Doing
-    requires { IsGoing doing }
-    ensures told { result ≡ told_part doing (Count count) }
+fn counted(phase: Phase, count: u32) -> Phase
+    requires { IsGoing phase }
+    ensures after_reply { result ≡ after_part phase (Count count) }
     ensures going { IsGoing result }
 {
-    match doing {
-        Doing::Sends {
+    match phase {
+        Phase::Sends {
             agg,
             len,
             taken,
             more,
         } => taken_of(agg, count, len, taken, more),
-        Doing::Offers {
+        Phase::Offers {
             agg,
             from,
             len,
@@ -152,7 +152,7 @@ fn counted(doing: Doing, count: u32) -> Doing
             more,
         } => {
             let count = count.min(len.saturating_sub(from));
-            Doing::Swaps {
+            Phase::Swaps {
                 agg,
                 from: from + count,
                 len,
@@ -161,24 +161,24 @@ fn counted(doing: Doing, count: u32) -> Doing
                 more,
             }
         }
-        _ => doing,
+        _ => phase,
     }
 }
 
 // After cutting the next piece: it is to be offered.
-fn cut(doing: Doing, piece: AggId) -> Doing
-    requires { IsGoing doing }
-    ensures told { result ≡ told_part doing (Agg piece) }
+fn cut(phase: Phase, piece: AggId) -> Phase
+    requires { IsGoing phase }
+    ensures after_reply { result ≡ after_part phase (Agg piece) }
     ensures going { IsGoing result }
 {
-    match doing {
-        Doing::Cuts {
+    match phase {
+        Phase::Cuts {
             agg,
             from,
             len,
             taken,
             more,
-        } => Doing::Offers {
+        } => Phase::Offers {
             agg,
             from,
             len,
@@ -186,18 +186,18 @@ fn cut(doing: Doing, piece: AggId) -> Doing
             taken,
             more,
         },
-        _ => doing,
+        _ => phase,
     }
 }
 
 // After dropping a piece: the next one is to be cut, or all is sent, or sending stops.
-fn dropped(doing: Doing) -> Doing
-    requires { IsGoing doing }
-    ensures told { result ≡ told_part doing Done }
+fn dropped(phase: Phase) -> Phase
+    requires { IsGoing phase }
+    ensures after_reply { result ≡ after_part phase Done }
     ensures going { IsGoing result }
 {
-    match doing {
-        Doing::Swaps {
+    match phase {
+        Phase::Swaps {
             agg,
             from,
             len,
@@ -206,7 +206,7 @@ fn dropped(doing: Doing) -> Doing
             more,
         } => {
             if from < len {
-                Doing::Cuts {
+                Phase::Cuts {
                     agg,
                     from,
                     len,
@@ -214,45 +214,45 @@ fn dropped(doing: Doing) -> Doing
                     more,
                 }
             } else {
-                Doing::Sent { agg, taken, more }
+                Phase::Sent { agg, taken, more }
             }
         }
-        Doing::Breaks { agg, more, .. } => Doing::Drops { agg, more },
-        _ => doing,
+        Phase::Breaks { agg, more, .. } => Phase::Drops { agg, more },
+        _ => phase,
     }
 }
 
 // The peer is gone, and the offered bytes are not taken.
-fn broken_off(doing: Doing) -> Doing
-    requires { IsGoing doing }
-    ensures told { result ≡ told_part doing (Refused BrokenPipe) }
+fn broken_off(phase: Phase) -> Phase
+    requires { IsGoing phase }
+    ensures after_reply { result ≡ after_part phase (Refused BrokenPipe) }
     ensures going { IsGoing result }
 {
-    match doing {
-        Doing::Sends { agg, more, .. } => Doing::Drops { agg, more },
-        Doing::Offers {
+    match phase {
+        Phase::Sends { agg, more, .. } => Phase::Drops { agg, more },
+        Phase::Offers {
             agg,
             piece,
             more,
             ..
-        } => Doing::Breaks { piece, agg, more },
-        _ => doing,
+        } => Phase::Breaks { piece, agg, more },
+        _ => phase,
     }
 }
 
 /// The phase of a part of the response after the reply to its call, unless it is sent or aborted.
 /// An unrelated reply leaves it unchanged.
-pub(crate) fn told_part(doing: Doing, last: &Reply) -> Doing
-    requires { IsGoing doing }
-    ensures told { result ≡ told_part doing last.now }
+pub(crate) fn after_part(phase: Phase, last: &Reply) -> Phase
+    requires { IsGoing phase }
+    ensures after_reply { result ≡ after_part phase last.now }
     ensures going { IsGoing result }
 {
     match last {
-        Reply::Count(count) => counted(doing, *count),
-        Reply::Agg(piece) => cut(doing, *piece),
-        Reply::Done => dropped(doing),
-        Reply::Refused(Refusal::BrokenPipe) => broken_off(doing),
-        _ => doing,
+        Reply::Count(count) => counted(phase, *count),
+        Reply::Agg(piece) => cut(phase, *piece),
+        Reply::Done => dropped(phase),
+        Reply::Refused(Refusal::BrokenPipe) => broken_off(phase),
+        _ => phase,
     }
 }
 
@@ -272,61 +272,61 @@ fn keeps(asked: &Asked) -> bool
 
 /// The phase after all of an aggregate was taken: the body, the next request if the connection
 /// stays open, or the end.
-pub(crate) fn goes_on(keep: bool, taken: u64, more: Following) -> Doing
+pub(crate) fn proceeds(keep: bool, taken: u64, more: Following) -> Phase
     requires { taken + size_of more ≤ 2 ^ 40 }
-    ensures goes { (q : Answer) → keeps q ≡ keep → result ≡ spec.goes_on q taken more }
+    ensures goes { (q : Answer) → keeps q ≡ keep → result ≡ spec.proceeds q taken more }
     ensures small { IsSmall result }
 {
     match more {
-        Some((agg, len)) => Doing::Sends {
+        Some((agg, len)) => Phase::Sends {
             agg,
             len,
             taken,
             more: None,
         },
-        None => { if keep { Doing::Rests } else { Doing::Closes } }
+        None => { if keep { Phase::Rests } else { Phase::Closes } }
     }
 }
 
 /// After dropping an aggregate that was taken whole.
-pub(crate) fn told_sent(
+pub(crate) fn after_taken(
     asked: &Asked,
     agg: AggId,
     taken: u64,
     more: Following,
     last: &Reply,
-) -> Doing
+) -> Phase
     requires { IsSmall (Sent agg taken more) }
-    ensures told { result ≡ spec.told_sent (answer asked.now) agg taken more last.now }
+    ensures after_reply { result ≡ spec.after_taken (answer asked.now) agg taken more last.now }
     ensures small { IsSmall result }
 {
     match last {
-        Reply::Done => goes_on(keeps(asked), taken, more),
-        _ => Doing::Sent { agg, taken, more },
+        Reply::Done => proceeds(keeps(asked), taken, more),
+        _ => Phase::Sent { agg, taken, more },
     }
 }
 
 /// After dropping the bytes that are not sent any more.
-pub(crate) fn told_drops(agg: AggId, more: Following, last: &Reply) -> Doing
-    ensures told { result ≡ spec.told_drops agg more last.now }
+pub(crate) fn after_drop(agg: AggId, more: Following, last: &Reply) -> Phase
+    ensures after_reply { result ≡ spec.after_drop agg more last.now }
     ensures small { IsSmall result }
 {
     match last {
         Reply::Done => match more {
-            Some((agg, _)) => Doing::Drops { agg, more: None },
-            None => Doing::Closes,
+            Some((agg, _)) => Phase::Drops { agg, more: None },
+            None => Phase::Closes,
         },
-        _ => Doing::Drops { agg, more },
+        _ => Phase::Drops { agg, more },
     }
 }
 
 /// After closing the connection.
-pub(crate) fn told_closes(last: &Reply) -> Doing
-    ensures told { result ≡ spec.told_closes last.now }
+pub(crate) fn after_disconnect(last: &Reply) -> Phase
+    ensures after_reply { result ≡ spec.after_disconnect last.now }
     ensures small { IsSmall result }
 {
     match last {
-        Reply::Done => Doing::Over,
-        _ => Doing::Closes,
+        Reply::Done => Phase::Over,
+        _ => Phase::Closes,
     }
 }

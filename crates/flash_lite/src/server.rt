@@ -1,10 +1,10 @@
 //! The server: all clients, with one call per turn.
 ghost use Rattle.std.specs.Prelude.{◌≡◌, IfOk, OnErr, OnOk, min};
-ghost use Rattle.iol_proc.specs.Prelude.{lent, IsQuiet};
-ghost use Rattle.flash_laws.specs.Prelude.{NoneRuns, in_rounds, new_server, heard_of, IsShared, server_account, server_wants};
+ghost use Rattle.iol_proc.specs.Prelude.{readable, IsCopyFree};
+ghost use Rattle.flash_laws.specs.Prelude.{NoneRuns, in_rounds, new_server, received_of, IsShared, server_account, server_wants};
 ghost use Rattle.flash_lite.specs.Accounts.{serves};
 ghost use Rattle.flash_lite.specs.Few.{IsFew};
-ghost use Rattle.flash_lite.specs.HeardBytes.{heard};
+ghost use Rattle.flash_lite.specs.ReceivedBytes.{received};
 ghost use Rattle.flash_lite.specs.Offers.{OffersNext};
 ghost use Rattle.flash_lite.specs.declared.site.TheConstants.{MAX_WORKERS};
 
@@ -13,7 +13,7 @@ use crate::table::Table;
 use flash_laws::run_laws::clients_law;
 use iol_agg::Parts;
 use iol_core::events::Reply;
-use iol_proc::look::Look;
+use iol_proc::byte_view::ByteView;
 use iol_proc::process::{Process, Turn};
 use std::alloc::{AllocError, Global};
 use std::marker::Model;
@@ -22,11 +22,11 @@ use std::marker::Model;
 pub const MAX_CONNS: usize = 256;
 
 // The contents of the aggregate in a reply.
-fn lent_by<'a>(last: &Reply, look: &Look<'a>) -> Option<Parts<'a>>
-    ensures { heard result ≡ heard_of last.now (lent look.now) }
+fn readable_by<'a>(last: &Reply, byte_view: &ByteView<'a>) -> Option<Parts<'a>>
+    ensures { received result ≡ received_of last.now (readable byte_view.now) }
 {
     match last {
-        Reply::Agg(agg) => look.bytes(*agg),
+        Reply::Agg(agg) => byte_view.bytes(*agg),
         _ => None,
     }
 }
@@ -72,21 +72,21 @@ impl Server {
 impl Process for Server {
     ghost turns = { server_account in_rounds };
 
-    fn next(&mut self, last: &Reply, look: &Look<'_>) -> Result<Turn, AllocError>
+    fn next(&mut self, last: &Reply, byte_view: &ByteView<'_>) -> Result<Turn, AllocError>
         ensures turn { IfOk result
-            (λ turn. serves self.old last.now (lent look.now) turn self.new) }
-        ensures quiet { IfOk result IsQuiet }
+            (λ turn. serves self.old last.now (readable byte_view.now) turn self.new) }
+        ensures quiet { IfOk result IsCopyFree }
         ensures err { OnErr result (self.new ≡ self.old) }
 
         // It needs memory only to buffer bytes that it reads, for a new index, to begin a request,
         // and for the bytes of a call.
-        ensures wants { OnErr result (server_wants self.old last.now (lent look.now)) }
+        ensures wants { OnErr result (server_wants self.old last.now (readable byte_view.now)) }
 
         // The offered bytes are the next bytes of the response to the request.
         ensures offers { IfOk result (λ turn. OffersNext self.new turn) }
 
         // It holds at most 256 connections, and one fewer while another is being accepted.
-        ensures few { OnOk result (IsFew self.new.clients self.new.flight) }
+        ensures few { OnOk result (IsFew self.new.clients self.new.pending_call) }
 
         // Each script that runs has a worker of its own.
         ensures shared { OnOk result (IsShared self.new) }
@@ -95,8 +95,8 @@ impl Process for Server {
         ensures none { OnOk result (self.old.workers ≡ 0 → NoneRuns self.new.clients) }
     {
         clients_law();
-        let parts = lent_by(last, look);
-        let turn = self.table.go_on(last, parts)?;
+        let parts = readable_by(last, byte_view);
+        let turn = self.table.advance(last, parts)?;
         Ok(turn)
     }
 }

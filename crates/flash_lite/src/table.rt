@@ -2,19 +2,19 @@
 ghost use Rattle.std.specs.Prelude.{◌≡◌, ◌<◌, ◌≤◌, [], IfOk, OnErr, length, min};
 ghost use Rattle.iol_core.specs.Prelude.{in_place};
 ghost use Rattle.flash_laws.specs.Prelude.{runs_scripts, WantsPlace};
-ghost use Rattle.flash_laws.specs.declared.phase.Flight.TheVariants.{Accepting, At};
-ghost use Rattle.flash_lite.specs.HeardBytes.{heard};
+ghost use Rattle.flash_laws.specs.declared.phase.PendingCall.TheVariants.{Accepting, At};
+ghost use Rattle.flash_lite.specs.ReceivedBytes.{received};
 ghost use Rattle.flash_lite.specs.Table.{IsKept, new_table};
 ghost use Rattle.flash_lite.specs.ServerTurn.{LeavesPlace, MayRest, PicksNext, Turns, WantsAt, first_in, has_in};
 ghost use Rattle.flash_lite.specs.declared.site.TheConstants.{MAX_WORKERS};
 
 use crate::client::{Course, Left};
 use crate::held::Clients;
-use crate::pick::{door, most_with, pick};
+use crate::pick::{accept_step, most_with, pick};
 use crate::server::MAX_CONNS;
 use crate::site::MAX_WORKERS;
 use crate::workers::{first_free, turned, worker_left};
-use flash_laws::phase::Flight;
+use flash_laws::phase::PendingCall;
 use iol_agg::Parts;
 use iol_core::events::Reply;
 use iol_proc::process::Turn;
@@ -26,7 +26,7 @@ use std::marker::Model;
 #[derive(Drop)]
 pub(crate) struct Table {
     clients: Clients,
-    flight: Flight,
+    pending_call: PendingCall,
     workers: u32,
     free: [bool; 8],
 }
@@ -40,7 +40,7 @@ impl Model for Table {
 
     ghost view = { λ s. record {
       clients = s.clients;
-      flight = s.flight;
+      pending_call = s.pending_call;
       workers = s.workers;
       free = s.free;
     } };
@@ -56,7 +56,7 @@ impl Table {
     {
         Table {
             clients: Clients::new(alloc),
-            flight: Flight::Nothing,
+            pending_call: PendingCall::Nothing,
             workers,
             free: [true; 8],
         }
@@ -90,16 +90,16 @@ impl Table {
     {
         let free = self.free;
         let (scripts, has_free) = (self.scripts(), self.has_free(&free));
-        let (flight, turn) = pick(scripts, has_free, &self.clients, from, MAX_CONNS)?;
-        self.flight = flight;
+        let (pending_call, turn) = pick(scripts, has_free, &self.clients, from, MAX_CONNS)?;
+        self.pending_call = pending_call;
         Ok(turn)
     }
 
     // After the reply to `accept`: accepts the next connection, or ends the round if none is
     // waiting.
     #[tactic(auto, using(crate::proofs::Turns::TurnParts::accepted_turns, crate::proofs::Turns::TurnParts::over_turns))]
-    fn go_on_accepting(&mut self, last: &Reply) -> Result<Turn, AllocError>
-        requires accepts { self.old.flight ≡ Accepting }
+    fn advance_accepting(&mut self, last: &Reply) -> Result<Turn, AllocError>
+        requires accepts { self.old.pending_call ≡ Accepting }
         requires kept { IsKept self.old }
         ensures turn { IfOk result (λ turn. Turns self.old last.now [] turn self.new) }
         ensures err { OnErr result (self.new ≡ self.old) }
@@ -111,12 +111,12 @@ impl Table {
                 let was = self.clients.worker_at(place);
                 self.clients.admit(place)?;
                 self.free = turned(self.free, was, None);
-                let (flight, turn) = door(&self.clients, MAX_CONNS);
-                self.flight = flight;
+                let (pending_call, turn) = accept_step(&self.clients, MAX_CONNS);
+                self.pending_call = pending_call;
                 Ok(turn)
             }
             _ => {
-                self.flight = Flight::Nothing;
+                self.pending_call = PendingCall::Nothing;
                 Ok(Turn::Yield)
             }
         }
@@ -132,31 +132,31 @@ impl Table {
     {
         let (scripts, has_free) = (self.scripts(), self.has_free(&free));
         let (from, most) = (fd as usize + 1, most_with(&left));
-        let (flight, turn) = pick(scripts, has_free, &self.clients, from, most)?;
+        let (pending_call, turn) = pick(scripts, has_free, &self.clients, from, most)?;
         self.clients.leave_at(fd, left);
         self.free = free;
-        self.flight = flight;
+        self.pending_call = pending_call;
         Ok(turn)
     }
 
     // The next call after the reply to the call of the client at an index.
     #[tactic(auto, using(crate::proofs::Turns::TurnParts::place_rules, crate::proofs::Turns::Wants::place_rules))]
-    fn go_on_at(
+    fn advance_at(
         &mut self,
         fd: u32,
         last: &Reply,
         parts: Option<Parts<'_>>,
     ) -> Result<Turn, AllocError>
-        requires flies { self.old.flight ≡ At fd }
+        requires flies { self.old.pending_call ≡ At fd }
         requires kept { IsKept self.old }
         ensures turn { IfOk result
-            (λ turn. Turns self.old last.now (heard parts.entry) turn self.new) }
+            (λ turn. Turns self.old last.now (received parts.entry) turn self.new) }
         ensures err { OnErr result (self.new ≡ self.old) }
-        ensures wants { OnErr result (WantsAt self.old (At fd) last.now (heard parts.entry)) }
+        ensures wants { OnErr result (WantsAt self.old (At fd) last.now (received parts.entry)) }
     {
         let was = self.clients.worker_at(fd);
         let (scripts, worker) = (self.scripts(), self.worker());
-        match self.clients.go_on_at(scripts, worker, fd, last, parts)? {
+        match self.clients.advance_at(scripts, worker, fd, last, parts)? {
             None => self.pick_from(fd as usize + 1),
             Some(Course::Asks(call)) => {
                 let now = self.clients.worker_at(fd);
@@ -173,22 +173,22 @@ impl Table {
 
     /// The next call after the reply to the pending call.
     #[tactic(auto, using(crate::proofs::Turns::TurnParts::silent_rules, crate::proofs::Turns::Wants::nothing_wants))]
-    pub(crate) fn go_on(
+    pub(crate) fn advance(
         &mut self,
         last: &Reply,
         parts: Option<Parts<'_>>,
     ) -> Result<Turn, AllocError>
         requires { IsKept self.old }
         ensures turn { IfOk result
-            (λ turn. Turns self.old last.now (heard parts.entry) turn self.new) }
+            (λ turn. Turns self.old last.now (received parts.entry) turn self.new) }
         ensures err { OnErr result (self.new ≡ self.old) }
         ensures wants { OnErr result
-            (WantsAt self.old self.old.flight last.now (heard parts.entry)) }
+            (WantsAt self.old self.old.pending_call last.now (received parts.entry)) }
     {
-        match self.flight {
-            Flight::Nothing => self.pick_from(0),
-            Flight::Accepting => self.go_on_accepting(last),
-            Flight::At { fd } => self.go_on_at(fd, last, parts),
+        match self.pending_call {
+            PendingCall::Nothing => self.pick_from(0),
+            PendingCall::Accepting => self.advance_accepting(last),
+            PendingCall::At { fd } => self.advance_at(fd, last, parts),
         }
     }
 }

@@ -47,7 +47,7 @@ pub(crate) fn worker_left(left: &Left, worker: Option<u32>) -> Option<u32>
     ensures within { IfSome result (λ worker. worker < MAX_WORKERS) }
 {
     match *left {
-        Left::Goes { doing: _ } | Left::Stays => worker,
-        Left::Ends { doing: _ } | Left::Begins | Left::Continues { doing: _ } => None,
+        Left::Goes { phase: _ } | Left::Stays => worker,
+        Left::Ends { phase: _ } | Left::Begins | Left::Continues { phase: _ } => None,
     }
 }

@@ -14,21 +14,21 @@ use Rattle.iol_core.specs.declared.events.Reply.{Reply}
 use Rattle.iol_laws.specs.Labels.{lies_in}
 use Rattle.iol_laws.specs.Order.{IsOrderly, Once}
 use Rattle.iol_laws.proofs.Streams.WaitingConn.{opened-conn}
-use Rattle.iol_proc.specs.Settlement.{Settles}
-use Rattle.iol_proc.specs.Turns.{Account, Comes, SeatTurn}
+use Rattle.iol_proc.specs.Quiescence.{Quiesces}
+use Rattle.iol_proc.specs.Turns.{TransitionRelation, Comes, ProcessSlotTurn}
 use Rattle.iol_proc.specs.World.{Stage, WorldRun, WorldStep, copying}
 use Rattle.iol_proc.specs.declared.choice.Choice.{Choice}
 use Rattle.iol_proc.specs.declared.choice.Choice.TheVariants as choice
 use Rattle.iol_proc.specs.declared.process.Turn.{Turn}
 use Rattle.iol_proc.specs.declared.process.Turn.TheVariants as turn
-use Rattle.iol_proc.specs.declared.seat.Seat.{Seat}
+use Rattle.iol_proc.specs.declared.process_slot.ProcessSlot.{ProcessSlot}
 use Rattle.flash_laws.specs.Serves.Rounds.{in_rounds}
-use Rattle.flash_laws.specs.Workers.Crew.{Crew}
-use Rattle.flash_laws.specs.World.{Tied}
-use Rattle.flash_laws.specs.World.Tie.{actor_turns}
+use Rattle.flash_laws.specs.Workers.WorkerSet.{WorkerSet}
+use Rattle.flash_laws.specs.World.{Consistent}
+use Rattle.flash_laws.specs.World.Consistency.{actor_turns}
 use Rattle.flash_laws.proofs.World.AllLaws.{AllLaws}
 use Rattle.flash_laws.proofs.World.Steps.{run_keeps}
-use Rattle.flash_laws.proofs.World.Whole.{first_tied}
+use Rattle.flash_laws.proofs.World.Whole.{first_consistent}
 use Rattle.flash_progress.specs.Hosted.{HostedBecomesIdle}
 use Rattle.flash_progress.specs.Served.{CanRead, RunsLongEnough}
 use Rattle.flash_progress.proofs.Invariant.{MoreLaws, read-step}
@@ -68,7 +68,7 @@ new-reads m order none = record {
   holders = λ d fd c is. absurd (let gone = ap (λ (k : Connection). k.closed) (none c) in let stands = (opened-conn m d fd c order is).1 in cc (gone, stands));
 }
 
-module _ {P : Type 0} (turns : Account P) where
+module _ {P : Type 0} (turns : TransitionRelation P) where
   -- a step of a world leaves the machine, or is one event of it
   abbrev Moved : State → State → Type 0
   Moved m n = (n ≡ m) ⊎ ((e : Event) × (r : Reply) × StepsTo m e r n)
@@ -77,14 +77,14 @@ module _ {P : Type 0} (turns : Account P) where
   of-turn m n by turn.Yield yields r comes = inl comes.2
   of-turn m n by (turn.Make k) yields r comes = inr (event.Call by k, r, comes.1)
 
-  of-seat : (m n : State) (seat next : Seat P) (yields : Bool) (r : Reply) → SeatTurn copying turns m seat yields r n next → Moved m n
-  of-seat m n seat next yields r (inl starves) = inl starves.machine_stays
-  of-seat m n seat next yields r (inr moves) = of-turn m n seat.by moves.turn yields r moves.comes
+  of-process_slot : (m n : State) (process_slot next : ProcessSlot P) (yields : Bool) (r : Reply) → ProcessSlotTurn copying turns m process_slot yields r n next → Moved m n
+  of-process_slot m n process_slot next yields r (inl starves) = inl starves.machine_stays
+  of-process_slot m n process_slot next yields r (inr moves) = of-turn m n process_slot.by moves.turn yields r moves.comes
 
   of-step : (w after : Stage State P) (x : Choice) (r : Reply) → WorldStep copying turns w x r after → Moved w.machine after.machine
   of-step w after (choice.Turn by) r (inl absent) = inl (ap (λ (v : Stage State P). v.machine) absent.stays)
   of-step w after (choice.Turn by) r (inr present) =
-      of-seat w.machine after.machine present.turn.seat present.turn.next present.yields r present.turn.turn
+      of-process_slot w.machine after.machine present.turn.process_slot present.turn.next present.yields r present.turn.turn
   of-step w after (choice.Outside e) r step = inr (e, r, step.step)
 
   reads-run : (step : (s t : State) (e : Event) (r : Reply) → IsOrderly s → CanRead s → StepsTo s e r t → IsOrderly t × CanRead t)
@@ -102,26 +102,26 @@ module _ {P : Type 0} (turns : Account P) where
 
 -- ---- the theorem
 
-module _ (crew : Crew) (laws : AllLaws crew) (more : MoreLaws) where
-  pub hosted_becomes_idle : Settles crew.settled crew.turns → HostedBecomesIdle crew
-  hosted_becomes_idle settles shelf xs rs w mid most idle after has =
-      (becomes_idle crew laws more shelf xs rs mid most idle after turns_in_rounds, serves_all crew laws more settles shelf xs rs mid most idle after turns_in_rounds)
+module _ (worker_set : WorkerSet) (laws : AllLaws worker_set) (more : MoreLaws) where
+  pub hosted_becomes_idle : Quiesces worker_set.quiescent worker_set.turns → HostedBecomesIdle worker_set
+  hosted_becomes_idle quiesces site_contents xs rs w mid most idle after has =
+      (becomes_idle worker_set laws more site_contents xs rs mid most idle after turns_in_rounds, serves_all worker_set laws more quiesces site_contents xs rs mid most idle after turns_in_rounds)
     where
-      first : Tied shelf crew [] [] w
-      first = first_tied shelf crew w has.new
+      first : Consistent site_contents worker_set [] [] w
+      first = first_consistent site_contents worker_set w has.new
 
-      tied : Tied shelf crew xs rs mid
-      tied = run_keeps in_rounds shelf crew laws xs rs w mid [] [] has.run has.mild has.fair first
+      consistent : Consistent site_contents worker_set xs rs mid
+      consistent = run_keeps in_rounds site_contents worker_set laws xs rs w mid [] [] has.run has.site_preserving has.fair first
 
       reads : CanRead mid.machine
-      reads = reads-run (actor_turns in_rounds crew.turns)
+      reads = reads-run (actor_turns in_rounds worker_set.turns)
           (λ s t e r order can step. (laws.the.orders.step s t e r order step, read-step more.homes laws.the.steps laws.the.orders s t e r order can step))
           xs rs w mid has.new.order (new-reads w.machine has.new.order has.new.no_conns) has.run
 
-      turns_in_rounds : RunsLongEnough crew shelf xs rs mid most idle after
+      turns_in_rounds : RunsLongEnough worker_set site_contents xs rs mid most idle after
       turns_in_rounds = record {
         files = has.files;
-        tied = tied;
+        consistent = consistent;
         reads = reads;
         places = has.places;
         ends = has.ends;

@@ -9,11 +9,12 @@ use Rattle.iol_core.specs.declared.events.Reply.{Reply}
 use Rattle.iol_core.specs.declared.events.Reply.TheVariants as reply
 use Rattle.iol_core.specs.declared.refusals.Refusal.TheVariants.{WouldBlock}
 use Rattle.iol_proc.specs.Idle.{Went, RoundRun, counted, counted_over, is_idle}
-use Rattle.iol_proc.specs.Turns.{Account, is_would_block}
+use Rattle.iol_proc.specs.Turns.{TransitionRelation, is_would_block}
 use Rattle.iol_proc.specs.World.{Stage, copying, PlaceTurn}
 use Rattle.flash_progress.proofs.Decrease.{Decreases, IdleComes}
 
--- the most turns that a process has before it has yielded twice, after this number of yields, if none of them does anything
+-- the most turns that a process has before it has yielded twice, after this number of yields, if none of them does
+-- anything
 abbrev own_turns : (round yields polls : ℕ) → ℕ
 own_turns round zero polls = polls + (round + 2)
 own_turns round (suc zero) polls = polls + 1
@@ -47,7 +48,7 @@ idle_two n = grind (arith, nat_tests)
 first_place : (i : ℕ) → i % 1 ≡ 0
 first_place i = omega arith
 
-module _ {P : Type 0} (turns : Account P) (Holds : Stage State P → Type 0) (Allows : Reply → Type 0) (left polls : Stage State P → ℕ) (round : ℕ)
+module _ {P : Type 0} (turns : TransitionRelation P) (Holds : Stage State P → Type 0) (Allows : Reply → Type 0) (left polls : Stage State P → ℕ) (round : ℕ)
     (d : Decreases turns Holds Allows left polls round) where
   abbrev bound : (n : ℕ) → Stage State P → ℕ
   bound n w = all_turns round (left w) n (polls w)
@@ -57,7 +58,7 @@ module _ {P : Type 0} (turns : Account P) (Holds : Stage State P → Type 0) (Al
   NeverIdle n i ts = (j : ℕ) → j < length ts → is_idle (counted_over (n ∷ []) i (take j ts)) ≡ false
 
   -- turns of a place are turns of the only one
-  at_first : (w mid : Stage State P) (i : ℕ) (yields : Bool) (r : Reply) → Holds w → PlaceTurn copying turns w (i % length w.seats) yields r mid
+  at_first : (w mid : Stage State P) (i : ℕ) (yields : Bool) (r : Reply) → Holds w → PlaceTurn copying turns w (i % length w.process_slots) yields r mid
       → PlaceTurn copying turns w 0 yields r mid
   at_first w mid i yields r holds turn =
       subst (λ (k : ℕ). PlaceTurn copying turns w k yields r mid) (ap (λ (k : ℕ). i % k) (d.one w holds) ∙ first_place i) turn
@@ -111,7 +112,7 @@ module _ {P : Type 0} (turns : Account P) (Holds : Stage State P → Type 0) (Al
   pub idle_comes : IdleComes turns Holds Allows left round
   idle_comes w after most idle holds ends allowed enough_turns = by idle refl
     where
-      single : length w.seats ≡ 1
+      single : length w.process_slots ≡ 1
       single = d.one w holds
 
       never : NeverIdle 0 0 ends.went

@@ -20,9 +20,9 @@ use Rattle.iol_laws.specs.Labels.{ArrivalsLieInTheirPool, lies_in}
 use Rattle.iol_laws.specs.Order.{IsOrderly, EachStepKeepsOrder}
 use Rattle.iol_laws.specs.Reasons.{IsHidden}
 use Rattle.iol_laws.proofs.Connections.{conn-unmade}
-use Rattle.flash_laws.specs.Shelf.{Shelf}
+use Rattle.flash_laws.specs.SiteContents.{SiteContents}
 use Rattle.flash_laws.specs.Site.{server}
-use Rattle.flash_laws.specs.Workers.Crew.{Crew, IsFixedFor}
+use Rattle.flash_laws.specs.Workers.WorkerSet.{WorkerSet, IsFixedFor}
 use Rattle.flash_laws.proofs.Lists.{clash}
 use Rattle.flash_laws.proofs.Site.Others.{none-listed}
 use Rattle.flash_laws.proofs.World.AllLaws.{AllLaws}
@@ -100,7 +100,7 @@ read-step homes steps orders s t e r order reads step = record {
   holders = holds-step s t order (orders.step s t e r order step) (λ d p may. (steps.leaves s t e r step).readers d p may) reads.holders e r step;
 }
 
-module _ (shelf : Shelf) (crew : Crew) (laws : AllLaws crew) (m n : State) (k : Call) (r : Reply) (order : IsOrderly m) (fixed : IsFixedFor shelf crew m)
+module _ (site_contents : SiteContents) (worker_set : WorkerSet) (laws : AllLaws worker_set) (m n : State) (k : Call) (r : Reply) (order : IsOrderly m) (fixed : IsFixedFor site_contents worker_set m)
     (step : StepsTo m (event.Call server k) r n) where
   -- the default pool stays open over a call for a client that closes none
   pub places-on : CanPlace m → is_client_call k ≡ true → ((q : ℕ) → closes_pool (event.Call server k) q ≡ false) → CanPlace n

@@ -13,11 +13,11 @@ use Rattle.flash_laws.specs.Answers.{Outcome, Found, Failed, outcome_of, respons
 use Rattle.flash_laws.specs.Client.Fits.{IsProper}
 use Rattle.flash_laws.specs.Conn.{most_read, status_of, text_of}
 use Rattle.flash_laws.specs.Conn.ShortHeads.{is_error_status, ContentIsShort}
-use Rattle.flash_laws.specs.Shelf.{Shelf, MayFind, MayGive, MayBeDue}
+use Rattle.flash_laws.specs.SiteContents.{SiteContents, MayFind, MayGive, MayBeExpected}
 use Rattle.flash_laws.specs.Site.{server, found_in, IsFixed}
-use Rattle.flash_laws.specs.declared.phase.Content.{Content}
-use Rattle.flash_laws.specs.declared.phase.Content.TheVariants.{Body, Bare, Error, Script}
-use Rattle.flash_laws.specs.Workers.Crew.{Crew}
+use Rattle.flash_laws.specs.declared.phase.Payload.{Payload}
+use Rattle.flash_laws.specs.declared.phase.Payload.TheVariants.{Body, Bare, Error, Script}
+use Rattle.flash_laws.specs.Workers.WorkerSet.{WorkerSet}
 use Rattle.flash_laws.proofs.Conn.ShortHeads.{refusal-status}
 use Rattle.flash_laws.proofs.World.AllLaws.{AllLaws}
 use Rattle.flash_laws.proofs.World.OwnAlone.{next_proper}
@@ -55,7 +55,7 @@ chosen-short Unsatisfiable bytes = let error = unsatisfiable-short in omega (ari
 
 -- ---- texts that are made
 
-pub text-fits : (q : Answer) (k : Content) → IsProper q → ContentIsShort k → length (text_of q k) ≤ most_head
+pub text-fits : (q : Answer) (k : Payload) → IsProper q → ContentIsShort k → length (text_of q k) ≤ most_head
 text-fits (serve w) (Body a size len) proper short = let text = file-text-short w len short in omega (arith, text)
 text-fits (serve w) (Bare len) proper short =
     let text = file-text-short w len short in
@@ -69,7 +69,7 @@ text-fits (refuse status head_only close) k proper short = let text = error-text
 
 -- ---- responses
 
-module _ (shelf : Shelf) (m : State) (fixed : IsFixed shelf.finds m) (files : shelf.scripts ≡ false) where
+module _ (site_contents : SiteContents) (m : State) (fixed : IsFixed site_contents.finds m) (files : site_contents.scripts ≡ false) where
   abbrev status_in : Outcome → ℕ
   status_in (Failed status) = status
   status_in (Found bytes) = 404
@@ -79,7 +79,7 @@ module _ (shelf : Shelf) (m : State) (fixed : IsFixed shelf.finds m) (files : sh
   bytes_in (Failed status) = []
 
   -- what is found is a file
-  found-short : (name bytes : List ℕ) → shelf.finds name ≡ Found bytes → (length bytes ≤ longest_of m.slots) × (length bytes ≤ most_read)
+  found-short : (name bytes : List ℕ) → site_contents.finds name ≡ Found bytes → (length bytes ≤ longest_of m.slots) × (length bytes ≤ most_read)
   found-short name bytes is = by (file_called m name) refl
     where
       by : (o : Option ℕ) → file_called m name ≡ o → (length bytes ≤ longest_of m.slots) × (length bytes ≤ most_read)
@@ -93,7 +93,7 @@ module _ (shelf : Shelf) (m : State) (fixed : IsFixed shelf.finds m) (files : sh
           which false e = absurd (cc (e))
 
   -- what is not found fails with an error of this server
-  failed-status : (name : List ℕ) (status : ℕ) → shelf.finds name ≡ Failed status → is_error_status status ≡ true
+  failed-status : (name : List ℕ) (status : ℕ) → site_contents.finds name ≡ Failed status → is_error_status status ≡ true
   failed-status name status is = by (file_called m name) refl
     where
       of : (other : ℕ) → is_error_status other ≡ true → Failed other ≡ Failed status → is_error_status status ≡ true
@@ -107,7 +107,7 @@ module _ (shelf : Shelf) (m : State) (fixed : IsFixed shelf.finds m) (files : sh
           which true e = absurd (cc (e))
           which false e = of 403 refl e
 
-  response-short : (q : Answer) (o : Outcome) → IsProper q → MayFind shelf (outcome_of shelf.finds q) o → length (response q o) ≤ longest_response m
+  response-short : (q : Answer) (o : Outcome) → IsProper q → MayFind site_contents (outcome_of site_contents.finds q) o → length (response q o) ≤ longest_response m
   response-short (serve w) (Found bytes) proper (inl is) =
       let short = found-short w.name bytes (sym is) in
       let low = short.1 in
@@ -125,17 +125,17 @@ module _ (shelf : Shelf) (m : State) (fixed : IsFixed shelf.finds m) (files : sh
       omega (arith, text)
   response-short (refuse status head_only close) o proper may = let text = error-text-short status head_only close proper in omega (arith, text)
 
-  due-short : (q : Answer) (due : List ℕ) → IsProper q → MayBeDue shelf q due → length due ≤ longest_response m
-  due-short q due proper may =
-      let given : MayGive shelf false q may.0 due = subst (λ (b : Bool). MayGive shelf b q may.0 due) (no-script shelf.scripts q files) may.2 in
+  expected-short : (q : Answer) (expected : List ℕ) → IsProper q → MayBeExpected site_contents q expected → length expected ≤ longest_response m
+  expected-short q expected proper may =
+      let given : MayGive site_contents false q may.0 expected = subst (λ (b : Bool). MayGive site_contents b q may.0 expected) (no-script site_contents.scripts q files) may.2 in
       subst (λ (l : List ℕ). length l ≤ longest_response m) (sym given) (response-short q may.0 proper may.1)
 
   -- So no response to a proper request is longer.
-  pub are-short : (crew : Crew) → AllLaws crew → AreShort shelf (longest_response m)
-  are-short crew laws = record {
-    short = due-short;
+  pub are-short : (worker_set : WorkerSet) → AllLaws worker_set → AreShort site_contents (longest_response m)
+  are-short worker_set laws = record {
+    short = expected-short;
     errors = λ s rest q next status head_only close is.
-        let proper : IsProper (refuse status head_only close) = subst (λ (a : Answer). IsProper a) is (next_proper shelf crew laws s q rest next) in
+        let proper : IsProper (refuse status head_only close) = subst (λ (a : Answer). IsProper a) is (next_proper site_contents worker_set laws s q rest next) in
         let text = text-fits (refuse status head_only close) Script proper tt in
         subst (λ (a : Answer). length (text_of a (Error status)) ≤ longest_response m) (sym is) (omega (arith, text));
     heads = λ q proper. let text = text-fits q Script proper tt in omega (arith, text);

@@ -1,10 +1,10 @@
--- The measure of a connection of files, in turns, where no response has more than `longest` bytes: for the request in progress, for the kept
--- bytes, for the unread bytes of the stream, and for the end of the connection.
+-- The measure of a connection of files, in turns, where no response has more than `longest` bytes: for the request in
+-- progress, for the kept bytes, for the unread bytes of the stream, and for the end of the connection.
 use Rattle.std.specs.Prelude.{ℕ, ◌+◌, ◌*◌, Bool, true, false, List, length, if◌then◌else◌}
 use Rattle.flash_http.specs.Request.{Answer}
 use Rattle.flash_laws.specs.Answers.{keeps}
-use Rattle.flash_laws.specs.declared.phase.Doing.{Doing}
-use Rattle.flash_laws.specs.declared.phase.Doing.TheVariants.{Rests, Got, Opens, Reads, Shuts, Breaks, Drops, Closes, Over}
+use Rattle.flash_laws.specs.declared.phase.Phase.{Phase}
+use Rattle.flash_laws.specs.declared.phase.Phase.TheVariants.{Rests, Got, Opens, Reads, Shuts, Breaks, Drops, Closes, Over}
 use Rattle.flash_laws.proofs.Conn.Progress.{calls_left}
 
 -- the most turns that one request takes: three per byte of its response, and a constant
@@ -12,7 +12,7 @@ abbrev pub request_turns : (longest : ℕ) → ℕ
 request_turns longest = 3 * longest + 16
 
 -- for the request in progress, and the end of the connection
-abbrev pub ahead : (longest : ℕ) → Answer → Doing → ℕ
+abbrev pub ahead : (longest : ℕ) → Answer → Phase → ℕ
 ahead longest q Rests = 6
 ahead longest q Opens = 3 * longest + 21
 ahead longest q (Reads f) = 3 * longest + 20
@@ -24,7 +24,7 @@ ahead longest q Over = 0
 ahead longest q d = calls_left q d + 6
 
 -- whether the stream is read on after the request in progress
-abbrev pub reads_on : Answer → Doing → Bool
+abbrev pub reads_on : Answer → Phase → Bool
 reads_on q Rests = true
 reads_on q (Got a) = true
 reads_on q (Breaks piece a more) = false
@@ -41,5 +41,5 @@ kept_turns longest on kept = if on then request_turns longest * length kept else
 abbrev pub unread_turns : (longest unread : ℕ) → ℕ
 unread_turns longest unread = (request_turns longest + 2) * unread
 
-abbrev pub turns_left : (longest unread : ℕ) → (kept : List ℕ) → Answer → Doing → ℕ
+abbrev pub turns_left : (longest unread : ℕ) → (kept : List ℕ) → Answer → Phase → ℕ
 turns_left longest unread kept q d = ahead longest q d + (kept_turns longest (reads_on q d) kept + unread_turns longest unread)

@@ -26,21 +26,21 @@ use Rattle.flash_http.specs.Range.{selected}
 use Rattle.flash_http.specs.Window.{window_in, FitsIn}
 use Rattle.flash_http.specs.Request.{Answer, serve, refuse}
 use Rattle.flash_laws.specs.Answers.{keeps, Next, NextIn}
-use Rattle.flash_laws.specs.Conn.{Conn, Following, Readies, begins, most_kept, text_of, wants, sends_of, count_of, following, headed, goes_on, settled, told_opens, told_reads, told_shuts, told_rests, told_closes, told_breaks, told_drops, told}
+use Rattle.flash_laws.specs.Conn.{Conn, Following, Readies, begins, most_kept, text_of, wants, sends_of, count_of, following, headed, proceeds, resolved, after_open, after_read, after_close_file, after_receive, after_disconnect, after_break, after_drop, after_reply}
 use Rattle.flash_laws.specs.Conn.Fits.{Has, HasContent, Names, is_closing}
 use Rattle.flash_laws.specs.Conn.Policy.{is_later}
 use Rattle.flash_laws.specs.Conn.Progress.{Nears, CanMake, is_busy}
 use Rattle.flash_laws.specs.Site.{server}
-use Rattle.flash_laws.specs.declared.phase.Learnt.{Learnt}
-use Rattle.flash_laws.specs.declared.phase.Learnt.TheVariants.{File}
-use Rattle.flash_laws.specs.declared.phase.Content.{Content}
-use Rattle.flash_laws.specs.declared.phase.Content.TheVariants.{Body, Error}
-use Rattle.flash_laws.specs.declared.phase.Doing.{Doing}
-use Rattle.flash_laws.specs.declared.phase.Doing.TheVariants.{Rests, Got, Opens, Reads as Reading, Shuts, Picks, Spares, Heads, Joins, Sends, Cuts, Offers, Swaps, Sent, Breaks, Drops, Closes, Over}
+use Rattle.flash_laws.specs.declared.phase.FileResult.{FileResult}
+use Rattle.flash_laws.specs.declared.phase.FileResult.TheVariants.{File}
+use Rattle.flash_laws.specs.declared.phase.Payload.{Payload}
+use Rattle.flash_laws.specs.declared.phase.Payload.TheVariants.{Body, Error}
+use Rattle.flash_laws.specs.declared.phase.Phase.{Phase}
+use Rattle.flash_laws.specs.declared.phase.Phase.TheVariants.{Rests, Got, Opens, Reads as Reading, Shuts, Picks, Spares, Heads, Joins, Sends, Cuts, Offers, Swaps, Sent, Breaks, Drops, Closes, Over}
 use Rattle.flash_laws.proofs.Forms.{at}
 use Rattle.flash_laws.proofs.Lists.{clash}
 use Rattle.flash_laws.proofs.Conn.Progress.{near, rank, stage, calls_left, head_calls, ready}
-use Rattle.flash_laws.proofs.Conn.LentBytes.{text-same}
+use Rattle.flash_laws.proofs.Conn.ReadableBytes.{text-same}
 use Rattle.flash_laws.proofs.Conn.Responses.{WindowLaws, some-inj}
 use Rattle.std.proofs.lemmas.List.{length-map}
 use Rattle.flash_progress.proofs.Measure.{request_turns, ahead, reads_on, kept_turns, unread_turns, turns_left}
@@ -48,52 +48,52 @@ use Rattle.flash_progress.proofs.Measure.{request_turns, ahead, reads_on, kept_t
 -- ---- what is made is no longer than the response
 
 -- whether a response is about to be made
-abbrev is_made : Doing → Bool
+abbrev is_made : Phase → Bool
 is_made (Picks a from to len) = true
 is_made (Spares a k) = true
 is_made (Heads k) = true
 is_made d = false
 
-content-short : (m : State) (q : Answer) (due : List ℕ) (k : Content) → HasContent m q due k → head_calls q k ≤ 3 * length due + 7
-content-short m q due (Body a size len) has =
-    let e = ap (λ (l : List ℕ). length l) has.due_is in
+content-short : (m : State) (q : Answer) (expected : List ℕ) (k : Payload) → HasContent m q expected k → head_calls q k ≤ 3 * length expected + 7
+content-short m q expected (Body a size len) has =
+    let e = ap (λ (l : List ℕ). length l) has.expected_is in
     let both = length-append (text_of q (Body a size len)) has.bytes in
     let size = has.count in
     omega (arith, e, both, size)
-content-short m q due k has = let e = ap (λ (l : List ℕ). length l) has in omega (arith, e)
+content-short m q expected k has = let e = ap (λ (l : List ℕ). length l) has in omega (arith, e)
 
-pub made-short : (m : State) (q : Answer) (due : List ℕ) (longest : ℕ) (d : Doing) → is_made d ≡ true → Has m q due d → length due ≤ longest
+pub made-short : (m : State) (q : Answer) (expected : List ℕ) (longest : ℕ) (d : Phase) → is_made d ≡ true → Has m q expected d → length expected ≤ longest
     → ahead longest q d ≤ 3 * longest + 15
-made-short m q due longest (Picks a from to len) is has short =
-    let e = ap (λ (l : List ℕ). length l) has.due_is in
+made-short m q expected longest (Picks a from to len) is has short =
+    let e = ap (λ (l : List ℕ). length l) has.expected_is in
     let both = length-append (text_of q (Body a 0 len)) (slice_range has.bytes from to) in
     let size = has.count in
     let same = ap (λ (l : List ℕ). length l) (text-same q a a (to - from) 0 len) in
     omega (arith, e, both, size, same, short)
-made-short m q due longest (Spares a k) is has short = let few = content-short m q due k has.2 in omega (arith, few, short)
-made-short m q due longest (Heads k) is has short = let few = content-short m q due k has in omega (arith, few, short)
-made-short m q due longest d is has short = absurd (cc (is))
+made-short m q expected longest (Spares a k) is has short = let few = content-short m q expected k has.2 in omega (arith, few, short)
+made-short m q expected longest (Heads k) is has short = let few = content-short m q expected k has in omega (arith, few, short)
+made-short m q expected longest d is has short = absurd (cc (is))
 
-settled-made : (q : Answer) (k : Learnt) → is_made (settled q k) ≡ true
-settled-made (serve w) (File a len) = by (selected w.range len)
+resolved-made : (q : Answer) (k : FileResult) → is_made (resolved q k) ≡ true
+resolved-made (serve w) (File a len) = by (selected w.range len)
   where
     by : (sel : Selection) → is_made (sends_of sel a len) ≡ true
     by (Bytes first last) = refl
     by x = refl
-settled-made (refuse status head_only close) (File a len) = refl
-settled-made q k = refl
+resolved-made (refuse status head_only close) (File a len) = refl
+resolved-made q k = refl
 
 -- ---- a request in progress
 
 -- whether its file is still to be opened, read or closed
-abbrev is_early : Doing → Bool
+abbrev is_early : Phase → Bool
 is_early Opens = true
 is_early (Reading f) = true
 is_early (Shuts f k) = true
 is_early d = false
 
--- whether it is being answered: what is due is known, and not broken off; or what was read of the stream is let go
-abbrev is_answering : Doing → Bool
+-- whether it is being answered: what is expected is known, and not broken off; or what was read of the stream is let go
+abbrev is_answering : Phase → Bool
 is_answering Rests = false
 is_answering Opens = false
 is_answering (Reading f) = false
@@ -108,7 +108,7 @@ pub few-drops : (q : Answer) (a : ℕ) (more : Following) → calls_left q (Drop
 few-drops q a None = omega arith
 few-drops q a (Some x) = omega arith
 
-ahead-most : (longest : ℕ) (q : Answer) (e : Doing) → is_early e ≡ false → ahead longest q e ≤ calls_left q e + 6
+ahead-most : (longest : ℕ) (q : Answer) (e : Phase) → is_early e ≡ false → ahead longest q e ≤ calls_left q e + 6
 ahead-most longest q Opens late = absurd (cc (late))
 ahead-most longest q (Reading g) late = absurd (cc (late))
 ahead-most longest q (Shuts g k) late = absurd (cc (late))
@@ -119,7 +119,7 @@ ahead-most longest q Closes late = omega arith
 ahead-most longest q Over late = omega arith
 ahead-most longest q d late = omega arith
 
-ahead-is : (longest : ℕ) (q : Answer) (d : Doing) → is_answering d ≡ true → (ahead longest q d ≡ calls_left q d + 6) × (stage d ≡ 0)
+ahead-is : (longest : ℕ) (q : Answer) (d : Phase) → is_answering d ≡ true → (ahead longest q d ≡ calls_left q d + 6) × (stage d ≡ 0)
 ahead-is longest q Rests is = absurd (cc (is))
 ahead-is longest q Opens is = absurd (cc (is))
 ahead-is longest q (Reading f) is = absurd (cc (is))
@@ -133,10 +133,10 @@ ahead-is longest q d is = (refl, refl)
 -- ---- what it is after the reply
 
 -- it is past the file, and the stream is read on only where it was
-abbrev Goes : Answer → (d e : Doing) → Type 0
+abbrev Goes : Answer → (d e : Phase) → Type 0
 Goes q d e = (is_early e ≡ false) × (reads_on q d ≡ false → reads_on q e ≡ false)
 
-headed-goes : (q : Answer) (k : Content) (a size : ℕ) (more : Following) → Goes q (Heads k) (headed a size more)
+headed-goes : (q : Answer) (k : Payload) (a size : ℕ) (more : Following) → Goes q (Heads k) (headed a size more)
 headed-goes q k a size None = (refl, λ is. is)
 headed-goes q k a size (Some x) = by (nat_le (size + x.1) MAX_AGGREGATE_BYTES)
   where
@@ -144,7 +144,7 @@ headed-goes q k a size (Some x) = by (nat_le (size + x.1) MAX_AGGREGATE_BYTES)
     by true = (refl, λ is. is)
     by false = (refl, λ is. is)
 
-ends-goes : (q : Answer) (a taken : ℕ) (more : Following) → Goes q (Sent a taken more) (goes_on q taken more)
+ends-goes : (q : Answer) (a taken : ℕ) (more : Following) → Goes q (Sent a taken more) (proceeds q taken more)
 ends-goes q a taken (Some x) = (refl, λ is. is)
 ends-goes q a taken None = by (keeps q) refl
   where
@@ -152,121 +152,121 @@ ends-goes q a taken None = by (keeps q) refl
     by true on = (refl, λ is. absurd (let e = sym on ∙ is in cc (e)))
     by false off = (refl, λ is. refl)
 
-goes : (kept : List ℕ) (q : Answer) (d : Doing) (r : Reply) (heard : List ℕ) → is_answering d ≡ true → Goes q d (told (at kept q d) r heard).doing
-goes kept q (Got a) reply.Done heard is = (refl, λ no. absurd (cc (no)))
-goes kept q (Got a) r heard is = (refl, λ no. no)
-goes kept q (Picks a from to len) (reply.Agg n) heard is = (refl, λ no. no)
-goes kept q (Picks a from to len) r heard is = (refl, λ no. no)
-goes kept q (Spares a k) reply.Done heard is = (refl, λ no. no)
-goes kept q (Spares a k) r heard is = (refl, λ no. no)
-goes kept q (Heads k) (reply.Agg n) heard is = headed-goes q k n (count_of heard) (following k)
-goes kept q (Heads k) r heard is = (refl, λ no. no)
-goes kept q (Joins a size body len) (reply.Agg n) heard is = (refl, λ no. no)
-goes kept q (Joins a size body len) r heard is = (refl, λ no. no)
-goes kept q (Sends a len taken more) (reply.Count n) heard is = by (nat_lt n len)
+goes : (kept : List ℕ) (q : Answer) (d : Phase) (r : Reply) (received : List ℕ) → is_answering d ≡ true → Goes q d (after_reply (at kept q d) r received).phase
+goes kept q (Got a) reply.Done received is = (refl, λ no. absurd (cc (no)))
+goes kept q (Got a) r received is = (refl, λ no. no)
+goes kept q (Picks a from to len) (reply.Agg n) received is = (refl, λ no. no)
+goes kept q (Picks a from to len) r received is = (refl, λ no. no)
+goes kept q (Spares a k) reply.Done received is = (refl, λ no. no)
+goes kept q (Spares a k) r received is = (refl, λ no. no)
+goes kept q (Heads k) (reply.Agg n) received is = headed-goes q k n (count_of received) (following k)
+goes kept q (Heads k) r received is = (refl, λ no. no)
+goes kept q (Joins a size body len) (reply.Agg n) received is = (refl, λ no. no)
+goes kept q (Joins a size body len) r received is = (refl, λ no. no)
+goes kept q (Sends a len taken more) (reply.Count n) received is = by (nat_lt n len)
   where
     by : (b : Bool) → Goes q (Sends a len taken more) (if b then Cuts a n len (taken + n) more else Sent a (taken + len) more)
     by true = (refl, λ no. no)
     by false = (refl, λ no. no)
-goes kept q (Sends a len taken more) (reply.Refused no.BrokenPipe) heard is = (refl, λ no. refl)
-goes kept q (Sends a len taken more) r heard is = (refl, λ no. no)
-goes kept q (Cuts a from len taken more) (reply.Agg n) heard is = (refl, λ no. no)
-goes kept q (Cuts a from len taken more) r heard is = (refl, λ no. no)
-goes kept q (Offers a from len piece taken more) (reply.Count n) heard is = (refl, λ no. no)
-goes kept q (Offers a from len piece taken more) (reply.Refused no.BrokenPipe) heard is = (refl, λ no. refl)
-goes kept q (Offers a from len piece taken more) r heard is = (refl, λ no. no)
-goes kept q (Swaps a from len piece taken more) reply.Done heard is = by (nat_lt from len)
+goes kept q (Sends a len taken more) (reply.Refused no.BrokenPipe) received is = (refl, λ no. refl)
+goes kept q (Sends a len taken more) r received is = (refl, λ no. no)
+goes kept q (Cuts a from len taken more) (reply.Agg n) received is = (refl, λ no. no)
+goes kept q (Cuts a from len taken more) r received is = (refl, λ no. no)
+goes kept q (Offers a from len piece taken more) (reply.Count n) received is = (refl, λ no. no)
+goes kept q (Offers a from len piece taken more) (reply.Refused no.BrokenPipe) received is = (refl, λ no. refl)
+goes kept q (Offers a from len piece taken more) r received is = (refl, λ no. no)
+goes kept q (Swaps a from len piece taken more) reply.Done received is = by (nat_lt from len)
   where
     by : (b : Bool) → Goes q (Swaps a from len piece taken more) (if b then Cuts a from len taken more else Sent a taken more)
     by true = (refl, λ no. no)
     by false = (refl, λ no. no)
-goes kept q (Swaps a from len piece taken more) r heard is = (refl, λ no. no)
-goes kept q (Sent a taken more) reply.Done heard is = ends-goes q a taken more
-goes kept q (Sent a taken more) r heard is = (refl, λ no. no)
-goes kept q d r heard is = absurd (cc (is))
+goes kept q (Swaps a from len piece taken more) r received is = (refl, λ no. no)
+goes kept q (Sent a taken more) reply.Done received is = ends-goes q a taken more
+goes kept q (Sent a taken more) r received is = (refl, λ no. no)
+goes kept q d r received is = absurd (cc (is))
 
 -- one that is as it was is to be made again later
-not-same : (q : Answer) (d : Doing) (r : Reply) → Nears (rank q) d r d → is_later r ≡ false → ⊥
+not-same : (q : Answer) (d : Phase) (r : Reply) → Nears (rank q) d r d → is_later r ≡ false → ⊥
 not-same q d r (inl (inl less)) on = omega (arith, less)
 not-same q d r (inl (inr fewer)) on = let less = fewer.1 in omega (arith, less)
 not-same q d r (inr same) on = clash (is_later r) same.1 on
 
-made-on : (q : Answer) (e : Doing) → is_made e ≡ true → reads_on q e ≡ keeps q
+made-on : (q : Answer) (e : Phase) → is_made e ≡ true → reads_on q e ≡ keeps q
 made-on q (Picks a from to len) is = refl
 made-on q (Spares a k) is = refl
 made-on q (Heads k) is = refl
 made-on q d is = absurd (cc (is))
 
-module _ (n : State) (longest : ℕ) (kept : List ℕ) (q : Answer) (due : List ℕ) (short : length due ≤ longest) where
+module _ (n : State) (longest : ℕ) (kept : List ℕ) (q : Answer) (expected : List ℕ) (short : length expected ≤ longest) where
   -- less is left of the request, and the stream is read on only where it was
-  abbrev Falls : (d e : Doing) → Type 0
+  abbrev Falls : (d e : Phase) → Type 0
   Falls d e = (ahead longest q e < ahead longest q d) × (reads_on q d ≡ false → reads_on q e ≡ false)
 
-  answering : (d : Doing) (r : Reply) (heard : List ℕ) → is_answering d ≡ true → Nears (rank q) d r (told (at kept q d) r heard).doing
-      → is_later r ≡ false → Falls d (told (at kept q d) r heard).doing
-  answering d r heard is near on = (by near, after.1)
+  answering : (d : Phase) (r : Reply) (received : List ℕ) → is_answering d ≡ true → Nears (rank q) d r (after_reply (at kept q d) r received).phase
+      → is_later r ≡ false → Falls d (after_reply (at kept q d) r received).phase
+  answering d r received is near on = (by near, after.1)
     where
-      after : Goes q d (told (at kept q d) r heard).doing
-      after = goes kept q d r heard is
+      after : Goes q d (after_reply (at kept q d) r received).phase
+      after = goes kept q d r received is
 
       here : (ahead longest q d ≡ calls_left q d + 6) × (stage d ≡ 0)
       here = ahead-is longest q d is
 
-      most : ahead longest q (told (at kept q d) r heard).doing ≤ calls_left q (told (at kept q d) r heard).doing + 6
-      most = ahead-most longest q (told (at kept q d) r heard).doing after.0
+      most : ahead longest q (after_reply (at kept q d) r received).phase ≤ calls_left q (after_reply (at kept q d) r received).phase + 6
+      most = ahead-most longest q (after_reply (at kept q d) r received).phase after.0
 
-      by : Nears (rank q) d r (told (at kept q d) r heard).doing → ahead longest q (told (at kept q d) r heard).doing < ahead longest q d
+      by : Nears (rank q) d r (after_reply (at kept q d) r received).phase → ahead longest q (after_reply (at kept q d) r received).phase < ahead longest q d
       by (inl (inl less)) = absurd (let none = here.1 in omega (arith, less, none))
       by (inl (inr fewer)) = (let less = fewer.1 in let now = here.0 in omega (arith, less, now, most))
       by (inr same) = absurd (clash (is_later r) same.1 on)
 
-  made : (d e : Doing) (more : ℕ) → is_made e ≡ true → Has n q due e → ahead longest q d ≡ 3 * longest + 16 + more → reads_on q d ≡ keeps q → Falls d e
+  made : (d e : Phase) (more : ℕ) → is_made e ≡ true → Has n q expected e → ahead longest q d ≡ 3 * longest + 16 + more → reads_on q d ≡ keeps q → Falls d e
   made d e more is has much on =
-      let few = made-short n q due longest e is has short in
+      let few = made-short n q expected longest e is has short in
       (omega (arith, few, much), λ no. made-on q e is ∙ (sym on ∙ no))
 
-  opens : (r : Reply) → Nears (rank q) Opens r (told_opens r) → is_later r ≡ false → Has n q due (told_opens r) → Falls Opens (told_opens r)
+  opens : (r : Reply) → Nears (rank q) Opens r (after_open r) → is_later r ≡ false → Has n q expected (after_open r) → Falls Opens (after_open r)
   opens (reply.Fd f) near on has = (omega arith, λ no. no)
   opens (reply.Refused no.WouldBlock) near on has = absurd (cc (on))
-  opens (reply.Refused z) near on has = made Opens (told_opens (reply.Refused z)) 5 refl has (omega arith) refl
+  opens (reply.Refused z) near on has = made Opens (after_open (reply.Refused z)) 5 refl has (omega arith) refl
   opens r near on has = absurd (not-same q Opens r near on)
 
-  reads : (f : ℕ) (r : Reply) (heard : List ℕ) → Nears (rank q) (Reading f) r (told_reads f r heard) → is_later r ≡ false
-      → Falls (Reading f) (told_reads f r heard)
-  reads f (reply.Agg k) heard near on = (omega arith, λ no. no)
-  reads f (reply.Count k) heard near on = (omega arith, λ no. no)
-  reads f (reply.Refused no.WouldBlock) heard near on = absurd (cc (on))
-  reads f (reply.Refused z) heard near on = (omega arith, λ no. no)
-  reads f r heard near on = absurd (not-same q (Reading f) r near on)
+  reads : (f : ℕ) (r : Reply) (received : List ℕ) → Nears (rank q) (Reading f) r (after_read f r received) → is_later r ≡ false
+      → Falls (Reading f) (after_read f r received)
+  reads f (reply.Agg k) received near on = (omega arith, λ no. no)
+  reads f (reply.Count k) received near on = (omega arith, λ no. no)
+  reads f (reply.Refused no.WouldBlock) received near on = absurd (cc (on))
+  reads f (reply.Refused z) received near on = (omega arith, λ no. no)
+  reads f r received near on = absurd (not-same q (Reading f) r near on)
 
-  shuts : (f : ℕ) (k : Learnt) (r : Reply) → Nears (rank q) (Shuts f k) r (told_shuts q f k r) → is_later r ≡ false
-      → Has n q due (told_shuts q f k r) → Falls (Shuts f k) (told_shuts q f k r)
-  shuts f k reply.Done near on has = made (Shuts f k) (settled q k) 3 (settled-made q k) has (omega arith) refl
+  shuts : (f : ℕ) (k : FileResult) (r : Reply) → Nears (rank q) (Shuts f k) r (after_close_file q f k r) → is_later r ≡ false
+      → Has n q expected (after_close_file q f k r) → Falls (Shuts f k) (after_close_file q f k r)
+  shuts f k reply.Done near on has = made (Shuts f k) (resolved q k) 3 (resolved-made q k) has (omega arith) refl
   shuts f k r near on has = absurd (not-same q (Shuts f k) r near on)
 
-  breaks : (piece a : ℕ) (more : Following) (r : Reply) → Nears (rank q) (Breaks piece a more) r (told_breaks piece a more r) → is_later r ≡ false
-      → Falls (Breaks piece a more) (told_breaks piece a more r)
+  breaks : (piece a : ℕ) (more : Following) (r : Reply) → Nears (rank q) (Breaks piece a more) r (after_break piece a more r) → is_later r ≡ false
+      → Falls (Breaks piece a more) (after_break piece a more r)
   breaks piece a more reply.Done near on = (let few = few-drops q a more in omega (arith, few), λ no. refl)
   breaks piece a more r near on = absurd (not-same q (Breaks piece a more) r near on)
 
-  drops : (a : ℕ) (more : Following) (r : Reply) → Nears (rank q) (Drops a more) r (told_drops a more r) → is_later r ≡ false
-      → Falls (Drops a more) (told_drops a more r)
+  drops : (a : ℕ) (more : Following) (r : Reply) → Nears (rank q) (Drops a more) r (after_drop a more r) → is_later r ≡ false
+      → Falls (Drops a more) (after_drop a more r)
   drops a None reply.Done near on = (omega arith, λ no. refl)
   drops a (Some x) reply.Done near on = (omega arith, λ no. refl)
   drops a more r near on = absurd (not-same q (Drops a more) r near on)
 
   -- each busy phase
-  pub busy-falls : (d : Doing) (r : Reply) (heard : List ℕ) → is_busy d ≡ true → Nears (rank q) d r (told (at kept q d) r heard).doing
-      → is_later r ≡ false → Has n q due (told (at kept q d) r heard).doing → Falls d (told (at kept q d) r heard).doing
-  busy-falls Rests r heard busy near on has = absurd (cc (busy))
-  busy-falls Closes r heard busy near on has = absurd (cc (busy))
-  busy-falls Over r heard busy near on has = absurd (cc (busy))
-  busy-falls Opens r heard busy near on has = opens r near on has
-  busy-falls (Reading f) r heard busy near on has = reads f r heard near on
-  busy-falls (Shuts f k) r heard busy near on has = shuts f k r near on has
-  busy-falls (Breaks piece a more) r heard busy near on has = breaks piece a more r near on
-  busy-falls (Drops a more) r heard busy near on has = drops a more r near on
-  busy-falls d r heard busy near on has = answering d r heard refl near on
+  pub busy-falls : (d : Phase) (r : Reply) (received : List ℕ) → is_busy d ≡ true → Nears (rank q) d r (after_reply (at kept q d) r received).phase
+      → is_later r ≡ false → Has n q expected (after_reply (at kept q d) r received).phase → Falls d (after_reply (at kept q d) r received).phase
+  busy-falls Rests r received busy near on has = absurd (cc (busy))
+  busy-falls Closes r received busy near on has = absurd (cc (busy))
+  busy-falls Over r received busy near on has = absurd (cc (busy))
+  busy-falls Opens r received busy near on has = opens r near on has
+  busy-falls (Reading f) r received busy near on has = reads f r received near on
+  busy-falls (Shuts f k) r received busy near on has = shuts f k r near on has
+  busy-falls (Breaks piece a more) r received busy near on has = breaks piece a more r near on
+  busy-falls (Drops a more) r received busy near on has = drops a more r near on
+  busy-falls d r received busy near on has = answering d r received refl near on
 
 -- ---- with what is kept and unread
 
@@ -276,13 +276,13 @@ kept-less longest true false kept only = omega arith
 kept-less longest false c kept only = subst (λ (x : Bool). kept_turns longest x kept ≤ 0) (sym (only refl)) (omega arith)
 
 -- Of a request in progress: each reply, but where its call is to be made again later.
-pub progress-falls : (n : State) (longest unread : ℕ) (kept : List ℕ) (q : Answer) (d : Doing) (due : List ℕ) (r : Reply) (heard : List ℕ) → length due ≤ longest
-    → is_busy d ≡ true → Nears (rank q) d r (told (at kept q d) r heard).doing → is_later r ≡ false → Has n q due (told (at kept q d) r heard).doing
-    → turns_left longest unread kept q (told (at kept q d) r heard).doing < turns_left longest unread kept q d
-progress-falls n longest unread kept q d due r heard short busy near on has =
-    let falls = busy-falls n longest kept q due short d r heard busy near on has in
+pub progress-falls : (n : State) (longest unread : ℕ) (kept : List ℕ) (q : Answer) (d : Phase) (expected : List ℕ) (r : Reply) (received : List ℕ) → length expected ≤ longest
+    → is_busy d ≡ true → Nears (rank q) d r (after_reply (at kept q d) r received).phase → is_later r ≡ false → Has n q expected (after_reply (at kept q d) r received).phase
+    → turns_left longest unread kept q (after_reply (at kept q d) r received).phase < turns_left longest unread kept q d
+progress-falls n longest unread kept q d expected r received short busy near on has =
+    let falls = busy-falls n longest kept q expected short d r received busy near on has in
     let less = falls.0 in
-    let keeps_less = kept-less longest (reads_on q d) (reads_on q (told (at kept q d) r heard).doing) kept falls.1 in
+    let keeps_less = kept-less longest (reads_on q d) (reads_on q (after_reply (at kept q d) r received).phase) kept falls.1 in
     omega (arith, less, keeps_less)
 
 -- The end of a connection.
@@ -290,19 +290,19 @@ pub closes-falls : (longest unread : ℕ) (kept : List ℕ) (q : Answer) → tur
 closes-falls longest unread kept q = omega arith
 
 -- What is read of the stream.
-pub reads-falls : (longest unread later : ℕ) (kept : List ℕ) (q : Answer) (a : ℕ) (heard : List ℕ) → unread ≡ length heard + later
-    → turns_left longest later (told_rests kept q (reply.Agg a) heard).kept q (told_rests kept q (reply.Agg a) heard).doing < turns_left longest unread kept q Rests
+pub reads-falls : (longest unread later : ℕ) (kept : List ℕ) (q : Answer) (a : ℕ) (received : List ℕ) → unread ≡ length received + later
+    → turns_left longest later (after_receive kept q (reply.Agg a) received).kept q (after_receive kept q (reply.Agg a) received).phase < turns_left longest unread kept q Rests
 reads-falls longest unread later kept q a [] all =
     let same : unread_turns longest unread ≡ unread_turns longest later = ap (λ (k : ℕ). unread_turns longest k) (none all) in
     omega (arith, same)
   where
     none : unread ≡ 0 + later → unread ≡ later
     none e = omega (arith, e)
-reads-falls longest unread later kept q a (b ∷ heard) all =
-    let long = length-append kept (b ∷ heard) in
-    let kept_is : request_turns longest * length (kept ++ (b ∷ heard)) ≡ request_turns longest * length kept + request_turns longest * length (b ∷ heard) = ap (λ (k : ℕ). request_turns longest * k) long ∙ spread (request_turns longest) (length kept) (length (b ∷ heard)) in
-    let unread_is : (request_turns longest + 2) * unread ≡ (request_turns longest + 2) * length (b ∷ heard) + (request_turns longest + 2) * later = ap (λ (k : ℕ). (request_turns longest + 2) * k) all ∙ spread (request_turns longest + 2) (length (b ∷ heard)) later in
-    let two : (request_turns longest + 2) * length (b ∷ heard) ≡ request_turns longest * length (b ∷ heard) + 2 * length (b ∷ heard) = grind (arith) in
+reads-falls longest unread later kept q a (b ∷ received) all =
+    let long = length-append kept (b ∷ received) in
+    let kept_is : request_turns longest * length (kept ++ (b ∷ received)) ≡ request_turns longest * length kept + request_turns longest * length (b ∷ received) = ap (λ (k : ℕ). request_turns longest * k) long ∙ spread (request_turns longest) (length kept) (length (b ∷ received)) in
+    let unread_is : (request_turns longest + 2) * unread ≡ (request_turns longest + 2) * length (b ∷ received) + (request_turns longest + 2) * later = ap (λ (k : ℕ). (request_turns longest + 2) * k) all ∙ spread (request_turns longest + 2) (length (b ∷ received)) later in
+    let two : (request_turns longest + 2) * length (b ∷ received) ≡ request_turns longest * length (b ∷ received) + 2 * length (b ∷ received) = grind (arith) in
     omega (arith, kept_is, unread_is, two)
   where
     spread : (k a b : ℕ) → k * (a + b) ≡ k * a + k * b
@@ -365,13 +365,13 @@ begins-falls laws m longest unread kept was q rest next short = by (keeps q) ref
 unread-less : (longest few many : ℕ) → few ≤ many → unread_turns longest few ≤ unread_turns longest many
 unread-less longest few many le = mul-le-mul_left (request_turns longest + 2) le
 
-fewer-unread : (longest few many : ℕ) (kept : List ℕ) (q : Answer) (d : Doing) → few ≤ many
+fewer-unread : (longest few many : ℕ) (kept : List ℕ) (q : Answer) (d : Phase) → few ≤ many
     → turns_left longest few kept q d ≤ turns_left longest many kept q d
 fewer-unread longest few many kept q d le = let less = unread-less longest few many le in omega (arith, less)
 
 -- the turns that are left for a connection as the server keeps it, where so much of its stream is unread
 abbrev pub conn_turns : (longest unread : ℕ) → Conn → ℕ
-conn_turns longest unread x = turns_left longest unread x.kept x.q x.doing
+conn_turns longest unread x = turns_left longest unread x.kept x.q x.phase
 
 abbrev pub IsShort : (longest : ℕ) → Type 0
 IsShort longest = (s rest : List ℕ) (q : Answer) → Next s q rest → (status : ℕ) (head_only close : Bool) → q ≡ refuse status head_only close → length (text_of q (Error status)) ≤ longest
@@ -386,49 +386,49 @@ module _ (own : CallsServeTheirDomain) (may : RefusalsThatAreLeft) (why : Refusa
 
   -- to be made ready leaves no more
   pub readies-falls : (was ready : Conn) → IsShort longest → Readies was ready → conn_turns longest before ready ≤ conn_turns longest before was
-  readies-falls was ready short readies = by was.doing refl readies
+  readies-falls was ready short readies = by was.phase refl readies
     where
       stays : ready ≡ was → conn_turns longest before ready ≤ conn_turns longest before was
       stays same = subst (λ (x : Conn). conn_turns longest before x ≤ conn_turns longest before was) (sym same) (omega arith)
 
-      by : (d : Doing) → was.doing ≡ d → Readies (record was { doing = d }) ready → conn_turns longest before ready ≤ conn_turns longest before was
-      by Rests is (inl waits) = stays (waits.1 ∙ ap (λ (d : Doing). record was { doing = d }) (sym is))
+      by : (d : Phase) → was.phase ≡ d → Readies (record was { phase = d }) ready → conn_turns longest before ready ≤ conn_turns longest before was
+      by Rests is (inl waits) = stays (waits.1 ∙ ap (λ (d : Phase). record was { phase = d }) (sym is))
       by Rests is (inr some) =
           let less = begins-falls laws m longest before was.kept was.q some.0 some.1 some.2 (short was.kept some.1 some.0 some.2) in
-          let here = ap (λ (d : Doing). turns_left longest before was.kept was.q d) is in
+          let here = ap (λ (d : Phase). turns_left longest before was.kept was.q d) is in
           subst (λ (x : Conn). conn_turns longest before x ≤ conn_turns longest before was) (sym some.3) (omega (arith, less, here))
       by d is readies = stays (readies-same d is readies)
         where
-          readies-same : (d : Doing) → was.doing ≡ d → ready ≡ record was { doing = d } → ready ≡ was
-          readies-same d is same = same ∙ ap (λ (d : Doing). record was { doing = d }) (sym is)
+          readies-same : (d : Phase) → was.phase ≡ d → ready ≡ record was { phase = d } → ready ≡ was
+          readies-same d is same = same ∙ ap (λ (d : Phase). record was { phase = d }) (sym is)
 
   -- what is read is no longer unread
-  rests : (kept : List ℕ) (q : Answer) (r : Reply) (heard : List ℕ) → ((p : ℕ) → IsHidden m server p (conn_at m c).incoming → ⊥)
-      → StepsTo m (event.Call server (call.IolRead fd (most_kept - length kept))) r n → Names n r heard → is_later r ≡ false
-      → conn_turns longest now (told_rests kept q r heard) < turns_left longest before kept q Rests
-  rests kept q r heard seen step names sure = by r (own.read_conn m n server fd c (most_kept - length kept) r order open_on step) step names sure
+  rests : (kept : List ℕ) (q : Answer) (r : Reply) (received : List ℕ) → ((p : ℕ) → IsHidden m server p (conn_at m c).incoming → ⊥)
+      → StepsTo m (event.Call server (call.IolRead fd (most_kept - length kept))) r n → Names n r received → is_later r ≡ false
+      → conn_turns longest now (after_receive kept q r received) < turns_left longest before kept q Rests
+  rests kept q r received seen step names sure = by r (own.read_conn m n server fd c (most_kept - length kept) r order open_on step) step names sure
     where
       by : (r : Reply) → o.ReadsConn m server c (most_kept - length kept) r n
-          → StepsTo m (event.Call server (call.IolRead fd (most_kept - length kept))) r n → Names n r heard → is_later r ≡ false
-          → conn_turns longest now (told_rests kept q r heard) < turns_left longest before kept q Rests
+          → StepsTo m (event.Call server (call.IolRead fd (most_kept - length kept))) r n → Names n r received → is_later r ≡ false
+          → conn_turns longest now (after_receive kept q r received) < turns_left longest before kept q Rests
       by (reply.Agg a) takes step names sure =
-          subst (λ (k : ℕ). conn_turns longest k (told_rests kept q (reply.Agg a) heard) < turns_left longest before kept q Rests) (sym later)
-          (told-q heard (reads-falls longest before (length takes.incoming) kept q a heard all))
+          subst (λ (k : ℕ). conn_turns longest k (after_receive kept q (reply.Agg a) received) < turns_left longest before kept q Rests) (sym later)
+          (after_reply-q received (reads-falls longest before (length takes.incoming) kept q a received all))
         where
           later : now ≡ length takes.incoming
           later = ap (λ (k : Connection). length k.incoming) takes.conn
 
-          all : before ≡ length heard + length takes.incoming
+          all : before ≡ length received + length takes.incoming
           all =
               let parts = ap (λ (t : Text). length t) takes.was ∙ length-append takes.text takes.incoming in
               let bytes = length-map takes.text (λ b. b.0) in
-              let heard_is = ap (λ (l : List ℕ). length l) (some-inj (bytes_of takes.text) heard (sym takes.lends ∙ names)) in
-              omega (arith, parts, bytes, heard_is)
+              let received_is = ap (λ (l : List ℕ). length l) (some-inj (bytes_of takes.text) received (sym takes.is_readable ∙ names)) in
+              omega (arith, parts, bytes, received_is)
 
-          told-q : (l : List ℕ) → turns_left longest (length takes.incoming) (told_rests kept q (reply.Agg a) l).kept q (told_rests kept q (reply.Agg a) l).doing < turns_left longest before kept q Rests
-              → conn_turns longest (length takes.incoming) (told_rests kept q (reply.Agg a) l) < turns_left longest before kept q Rests
-          told-q [] less = less
-          told-q (b ∷ l) less = less
+          after_reply-q : (l : List ℕ) → turns_left longest (length takes.incoming) (after_receive kept q (reply.Agg a) l).kept q (after_receive kept q (reply.Agg a) l).phase < turns_left longest before kept q Rests
+              → conn_turns longest (length takes.incoming) (after_receive kept q (reply.Agg a) l) < turns_left longest before kept q Rests
+          after_reply-q [] less = less
+          after_reply-q (b ∷ l) less = less
       by (reply.Refused z) did step names sure = absurd (refused z (may.reads_queue m n server fd (most_kept - length kept) (on.Connection c) z lives open_on refl refl step) step sure)
         where
           refused : (z : Refusal) → LacksNumbersOrHasNothingToRead z → StepsTo m (event.Call server (call.IolRead fd (most_kept - length kept))) (reply.Refused z) n
@@ -442,25 +442,25 @@ module _ (own : CallsServeTheirDomain) (may : RefusalsThatAreLeft) (why : Refusa
 
   -- it is closed
   closes : (kept : List ℕ) (q : Answer) (r : Reply) → now ≤ before → StepsTo m (event.Call server (call.Close fd)) r n → is_later r ≡ false
-      → turns_left longest now kept q (told_closes r) < turns_left longest before kept q Closes
+      → turns_left longest now kept q (after_disconnect r) < turns_left longest before kept q Closes
   closes kept q r few step sure = by r (own.closes_conn m n server fd c r order open_on step) step
     where
       by : (r : Reply) → o.ClosesConn m c r n → StepsTo m (event.Call server (call.Close fd)) r n
-          → turns_left longest now kept q (told_closes r) < turns_left longest before kept q Closes
+          → turns_left longest now kept q (after_disconnect r) < turns_left longest before kept q Closes
       by reply.Done did step = (let less = unread-less longest now before few in omega (arith, less))
       by (reply.Refused z) did step = absurd (may.closes m n server fd (on.Connection c) z lives open_on step)
       by r did step = absurd did
 
   -- Its call is answered, and is not to be made again later: less is left for it.
-  pub turn-falls : (kept : List ℕ) (q : Answer) (d : Doing) (was due : List ℕ) (r : Reply) (heard : List ℕ) → length due ≤ longest → now ≤ before
+  pub turn-falls : (kept : List ℕ) (q : Answer) (d : Phase) (was expected : List ℕ) (r : Reply) (received : List ℕ) → length expected ≤ longest → now ≤ before
       → ((p : ℕ) → IsHidden m server p (conn_at m c).incoming → ⊥)
-      → Has m q was d → (is_closing d ≡ false → Has n q due (told (at kept q d) r heard).doing) → CanMake m (wants fd (at kept q d))
-      → StepsTo m (event.Call server (wants fd (at kept q d))) r n → Names n r heard → is_later r ≡ false
-      → conn_turns longest now (told (at kept q d) r heard) < conn_turns longest before (at kept q d)
-  turn-falls kept q Rests was due r heard short few seen has later can step names sure = rests kept q r heard seen step names sure
-  turn-falls kept q Closes was due r heard short few seen has later can step names sure = closes kept q r few step sure
-  turn-falls kept q Over was due r heard short few seen has later can step names sure = absurd has
-  turn-falls kept q d was due r heard short few seen has later can step names sure =
-      let less = progress-falls n longest before kept q d due r heard short refl (near own may m n order lives fd c kept q d was r heard open_on refl has can step names) sure (later refl) in
-      let fewer = fewer-unread longest now before kept q (told (at kept q d) r heard).doing few in
+      → Has m q was d → (is_closing d ≡ false → Has n q expected (after_reply (at kept q d) r received).phase) → CanMake m (wants fd (at kept q d))
+      → StepsTo m (event.Call server (wants fd (at kept q d))) r n → Names n r received → is_later r ≡ false
+      → conn_turns longest now (after_reply (at kept q d) r received) < conn_turns longest before (at kept q d)
+  turn-falls kept q Rests was expected r received short few seen has later can step names sure = rests kept q r received seen step names sure
+  turn-falls kept q Closes was expected r received short few seen has later can step names sure = closes kept q r few step sure
+  turn-falls kept q Over was expected r received short few seen has later can step names sure = absurd has
+  turn-falls kept q d was expected r received short few seen has later can step names sure =
+      let less = progress-falls n longest before kept q d expected r received short refl (near own may m n order lives fd c kept q d was r received open_on refl has can step names) sure (later refl) in
+      let fewer = fewer-unread longest now before kept q (after_reply (at kept q d) r received).phase few in
       omega (arith, less, fewer)

@@ -12,24 +12,24 @@ use Rattle.iol_laws.specs.Frame.{EachStepLeavesTheRest}
 use Rattle.iol_laws.specs.Labels.{ArrivalsLieInTheirPool}
 use Rattle.iol_laws.specs.Order.{IsOrderly, EachStepKeepsOrder}
 use Rattle.iol_proc.specs.Idle.{Idles, Went, rounds}
-use Rattle.iol_proc.specs.Settlement.{Settles}
+use Rattle.iol_proc.specs.Quiescence.{Quiesces}
 use Rattle.iol_proc.specs.World.{Stage, copying, domains_of}
 use Rattle.iol_proc.specs.declared.choice.Choice.{Choice}
-use Rattle.iol_proc.specs.declared.seat.Seat.{Seat}
-use Rattle.iol_proc.proofs.Settlement.{settled_idle, each_settled}
+use Rattle.iol_proc.specs.declared.process_slot.ProcessSlot.{ProcessSlot}
+use Rattle.iol_proc.proofs.Quiescence.{quiescent_idle, each_quiescent}
 use Rattle.flash_laws.specs.Serves.Rounds.{in_rounds}
-use Rattle.flash_laws.specs.Shelf.{Shelf}
+use Rattle.flash_laws.specs.SiteContents.{SiteContents}
 use Rattle.flash_laws.specs.Site.{server}
 use Rattle.flash_laws.specs.Site.Places.{runs_scripts}
-use Rattle.flash_laws.specs.Workers.Crew.{Crew, IsFixedFor}
-use Rattle.flash_laws.specs.World.{AreFair, Tied}
+use Rattle.flash_laws.specs.Workers.WorkerSet.{WorkerSet, IsFixedFor}
+use Rattle.flash_laws.specs.World.{AreFair, Consistent}
 use Rattle.flash_laws.specs.World.Done.{IsDone}
-use Rattle.flash_laws.specs.World.Idle.{actor_settled}
+use Rattle.flash_laws.specs.World.Idle.{actor_quiescent}
 use Rattle.flash_laws.specs.World.Remains.{IsFull}
-use Rattle.flash_laws.specs.World.Settles.{ActorsAreSettled}
-use Rattle.flash_laws.specs.World.Tie.{Actor, actor_turns, past_of}
-use Rattle.flash_laws.proofs.Site.IdleMoments.{actor_settles}
-use Rattle.flash_laws.proofs.Site.MildTurns.{rounds-mild}
+use Rattle.flash_laws.specs.World.Quiesces.{ActorsAreQuiescent}
+use Rattle.flash_laws.specs.World.Consistency.{Actor, actor_turns, past_of}
+use Rattle.flash_laws.proofs.Site.IdleMoments.{actor_quiesces}
+use Rattle.flash_laws.proofs.Site.SitePreservingTurns.{rounds-site_preserving}
 use Rattle.flash_laws.proofs.World.AllLaws.{AllLaws}
 use Rattle.flash_laws.proofs.World.Idle.Whole.{idle_done}
 use Rattle.flash_laws.proofs.World.Fair.{server-among}
@@ -65,11 +65,11 @@ arrivals_can_be_read homes steps orders = record {
 -- ---- the theorem
 
 -- Turns of the server, none of which lacks a resource, that are fair have allowed replies.
-allowed-all : (shelf : Shelf) (ds : List ℕ) → ds ≡ server ∷ [] → (i : ℕ) (ts : List Went) → NoneLacksResource ts
-    → AreFair shelf.refuses (rounds ds i (length ts)) (map (λ t. t.1) ts) → AllByRecursion (λ t. Allowed shelf t.1) ts
-allowed-all shelf ds is i [] none fair = tt
-allowed-all shelf ds is i (t ∷ ts) none fair =
-    ((none.0, server-among shelf.refuses (slice_index ds (i % length ds)) t.1 here fair.0), allowed-all shelf ds is (suc i) ts none.1 fair.1)
+allowed-all : (site_contents : SiteContents) (ds : List ℕ) → ds ≡ server ∷ [] → (i : ℕ) (ts : List Went) → NoneLacksResource ts
+    → AreFair site_contents.refuses (rounds ds i (length ts)) (map (λ t. t.1) ts) → AllByRecursion (λ t. Allowed site_contents t.1) ts
+allowed-all site_contents ds is i [] none fair = tt
+allowed-all site_contents ds is i (t ∷ ts) none fair =
+    ((none.0, server-among site_contents.refuses (slice_index ds (i % length ds)) t.1 here fair.0), allowed-all site_contents ds is (suc i) ts none.1 fair.1)
   where
     first : i % 1 ≡ 0
     first = omega arith
@@ -77,72 +77,72 @@ allowed-all shelf ds is i (t ∷ ts) none fair =
     here : slice_index ds (i % length ds) ≡ server
     here = ap (λ (l : List ℕ). slice_index l (i % length l)) is ∙ ap (λ k. slice_index (server ∷ []) k) first
 
-module _ (crew : Crew) (laws : AllLaws crew) (more : MoreLaws) where
-  no-scripts : (shelf : Shelf) (m : State) → IsFixedFor shelf crew m → crew.count ≡ 0 → shelf.scripts ≡ false
-  no-scripts shelf m fixed none = fixed.scripts ∙ ap (λ (k : ℕ). runs_scripts k) none
+module _ (worker_set : WorkerSet) (laws : AllLaws worker_set) (more : MoreLaws) where
+  no-scripts : (site_contents : SiteContents) (m : State) → IsFixedFor site_contents worker_set m → worker_set.count ≡ 0 → site_contents.scripts ≡ false
+  no-scripts site_contents m fixed none = fixed.scripts ∙ ap (λ (k : ℕ). runs_scripts k) none
 
-  module _ (shelf : Shelf) (xs : List Choice) (rs : List Reply) (w after : Stage State (Actor crew.Worker)) (most : ℕ) (idle : Bool)
-      (has : RunsLongEnough crew shelf xs rs w most idle after) where
-    plain : shelf.scripts ≡ false
-    plain = no-scripts shelf w.machine has.tied.fixed has.files
+  module _ (site_contents : SiteContents) (xs : List Choice) (rs : List Reply) (w after : Stage State (Actor worker_set.Worker)) (most : ℕ) (idle : Bool)
+      (has : RunsLongEnough worker_set site_contents xs rs w most idle after) where
+    plain : site_contents.scripts ≡ false
+    plain = no-scripts site_contents w.machine has.consistent.fixed has.files
 
-    short : AreShort shelf (longest_response w.machine)
-    short = are-short shelf w.machine has.tied.fixed.site plain crew laws
+    short : AreShort site_contents (longest_response w.machine)
+    short = are-short site_contents w.machine has.consistent.fixed.site plain worker_set laws
 
-    quiet : Quiet shelf crew laws more plain has.files (longest_response w.machine) short w.machine.next_conn w
-    quiet = record { xs = xs; rs = rs; tied = has.tied; reads = has.reads; places = has.places; few = few-now w.machine has.tied.order }
+    quiet : Quiet site_contents worker_set laws more plain has.files (longest_response w.machine) short w.machine.next_conn w
+    quiet = record { xs = xs; rs = rs; consistent = has.consistent; reads = has.reads; places = has.places; few = few-now w.machine has.consistent.order }
 
-    suffices : turns_in_rounds (left shelf crew laws more plain has.files (longest_response w.machine) short w.machine.next_conn w) (MAX_OPEN + 2) ≤ most
+    suffices : turns_in_rounds (left site_contents worker_set laws more plain has.files (longest_response w.machine) short w.machine.next_conn w) (MAX_OPEN + 2) ≤ most
     suffices =
-        let less = left-most-of shelf crew laws more plain has.files (longest_response w.machine) short w.machine.next_conn w quiet in
+        let less = left-most-of site_contents worker_set laws more plain has.files (longest_response w.machine) short w.machine.next_conn w quiet in
         let all = has.suffices in
-        let product : (2 * (MAX_OPEN + 2) + 3) * (left shelf crew laws more plain has.files (longest_response w.machine) short w.machine.next_conn w + 1) ≤ (2 * (MAX_OPEN + 2) + 3) * (turns_of_all w.machine (clients_in w) + 1) =
+        let product : (2 * (MAX_OPEN + 2) + 3) * (left site_contents worker_set laws more plain has.files (longest_response w.machine) short w.machine.next_conn w + 1) ≤ (2 * (MAX_OPEN + 2) + 3) * (turns_of_all w.machine (clients_in w) + 1) =
         mul-le-mul_left (2 * (MAX_OPEN + 2) + 3) (omega (arith, less)) in
         omega (arith, all, product)
 
-    allowed : AllByRecursion (λ t. Allowed shelf t.1) has.ends.went
-    allowed = allowed-all shelf (domains_of w.seats) one 0 has.ends.went has.lacks_none has.fair
+    allowed : AllByRecursion (λ t. Allowed site_contents t.1) has.ends.went
+    allowed = allowed-all site_contents (domains_of w.process_slots) one 0 has.ends.went has.lacks_none has.fair
       where
-        one : domains_of w.seats ≡ server ∷ []
-        one = ap (λ (l : List (Seat (Actor crew.Worker))). domains_of l) (alone shelf crew laws more plain has.files (longest_response w.machine) short w.machine.next_conn w quiet)
+        one : domains_of w.process_slots ≡ server ∷ []
+        one = ap (λ (l : List (ProcessSlot (Actor worker_set.Worker))). domains_of l) (alone site_contents worker_set laws more plain has.files (longest_response w.machine) short w.machine.next_conn w quiet)
 
     rests : idle ≡ true
-    rests = file_server_becomes_idle shelf crew laws more plain has.files (longest_response w.machine) short w.machine.next_conn w after most idle quiet has.ends allowed suffices
+    rests = file_server_becomes_idle site_contents worker_set laws more plain has.files (longest_response w.machine) short w.machine.next_conn w after most idle quiet has.ends allowed suffices
 
     abbrev choices : List Choice
-    choices = rounds (domains_of w.seats) 0 (length has.ends.went)
+    choices = rounds (domains_of w.process_slots) 0 (length has.ends.went)
 
     abbrev replies : List Reply
     replies = map (λ t. t.1) has.ends.went
 
-    tied_after : Tied shelf crew (xs ++ choices) (rs ++ replies) after
-    tied_after = run_keeps in_rounds shelf crew laws choices replies w after xs rs has.ends.run
-        (rounds-mild (actor_turns in_rounds crew.turns) (domains_of w.seats) 0 (length has.ends.went) replies w after has.ends.run) has.fair has.tied
+    consistent_after : Consistent site_contents worker_set (xs ++ choices) (rs ++ replies) after
+    consistent_after = run_keeps in_rounds site_contents worker_set laws choices replies w after xs rs has.ends.run
+        (rounds-site_preserving (actor_turns in_rounds worker_set.turns) (domains_of w.process_slots) 0 (length has.ends.went) replies w after has.ends.run) has.fair has.consistent
 
-    module _ (settles : Settles crew.settled crew.turns) where
-      settled : ActorsAreSettled crew.turns crew.settled
-      settled = record {
-        all = λ v end many ends. settled_idle (actor_settled crew.settled) (actor_turns in_rounds crew.turns) (actor_settles laws.left.waits crew.turns crew.settled settles) v many end ends;
-        each = λ v end many place seat ends there.
-            each_settled (actor_settled crew.settled) (actor_turns in_rounds crew.turns) (actor_settles laws.left.waits crew.turns crew.settled settles) v many place end seat ends there;
+    module _ (quiesces : Quiesces worker_set.quiescent worker_set.turns) where
+      quiescent : ActorsAreQuiescent worker_set.turns worker_set.quiescent
+      quiescent = record {
+        all = λ v end many ends. quiescent_idle (actor_quiescent worker_set.quiescent) (actor_turns in_rounds worker_set.turns) (actor_quiesces laws.left.waits worker_set.turns worker_set.quiescent quiesces) v many end ends;
+        each = λ v end many place process_slot ends there.
+            each_quiescent (actor_quiescent worker_set.quiescent) (actor_turns in_rounds worker_set.turns) (actor_quiesces laws.left.waits worker_set.turns worker_set.quiescent quiesces) v many place end process_slot ends there;
       }
 
-      done : IsDone shelf crew.count after.machine (past_of (xs ++ choices) (rs ++ replies)) tied_after.seated.state.clients
-      done = idle_done crew laws settled shelf (xs ++ choices) (rs ++ replies) w after most
-          (subst (λ b. Idles copying (actor_turns in_rounds crew.turns) w most b after) rests has.ends) tied_after
+      done : IsDone site_contents worker_set.count after.machine (past_of (xs ++ choices) (rs ++ replies)) consistent_after.in_slots.state.clients
+      done = idle_done worker_set laws quiescent site_contents (xs ++ choices) (rs ++ replies) w after most
+          (subst (λ b. Idles copying (actor_turns in_rounds worker_set.turns) w most b after) rests has.ends) consistent_after
 
       served : (c : ℕ) → (past_of (xs ++ choices) (rs ++ replies)).net c ≡ true
-          → IsServed shelf after.machine (past_of (xs ++ choices) (rs ++ replies)) tied_after.seated.state.clients c
+          → IsServed site_contents after.machine (past_of (xs ++ choices) (rs ++ replies)) consistent_after.in_slots.state.clients c
       served c net = elim (done.accepted c net) [
         | inl taken ↦ accepted taken
         | inr full ↦ which (conn_at after.machine c).accepted refl full
       ]
         where
-          accepted : (conn_at after.machine c).accepted ≡ true → IsServed shelf after.machine (past_of (xs ++ choices) (rs ++ replies)) tied_after.seated.state.clients c
+          accepted : (conn_at after.machine c).accepted ≡ true → IsServed site_contents after.machine (past_of (xs ++ choices) (rs ++ replies)) consistent_after.in_slots.state.clients c
           accepted taken = gone ((past_of (xs ++ choices) (rs ++ replies)).gone c) refl
             where
               gone : (b : Bool) → (past_of (xs ++ choices) (rs ++ replies)).gone c ≡ b
-                  → IsServed shelf after.machine (past_of (xs ++ choices) (rs ++ replies)) tied_after.seated.state.clients c
+                  → IsServed site_contents after.machine (past_of (xs ++ choices) (rs ++ replies)) consistent_after.in_slots.state.clients c
               gone true is = inr (inl is)
               gone false is = elim (done.answered c net taken is) [
                 | inl whole ↦ inl whole
@@ -152,15 +152,15 @@ module _ (crew : Crew) (laws : AllLaws crew) (more : MoreLaws) where
                 ]
               ]
 
-          which : (b : Bool) → (conn_at after.machine c).accepted ≡ b → IsFull after.machine tied_after.seated.state.clients → IsServed shelf after.machine (past_of (xs ++ choices) (rs ++ replies)) tied_after.seated.state.clients c
+          which : (b : Bool) → (conn_at after.machine c).accepted ≡ b → IsFull after.machine consistent_after.in_slots.state.clients → IsServed site_contents after.machine (past_of (xs ++ choices) (rs ++ replies)) consistent_after.in_slots.state.clients c
           which true is full = accepted is
           which false is full = inr (inr (inr (is, full)))
 
-  pub becomes_idle : BecomesIdle crew
-  becomes_idle shelf xs rs w most idle after has = rests shelf xs rs w after most idle has
+  pub becomes_idle : BecomesIdle worker_set
+  becomes_idle site_contents xs rs w most idle after has = rests site_contents xs rs w after most idle has
 
-  pub serves_all : Settles crew.settled crew.turns → ServesAll crew
-  serves_all settles shelf xs rs w most idle after has = record {
-    tied = tied_after shelf xs rs w after most idle has;
-    each = served shelf xs rs w after most idle has settles;
+  pub serves_all : Quiesces worker_set.quiescent worker_set.turns → ServesAll worker_set
+  serves_all quiesces site_contents xs rs w most idle after has = record {
+    consistent = consistent_after site_contents xs rs w after most idle has;
+    each = served site_contents xs rs w after most idle has quiesces;
   }

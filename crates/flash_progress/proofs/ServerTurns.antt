@@ -18,28 +18,28 @@ use Rattle.iol_laws.specs.Reasons.{IsHidden}
 use Rattle.iol_laws.specs.RefusalsLeft.{LacksNumbersOrWaits}
 use Rattle.iol_proc.specs.declared.process.Turn.{Turn}
 use Rattle.iol_proc.specs.declared.process.Turn.TheVariants as turn
-use Rattle.iol_proc.specs.declared.seat.Seat.{Seat}
+use Rattle.iol_proc.specs.declared.process_slot.ProcessSlot.{ProcessSlot}
 use Rattle.flash_http.specs.Request.{Answer, serve}
 use Rattle.flash_laws.specs.Conn as conn
-use Rattle.flash_laws.specs.declared.phase.Doing.{Doing}
-use Rattle.flash_laws.specs.declared.phase.Doing.TheVariants as doing
+use Rattle.flash_laws.specs.declared.phase.Phase.{Phase}
+use Rattle.flash_laws.specs.declared.phase.Phase.TheVariants as phase
 use Rattle.std.proofs.lemmas.Bool.{cases_eq}
 use Rattle.flash_laws.specs.Client as client
-use Rattle.flash_laws.specs.Client.{Client, wants, told, file_told, left_over, Readies, is_for_script}
+use Rattle.flash_laws.specs.Client.{Client, wants, after_reply, file_after_reply, left_over, Readies, is_for_script}
 use Rattle.flash_laws.specs.Client.Fits.{FitsBy, FitsAlone}
 use Rattle.flash_laws.specs.Conn.{Conn}
 use Rattle.flash_laws.specs.Conn.Fits.{Names}
 use Rattle.flash_laws.specs.Conn.Policy.{is_later}
 use Rattle.flash_laws.specs.Serves.{Picks, PicksAt, Made}
-use Rattle.flash_laws.specs.Shelf.{Shelf, IsAmong}
+use Rattle.flash_laws.specs.SiteContents.{SiteContents, IsAmong}
 use Rattle.flash_laws.specs.Site.{server}
-use Rattle.flash_laws.specs.Site.ClientTies.{AllFit}
+use Rattle.flash_laws.specs.Site.ClientConsistency.{AllFit}
 use Rattle.flash_laws.specs.Site.OtherConns.{with_at}
 use Rattle.flash_laws.specs.Site.Past.{Past}
-use Rattle.flash_laws.specs.Site.Places.{EachHasItsOwn, first_free, filed, told_at, accepted, runs_scripts}
-use Rattle.flash_laws.specs.Workers.Crew.{Crew, IsFixedFor}
-use Rattle.flash_laws.specs.declared.phase.Flight.{Flight}
-use Rattle.flash_laws.specs.declared.phase.Flight.TheVariants.{Nothing, Accepting, At}
+use Rattle.flash_laws.specs.Site.Places.{EachHasItsOwn, first_free, filed, after_reply_at, accepted, runs_scripts}
+use Rattle.flash_laws.specs.Workers.WorkerSet.{WorkerSet, IsFixedFor}
+use Rattle.flash_laws.specs.declared.phase.PendingCall.{PendingCall}
+use Rattle.flash_laws.specs.declared.phase.PendingCall.TheVariants.{Nothing, Accepting, At}
 use Rattle.flash_laws.specs.declared.script_run.Running.{Running}
 use Rattle.flash_laws.proofs.Forms.{of, at as conn-at}
 use Rattle.flash_progress.specs.Bound.{unread_at}
@@ -53,8 +53,8 @@ use Rattle.flash_laws.proofs.World.AllLaws.{AllLaws}
 use Rattle.flash_laws.proofs.World.Calls.{is_client_call, calls-alone}
 use Rattle.flash_laws.proofs.World.ServerTurn.{client-awaits}
 
--- What is known of the machine: heads can be made, the server may read the unread bytes of its connections, numbers are low, and a
--- call adds no unread bytes.
+-- What is known of the machine: heads can be made, the server may read the unread bytes of its connections, numbers are
+-- low, and a call adds no unread bytes.
 pub record IsKnown (places conns : ℕ) (m : State) : Type 0 where
   pub room : HasRoom m
   pub seen : (fd c q : ℕ) → descriptor m server fd ≡ Some (on.Connection c) → IsHidden m server q (conn_at m c).incoming → ⊥
@@ -68,24 +68,24 @@ made-call (turn.Make k) = k
 made-call turn.Yield = call.Accept
 
 -- a connection's call closes no pool
-closes-none : (fd : ℕ) (kept : List ℕ) (q : Answer) (d : Doing) (p : ℕ) → closes_pool (event.Call server (conn.wants fd (conn-at kept q d))) p ≡ false
-closes-none fd kept q (doing.Reads f) p = by (conn.is_head_only q)
+closes-none : (fd : ℕ) (kept : List ℕ) (q : Answer) (d : Phase) (p : ℕ) → closes_pool (event.Call server (conn.wants fd (conn-at kept q d))) p ≡ false
+closes-none fd kept q (phase.Reads f) p = by (conn.is_head_only q)
   where
     by : (b : Bool) → closes_pool (event.Call server (if b then call.Length f else call.IolRead f conn.most_read)) p ≡ false
     by true = refl
     by false = refl
 closes-none fd kept q d p = refl
 
-module _ (shelf : Shelf) (crew : Crew) (laws : AllLaws crew) (files : shelf.scripts ≡ false) (longest : ℕ) (short : AreShort shelf longest) (places conns : ℕ) (m n : State) (p : Past) (clients after : List (Option Client))
-    (next : Flight) (r : Reply) (k : Call) (seats : List (Seat crew.Worker)) (order : IsOrderly m) (fixed : IsFixedFor shelf crew m) (fit : AllFit shelf crew m p clients seats)
-    (known : IsKnown places conns m) (among : IsAmong shelf.refuses.of_server r) (did : Made m (turn.Make k) r n) where
+module _ (site_contents : SiteContents) (worker_set : WorkerSet) (laws : AllLaws worker_set) (files : site_contents.scripts ≡ false) (longest : ℕ) (short : AreShort site_contents longest) (places conns : ℕ) (m n : State) (p : Past) (clients after : List (Option Client))
+    (next : PendingCall) (r : Reply) (k : Call) (process_slots : List (ProcessSlot worker_set.Worker)) (order : IsOrderly m) (fixed : IsFixedFor site_contents worker_set m) (fit : AllFit site_contents worker_set m p clients process_slots)
+    (known : IsKnown places conns m) (among : IsAmong site_contents.refuses.of_server r) (did : Made m (turn.Make k) r n) where
   -- what is left once the reply is filed
-  abbrev Falls : (heard : List ℕ) → Type 0
-  Falls heard = all_left longest places conns n (filed crew.count after next r heard) < all_left longest places conns m clients
+  abbrev Falls : (received : List ℕ) → Type 0
+  Falls received = all_left longest places conns n (filed worker_set.count after next r received) < all_left longest places conns m clients
 
-  accepting : is_later r ≡ false → after ≡ clients → next ≡ Accepting → StepsTo m (event.Call server call.Accept) r n → (heard : List ℕ) → Falls heard
-  accepting sure same is step heard = subst (λ (w : Flight). all_left longest places conns n (filed crew.count after w r heard) < all_left longest places conns m clients) (sym is)
-      (subst (λ (xs : List (Option Client)). all_left longest places conns n (filed crew.count xs Accepting r heard) < all_left longest places conns m clients) (sym same)
+  accepting : is_later r ≡ false → after ≡ clients → next ≡ Accepting → StepsTo m (event.Call server call.Accept) r n → (received : List ℕ) → Falls received
+  accepting sure same is step received = subst (λ (w : PendingCall). all_left longest places conns n (filed worker_set.count after w r received) < all_left longest places conns m clients) (sym is)
+      (subst (λ (xs : List (Option Client)). all_left longest places conns n (filed worker_set.count xs Accepting r received) < all_left longest places conns m clients) (sym same)
       (by r (laws.the.own.accepts m n server r order step) step sure))
     where
       refused : (z : Refusal) → LacksNumbersOrWaits z → is_later (reply.Refused z) ≡ false → ⊥
@@ -95,22 +95,22 @@ module _ (shelf : Shelf) (crew : Crew) (laws : AllLaws crew) (files : shelf.scri
       refused z left sure = left
 
       by : (r : Reply) → o.Accepts m server r n → StepsTo m (event.Call server call.Accept) r n → is_later r ≡ false
-          → all_left longest places conns n (filed crew.count clients Accepting r heard) < all_left longest places conns m clients
-      by (reply.Fd fd) takes step sure = accept-falls shelf crew laws longest places conns m n p clients fd seats order fit step takes (known.few takes.conn takes.waited)
+          → all_left longest places conns n (filed worker_set.count clients Accepting r received) < all_left longest places conns m clients
+      by (reply.Fd fd) takes step sure = accept-falls site_contents worker_set laws longest places conns m n p clients fd process_slots order fit step takes (known.few takes.conn takes.waited)
       by (reply.Refused z) did step sure = absurd (refused z (laws.left.accepts m n server z fixed.site.lives step) sure)
       by r did step sure = absurd did
 
-  module _ (fd : ℕ) (picks : PicksAt crew.count clients fd (turn.Make k) after) (is : next ≡ At fd) (heard : List ℕ) (names : Names n r heard) where
+  module _ (fd : ℕ) (picks : PicksAt worker_set.count clients fd (turn.Make k) after) (is : next ≡ At fd) (received : List ℕ) (names : Names n r received) where
     abbrev number : ℕ
     number = (fit.each fd picks.was picks.there).conn
 
     -- no script runs
     none-runs : (run : Option Running) → picks.was.run ≡ run → run ≡ None
     none-runs None same = refl
-    none-runs (Some y) same = absurd (none (subst (λ (o : Option Running). FitsBy shelf crew o m (p.came number) (p.sent number) fd number picks.was seats) same (fit.each fd picks.was picks.there).fits))
+    none-runs (Some y) same = absurd (none (subst (λ (o : Option Running). FitsBy site_contents worker_set o m (p.came number) (p.sent number) fd number picks.was process_slots) same (fit.each fd picks.was picks.there).fits))
       where
-        none : FitsBy shelf crew (Some y) m (p.came number) (p.sent number) fd number picks.was seats → ⊥
-        none f = clash (is_for_script shelf.scripts (serve f.wanted)) f.script.is_for (no-script shelf.scripts (serve f.wanted) files)
+        none : FitsBy site_contents worker_set (Some y) m (p.came number) (p.sent number) fd number picks.was process_slots → ⊥
+        none f = clash (is_for_script site_contents.scripts (serve f.wanted)) f.script.is_for (no-script site_contents.scripts (serve f.wanted) files)
 
     abbrev cn : Conn
     cn = picks.was.conn
@@ -130,126 +130,126 @@ module _ (shelf : Shelf) (crew : Crew) (laws : AllLaws crew) (files : shelf.scri
     abbrev readied : List (Option Client)
     readied = with_at clients fd (Some picks.ready)
 
-    fit-ready : AllFit shelf crew m p readied seats
-    fit-ready = ready_turn shelf crew laws m p clients fd picks.was picks.ready seats fit picks.there picks.readies
-        (subst (λ (xs : List (Option Client)). EachHasItsOwn crew.count xs) picks.after_is (own-picked crew.count clients fit.own (turn.Make k) after (At fd) picks))
+    fit-ready : AllFit site_contents worker_set m p readied process_slots
+    fit-ready = ready_turn site_contents worker_set laws m p clients fd picks.was picks.ready process_slots fit picks.there picks.readies
+        (subst (λ (xs : List (Option Client)). EachHasItsOwn worker_set.count xs) picks.after_is (own-picked worker_set.count clients fit.own (turn.Make k) after (At fd) picks))
 
     there-ready : in_place readied fd ≡ Some (of ready.0 None script)
     there-ready = at-same clients fd (Some picks.ready) ∙ ap (λ (x : Client). Some x) ready.2
 
-    call_is : turn.Make k ≡ turn.Make (wants shelf.scripts fd (of ready.0 None script))
-    call_is = picks.call_is ∙ (ap (λ b. turn.Make (wants b fd picks.ready)) (sym fixed.scripts) ∙ ap (λ (x : Client). turn.Make (wants shelf.scripts fd x)) ready.2)
+    call_is : turn.Make k ≡ turn.Make (wants site_contents.scripts fd (of ready.0 None script))
+    call_is = picks.call_is ∙ (ap (λ b. turn.Make (wants b fd picks.ready)) (sym fixed.scripts) ∙ ap (λ (x : Client). turn.Make (wants site_contents.scripts fd x)) ready.2)
 
-    step : StepsTo m (event.Call server (wants shelf.scripts fd (of ready.0 None script))) r n
+    step : StepsTo m (event.Call server (wants site_contents.scripts fd (of ready.0 None script))) r n
     step = subst (λ (z : Turn). Made m z r n) call_is did
 
-    called : is_later r ≡ false → (worker : ℕ) → all_left longest places conns n (with_at readied fd (left_over (told shelf.scripts worker (of ready.0 None script) r heard))) < all_left longest places conns m clients
+    called : is_later r ≡ false → (worker : ℕ) → all_left longest places conns n (with_at readied fd (left_over (after_reply site_contents.scripts worker (of ready.0 None script) r received))) < all_left longest places conns m clients
     called sure worker =
-        let less = call-falls shelf crew laws files longest places conns m n p readied fd ready.0 script r heard seats order fixed fit-ready there-ready
+        let less = call-falls site_contents worker_set laws files longest places conns m n p readied fd ready.0 script r received process_slots order fixed fit-ready there-ready
         (client-awaits cn None script (of ready.0 None script) (subst (λ (x : Client). Readies (of cn None script) x) ready.2 ready)) among step names sure short known.room
-        (known.low fd (fit.each fd (of cn None script) there).conn (fit.each fd (of cn None script) there).fits.open_on) (λ c. known.none_come n (wants shelf.scripts fd (of ready.0 None script)) r c step) (λ c q opened. known.seen fd c q opened) worker in
-        let most = ready-left shelf crew laws longest places conns m p clients fd cn script picks.ready seats order fixed fit there ready short in
+        (known.low fd (fit.each fd (of cn None script) there).conn (fit.each fd (of cn None script) there).fits.open_on) (λ c. known.none_come n (wants site_contents.scripts fd (of ready.0 None script)) r c step) (λ c q opened. known.seen fd c q opened) worker in
+        let most = ready-left site_contents worker_set laws longest places conns m p clients fd cn script picks.ready process_slots order fixed fit there ready short in
         omega (arith, less, most)
 
-    at : is_later r ≡ false → all_left longest places conns n (filed crew.count after next r heard) < all_left longest places conns m clients
-    at sure = subst (λ (w : Flight). all_left longest places conns n (filed crew.count after w r heard) < all_left longest places conns m clients) (sym is)
-        (subst (λ (xs : List (Option Client)). all_left longest places conns n (filed crew.count xs (At fd) r heard) < all_left longest places conns m clients) (sym picks.after_is)
-        (subst (λ (o : Option Client). all_left longest places conns n (told_at crew.count readied fd o r heard) < all_left longest places conns m clients) (sym there-ready)
-        (subst (λ b. all_left longest places conns n (with_at readied fd (left_over (told b (first_free crew.count readied) (of ready.0 None script) r heard))) < all_left longest places conns m clients) fixed.scripts
-        (called sure (first_free crew.count readied)))))
+    at : is_later r ≡ false → all_left longest places conns n (filed worker_set.count after next r received) < all_left longest places conns m clients
+    at sure = subst (λ (w : PendingCall). all_left longest places conns n (filed worker_set.count after w r received) < all_left longest places conns m clients) (sym is)
+        (subst (λ (xs : List (Option Client)). all_left longest places conns n (filed worker_set.count xs (At fd) r received) < all_left longest places conns m clients) (sym picks.after_is)
+        (subst (λ (o : Option Client). all_left longest places conns n (after_reply_at worker_set.count readied fd o r received) < all_left longest places conns m clients) (sym there-ready)
+        (subst (λ b. all_left longest places conns n (with_at readied fd (left_over (after_reply b (first_free worker_set.count readied) (of ready.0 None script) r received))) < all_left longest places conns m clients) fixed.scripts
+        (called sure (first_free worker_set.count readied)))))
 
     -- the call is one for a client, and closes no pool
     kind-at : (is_client_call k ≡ true) × ((q : ℕ) → closes_pool (event.Call server k) q ≡ false)
     kind-at = subst (λ (z : Turn). (is_client_call (made-call z) ≡ true) × ((q : ℕ) → closes_pool (event.Call server (made-call z)) q ≡ false)) (sym call_is) (
-      (calls-alone shelf crew laws m (p.came (fit-ready.each fd (of ready.0 None script) there-ready).conn) (p.sent (fit-ready.each fd (of ready.0 None script) there-ready).conn) fd
-          (fit-ready.each fd (of ready.0 None script) there-ready).conn seats ready.0 None script (fit-ready.each fd (of ready.0 None script) there-ready).fits).kind,
+      (calls-alone site_contents worker_set laws m (p.came (fit-ready.each fd (of ready.0 None script) there-ready).conn) (p.sent (fit-ready.each fd (of ready.0 None script) there-ready).conn) fd
+          (fit-ready.each fd (of ready.0 None script) there-ready).conn process_slots ready.0 None script (fit-ready.each fd (of ready.0 None script) there-ready).fits).kind,
       λ q. subst (λ (z : Call). closes_pool (event.Call server z) q ≡ false)
-          (sym (ap (λ (b : Bool). client.conn_wants b fd ready.0) (no-script shelf.scripts ready.0.q files))) (closes-none fd ready.0.kept ready.0.q ready.0.doing q),
+          (sym (ap (λ (b : Bool). client.conn_wants b fd ready.0) (no-script site_contents.scripts ready.0.q files))) (closes-none fd ready.0.kept ready.0.q ready.0.phase q),
     )
 
     -- its call meets no closed pool
     open-at : (q : ℕ) → r ≡ reply.Refused (no.PoolClosed q) → ⊥
     open-at q closed =
-        let g : FitsAlone shelf m (p.came (fit-ready.each fd (of ready.0 None script) there-ready).conn) (p.sent (fit-ready.each fd (of ready.0 None script) there-ready).conn) fd
+        let g : FitsAlone site_contents m (p.came (fit-ready.each fd (of ready.0 None script) there-ready).conn) (p.sent (fit-ready.each fd (of ready.0 None script) there-ready).conn) fd
         (fit-ready.each fd (of ready.0 None script) there-ready).conn (of ready.0 None script) = (fit-ready.each fd (of ready.0 None script) there-ready).fits in
-        never-closed shelf crew laws m n fd (fit-ready.each fd (of ready.0 None script) there-ready).conn ready.0.kept script g.due order fixed.site.lives g.open_on q ready.0.q ready.0.doing g.has g.finds
-        (can-make shelf m fd ready.0.kept ready.0.q script ready.0.doing g.proper g.finds known.room)
+        never-closed site_contents worker_set laws m n fd (fit-ready.each fd (of ready.0 None script) there-ready).conn ready.0.kept script g.expected order fixed.site.lives g.open_on q ready.0.q ready.0.phase g.has g.finds
+        (can-make site_contents m fd ready.0.kept ready.0.q script ready.0.phase g.proper g.finds known.room)
         (subst (λ (z : Reply). StepsTo m (event.Call server (conn.wants fd ready.0)) z n) closed
-        (subst (λ (z : Call). StepsTo m (event.Call server z) r n) (ap (λ (b : Bool). client.conn_wants b fd ready.0) (no-script shelf.scripts ready.0.q files)) step))
+        (subst (λ (z : Call). StepsTo m (event.Call server z) r n) (ap (λ (b : Bool). client.conn_wants b fd ready.0) (no-script site_contents.scripts ready.0.q files)) step))
 
     -- where it would block as much is left
-    told-blocked : (kept : List ℕ) (q : Answer) (d : Doing) (l : List ℕ) → conn.told (conn-at kept q d) (reply.Refused no.WouldBlock) l ≡ conn-at kept q d
-    told-blocked kept q doing.Rests l = refl
-    told-blocked kept q d l = refl
+    after_reply-blocked : (kept : List ℕ) (q : Answer) (d : Phase) (l : List ℕ) → conn.after_reply (conn-at kept q d) (reply.Refused no.WouldBlock) l ≡ conn-at kept q d
+    after_reply-blocked kept q phase.Rests l = refl
+    after_reply-blocked kept q d l = refl
 
-    blocked : r ≡ reply.Refused no.WouldBlock → n ≡ m → all_left longest places conns n (filed crew.count after next r heard) ≤ all_left longest places conns m clients
+    blocked : r ≡ reply.Refused no.WouldBlock → n ≡ m → all_left longest places conns n (filed worker_set.count after next r received) ≤ all_left longest places conns m clients
     blocked blocks same =
-        subst (λ (s : State). all_left longest places conns s (filed crew.count after next r heard) ≤ all_left longest places conns m clients) (sym same)
-        (subst (λ (w : Flight). all_left longest places conns m (filed crew.count after w r heard) ≤ all_left longest places conns m clients) (sym is)
-        (subst (λ (xs : List (Option Client)). all_left longest places conns m (filed crew.count xs (At fd) r heard) ≤ all_left longest places conns m clients) (sym picks.after_is)
-        (subst (λ (o : Option Client). all_left longest places conns m (told_at crew.count readied fd o r heard) ≤ all_left longest places conns m clients) (sym there-ready)
+        subst (λ (s : State). all_left longest places conns s (filed worker_set.count after next r received) ≤ all_left longest places conns m clients) (sym same)
+        (subst (λ (w : PendingCall). all_left longest places conns m (filed worker_set.count after w r received) ≤ all_left longest places conns m clients) (sym is)
+        (subst (λ (xs : List (Option Client)). all_left longest places conns m (filed worker_set.count xs (At fd) r received) ≤ all_left longest places conns m clients) (sym picks.after_is)
+        (subst (λ (o : Option Client). all_left longest places conns m (after_reply_at worker_set.count readied fd o r received) ≤ all_left longest places conns m clients) (sym there-ready)
         (subst (λ (x : Client). all_left longest places conns m (with_at readied fd (left_over x)) ≤ all_left longest places conns m clients) (sym as-it-was) still))))
       where
-        as-it-was : told (runs_scripts crew.count) (first_free crew.count readied) (of ready.0 None script) r heard ≡ of ready.0 None script
-        as-it-was = ap (λ (b : Bool). told b (first_free crew.count readied) (of ready.0 None script) r heard) (sym fixed.scripts)
-            ∙ (ap (λ (b : Bool). file_told b (of ready.0 None script) r heard) (no-script shelf.scripts ready.0.q files)
-            ∙ (ap (λ (z : Reply). of (conn.told ready.0 z heard) None script) blocks ∙ ap (λ (z : Conn). of z None script) (told-blocked ready.0.kept ready.0.q ready.0.doing heard)))
+        as-it-was : after_reply (runs_scripts worker_set.count) (first_free worker_set.count readied) (of ready.0 None script) r received ≡ of ready.0 None script
+        as-it-was = ap (λ (b : Bool). after_reply b (first_free worker_set.count readied) (of ready.0 None script) r received) (sym fixed.scripts)
+            ∙ (ap (λ (b : Bool). file_after_reply b (of ready.0 None script) r received) (no-script site_contents.scripts ready.0.q files)
+            ∙ (ap (λ (z : Reply). of (conn.after_reply ready.0 z received) None script) blocks ∙ ap (λ (z : Conn). of z None script) (after_reply-blocked ready.0.kept ready.0.q ready.0.phase received)))
 
         each : (gd : ℕ) → place_turns longest m (with_at readied fd (left_over (of ready.0 None script))) gd ≤ place_turns longest m readied gd
         each gd = elim (cases_eq fd gd) [
           | inl here ↦ subst (λ (g : ℕ). place_turns longest m (with_at readied fd (left_over (of ready.0 None script))) g ≤ place_turns longest m readied g) here
               (let now = ap (λ (x : Option Client). of_place longest (unread_at m fd) x) (at-same readied fd (left_over (of ready.0 None script))) in
               let was = ap (λ (x : Option Client). of_place longest (unread_at m fd) x) there-ready in
-              let most = left-most longest (unread_at m fd) ready.0.doing (of ready.0 None script) in omega (arith, now, was, most))
+              let most = left-most longest (unread_at m fd) ready.0.phase (of ready.0 None script) in omega (arith, now, was, most))
           | inr differ ↦ (let e = ap (λ (x : Option Client). of_place longest (unread_at m gd) x) (at-other readied fd gd (left_over (of ready.0 None script)) differ) in omega (arith, e))
         ]
 
         still : all_left longest places conns m (with_at readied fd (left_over (of ready.0 None script))) ≤ all_left longest places conns m clients
         still =
             let sums = no_more places (place_turns longest m readied) (place_turns longest m (with_at readied fd (left_over (of ready.0 None script)))) each in
-            let most = ready-left shelf crew laws longest places conns m p clients fd cn script picks.ready seats order fixed fit there ready short in
+            let most = ready-left site_contents worker_set laws longest places conns m p clients fd cn script picks.ready process_slots order fixed fit there ready short in
             omega (arith, sums, most)
 
   -- Where it would block no more is left.
-  pub server-waits : r ≡ reply.Refused no.WouldBlock → n ≡ m → Picks crew.count clients next (turn.Make k) after → (heard : List ℕ) → Names n r heard
-      → all_left longest places conns n (filed crew.count after next r heard) ≤ all_left longest places conns m clients
-  server-waits blocks same picks heard names = by next refl picks
+  pub server-waits : r ≡ reply.Refused no.WouldBlock → n ≡ m → Picks worker_set.count clients next (turn.Make k) after → (received : List ℕ) → Names n r received
+      → all_left longest places conns n (filed worker_set.count after next r received) ≤ all_left longest places conns m clients
+  server-waits blocks same picks received names = by next refl picks
     where
-      by : (w : Flight) → next ≡ w → Picks crew.count clients w (turn.Make k) after → all_left longest places conns n (filed crew.count after next r heard) ≤ all_left longest places conns m clients
+      by : (w : PendingCall) → next ≡ w → Picks worker_set.count clients w (turn.Make k) after → all_left longest places conns n (filed worker_set.count after next r received) ≤ all_left longest places conns m clients
       by Nothing is picks = absurd (let bad = picks.1 in cc (bad))
       by Accepting is picks =
-          let here = ap (λ (s : State). all_left longest places conns s (filed crew.count after next r heard)) same in
-          let one = ap (λ (w : Flight). all_left longest places conns m (filed crew.count after w r heard)) is in
+          let here = ap (λ (s : State). all_left longest places conns s (filed worker_set.count after next r received)) same in
+          let one = ap (λ (w : PendingCall). all_left longest places conns m (filed worker_set.count after w r received)) is in
           let two = ap (λ (z : Reply). all_left longest places conns m (accepted after z)) blocks in
           let three = ap (λ (l : List (Option Client)). all_left longest places conns m l) picks.0 in
           omega (arith, here, one, two, three)
-      by (At fd) is picks = blocked fd picks is heard names blocks same
+      by (At fd) is picks = blocked fd picks is received names blocks same
 
   -- No call of the server meets a closed pool.
-  pub server-open : Picks crew.count clients next (turn.Make k) after → (heard : List ℕ) → Names n r heard → (q : ℕ) → r ≡ reply.Refused (no.PoolClosed q) → ⊥
-  server-open picks heard names q closed = by next refl picks
+  pub server-open : Picks worker_set.count clients next (turn.Make k) after → (received : List ℕ) → Names n r received → (q : ℕ) → r ≡ reply.Refused (no.PoolClosed q) → ⊥
+  server-open picks received names q closed = by next refl picks
     where
-      by : (w : Flight) → next ≡ w → Picks crew.count clients w (turn.Make k) after → ⊥
+      by : (w : PendingCall) → next ≡ w → Picks worker_set.count clients w (turn.Make k) after → ⊥
       by Nothing is picks = let bad = picks.1 in cc (bad)
       by Accepting is picks =
           laws.left.accepts m n server (no.PoolClosed q) fixed.site.lives (subst (λ (z : Reply). StepsTo m (event.Call server call.Accept) z n) closed (subst (λ (z : Turn). Made m z r n) picks.1 did))
-      by (At fd) is picks = open-at fd picks is heard names q closed
+      by (At fd) is picks = open-at fd picks is received names q closed
 
   -- Its call is one for a client, and closes no pool.
-  pub server-kind : Picks crew.count clients next (turn.Make k) after → (heard : List ℕ) → Names n r heard
+  pub server-kind : Picks worker_set.count clients next (turn.Make k) after → (received : List ℕ) → Names n r received
       → (is_client_call k ≡ true) × ((q : ℕ) → closes_pool (event.Call server k) q ≡ false)
-  server-kind picks heard names = by next refl picks
+  server-kind picks received names = by next refl picks
     where
-      by : (w : Flight) → next ≡ w → Picks crew.count clients w (turn.Make k) after → (is_client_call k ≡ true) × ((q : ℕ) → closes_pool (event.Call server k) q ≡ false)
+      by : (w : PendingCall) → next ≡ w → Picks worker_set.count clients w (turn.Make k) after → (is_client_call k ≡ true) × ((q : ℕ) → closes_pool (event.Call server k) q ≡ false)
       by Nothing is picks = absurd (let bad = picks.1 in cc (bad))
       by Accepting is picks = subst (λ (z : Turn). (is_client_call (made-call z) ≡ true) × ((q : ℕ) → closes_pool (event.Call server (made-call z)) q ≡ false)) (sym picks.1) (refl, λ q. refl)
-      by (At fd) is picks = kind-at fd picks is heard names
+      by (At fd) is picks = kind-at fd picks is received names
 
   -- Whoever is picked.
-  pub server-falls : is_later r ≡ false → Picks crew.count clients next (turn.Make k) after → (heard : List ℕ) → Names n r heard → Falls heard
-  server-falls sure picks heard names = by next refl picks
+  pub server-falls : is_later r ≡ false → Picks worker_set.count clients next (turn.Make k) after → (received : List ℕ) → Names n r received → Falls received
+  server-falls sure picks received names = by next refl picks
     where
-      by : (w : Flight) → next ≡ w → Picks crew.count clients w (turn.Make k) after → Falls heard
+      by : (w : PendingCall) → next ≡ w → Picks worker_set.count clients w (turn.Make k) after → Falls received
       by Nothing is picks = absurd (let bad = picks.1 in cc (bad))
-      by Accepting is picks = accepting sure picks.0 is (subst (λ (z : Turn). Made m z r n) picks.1 did) heard
-      by (At fd) is picks = at fd picks is heard names sure
+      by Accepting is picks = accepting sure picks.0 is (subst (λ (z : Turn). Made m z r n) picks.1 did) received
+      by (At fd) is picks = at fd picks is received names sure

@@ -1,4 +1,5 @@
--- The measure of a world of files: each call for a client that is not retried later decreases it, and so does accepting a connection.
+-- The measure of a world of files: each call for a client that is not retried later decreases it, and so does accepting
+-- a connection.
 use Rattle.std.proofs.Common.{inl, inr, ◌≡◌, ◌≢◌, ℕ, zero, suc, ◌+◌, ◌<◌, ◌≤◌, List, [], ◌∷◌, length, ap, ◌∙◌, refl, sym, subst, arith, Option, Some, None, true, false, Bool, if◌then◌else◌}
 use Rattle.std.proofs.lemmas.Bool.{cases_eq}
 use Rattle.iol_core.specs.NumberedLists.{in_place}
@@ -15,11 +16,11 @@ use Rattle.iol_laws.specs.Caller as o
 use Rattle.iol_laws.specs.Frame.{touches_conn, touches_fd}
 use Rattle.iol_laws.specs.Order.{IsOrderly}
 use Rattle.iol_laws.specs.Reasons.{IsHidden}
-use Rattle.iol_proc.specs.declared.seat.Seat.{Seat}
+use Rattle.iol_proc.specs.declared.process_slot.ProcessSlot.{ProcessSlot}
 use Rattle.flash_http.specs.Request.{Answer, serve, refuse}
 use Rattle.flash_laws.specs.Client as client
-use Rattle.flash_laws.specs.Client.{Client, new_client, wants, Readies, is_for_script, told, left_over, IsAwaiting}
-use Rattle.flash_laws.specs.Client.Fits.{IsProper, Finds, FitsAlone, Fits, due_in}
+use Rattle.flash_laws.specs.Client.{Client, new_client, wants, Readies, is_for_script, after_reply, left_over, IsAwaiting}
+use Rattle.flash_laws.specs.Client.Fits.{IsProper, Finds, FitsAlone, Fits, expected_in}
 use Rattle.flash_laws.specs.Client.Holdings.{has_fd}
 use Rattle.flash_laws.specs.Client.ResponseState.{is_read}
 use Rattle.flash_laws.specs.Conn as conn
@@ -28,16 +29,16 @@ use Rattle.flash_laws.specs.Conn.Fits.{Names, Has, is_closing}
 use Rattle.flash_laws.specs.Conn.ShortHeads.{ContentIsShort}
 use Rattle.flash_laws.specs.Conn.Policy.{is_later}
 use Rattle.flash_laws.specs.Conn.Progress.{HasPlaceFor, CanMake}
-use Rattle.flash_laws.specs.Shelf.{Shelf, MayBeDue, IsAmong}
+use Rattle.flash_laws.specs.SiteContents.{SiteContents, MayBeExpected, IsAmong}
 use Rattle.flash_laws.specs.Site.{server}
-use Rattle.flash_laws.specs.Site.ClientTies.{AllFit}
+use Rattle.flash_laws.specs.Site.ClientConsistency.{AllFit}
 use Rattle.flash_laws.specs.Site.OtherConns.{with_at, left_by}
 use Rattle.flash_laws.specs.Site.Past.{Past}
-use Rattle.flash_laws.specs.Workers.Crew.{Crew, IsFixedFor}
-use Rattle.flash_laws.specs.declared.phase.Content.{Content}
-use Rattle.flash_laws.specs.declared.phase.Content.TheVariants.{Script}
-use Rattle.flash_laws.specs.declared.phase.Doing.{Doing}
-use Rattle.flash_laws.specs.declared.phase.Doing.TheVariants as doing
+use Rattle.flash_laws.specs.Workers.WorkerSet.{WorkerSet, IsFixedFor}
+use Rattle.flash_laws.specs.declared.phase.Payload.{Payload}
+use Rattle.flash_laws.specs.declared.phase.Payload.TheVariants.{Script}
+use Rattle.flash_laws.specs.declared.phase.Phase.{Phase}
+use Rattle.flash_laws.specs.declared.phase.Phase.TheVariants as phase
 use Rattle.flash_laws.proofs.Forms.{at, of}
 use Rattle.flash_progress.specs.Bound.{conn_of, unread_at, sum_to}
 use Rattle.flash_progress.proofs.Measure.{unread_turns}
@@ -97,12 +98,12 @@ abbrev pub place_turns : (longest : ℕ) → State → List (Option Client) → 
 place_turns longest m clients fd = of_place longest (unread_at m fd) (in_place clients fd)
 
 -- and for a connection that waits
-abbrev pub door_turns : (longest : ℕ) → State → (c : ℕ) → ℕ
-door_turns longest m c = if (conn_at m c).accepted then 0 else unread_turns longest (length (conn_at m c).incoming) + 7
+abbrev pub accept_step_turns : (longest : ℕ) → State → (c : ℕ) → ℕ
+accept_step_turns longest m c = if (conn_at m c).accepted then 0 else unread_turns longest (length (conn_at m c).incoming) + 7
 
 -- for all places and connections below these numbers
 abbrev pub all_left : (longest places conns : ℕ) → State → List (Option Client) → ℕ
-all_left longest places conns m clients = sum_to places (place_turns longest m clients) + sum_to conns (door_turns longest m)
+all_left longest places conns m clients = sum_to places (place_turns longest m clients) + sum_to conns (accept_step_turns longest m)
 
 -- ---- of files alone
 
@@ -112,125 +113,125 @@ no-script false (refuse status head_only close) is = refl
 no-script true q is = absurd (cc (is))
 
 -- No response to a proper request is longer than `longest`.
-pub record AreShort (shelf : Shelf) (longest : ℕ) : Type 0 where
-  pub short : (q : Answer) (due : List ℕ) → IsProper q → MayBeDue shelf q due → length due ≤ longest
+pub record AreShort (site_contents : SiteContents) (longest : ℕ) : Type 0 where
+  pub short : (q : Answer) (expected : List ℕ) → IsProper q → MayBeExpected site_contents q expected → length expected ≤ longest
   pub errors : IsShort longest
   pub heads : (q : Answer) → IsProper q → length (text_of q Script) ≤ longest
 
 -- The server has an open pool for heads, and none is longer than an aggregate.
 abbrev pub HasRoom : State → Type 0
-HasRoom m = (q : Answer) (k : Content) → IsProper q → ContentIsShort k → HasPlaceFor m (text_of q k)
+HasRoom m = (q : Answer) (k : Payload) → IsProper q → ContentIsShort k → HasPlaceFor m (text_of q k)
 
-pub can-make : (shelf : Shelf) (m : State) (fd : ℕ) (kept : List ℕ) (q : Answer) (script : List ℕ) (d : Doing) → IsProper q → Finds shelf m q script d
+pub can-make : (site_contents : SiteContents) (m : State) (fd : ℕ) (kept : List ℕ) (q : Answer) (script : List ℕ) (d : Phase) → IsProper q → Finds site_contents m q script d
     → HasRoom m → CanMake m (conn.wants fd (at kept q d))
-can-make shelf m fd kept q script (doing.Heads k) fine finds room = room q k fine finds
-can-make shelf m fd kept q script (doing.Reads f) fine finds room = by (conn.is_head_only q)
+can-make site_contents m fd kept q script (phase.Heads k) fine finds room = room q k fine finds
+can-make site_contents m fd kept q script (phase.Reads f) fine finds room = by (conn.is_head_only q)
   where
     by : (b : Bool) → CanMake m (if b then call.Length f else call.IolRead f conn.most_read)
     by true = tt
     by false = tt
-can-make shelf m fd kept q script d fine finds room = tt
+can-make site_contents m fd kept q script d fine finds room = tt
 
-pub due-short : (shelf : Shelf) (longest : ℕ) (q : Answer) (due : List ℕ) (d : Doing) → IsProper q → AreShort shelf longest → MayBeDue shelf q due → length (due_in due q d) ≤ longest
-due-short shelf longest q due d fine short may = by (is_read d)
+pub expected-short : (site_contents : SiteContents) (longest : ℕ) (q : Answer) (expected : List ℕ) (d : Phase) → IsProper q → AreShort site_contents longest → MayBeExpected site_contents q expected → length (expected_in expected q d) ≤ longest
+expected-short site_contents longest q expected d fine short may = by (is_read d)
   where
-    by : (b : Bool) → length (if b then text_of q Script else due) ≤ longest
+    by : (b : Bool) → length (if b then text_of q Script else expected) ≤ longest
     by true = short.heads q fine
-    by false = short.short q due fine may
+    by false = short.short q expected fine may
 
 -- the request stays
-same-request : (kept : List ℕ) (q : Answer) (d : Doing) (r : Reply) (heard : List ℕ) → (conn.told (at kept q d) r heard).q ≡ q
-same-request kept q doing.Rests (reply.Agg a) [] = refl
-same-request kept q doing.Rests (reply.Agg a) (b ∷ heard) = refl
-same-request kept q doing.Rests r heard = refl
-same-request kept q d r heard = refl
+same-request : (kept : List ℕ) (q : Answer) (d : Phase) (r : Reply) (received : List ℕ) → (conn.after_reply (at kept q d) r received).q ≡ q
+same-request kept q phase.Rests (reply.Agg a) [] = refl
+same-request kept q phase.Rests (reply.Agg a) (b ∷ received) = refl
+same-request kept q phase.Rests r received = refl
+same-request kept q d r received = refl
 
 -- one that is over is forgotten
-pub left-most : (longest unread : ℕ) (d : Doing) (x : Client) → of_place longest unread (left_by d x) ≤ conn_turns longest unread x.conn
-left-most longest unread doing.Over x = omega arith
+pub left-most : (longest unread : ℕ) (d : Phase) (x : Client) → of_place longest unread (left_by d x) ≤ conn_turns longest unread x.conn
+left-most longest unread phase.Over x = omega arith
 left-most longest unread d x = omega arith
 
 -- ---- the server's own call for a client
 
-module _ (shelf : Shelf) (crew : Crew) (laws : AllLaws crew) (files : shelf.scripts ≡ false) (longest places conns : ℕ) (m n : State) (p : Past) (clients : List (Option Client)) (fd : ℕ)
-    (cn : Conn) (script : List ℕ) (r : Reply) (heard : List ℕ) (seats : List (Seat crew.Worker)) (order : IsOrderly m) (fixed : IsFixedFor shelf crew m) (fit : AllFit shelf crew m p clients seats)
-    (there : in_place clients fd ≡ Some (of cn None script)) (waits : IsAwaiting (of cn None script)) (among : IsAmong shelf.refuses.of_server r)
-    (step : StepsTo m (event.Call server (wants shelf.scripts fd (of cn None script))) r n) (names : Names n r heard) where
+module _ (site_contents : SiteContents) (worker_set : WorkerSet) (laws : AllLaws worker_set) (files : site_contents.scripts ≡ false) (longest places conns : ℕ) (m n : State) (p : Past) (clients : List (Option Client)) (fd : ℕ)
+    (cn : Conn) (script : List ℕ) (r : Reply) (received : List ℕ) (process_slots : List (ProcessSlot worker_set.Worker)) (order : IsOrderly m) (fixed : IsFixedFor site_contents worker_set m) (fit : AllFit site_contents worker_set m p clients process_slots)
+    (there : in_place clients fd ≡ Some (of cn None script)) (waits : IsAwaiting (of cn None script)) (among : IsAmong site_contents.refuses.of_server r)
+    (step : StepsTo m (event.Call server (wants site_contents.scripts fd (of cn None script))) r n) (names : Names n r received) where
   abbrev c : ℕ
   c = (fit.each fd (of cn None script) there).conn
 
-  f : FitsAlone shelf m (p.came (fit.each fd (of cn None script) there).conn) (p.sent (fit.each fd (of cn None script) there).conn) fd (fit.each fd (of cn None script) there).conn (of cn None script)
+  f : FitsAlone site_contents m (p.came (fit.each fd (of cn None script) there).conn) (p.sent (fit.each fd (of cn None script) there).conn) fd (fit.each fd (of cn None script) there).conn (of cn None script)
   f = (fit.each fd (of cn None script) there).fits
 
-  plain : is_for_script shelf.scripts cn.q ≡ false
-  plain = no-script shelf.scripts cn.q files
+  plain : is_for_script site_contents.scripts cn.q ≡ false
+  plain = no-script site_contents.scripts cn.q files
 
-  calls : wants shelf.scripts fd (of cn None script) ≡ conn.wants fd cn
+  calls : wants site_contents.scripts fd (of cn None script) ≡ conn.wants fd cn
   calls = ap (λ (b : Bool). client.conn_wants b fd cn) plain
 
-  tells : (worker : ℕ) → told shelf.scripts worker (of cn None script) r heard ≡ of (conn.told cn r heard) None script
-  tells worker = ap (λ (b : Bool). client.file_told b (of cn None script) r heard) plain
+  reports : (worker : ℕ) → after_reply site_contents.scripts worker (of cn None script) r received ≡ of (conn.after_reply cn r received) None script
+  reports worker = ap (λ (b : Bool). client.file_after_reply b (of cn None script) r received) plain
 
   step_is : StepsTo m (event.Call server (conn.wants fd cn)) r n
   step_is = subst (λ (k : Call). StepsTo m (event.Call server k) r n) calls step
 
-  after-fits : is_closing cn.doing ≡ false → FitsAlone shelf n (p.came c) (p.sent c) fd c (of (conn.told cn r heard) None script)
-  after-fits going = subst (λ (x : Client). Fits shelf crew n (p.came c) (p.sent c) fd c x seats) (tells 0)
-      (alone_step shelf crew laws m n (p.came c) (p.sent c) fd c 0 (of cn None script) r heard seats order fixed refl f waits going among step names)
+  after-fits : is_closing cn.phase ≡ false → FitsAlone site_contents n (p.came c) (p.sent c) fd c (of (conn.after_reply cn r received) None script)
+  after-fits going = subst (λ (x : Client). Fits site_contents worker_set n (p.came c) (p.sent c) fd c x process_slots) (reports 0)
+      (alone_step site_contents worker_set laws m n (p.came c) (p.sent c) fd c 0 (of cn None script) r received process_slots order fixed refl f waits going among step names)
 
   open_on : descriptor m server fd ≡ Some (on.Connection c)
   open_on = f.open_on
 
   abbrev after : Client
-  after = of (conn.told cn r heard) None script
+  after = of (conn.after_reply cn r received) None script
 
   abbrev later : List (Option Client)
   later = with_at clients fd (left_over after)
 
   -- where its connection is closed nothing is left there
-  closed : cn.doing ≡ doing.Closes → (conn.told cn r heard).doing ≡ doing.Over
-  closed is = ap (λ (d : Doing). (conn.told (record cn { doing = d }) r heard).doing) is ∙ by r (laws.the.own.closes_conn m n server fd c r order open_on did) did
+  closed : cn.phase ≡ phase.Closes → (conn.after_reply cn r received).phase ≡ phase.Over
+  closed is = ap (λ (d : Phase). (conn.after_reply (record cn { phase = d }) r received).phase) is ∙ by r (laws.the.own.closes_conn m n server fd c r order open_on did) did
     where
       did : StepsTo m (event.Call server (call.Close fd)) r n
-      did = subst (λ (d : Doing). StepsTo m (event.Call server (conn.wants fd (record cn { doing = d }))) r n) is step_is
+      did = subst (λ (d : Phase). StepsTo m (event.Call server (conn.wants fd (record cn { phase = d }))) r n) is step_is
 
-      by : (r : Reply) → o.ClosesConn m c r n → StepsTo m (event.Call server (call.Close fd)) r n → conn.told_closes r ≡ doing.Over
+      by : (r : Reply) → o.ClosesConn m c r n → StepsTo m (event.Call server (call.Close fd)) r n → conn.after_disconnect r ≡ phase.Over
       by reply.Done did step = refl
       by (reply.Refused z) did step = absurd (laws.left.closes m n server fd (on.Connection c) z fixed.site.lives open_on step)
       by r did step = absurd did
 
-  alone : CallsAlone m fd c (of cn None script) (wants shelf.scripts fd (of cn None script))
-  alone = calls-alone shelf crew laws m (p.came c) (p.sent c) fd c seats cn None script f
+  alone : CallsAlone m fd c (of cn None script) (wants site_contents.scripts fd (of cn None script))
+  alone = calls-alone site_contents worker_set laws m (p.came c) (p.sent c) fd c process_slots cn None script f
 
   -- a descriptor on another connection stays
   untouched : (gd k : ℕ) → fd ≢ gd → descriptor m server gd ≡ Some (on.Connection k)
-      → touches_fd m (event.Call server (wants shelf.scripts fd (of cn None script))) server gd ≡ false
-  untouched gd k differ opened = no-true (touches_fd m (event.Call server (wants shelf.scripts fd (of cn None script))) server gd) (λ u. elim (alone.fds gd u) [
+      → touches_fd m (event.Call server (wants site_contents.scripts fd (of cn None script))) server gd ≡ false
+  untouched gd k differ opened = no-true (touches_fd m (event.Call server (wants site_contents.scripts fd (of cn None script))) server gd) (λ u. elim (alone.fds gd u) [
     | inl has ↦ not-conn has
     | inr here ↦ differ here
   ])
     where
       not-conn : has_fd (of cn None script) gd ≡ true → ⊥
-      not-conn has = elim (there-fd shelf crew laws m (p.came c) (p.sent c) fd c seats cn None script gd f has) [
+      not-conn has = elim (there-fd site_contents worker_set laws m (p.came c) (p.sent c) fd c process_slots cn None script gd f has) [
         | inl file ↦ (let h = file.2 in cc (h, opened))
         | inr end ↦ elim end.1 [ inl read ↦ cc (read, opened) | inr write ↦ cc (write, opened) ]
       ]
 
   stays-open : (gd k : ℕ) → fd ≢ gd → descriptor m server gd ≡ Some (on.Connection k) → descriptor n server gd ≡ Some (on.Connection k)
-  stays-open gd k differ opened = (laws.the.steps.leaves m n (event.Call server (wants shelf.scripts fd (of cn None script))) r step).fds server gd (on.Connection k) opened (untouched gd k differ opened)
+  stays-open gd k differ opened = (laws.the.steps.leaves m n (event.Call server (wants site_contents.scripts fd (of cn None script))) r step).fds server gd (on.Connection k) opened (untouched gd k differ opened)
 
   module _ (sure : is_later r ≡ false)
-      (short : AreShort shelf longest) (room : HasRoom m) (low : fd < places)
+      (short : AreShort site_contents longest) (room : HasRoom m) (low : fd < places)
       -- of the machine: nothing comes in by a call; what came in the server may read
       (none_come : (c : ℕ) → length (conn_at n c).incoming ≤ length (conn_at m c).incoming)
       (seen : (c q : ℕ) → descriptor m server fd ≡ Some (on.Connection c) → IsHidden m server q (conn_at m c).incoming → ⊥) where
-    due-after : (b : Bool) → is_closing cn.doing ≡ b → (due : List ℕ) × (length due ≤ longest) × (is_closing cn.doing ≡ false → Has n cn.q due (conn.told cn r heard).doing)
-    due-after true is = ([], omega arith, λ going. absurd (let e = sym is ∙ going in cc (e)))
-    due-after false is =
+    expected-after : (b : Bool) → is_closing cn.phase ≡ b → (expected : List ℕ) × (length expected ≤ longest) × (is_closing cn.phase ≡ false → Has n cn.q expected (conn.after_reply cn r received).phase)
+    expected-after true is = ([], omega arith, λ going. absurd (let e = sym is ∙ going in cc (e)))
+    expected-after false is =
         let g = after-fits is in (
-          due_in g.due (conn.told cn r heard).q (conn.told cn r heard).doing,
-          due-short shelf longest (conn.told cn r heard).q g.due (conn.told cn r heard).doing (subst (λ (q : Answer). IsProper q) (sym (same-request cn.kept cn.q cn.doing r heard)) f.proper) short g.may,
-          λ going. subst (λ (q : Answer). Has n q (due_in g.due (conn.told cn r heard).q (conn.told cn r heard).doing) (conn.told cn r heard).doing) (same-request cn.kept cn.q cn.doing r heard) g.has,
+          expected_in g.expected (conn.after_reply cn r received).q (conn.after_reply cn r received).phase,
+          expected-short site_contents longest (conn.after_reply cn r received).q g.expected (conn.after_reply cn r received).phase (subst (λ (q : Answer). IsProper q) (sym (same-request cn.kept cn.q cn.phase r received)) f.proper) short g.may,
+          λ going. subst (λ (q : Answer). Has n q (expected_in g.expected (conn.after_reply cn r received).q (conn.after_reply cn r received).phase) (conn.after_reply cn r received).phase) (same-request cn.kept cn.q cn.phase r received) g.has,
         )
 
     abbrev before : ℕ
@@ -240,32 +241,32 @@ module _ (shelf : Shelf) (crew : Crew) (laws : AllLaws crew) (files : shelf.scri
     now = length (conn_at n c).incoming
 
     -- less is left for it
-    falls : conn_turns longest now (conn.told cn r heard) < conn_turns longest before cn
+    falls : conn_turns longest now (conn.after_reply cn r received) < conn_turns longest before cn
     falls =
-        let due = due-after (is_closing cn.doing) refl in
-        turn-falls laws.the.own laws.left laws.the.reasons laws.the.windows m n longest fd c order fixed.site.lives open_on cn.kept cn.q cn.doing (due_in f.due cn.q cn.doing) due.0 r heard due.1 (none_come c)
-        (λ q. seen c q open_on) f.has due.2 (can-make shelf m fd cn.kept cn.q script cn.doing f.proper f.finds room) step_is names sure
+        let expected = expected-after (is_closing cn.phase) refl in
+        turn-falls laws.the.own laws.left laws.the.reasons laws.the.windows m n longest fd c order fixed.site.lives open_on cn.kept cn.q cn.phase (expected_in f.expected cn.q cn.phase) expected.0 r received expected.1 (none_come c)
+        (λ q. seen c q open_on) f.has expected.2 (can-make site_contents m fd cn.kept cn.q script cn.phase f.proper f.finds room) step_is names sure
 
     -- in its place
     here-before : place_turns longest m clients fd ≡ conn_turns longest before cn
     here-before = ap (λ (x : Option Client). of_place longest (unread_at m fd) x) there ∙ ap (λ (x : Option Descriptor). conn_turns longest (length (conn_at m (conn_of x)).incoming) cn) open_on
 
-    here-later : place_turns longest n later fd ≤ conn_turns longest now (conn.told cn r heard)
-    here-later = subst (λ (x : Option Client). of_place longest (unread_at n fd) x ≤ conn_turns longest now (conn.told cn r heard)) (sym (at-same clients fd (left_over after))) (which (is_closing cn.doing) refl)
+    here-later : place_turns longest n later fd ≤ conn_turns longest now (conn.after_reply cn r received)
+    here-later = subst (λ (x : Option Client). of_place longest (unread_at n fd) x ≤ conn_turns longest now (conn.after_reply cn r received)) (sym (at-same clients fd (left_over after))) (which (is_closing cn.phase) refl)
       where
-        gone : (d : Doing) → (conn.told cn r heard).doing ≡ d → d ≡ doing.Over → of_place longest (unread_at n fd) (left_by (conn.told cn r heard).doing after) ≤ conn_turns longest now (conn.told cn r heard)
-        gone d is over = subst (λ (e : Doing). of_place longest (unread_at n fd) (left_by e after) ≤ conn_turns longest now (conn.told cn r heard)) (sym (is ∙ over)) (omega arith)
+        gone : (d : Phase) → (conn.after_reply cn r received).phase ≡ d → d ≡ phase.Over → of_place longest (unread_at n fd) (left_by (conn.after_reply cn r received).phase after) ≤ conn_turns longest now (conn.after_reply cn r received)
+        gone d is over = subst (λ (e : Phase). of_place longest (unread_at n fd) (left_by e after) ≤ conn_turns longest now (conn.after_reply cn r received)) (sym (is ∙ over)) (omega arith)
 
-        closes : (d : Doing) → cn.doing ≡ d → is_closing d ≡ true → of_place longest (unread_at n fd) (left_over after) ≤ conn_turns longest now (conn.told cn r heard)
-        closes doing.Closes is closing = gone (conn.told cn r heard).doing refl (closed is)
-        closes doing.Over is closing = absurd (subst (λ (d : Doing). Has m cn.q (due_in f.due cn.q d) d) is f.has)
+        closes : (d : Phase) → cn.phase ≡ d → is_closing d ≡ true → of_place longest (unread_at n fd) (left_over after) ≤ conn_turns longest now (conn.after_reply cn r received)
+        closes phase.Closes is closing = gone (conn.after_reply cn r received).phase refl (closed is)
+        closes phase.Over is closing = absurd (subst (λ (d : Phase). Has m cn.q (expected_in f.expected cn.q d) d) is f.has)
         closes d is closing = absurd (cc (closing))
 
-        which : (b : Bool) → is_closing cn.doing ≡ b → of_place longest (unread_at n fd) (left_over after) ≤ conn_turns longest now (conn.told cn r heard)
-        which true is = closes cn.doing refl is
+        which : (b : Bool) → is_closing cn.phase ≡ b → of_place longest (unread_at n fd) (left_over after) ≤ conn_turns longest now (conn.after_reply cn r received)
+        which true is = closes cn.phase refl is
         which false is =
             let open_still = ap (λ (x : Option Descriptor). length (conn_at n (conn_of x)).incoming) (after-fits is).open_on in
-            subst (λ (u : ℕ). of_place longest u (left_over after) ≤ conn_turns longest now (conn.told cn r heard)) (sym open_still) (left-most longest now (conn.told cn r heard).doing after)
+            subst (λ (u : ℕ). of_place longest u (left_over after) ≤ conn_turns longest now (conn.after_reply cn r received)) (sym open_still) (left-most longest now (conn.after_reply cn r received).phase after)
 
     -- in the others as much as before
     elsewhere : (gd : ℕ) → fd ≢ gd → place_turns longest n later gd ≤ place_turns longest m clients gd
@@ -275,11 +276,11 @@ module _ (shelf : Shelf) (crew : Crew) (laws : AllLaws crew) (files : shelf.scri
         same y is =
             let at_y = fit.each gd y is in
             let k = at_y.conn in
-            let opened : descriptor m server gd ≡ Some (on.Connection k) = opens-on shelf crew laws m (p.came k) (p.sent k) gd k seats y.conn y.run y.script at_y.fits in
+            let opened : descriptor m server gd ≡ Some (on.Connection k) = opens-on site_contents worker_set laws m (p.came k) (p.sent k) gd k process_slots y.conn y.run y.script at_y.fits in
             let kept : descriptor n server gd ≡ Some (on.Connection k) = stays-open gd k differ opened in
             let other : c ≢ k = (λ e. differ (order.one server server fd gd (on.Connection k) refl (open_on ∙ ap (λ (z : ℕ). Some (on.Connection z)) e) opened).1) in
             ap (λ (x : Option Descriptor). length (conn_at n (conn_of x)).incoming) kept
-            ∙ (ap (λ (z : Connection). length z.incoming) ((laws.the.steps.leaves m n (event.Call server (wants shelf.scripts fd (of cn None script))) r step).conns k (no-true (touches_conn m (event.Call server (wants shelf.scripts fd (of cn None script))) k) (λ u. other (alone.conns k u))))
+            ∙ (ap (λ (z : Connection). length z.incoming) ((laws.the.steps.leaves m n (event.Call server (wants site_contents.scripts fd (of cn None script))) r step).conns k (no-true (touches_conn m (event.Call server (wants site_contents.scripts fd (of cn None script))) k) (λ u. other (alone.conns k u))))
             ∙ sym (ap (λ (x : Option Descriptor). length (conn_at m (conn_of x)).incoming) opened))
 
         by : (x : Option Client) → in_place clients gd ≡ x → of_place longest (unread_at n gd) x ≤ place_turns longest m clients gd
@@ -296,30 +297,30 @@ module _ (shelf : Shelf) (crew : Crew) (laws : AllLaws crew) (files : shelf.scri
       | inr differ ↦ elsewhere gd differ
     ]
 
-    -- no more waits at the door
-    each-door : (k : ℕ) → door_turns longest n k ≤ door_turns longest m k
-    each-door k = elim (cases_eq c k) [
-      | inl same ↦ subst (λ (z : ℕ). door_turns longest n z ≤ door_turns longest m z) same
-          (subst (λ (b : Bool). (if b then 0 else unread_turns longest (length (conn_at n c).incoming) + 7) ≤ door_turns longest m c)
-          (sym (laws.the.other.accepted m n server (wants shelf.scripts fd (of cn None script)) r c order step (held-open m fd c order open_on).0)) (omega arith))
+    -- no more waits at the accept step
+    each-accept_step : (k : ℕ) → accept_step_turns longest n k ≤ accept_step_turns longest m k
+    each-accept_step k = elim (cases_eq c k) [
+      | inl same ↦ subst (λ (z : ℕ). accept_step_turns longest n z ≤ accept_step_turns longest m z) same
+          (subst (λ (b : Bool). (if b then 0 else unread_turns longest (length (conn_at n c).incoming) + 7) ≤ accept_step_turns longest m c)
+          (sym (laws.the.other.accepted m n server (wants site_contents.scripts fd (of cn None script)) r c order step (held-open m fd c order open_on).0)) (omega arith))
       | inr differ ↦
-          (let is = (laws.the.steps.leaves m n (event.Call server (wants shelf.scripts fd (of cn None script))) r step).conns k (no-true (touches_conn m (event.Call server (wants shelf.scripts fd (of cn None script))) k) (λ u. differ (alone.conns k u))) in
+          (let is = (laws.the.steps.leaves m n (event.Call server (wants site_contents.scripts fd (of cn None script))) r step).conns k (no-true (touches_conn m (event.Call server (wants site_contents.scripts fd (of cn None script))) k) (λ u. differ (alone.conns k u))) in
           let e = ap (λ (z : Connection). if z.accepted then 0 else unread_turns longest (length z.incoming) + 7) is in omega (arith, e))
     ]
 
     -- So less is left of all.
-    pub call-falls : (worker : ℕ) → all_left longest places conns n (with_at clients fd (left_over (told shelf.scripts worker (of cn None script) r heard))) < all_left longest places conns m clients
-    call-falls worker = subst (λ (x : Client). all_left longest places conns n (with_at clients fd (left_over x)) < all_left longest places conns m clients) (sym (tells worker))
+    pub call-falls : (worker : ℕ) → all_left longest places conns n (with_at clients fd (left_over (after_reply site_contents.scripts worker (of cn None script) r received))) < all_left longest places conns m clients
+    call-falls worker = subst (λ (x : Client). all_left longest places conns n (with_at clients fd (left_over x)) < all_left longest places conns m clients) (sym (reports worker))
         (let one = here-later in let two = here-before in let less = falls in
         let sums = less_at places fd 1 (place_turns longest m clients) (place_turns longest n later) low (omega (arith, one, two, less)) each-place in
-        let doors = no_more conns (door_turns longest m) (door_turns longest n) each-door in
-        omega (arith, sums, doors))
+        let accept_steps = no_more conns (accept_step_turns longest m) (accept_step_turns longest n) each-accept_step in
+        omega (arith, sums, accept_steps))
 
 -- ---- a client is made ready
 
-module _ (shelf : Shelf) (crew : Crew) (laws : AllLaws crew) (longest places conns : ℕ) (m : State) (p : Past) (clients : List (Option Client)) (fd : ℕ)
-    (cn : Conn) (script : List ℕ) (y : Client) (seats : List (Seat crew.Worker)) (order : IsOrderly m) (fixed : IsFixedFor shelf crew m) (fit : AllFit shelf crew m p clients seats)
-    (there : in_place clients fd ≡ Some (of cn None script)) (ready : Readies (of cn None script) y) (short : AreShort shelf longest) where
+module _ (site_contents : SiteContents) (worker_set : WorkerSet) (laws : AllLaws worker_set) (longest places conns : ℕ) (m : State) (p : Past) (clients : List (Option Client)) (fd : ℕ)
+    (cn : Conn) (script : List ℕ) (y : Client) (process_slots : List (ProcessSlot worker_set.Worker)) (order : IsOrderly m) (fixed : IsFixedFor site_contents worker_set m) (fit : AllFit site_contents worker_set m p clients process_slots)
+    (there : in_place clients fd ≡ Some (of cn None script)) (ready : Readies (of cn None script) y) (short : AreShort site_contents longest) where
   abbrev mine : ℕ
   mine = (fit.each fd (of cn None script) there).conn
 
@@ -348,8 +349,8 @@ module _ (shelf : Shelf) (crew : Crew) (laws : AllLaws crew) (longest places con
 
 -- ---- one more is accepted
 
-module _ (shelf : Shelf) (crew : Crew) (laws : AllLaws crew) (longest places conns : ℕ) (m n : State) (p : Past) (clients : List (Option Client)) (fd : ℕ)
-    (seats : List (Seat crew.Worker)) (order : IsOrderly m) (fit : AllFit shelf crew m p clients seats)
+module _ (site_contents : SiteContents) (worker_set : WorkerSet) (laws : AllLaws worker_set) (longest places conns : ℕ) (m n : State) (p : Past) (clients : List (Option Client)) (fd : ℕ)
+    (process_slots : List (ProcessSlot worker_set.Worker)) (order : IsOrderly m) (fit : AllFit site_contents worker_set m p clients process_slots)
     (step : StepsTo m (event.Call server call.Accept) (reply.Fd fd) n) (takes : o.TakesConn m server fd n) (low : takes.conn < conns) where
   abbrev came : ℕ
   came = length (conn_at m takes.conn).incoming
@@ -372,7 +373,7 @@ module _ (shelf : Shelf) (crew : Crew) (laws : AllLaws crew) (longest places con
       same y is =
           let at_y = fit.each gd y is in
           let k = at_y.conn in
-          let opened : descriptor m server gd ≡ Some (on.Connection k) = opens-on shelf crew laws m (p.came k) (p.sent k) gd k seats y.conn y.run y.script at_y.fits in
+          let opened : descriptor m server gd ≡ Some (on.Connection k) = opens-on site_contents worker_set laws m (p.came k) (p.sent k) gd k process_slots y.conn y.run y.script at_y.fits in
           let kept : descriptor n server gd ≡ Some (on.Connection k) = (laws.the.steps.leaves m n (event.Call server call.Accept) (reply.Fd fd) step).fds server gd (on.Connection k) opened refl in
           let other : takes.conn ≢ k = (λ e. let w = ap (λ (z : ℕ). (conn_at m z).accepted) (sym e) ∙ takes.waited in let a = (held-open m gd k order opened).0 in cc (w, a)) in
           ap (λ (x : Option Descriptor). length (conn_at n (conn_of x)).incoming) kept
@@ -387,14 +388,14 @@ module _ (shelf : Shelf) (crew : Crew) (laws : AllLaws crew) (longest places con
           omega (arith, was, now_is)
 
   -- it waits no more
-  each-door-then : (k : ℕ) → door_turns longest n k ≤ door_turns longest m k
-  each-door-then k = elim (cases_eq takes.conn k) [
-    | inl same ↦ subst (λ (z : ℕ). door_turns longest n z ≤ door_turns longest m z) same (let e = entered-door in omega (arith, e))
+  each-accept_step-then : (k : ℕ) → accept_step_turns longest n k ≤ accept_step_turns longest m k
+  each-accept_step-then k = elim (cases_eq takes.conn k) [
+    | inl same ↦ subst (λ (z : ℕ). accept_step_turns longest n z ≤ accept_step_turns longest m z) same (let e = entered-accept_step in omega (arith, e))
     | inr differ ↦ (let e = ap (λ (z : Connection). if z.accepted then 0 else unread_turns longest (length z.incoming) + 7) (takes.others k differ) in omega (arith, e))
   ]
     where
-      entered-door : door_turns longest n takes.conn ≡ 0
-      entered-door = ap (λ (z : Connection). if z.accepted then 0 else unread_turns longest (length z.incoming) + 7) takes.conn_is
+      entered-accept_step : accept_step_turns longest n takes.conn ≡ 0
+      entered-accept_step = ap (λ (z : Connection). if z.accepted then 0 else unread_turns longest (length z.incoming) + 7) takes.conn_is
 
   -- So less is left of all.
   pub accept-falls : all_left longest places conns n (with_at clients fd (Some new_client)) < all_left longest places conns m clients
@@ -402,7 +403,7 @@ module _ (shelf : Shelf) (crew : Crew) (laws : AllLaws crew) (longest places con
       let here = here-entered in
       let none : conn_turns longest came conn.new_connection ≡ 6 + unread_turns longest came = omega arith in
       let sums = more_at places fd (6 + unread_turns longest came) (place_turns longest m clients) (place_turns longest n entered) (omega (arith, here, none)) beside in
-      let gone : door_turns longest n takes.conn ≡ 0 = ap (λ (z : Connection). if z.accepted then 0 else unread_turns longest (length z.incoming) + 7) takes.conn_is in
-      let was : door_turns longest m takes.conn ≡ unread_turns longest came + 7 = ap (λ (b : Bool). if b then 0 else unread_turns longest came + 7) takes.waited in
-      let doors = less_at conns takes.conn (unread_turns longest came + 7) (door_turns longest m) (door_turns longest n) low (omega (arith, gone, was)) each-door-then in
-      omega (arith, sums, doors)
+      let gone : accept_step_turns longest n takes.conn ≡ 0 = ap (λ (z : Connection). if z.accepted then 0 else unread_turns longest (length z.incoming) + 7) takes.conn_is in
+      let was : accept_step_turns longest m takes.conn ≡ unread_turns longest came + 7 = ap (λ (b : Bool). if b then 0 else unread_turns longest came + 7) takes.waited in
+      let accept_steps = less_at conns takes.conn (unread_turns longest came + 7) (accept_step_turns longest m) (accept_step_turns longest n) low (omega (arith, gone, was)) each-accept_step-then in
+      omega (arith, sums, accept_steps)

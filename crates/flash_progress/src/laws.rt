@@ -1,12 +1,12 @@
 //! Laws of progress. The functions have no effect; their contracts are the laws.
-ghost use Rattle.flash_laws.specs.Workers.Crews.{OfEach};
+ghost use Rattle.flash_laws.specs.Workers.WorkerSets.{OfEach};
 ghost use Rattle.flash_progress.specs.Hosted.{HostedBecomesIdle};
 ghost use Rattle.flash_progress.specs.Served.{ArrivalsCanBeRead, BecomesIdle, ServesAll};
 
-use flash_cgi::laws::others_hear;
+use flash_cgi::laws::others_receive;
 use flash_http::{served_requests, window_fits, window_stays};
 use flash_laws::run_laws::{run_keeping_law, runs_law};
-use flash_laws::worker_laws::due_may_come;
+use flash_laws::worker_laws::expected_may_come;
 use flash_laws::world_law::RunsScripts;
 use iol_laws::laws;
 
@@ -18,18 +18,18 @@ use iol_laws::laws;
 /// server has the maximum number of connections. Two premises are about the state in which the
 /// turns begin: the server's default pool is open (`CanPlace`), and arrivals can be read
 /// (`CanRead`), which [`arrivals_can_be_read`] gives for each reachable state. `hosted` states the
-/// same for a new world that first executed choices with mild external calls.
+/// same for a new world that first executed choices with site-preserving external calls.
 pub fn file_server_becomes_idle<W: RunsScripts>()
-    ensures idle { OfEach W.turns W.settled W.free W.due BecomesIdle }
-    ensures served { OfEach W.turns W.settled W.free W.due ServesAll }
-    ensures hosted { OfEach W.turns W.settled W.free W.due HostedBecomesIdle }
+    ensures idle { OfEach W.turns W.quiescent W.free W.expected BecomesIdle }
+    ensures served { OfEach W.turns W.quiescent W.free W.expected ServesAll }
+    ensures hosted { OfEach W.turns W.quiescent W.free W.expected HostedBecomesIdle }
 {
     W::runs();
-    W::settles();
+    W::quiesces();
     runs_law();
     run_keeping_law();
-    due_may_come();
-    others_hear();
+    expected_may_come();
+    others_receive();
     served_requests();
     laws::each_step_leaves_the_rest();
     laws::each_step_keeps_order();

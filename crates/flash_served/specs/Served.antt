@@ -1,5 +1,5 @@
--- Connections that are served in a world that satisfies the server's invariant: the bytes sent begin an answer to the bytes
--- received.
+-- Connections that are served in a world that satisfies the server's invariant: the bytes sent begin an answer to the
+-- bytes received.
 use Rattle.std.specs.Prelude.{◌≡◌, ℕ, true, false, List, [], ◌∷◌, ◌++◌, Option}
 use Rattle.std.specs.Io.KnownBytes.{Appends, Consumes}
 use Rattle.std.specs.List.{AllByRecursion}
@@ -12,17 +12,17 @@ use Rattle.iol_proc.specs.Histories.{stream_over, sent_over}
 use Rattle.iol_proc.specs.World.{OutsideStep, Stage, copying}
 use Rattle.iol_proc.specs.declared.choice.Choice.{Choice}
 use Rattle.iol_proc.specs.declared.choice.Choice.TheVariants as choice
-use Rattle.iol_serve.specs.Service.{GoesOn, Serves, hung_up}
+use Rattle.iol_serve.specs.Service.{Proceeds, Serves, hung_up}
 use Rattle.iol_serve.specs.declared.ending.Ending.{Ending}
 use Rattle.iol_serve.specs.declared.ending.Ending.TheVariants.{Over}
 use Rattle.flash_cgi.specs.declared.worker.Worker.{Worker}
 use Rattle.flash_laws.specs.Serves.Rounds.{in_rounds}
-use Rattle.flash_laws.specs.Shelf.{Begins, IsAnswer, Refusals, Shelf}
+use Rattle.flash_laws.specs.SiteContents.{Begins, IsAnswer, Refusals, SiteContents}
 use Rattle.flash_laws.specs.Site.{net_pool}
-use Rattle.flash_laws.specs.World.{AreFair, Tied}
+use Rattle.flash_laws.specs.World.{AreFair, Consistent}
 use Rattle.flash_laws.specs.World.Fair.{any_refusal, no_refusal}
-use Rattle.flash_laws.specs.World.Tie.{Actor, actor_turns, gone_over, made_over}
-use Rattle.flash_lite.specs.Crew.{crew_of}
+use Rattle.flash_laws.specs.World.Consistency.{Actor, actor_turns, gone_over, made_over}
+use Rattle.flash_lite.specs.WorkerSet.{worker_set_of}
 use Rattle.flash_lite.specs.Library.{library_of}
 use Rattle.flash_lite.specs.Workers.{worker_turns}
 use Rattle.flash_lite.specs.declared.site.Site.{Site}
@@ -35,9 +35,9 @@ pub record IsFresh (c : ℕ) (past : List Choice) (ps : List Reply) : Type 0 whe
   pub stays : gone_over c past ps ≡ false
 
 -- The bytes sent begin an answer to the bytes received, and are an answer if the connection ended with `Over`.
-pub record IsAnswered (shelf : Shelf) (ending : Ending) (came sent : List ℕ) : Type 0 where
-  pub begins : Begins shelf came sent
-  pub whole : ending ≡ Over → IsAnswer shelf came sent
+pub record IsAnswered (site_contents : SiteContents) (ending : Ending) (came sent : List ℕ) : Type 0 where
+  pub begins : Begins site_contents came sent
+  pub whole : ending ≡ Over → IsAnswer site_contents came sent
 
 -- A connection that was served: its number, its ending, and the bytes received and sent.
 pub record Session : Type 0 where
@@ -50,7 +50,7 @@ pub record Session : Type 0 where
 pub record IsSession (it : Session) (w after : Stage State (Actor Worker)) : Type 0 where
   pub begun : Stage State (Actor Worker)
   pub made : OutsideStep copying (actor_turns in_rounds worker_turns) w (event.ConnNew net_pool) (reply.Conn it.conn) begun
-  pub goes_on : GoesOn (actor_turns in_rounds worker_turns) it.conn it.came it.sent (hung_up it.ending) begun after
+  pub proceeds : Proceeds (actor_turns in_rounds worker_turns) it.conn it.came it.sent (hung_up it.ending) begun after
   pub over : it.ending ≡ Over → lacks_conn after.machine it.conn ≡ true
 
 abbrev pub AreSessions : List Session → (w after : Stage State (Actor Worker)) → Type 0
@@ -61,13 +61,13 @@ AreSessions (it ∷ more) w after = (mid : Stage State (Actor Worker)) × IsSess
 abbrev pub AreFairSessions : (refuses : Refusals) → (its : List Session) → (w after : Stage State (Actor Worker))
     → AreSessions its w after → Type 0
 AreFairSessions refuses [] w after is = Unit {0}
-AreFairSessions refuses (it ∷ more) w after is = AreFair refuses is.1.goes_on.choices is.1.goes_on.replies
+AreFairSessions refuses (it ∷ more) w after is = AreFair refuses is.1.proceeds.choices is.1.proceeds.replies
     × AreFairSessions refuses more is.0 after is.2
 
 module _ (s : Site) (slots : List (List ℕ)) where
   -- The server's invariant, if these refusals are allowed.
   abbrev pub Holds : (refuses : Refusals) → List Choice → List Reply → Stage State (Actor Worker) → Type 0
-  Holds refuses past ps w = Tied (library_of s slots refuses) (crew_of s) past ps w
+  Holds refuses past ps w = Consistent (library_of s slots refuses) (worker_set_of s) past ps w
 
   -- ---- one connection
 
@@ -76,15 +76,15 @@ module _ (s : Site) (slots : List (List ℕ)) where
       (served : Serves (actor_turns in_rounds worker_turns) c (hung_up ending) left rest held now w after) where
     -- the invariant holds afterwards, and the output is right
     abbrev pub IsRight : (refuses : Refusals) → Type 0
-    IsRight refuses = Holds refuses (past ++ served.goes_on.choices) (ps ++ served.goes_on.replies) after
+    IsRight refuses = Holds refuses (past ++ served.proceeds.choices) (ps ++ served.proceeds.replies) after
         × IsAnswered (library_of s slots refuses) ending served.came served.sent
 
     pub record IsServedRight : Type 0 where
       -- if its turns got no other refusals
-      pub fair : (refuses : Refusals) → Holds refuses past ps w → AreFair refuses served.goes_on.choices served.goes_on.replies
+      pub fair : (refuses : Refusals) → Holds refuses past ps w → AreFair refuses served.proceeds.choices served.proceeds.replies
           → IsRight refuses
-      -- with none, if the world's rough flag is clear at the end
-      pub smooth : Holds no_refusal past ps w → after.rough ≡ false → IsRight no_refusal
+      -- with none, if the world's failure flag is clear at the end
+      pub failure_free : Holds no_refusal past ps w → after.resource_failure ≡ false → IsRight no_refusal
       -- with TooMany, NoRoom, Fault and Memory, whatever was refused
       pub any : Holds any_refusal past ps w → IsRight any_refusal
 
@@ -112,9 +112,9 @@ ServedIsRight = (s : Site) (slots : List (List ℕ)) (past : List Choice) (ps : 
     → (ending ≡ Over → lacks_conn after.machine c ≡ true)
     → IsServedRight s slots past ps c ending left rest held now w after served
 
--- A connection is created in the net and served, from a reader and to a writer, with this ending: the bytes received are those
--- that the reader supplies, and the bytes sent those that the writer accepts. Then it is served right, for every site and
--- history.
+-- A connection is created in the net and served, from a reader and to a writer, with this ending: the bytes received
+-- are those that the reader supplies, and the bytes sent those that the writer accepts. Then it is served right, for
+-- every site and history.
 pub record ServesRight (ending : Ending) (left rest held now : Option (List ℕ)) (w after : Stage State (Actor Worker)) : Type 0 where
   pub session : Session
   pub ends : session.ending ≡ ending
@@ -123,7 +123,7 @@ pub record ServesRight (ending : Ending) (left rest held now : Option (List ℕ)
   pub serves : IsSession session w after
   -- if its turns got no other refusals
   pub fair : (s : Site) (slots : List (List ℕ)) (refuses : Refusals) (past : List Choice) (ps : List Reply)
-      → Holds s slots refuses past ps w → AreFair refuses serves.goes_on.choices serves.goes_on.replies
+      → Holds s slots refuses past ps w → AreFair refuses serves.proceeds.choices serves.proceeds.replies
       → AreRight s slots refuses past ps (session ∷ []) after
   -- with TooMany, NoRoom, Fault and Memory, whatever was refused
   pub any : (s : Site) (slots : List (List ℕ)) (past : List Choice) (ps : List Reply) → Holds s slots any_refusal past ps w

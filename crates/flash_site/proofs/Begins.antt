@@ -4,7 +4,7 @@ use Rattle.iol_back.specs.Disk.{Disk}
 use Rattle.iol_proc.specs.World.{Stage}
 use Rattle.iol_system.specs.Machine.{SystemState}
 use Rattle.flash_cgi.specs.declared.worker.Worker.{Worker}
-use Rattle.flash_laws.specs.World.Tie.{Actor}
+use Rattle.flash_laws.specs.World.Consistency.{Actor}
 use Rattle.flash_site.specs.World.{BeginsSite, IsWorldOf}
 
 pub begins_site : (names : List (List ℕ)) (store : Disk) (world : Stage SystemState (Actor Worker)) → IsWorldOf names store world → BeginsSite world

@@ -7,7 +7,7 @@ use Rattle.iol_core.specs.declared.events.Reply.{Reply}
 use Rattle.iol_proc.specs.World.{Stage}
 use Rattle.iol_system.specs.Machine.{SystemState}
 use Rattle.flash_cgi.specs.declared.worker.Worker.{Worker}
-use Rattle.flash_laws.specs.World.Tie.{Actor}
+use Rattle.flash_laws.specs.World.Consistency.{Actor}
 use Rattle.flash_lite.specs.HostedSite.{HostsIfHonest, HostsOver}
 use Rattle.flash_lite.specs.declared.site.Site.{Site}
 use Rattle.flash_lite.specs.declared.site.SiteFile.{SiteFile}
@@ -17,8 +17,8 @@ pub record AreFilesOf (names : List (List ℕ)) (files : List SiteFile) : Type 0
   pub named : map (λ f. f.name.items) files ≡ names
   pub shared : list_any (λ f. f.private) files ≡ false
 
--- The world of a site of these files over a store, before its first turn: it was set up in a new system without any other
--- event. Over an honest store it is the site's world in the copying machine, to which the server's laws apply.
+-- The world of a site of these files over a store, before its first turn: it was set up in a new system without any
+-- other event. Over an honest store it is the site's world in the copying machine, to which the server's laws apply.
 pub record IsWorldOf (names : List (List ℕ)) (store : Disk) (world : Stage SystemState (Actor Worker)) : Type 0 where
   pub site : Site
   pub files : AreFilesOf names site.files.items

@@ -13,7 +13,7 @@ use Rattle.iol_arena.specs.Pages.{IsSameBut, MadeOn}
 use Rattle.iol_pool.specs.Pools.{pool_in}
 use Rattle.iol_hold.specs.Moves.{Moves}
 use Rattle.iol_hold.specs.Room.{has_room, lowest_of, others_of}
-use Rattle.iol_hold.specs.StoreState.{Stored, Buffer, AllSettled, held_bufs}
+use Rattle.iol_hold.specs.StoreState.{Stored, Buffer, AllReclaimed, held_bufs}
 use Rattle.iol_hold.specs.Texts.{AllReadable, IsFilled, bufs_of, text_of}
 use Rattle.iol_hold.specs.declared.slices.Slice.{Slice}
 use Rattle.iol_agg.specs.Parts.{whole_texts}
@@ -30,8 +30,8 @@ pub record AreWhole (s : Stored) (xs : List Slice) (holds : List Buffer) : Type 
   pub readable : AllReadable s xs
   pub bufs : bufs_of xs ≡ held_bufs holds
 
--- An aggregate of these bytes was made, in new buffers on the lowest free pages of pool p, which have no other bytes. If it was
--- not, nothing changed: there was no room for them, or no memory.
+-- An aggregate of these bytes was made, in new buffers on the lowest free pages of pool p, which have no other bytes.
+-- If it was not, nothing changed: there was no room for them, or no memory.
 pub record FillsAgg (s t : Stored) (p : ℕ) (bytes : List ℕ) (r : Result (List Slice) Refusal) : Type 0 where
   pub text : IfOk r (λ a. text_of t a ≡ labelled p bytes)
   pub readable : IfOk r (λ a. AllReadable t a)
@@ -40,7 +40,7 @@ pub record FillsAgg (s t : Stored) (p : ℕ) (bytes : List ℕ) (r : Result (Lis
   pub made_on : IfOk r (λ a. MadeOn s.arena t.arena (bufs_of a) (lowest_of s p (length bytes)))
   pub others : OnOk r (IsSameBut (lowest_of s p (length bytes)) s.arena t.arena)
   pub grows : OnOk r (Grows s.arena t.arena)
-  pub settles : AllSettled s → AllSettled t
+  pub reclaims : AllReclaimed s → AllReclaimed t
   pub pools : t.pools ≡ s.pools
   pub lowest : OnOk r (free_pages t.arena (pool_in s.pools p).chunks ≡ others_of s p (length bytes))
   pub room : OnOk r (has_room s p (length bytes) ≡ true)

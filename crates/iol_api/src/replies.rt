@@ -1,7 +1,7 @@
 //! Replies as results of the types of their calls.
 ghost use Rattle.std.specs.Prelude.{◌≡◌};
 ghost use Rattle.iol_core.specs.declared.events.Reply.TheVariants as reply;
-ghost use Rattle.iol_system.specs.Replies.{told};
+ghost use Rattle.iol_system.specs.Replies.{reported};
 ghost use Rattle.iol_api.specs.Typed as spec;
 ghost use Rattle.iol_api.specs.Typed.{IsReply};
 
@@ -13,7 +13,7 @@ use iol_core::refusals::Refusal;
 /// Nothing, or a refusal.
 pub(crate) fn done(given: Reply) -> Result<(), Refusal>
     requires { IsReply spec.done given }
-    ensures { told spec.done result ≡ given }
+    ensures { reported spec.done result ≡ given }
 {
     match given {
         Reply::Done => Ok(()),
@@ -25,7 +25,7 @@ pub(crate) fn done(given: Reply) -> Result<(), Refusal>
 /// A domain's number, or a refusal.
 pub(crate) fn domain(given: Reply) -> Result<DomainId, Refusal>
     requires { IsReply reply.Domain given }
-    ensures { told reply.Domain result ≡ given }
+    ensures { reported reply.Domain result ≡ given }
 {
     match given {
         Reply::Domain(domain) => Ok(domain),
@@ -37,7 +37,7 @@ pub(crate) fn domain(given: Reply) -> Result<DomainId, Refusal>
 /// A pool's number, or a refusal.
 pub(crate) fn pool(given: Reply) -> Result<PoolId, Refusal>
     requires { IsReply reply.Pool given }
-    ensures { told reply.Pool result ≡ given }
+    ensures { reported reply.Pool result ≡ given }
 {
     match given {
         Reply::Pool(pool) => Ok(pool),
@@ -49,7 +49,7 @@ pub(crate) fn pool(given: Reply) -> Result<PoolId, Refusal>
 /// A file's number, or a refusal.
 pub(crate) fn file(given: Reply) -> Result<FileId, Refusal>
     requires { IsReply reply.File given }
-    ensures { told reply.File result ≡ given }
+    ensures { reported reply.File result ≡ given }
 {
     match given {
         Reply::File(file) => Ok(file),
@@ -61,7 +61,7 @@ pub(crate) fn file(given: Reply) -> Result<FileId, Refusal>
 /// A descriptor, or a refusal.
 pub(crate) fn fd(given: Reply) -> Result<Fd, Refusal>
     requires { IsReply reply.Fd given }
-    ensures { told reply.Fd result ≡ given }
+    ensures { reported reply.Fd result ≡ given }
 {
     match given {
         Reply::Fd(fd) => Ok(fd),
@@ -73,7 +73,7 @@ pub(crate) fn fd(given: Reply) -> Result<Fd, Refusal>
 /// The read end and the write end of a pipe, or a refusal.
 pub(crate) fn fds(given: Reply) -> Result<(Fd, Fd), Refusal>
     requires { IsReply spec.fds given }
-    ensures { told spec.fds result ≡ given }
+    ensures { reported spec.fds result ≡ given }
 {
     match given {
         Reply::Fds(read, write) => Ok((read, write)),
@@ -85,7 +85,7 @@ pub(crate) fn fds(given: Reply) -> Result<(Fd, Fd), Refusal>
 /// An aggregate's number, or a refusal.
 pub(crate) fn agg(given: Reply) -> Result<AggId, Refusal>
     requires { IsReply reply.Agg given }
-    ensures { told reply.Agg result ≡ given }
+    ensures { reported reply.Agg result ≡ given }
 {
     match given {
         Reply::Agg(agg) => Ok(agg),
@@ -97,7 +97,7 @@ pub(crate) fn agg(given: Reply) -> Result<AggId, Refusal>
 /// The numbers of two aggregates, or a refusal.
 pub(crate) fn aggs(given: Reply) -> Result<(AggId, AggId), Refusal>
     requires { IsReply spec.aggs given }
-    ensures { told spec.aggs result ≡ given }
+    ensures { reported spec.aggs result ≡ given }
 {
     match given {
         Reply::Aggs(first, second) => Ok((first, second)),
@@ -109,7 +109,7 @@ pub(crate) fn aggs(given: Reply) -> Result<(AggId, AggId), Refusal>
 /// A number of bytes, or a refusal.
 pub(crate) fn count(given: Reply) -> Result<u32, Refusal>
     requires { IsReply reply.Count given }
-    ensures { told reply.Count result ≡ given }
+    ensures { reported reply.Count result ≡ given }
 {
     match given {
         Reply::Count(count) => Ok(count),
@@ -121,7 +121,7 @@ pub(crate) fn count(given: Reply) -> Result<u32, Refusal>
 /// Bytes, or a refusal.
 pub(crate) fn bytes(given: Reply) -> Result<Bytes, Refusal>
     requires { IsReply reply.Bytes given }
-    ensures { told reply.Bytes result ≡ given }
+    ensures { reported reply.Bytes result ≡ given }
 {
     match given {
         Reply::Bytes(bytes) => Ok(bytes),
@@ -133,7 +133,7 @@ pub(crate) fn bytes(given: Reply) -> Result<Bytes, Refusal>
 /// A connection's number, or a refusal.
 pub(crate) fn conn(given: Reply) -> Result<ConnId, Refusal>
     requires { IsReply reply.Conn given }
-    ensures { told reply.Conn result ≡ given }
+    ensures { reported reply.Conn result ≡ given }
 {
     match given {
         Reply::Conn(conn) => Ok(conn),
@@ -145,7 +145,7 @@ pub(crate) fn conn(given: Reply) -> Result<ConnId, Refusal>
 /// Bytes that were sent and their Internet checksum, or a refusal.
 pub(crate) fn segment(given: Reply) -> Result<(Bytes, u16), Refusal>
     requires { IsReply spec.segment given }
-    ensures { told spec.segment result ≡ given }
+    ensures { reported spec.segment result ≡ given }
 {
     match given {
         Reply::Segment { bytes, checksum } => Ok((bytes, checksum)),

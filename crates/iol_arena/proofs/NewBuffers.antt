@@ -178,9 +178,9 @@ module _ (s : State) (p : Part) (n : ℕ) (all : IsAll Pending s.limit s.entries
   t = published_part s p n
 
   -- the pages on which the buffer lies are raised
-  part_raised : (q : ℕ) → p.first ≤ q → q < p.first + pages_for n → generation_at t q ≡ generation_at s q + 1
+  part_incremented : (q : ℕ) → p.first ≤ q → q < p.first + pages_for n → generation_at t q ≡ generation_at s q + 1
   unfolding published_entries
-  part_raised q lo hi =
+  part_incremented q lo hi =
       let k = pages_for n in
       let es = s.entries in
       let k1 = pages_some n some in
@@ -227,7 +227,7 @@ module _ (s : State) (p : Part) (n : ℕ) (all : IsAll Pending s.limit s.entries
 pub record OnPart (t u : State) (p : Part) (runs : List Part) : Type 0 where
   pub inside : (q : ℕ) → In (part_pages runs) q → In (range_with_len p.first p.count) q
   pub out : (q : ℕ) → (In (range_with_len p.first p.count) q → ⊥) → entry_at u q ≡ entry_at t q
-  pub raised : (q : ℕ) → In (part_pages runs) q → generation_at u q ≡ generation_at t q + 1
+  pub incremented : (q : ℕ) → In (part_pages runs) q → generation_at u q ≡ generation_at t q + 1
   pub kept : (q : ℕ) → (In (part_pages runs) q → ⊥) → generation_at u q ≡ generation_at t q
   pub back : (q : ℕ) → In (range_with_len p.first p.count) q → (In (part_pages runs) q → ⊥) → usable u q ≡ true
 
@@ -252,7 +252,7 @@ part_published s p n all some fit =
     record {
       inside = λ q h. (let k = range_in p.first (pages_for n) q (one_run r q h) in in_range p.first p.count q k.0 (omega (arith, k.1, few)));
       out = out;
-      raised = λ q h. (let k = range_in p.first (pages_for n) q (one_run r q h) in part_raised s p n all some fit q k.0 k.1);
+      incremented = λ q h. (let k = range_in p.first (pages_for n) q (one_run r q h) in part_incremented s p n all some fit q k.0 k.1);
       kept = λ q off. elim (in_or_out (range_with_len p.first p.count) q) [
         | inl a ↦ (let k = range_in p.first p.count q a in ap (λ e. e.generation) (left q k.0 k.1 off) ∙ omega arith)
         | inr a ↦ ap (λ e. e.generation) (out q a)
@@ -268,7 +268,7 @@ part_filled t u p around raises = record {
     | inl h ↦ inl h
     | inr r ↦ elim r [ inl h ↦ absurd (off (in_range p.first p.count q h.0 h.1)) | inr h ↦ inr h ]
   ]);
-  raised = λ q h. raises.raised q (contains_in (part_pages (p ∷ [])) q h);
+  incremented = λ q h. raises.incremented q (contains_in (part_pages (p ∷ [])) q h);
   kept = λ q off. raises.kept q (λ h. off (in_contains (part_pages (p ∷ [])) q h));
   back = λ q a off. absurd (off (run_one p q a));
 }
@@ -281,7 +281,7 @@ part_dropped s p all = record {
     | inl h ↦ each_before (marked Free 0) p.first p.count q s.entries h
     | inr r ↦ elim r [ inl h ↦ absurd (off (in_range p.first p.count q h.0 h.1)) | inr h ↦ each_after (marked Free 0) p.first p.count q s.entries h ]
   ];
-  raised = λ q h. elim h [ ];
+  incremented = λ q h. elim h [ ];
   kept = λ q off. generation-each_from (marked Free 0) (λ e. omega arith) p.first p.count q s.entries;
   back = λ q a off. (
       let k = range_in p.first p.count q a in
@@ -290,17 +290,18 @@ part_dropped s p all = record {
 
 -- Parts on which the first n bytes were placed, one after another.
 
--- the runs that the bytes need were filled, each by the buffer that begins there; the rest of the parts is free, and no other page changed
+-- the runs that the bytes need were filled, each by the buffer that begins there; the rest of the parts is free, and no
+-- other page changed
 pub record Placed (s t : State) (bufs : List BufId) (ps : List Part) (n : ℕ) : Type 0 where
   pub begun : bufs ≡ map (begun_on s) (needed ps n)
   pub whole : map (λ b. pages_for (len_of t b)) bufs ≡ map (λ p. p.count) (needed ps n)
-  pub raised : (q : ℕ) → In (part_pages (needed ps n)) q → generation_at t q ≡ generation_at s q + 1
+  pub incremented : (q : ℕ) → In (part_pages (needed ps n)) q → generation_at t q ≡ generation_at s q + 1
   pub kept : (q : ℕ) → (In (part_pages (needed ps n)) q → ⊥) → generation_at t q ≡ generation_at s q
   pub others : (q : ℕ) → (In (part_pages ps) q → ⊥) → entry_at t q ≡ entry_at s q
   pub back : (q : ℕ) → In (part_pages ps) q → (In (part_pages (needed ps n)) q → ⊥) → usable t q ≡ true
 
 pub placed_none : (s : State) (n : ℕ) → Placed s s [] [] n
-placed_none s n = record { begun = refl; whole = refl; raised = λ q h. elim h [ ]; kept = λ q h. refl; others = λ q h. refl; back = λ q h. elim h [ ] }
+placed_none s n = record { begun = refl; whole = refl; incremented = λ q h. elim h [ ]; kept = λ q h. refl; others = λ q h. refl; back = λ q h. elim h [ ] }
 
 -- new buffers begin on pages that changed
 pub new_places : {s t : State} (pages : List ℕ) (bufs : List BufId) → ((q : ℕ) → (In pages q → ⊥) → entry_at t q ≡ entry_at s q) → All (IsNew s t) bufs → All (λ b. In pages b.page) bufs
@@ -356,9 +357,9 @@ module _ (s t : State) (ps : List Part) (i n : ℕ) (bufs : List BufId) (apart :
         whole = map-append (λ b. pages_for (len_of u b)) bufs more ∙ ap (λ l. l ++ lens more)
             (map_same (λ b. pages_for (len_of u b)) (λ b. pages_for (len_of t b)) bufs (λ k d lt. ap (λ e. pages_for (kind_len e.kind)) (o.out (get_or bufs k d).page (away (get_or bufs k d).page (new_places so_far bufs m.others new k d lt)))))
             ∙ ap (λ l. l ++ lens more) m.whole ∙ ap (λ l. map (λ (r : Part). r.count) was ++ l) fill ∙ sym (map-append (λ (r : Part). r.count) was rs) ∙ ap (map (λ (r : Part). r.count)) (sym needs);
-        raised = λ q a. elim (in_either old add q (subst (λ l. In l q) all a)) [
-          | inl b ↦ o.kept q (λ r. away q (needed_in (take i ps) n q b) (o.inside q r)) ∙ m.raised q b
-          | inr b ↦ o.raised q b ∙ ap (λ g. g + 1) (m.kept q (λ r. away q (needed_in (take i ps) n q r) (o.inside q b)))
+        incremented = λ q a. elim (in_either old add q (subst (λ l. In l q) all a)) [
+          | inl b ↦ o.kept q (λ r. away q (needed_in (take i ps) n q b) (o.inside q r)) ∙ m.incremented q b
+          | inr b ↦ o.incremented q b ∙ ap (λ g. g + 1) (m.kept q (λ r. away q (needed_in (take i ps) n q r) (o.inside q b)))
         ];
         kept = λ q off. o.kept q (λ b. off (right q b)) ∙ m.kept q (λ b. off (left q b));
         others = λ q off. o.out q (λ b. off (subst (λ l. In l q) (sym pages) (in_right so_far here q b))) ∙ m.others q (λ b. off (subst (λ l. In l q) (sym pages) (in_left so_far here q b)));
@@ -381,7 +382,7 @@ module _ (s t : State) (bufs : List BufId) (ps : List Part) (n : ℕ) (apart : A
         begun = m.begun;
         whole = m.whole;
         raises = record {
-          raised = λ q h. m.raised q (subst (λ l. In l q) (sym (cover ps n)) (in_contains pages q h));
+          incremented = λ q h. m.incremented q (subst (λ l. In l q) (sym (cover ps n)) (in_contains pages q h));
           kept = λ q out. m.kept q (λ h. out (contains_in pages q (subst (λ l. In l q) (cover ps n) h)));
         };
       }
@@ -412,7 +413,7 @@ made_since {s = s} {t = t} same m = record {
   begun = m.begun ∙ begun_since s t m.runs same;
   whole = m.whole;
   raises = record {
-    raised = λ q h. m.raises.raised q h ∙ ap (λ g. g + 1) (same q);
+    incremented = λ q h. m.raises.incremented q h ∙ ap (λ g. g + 1) (same q);
     kept = λ q h. m.raises.kept q h ∙ same q;
   };
 }
@@ -433,5 +434,5 @@ made_none s pages =
       cover = sym none;
       begun = refl;
       whole = refl;
-      raises = record { raised = λ q h. absurd (in_contains [] q (subst (λ l. Contains l q) none h)); kept = λ q out. refl };
+      raises = record { incremented = λ q h. absurd (in_contains [] q (subst (λ l. Contains l q) none h)); kept = λ q out. refl };
     }

@@ -12,7 +12,7 @@ use Rattle.iol_arena.specs.declared.pages.Part.{Part}
 
 -- each page of the list was raised by one, and no other was
 pub record Raises (old new : State) (placed : List ℕ) : Type 0 where
-  pub raised : (q : ℕ) → Contains placed q → generation_at new q ≡ generation_at old q + 1
+  pub incremented : (q : ℕ) → Contains placed q → generation_at new q ≡ generation_at old q + 1
   pub kept : (q : ℕ) → (Contains placed q → ⊥) → generation_at new q ≡ generation_at old q
 
 -- all pages except those of the list are unchanged
@@ -31,7 +31,8 @@ pub record AreUsable (s : State) (pages : List ℕ) : Type 0 where
 abbrev pub begun_on : State → Part → BufId
 begun_on s p = record { page = p.first; generation = generation_at s p.first + 1 }
 
--- The pages of the list were filled: each maximal run of them in a chunk is one buffer, whole, and each was raised by one.
+-- The pages of the list were filled: each maximal run of them in a chunk is one buffer, whole, and each was raised by
+-- one.
 pub record MadeOn (old new : State) (bufs : List BufId) (placed : List ℕ) : Type 0 where
   pub runs : List Part
   pub apart : AreApart 0 runs
@@ -50,7 +51,8 @@ pub record FillsPart (old new : State) (p : Part) (bytes : List ℕ) (b : BufId)
   pub memory : new.memory ≡ (filled old p bytes).memory
   pub runs : HasRuns new.entries
 
--- The first n bytes of the parts are these buffers. Pages without a buffer are free again, unraised, and no other page changed.
+-- The first n bytes of the parts are these buffers. Pages without a buffer are free again, unraised, and no other page
+-- changed.
 pub record PublishesParts (old new : State) (ps : List Part) (n : ℕ) (bufs : List BufId) : Type 0 where
   pub adds : Adds old new bufs (take n (flat_map (part_bytes old) ps))
   pub few : length bufs ≤ length ps

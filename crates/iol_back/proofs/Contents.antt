@@ -8,7 +8,7 @@ use Rattle.std.proofs.lemmas.Bool.{cases_eq, cases_lt}
 use Rattle.std.proofs.lemmas.Bool.Decides.{nat_tests}
 use Rattle.std.proofs.lemmas.Grind.{common_steps}
 use Rattle.iol_core.proofs.Lookups.{numbered_or-push}
-use Rattle.iol_back.specs.Disk.{content, length_told, lengths_of}
+use Rattle.iol_back.specs.Disk.{content, length_reported, lengths_of}
 
 -- there is none
 pub content-none : (slots : List (List ℕ)) (n : ℕ) → (n ≡ 0) ⊎ (length slots < n) → content slots n ≡ []
@@ -62,9 +62,9 @@ content-some f xs n some = elim (cases_lt (length xs) n) [
 -- The lengths that are told.
 
 -- of files of these bytes
-pub told-lengths : (slots : List (List ℕ)) (n : ℕ) → length_told (lengths_of slots) n ≡ min (length (content slots n)) (2 ^ 32 - 1)
-unfolding content length_told
-told-lengths slots n = by (n == 0)
+pub reported-lengths : (slots : List (List ℕ)) (n : ℕ) → length_reported (lengths_of slots) n ≡ min (length (content slots n)) (2 ^ 32 - 1)
+unfolding content length_reported
+reported-lengths slots n = by (n == 0)
   where
     cut : List ℕ → ℕ
     cut bytes = min (length bytes) (2 ^ 32 - 1)
@@ -74,14 +74,14 @@ told-lengths slots n = by (n == 0)
     by false = lists.get_or-map cut slots (n - 1) []
 
 -- there is none
-pub told-none : (told : List ℕ) (n : ℕ) → (n ≡ 0) ⊎ (length told < n) → length_told told n ≡ 0
-unfolding length_told
-told-none told n out = elim out [
+pub reported-none : (reported : List ℕ) (n : ℕ) → (n ≡ 0) ⊎ (length reported < n) → length_reported reported n ≡ 0
+unfolding length_reported
+reported-none reported n out = elim out [
   | inl k ↦ grind (arith, nat_tests, common_steps, k)
   | inr past ↦ grind (arith, nat_tests, common_steps, past)
 ]
 
 -- as it stands in the list
-pub told-some : (told : List ℕ) (n x : ℕ) → 0 < n → slice_get told (n - 1) ≡ Some x → length_told told n ≡ x
-unfolding length_told
-told-some told n x some is = let e = get_or_from_slice_get told (n - 1) x 0 is in grind (arith, nat_tests, e, some)
+pub reported-some : (reported : List ℕ) (n x : ℕ) → 0 < n → slice_get reported (n - 1) ≡ Some x → length_reported reported n ≡ x
+unfolding length_reported
+reported-some reported n x some is = let e = get_or_from_slice_get reported (n - 1) x 0 is in grind (arith, nat_tests, e, some)

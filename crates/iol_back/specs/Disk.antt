@@ -11,7 +11,7 @@ pub record Disk : Type 0 where
   pub slots : List (List ℕ)
   pub failures : ℕ
   pub honest : Bool
-  pub told : List ℕ
+  pub reported : List ℕ
 
 -- files have the slots 1 to 1,024
 abbrev pub IsSlot : ℕ → Type 0
@@ -22,8 +22,8 @@ unfoldable pub content : (slots : List (List ℕ)) → (file : ℕ) → List ℕ
 content slots f = numbered_or slots f []
 
 -- the length that is told of a file: none past the last
-unfoldable pub length_told : (told : List ℕ) → (file : ℕ) → ℕ
-length_told told f = numbered_or told f 0
+unfoldable pub length_reported : (reported : List ℕ) → (file : ℕ) → ℕ
+length_reported reported f = numbered_or reported f 0
 
 -- the lengths of files of these bytes, each at most 2^32 - 1
 abbrev pub lengths_of : (slots : List (List ℕ)) → List ℕ
@@ -88,9 +88,9 @@ pub record Tears (at n : ℕ) (old new : List ℕ) : Type 0 where
   pub no_shorter : length old ≤ length new
   pub no_longer : length new ≤ max (length old) (at + n)
 
--- A call reads a file from `at` on, into bytes that were `was` and are `now`. It counts as `Counts` says, succeeds only if the
--- file has a slot, and does not change whether the store is honest. An honest store keeps its bytes, and if the call succeeded,
--- `now` are those of the range, which is in the file.
+-- A call reads a file from `at` on, into bytes that were `was` and are `now`. It counts as `Counts` says, succeeds only
+-- if the file has a slot, and does not change whether the store is honest. An honest store keeps its bytes, and if the
+-- call succeeded, `now` are those of the range, which is in the file.
 pub record ReadsAt {E : Type 0} (file at : ℕ) (old new : Disk) (was now : List ℕ)
     (r : Result (Unit {0}) E) : Type 0 where
   pub honest : new.honest ≡ old.honest
@@ -99,9 +99,10 @@ pub record ReadsAt {E : Type 0} (file at : ℕ) (old new : Disk) (was now : List
   pub slots : IfHonest old (new.slots ≡ old.slots)
   pub read : IfHonest old (OnOk r (Reads at (content old.slots file) was now))
 
--- A call writes bytes to a file from `at` on. It counts as `Counts` says, succeeds only if the file has a slot, and does not
--- change whether the store is honest. In an honest store all other files keep their bytes. This one has the new bytes over its
--- own if the call succeeded, which then did not begin past its end; if the call failed, it is as `Tears` says.
+-- A call writes bytes to a file from `at` on. It counts as `Counts` says, succeeds only if the file has a slot, and
+-- does not change whether the store is honest. In an honest store all other files keep their bytes. This one has the
+-- new bytes over its own if the call succeeded, which then did not begin past its end; if the call failed, it is as
+-- `Tears` says.
 pub record WritesAt {E : Type 0} (file at : ℕ) (bytes : List ℕ) (old new : Disk)
     (r : Result (Unit {0}) E) : Type 0 where
   pub honest : new.honest ≡ old.honest

@@ -11,11 +11,11 @@ inner_of f = f.inner
 abbrev pub calls_to_fault : {B : Type 0} → FaultyBacking B → ℕ
 calls_to_fault f = f.left
 
--- As a store: the bytes, the honesty and the lengths of the store below, and its own failures, which include each call that
--- failed below. Earlier failures of the store below are not counted.
+-- As a store: the bytes, the honesty and the lengths of the store below, and its own failures, which include each call
+-- that failed below. Earlier failures of the store below are not counted.
 abbrev pub disk_over : {B : Type 0} → (B → Disk) → FaultyBacking B → Disk
 disk_over disk f =
-    record { slots = (disk f.inner).slots; failures = f.failed; honest = (disk f.inner).honest; told = (disk f.inner).told }
+    record { slots = (disk f.inner).slots; failures = f.failed; honest = (disk f.inner).honest; reported = (disk f.inner).reported }
 
 -- The countdown to the failing call decreases by one. The failing call fails; any other fails if the store below
 -- fails. Once this store has failed too often, it no longer calls the store below.

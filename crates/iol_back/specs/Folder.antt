@@ -54,4 +54,4 @@ pub record Folder : Type 0 where
 -- As a store: nothing is known about the files' bytes, and it is not honest, because others write
 -- the files too.
 abbrev pub disk_of : Folder → Disk
-disk_of f = record { slots = []; failures = f.failures; honest = false; told = f.lengths }
+disk_of f = record { slots = []; failures = f.failures; honest = false; reported = f.lengths }

@@ -1,6 +1,6 @@
 //! A store of the files of a folder.
 ghost use Rattle.std.specs.Prelude.{◌≡◌, ◌+◌, ◌-◌, ◌<◌, ◌≤◌, ◌↔◌, length, Some, IsSome, IfSome, IfOk, OnOk, slice_get};
-ghost use Rattle.iol_back.specs.Disk.{IsHonestLength, IsSlot, ReadsAt, WritesAt, length_told, raised};
+ghost use Rattle.iol_back.specs.Disk.{IsHonestLength, IsSlot, ReadsAt, WritesAt, length_reported, raised};
 ghost use Rattle.iol_back.specs.Folder.{AreDistinct, AreListed, AreNames, IsSized, disk_of};
 ghost use Rattle.iol_core.specs.declared.limits.TheConstants.{MAX_FILE_BYTES};
 
@@ -14,11 +14,12 @@ use std::io::{ErrorKind, Read, Seek, SeekFrom, Write};
 use std::marker::Model;
 use std::rt::Files;
 
-/// The regular files directly in a folder, as a store: those with a name in UTF-8 and at most 2^24 bytes, by byte order of
-/// names, the first 1,024. It promises nothing about their bytes.
+/// The regular files directly in a folder, as a store: those with a name in UTF-8 and at most 2^24
+/// bytes, by byte order of names, the first 1,024. It promises nothing about their bytes.
 ///
-/// No file is held open. While a file does not exist, or something else is in its place, or its length or time of the last
-/// write differs from what this store left, each read and each write of it fails.
+/// No file is held open. While a file does not exist, or something else is in its place, or its
+/// length or time of the last write differs from what this store left, each read and each write of
+/// it fails.
 #[derive(Drop)]
 pub struct FolderBacking<R: Files> {
     files: R,
@@ -39,7 +40,8 @@ impl<R: Files> Model for FolderBacking<R> {
 }
 
 impl<R: Files + AllocGlobal + Clone + Drop> FolderBacking<R> {
-    /// The files of a folder, as they are now. The error has the kind `OutOfMemory` if memory ran out.
+    /// The files of a folder, as they are now. The error has the kind `OutOfMemory` if memory ran
+    /// out.
     pub fn new(rt: &R, root: &str) -> io::Result<FolderBacking<R>>
         ensures failures { IfOk result (λ f. f.failures ≡ 0) }
     {
@@ -97,7 +99,8 @@ impl<R: Files> FolderBacking<R> {
         StoreFault
     }
 
-    // Opens an unchanged file. Looks at it first, because opening a pipe would wait for its other end.
+    // Opens an unchanged file. Looks at it first, because opening a pipe would wait for its other
+    // end.
     fn open(&self, place: usize, how: &OpenOptions) -> io::Result<R::File>
         requires { place < length self.now.names }
     {
@@ -157,9 +160,10 @@ impl<R: Files> Backing for FolderBacking<R> {
 
     ghost disk = { disk_of };
 
-    /// The length that the file had when it was found, or after the last write here; 0 if there is no such file.
+    /// The length that the file had when it was found, or after the last write here; 0 if there is
+    /// no such file.
     fn length(&self, file: FileId) -> u32
-        ensures told { result ≡ length_told (disk_of self.now).told file }
+        ensures reported { result ≡ length_reported (disk_of self.now).reported file }
         ensures honest { IsHonestLength (disk_of self.now) file result }
         ensures short { result ≤ MAX_FILE_BYTES }
     {

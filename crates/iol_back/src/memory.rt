@@ -10,7 +10,8 @@ use iol_core::numbers::FileId;
 use std::alloc::AllocError;
 use std::marker::Model;
 
-/// Lists of bytes in memory, as a store. It is honest. If memory for the growth of a list runs out, the call fails.
+/// Lists of bytes in memory, as a store. It is honest. If memory for the growth of a list runs out,
+/// the call fails.
 #[derive(Drop)]
 pub struct MemoryBacking {
     slots: Slots,
@@ -27,7 +28,7 @@ impl Model for MemoryBacking {
       slots = m.slots;
       failures = m.failures;
       honest = true;
-      told = lengths_of m.slots;
+      reported = lengths_of m.slots;
     } };
 }
 
@@ -37,7 +38,7 @@ impl MemoryBacking {
         ensures slots { result.slots ≡ slots }
         ensures failures { result.failures ≡ 0 }
         ensures honest { result.honest ≡ true }
-        ensures told { result.told ≡ lengths_of slots }
+        ensures reported { result.reported ≡ lengths_of slots }
     {
         MemoryBacking { slots, failures: 0 }
     }

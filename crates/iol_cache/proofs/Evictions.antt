@@ -13,4 +13,4 @@ pub mod Ready
 pub mod Roomy
 pub mod Orders
 pub mod OneRoom
-pub mod LoosePages
+pub mod ReclaimablePages

@@ -10,15 +10,15 @@ use Rattle.iol_extent.specs.Extents.{no_place}
 use Rattle.iol_hold.specs.Moves.{Covers, Moves}
 use Rattle.iol_hold.specs.Places.{Place, byte_len, places}
 use Rattle.iol_hold.specs.Room.{free_of}
-use Rattle.iol_hold.specs.StoreState.{Stored, AllSettled, IsTidy}
+use Rattle.iol_hold.specs.StoreState.{Stored, AllReclaimed, IsTidy}
 use Rattle.iol_hold.specs.Texts.{AllReadable, bufs_of, text_of}
 use Rattle.iol_hold.specs.declared.slices.Slice.{Slice}
 use Rattle.iol_pool.specs.Pools.{pool_in}
 use Rattle.iol_cache.specs.Loads.{PlacesOrReleases, PlacesPages}
 use Rattle.iol_cache.specs.SharedBytes.{CountsBelow}
 
--- The pages that new bytes need in a pool, after so many bytes of other pools: each maximal run of bytes of other pools is
--- copied apart.
+-- The pages that new bytes need in a pool, after so many bytes of other pools: each maximal run of bytes of other pools
+-- is copied apart.
 abbrev pub pages_after : (run pool : ℕ) → List Slice → ℕ
 pages_after run p [] = pages_for run
 pages_after run p (x ∷ xs) =
@@ -33,15 +33,15 @@ pub record KeepsOwn (pool : ℕ) (source out : List Place) : Type 0 where
   pub each : (i : ℕ) → i < length source → (slice_index_or source i no_place).pool ≡ pool
       → slice_index_or out i no_place ≡ slice_index_or source i no_place
 
--- The same bytes as those of the source, all in the pool. Those of the pool are shared, and the others are on the lowest k pages
--- that were free.
+-- The same bytes as those of the source, all in the pool. Those of the pool are shared, and the others are on the
+-- lowest k pages that were free.
 pub record Composes (s t : Stored) (pool k : ℕ) (source out : List Slice) : Type 0 where
   pub moves : Moves s t [] (bufs_of out)
   pub is : text_of t out ≡ text.labelled pool (text.bytes_of (text_of s source))
   pub own : KeepsOwn pool (places source) (places out)
   pub readable : AllReadable t out
   pub pages : PlacesPages s t pool k
-  pub settles : AllSettled s → AllSettled t
+  pub reclaims : AllReclaimed s → AllReclaimed t
 
 -- the first slices of a source were composed in the pool, on as many pages as it needs beside those that are left
 pub record ComposesRun (s t : Stored) (pool : ℕ) (source left out : List Slice) : Type 0 where
@@ -51,8 +51,8 @@ pub record ComposesRun (s t : Stored) (pool : ℕ) (source left out : List Slice
   pub pages : count + copied_pages pool left ≡ copied_pages pool source
   pub composes : Composes s t pool count run out
 
--- A source's bytes may be composed in a pool: it is open, and the slices are held, can be read, and fit an aggregate. Each buffer
--- is held fewer than n times, and the store is tidy.
+-- A source's bytes may be composed in a pool: it is open, and the slices are held, can be read, and fit an aggregate.
+-- Each buffer is held fewer than n times, and the store is tidy.
 pub record MayCompose (s : Stored) (n pool : ℕ) (source : List Slice) : Type 0 where
   pub opened : (pool_in s.pools pool).closed ≡ false
   pub small : byte_len source ≤ MAX_AGGREGATE_BYTES
@@ -77,7 +77,8 @@ pub record IsFirstRun (pool : ℕ) (own : Bool) (xs : List Slice) (n size : ℕ)
   pub all : All (λ (x : Slice). (x.hold.pool == pool) ≡ own) (take n xs)
   pub ends : (d : Slice) → n < length xs → ((slice_index_or xs n d).hold.pool == pool) ≡ not own
 
--- slices of other pools may be copied to a pool: it is open, they can be read and fit an aggregate, and the store is tidy
+-- slices of other pools may be copied to a pool: it is open, they can be read and fit an aggregate, and the store is
+-- tidy
 pub record MayCopy (s : Stored) (pool : ℕ) (run : List Slice) : Type 0 where
   pub opened : (pool_in s.pools pool).closed ≡ false
   pub small : byte_len run ≤ MAX_AGGREGATE_BYTES
@@ -85,8 +86,8 @@ pub record MayCopy (s : Stored) (pool : ℕ) (run : List Slice) : Type 0 where
   pub tidy : IsTidy s
   pub others : All (λ (x : Slice). (x.hold.pool == pool) ≡ false) run
 
--- A run of slices was copied to a pool. An error, for lack of room or memory, changes nothing, and NoRoom means that fewer pages
--- are free than the run's bytes need.
+-- A run of slices was copied to a pool. An error, for lack of room or memory, changes nothing, and NoRoom means that
+-- fewer pages are free than the run's bytes need.
 pub record CopiesOrKeeps (s t : Stored) (pool : ℕ) (run : List Slice) (r : Result (List Slice) Refusal) : Type 0 where
   pub composes : IfOk r (Composes s t pool (pages_for (byte_len run)) run)
   pub no_room : (p : ℕ) → r ≡ Err (NoRoom p) → length (free_of s pool) < pages_for (byte_len run)
@@ -98,8 +99,9 @@ pub record IsSliceAt (source : List Slice) (i at : ℕ) : Type 0 where
   pub there : i < length source
   pub before : at ≡ byte_len (take i source)
 
--- The run that begins with the i-th slice was composed. The result is the index of the next slice, and the number of bytes before
--- it. An error, for lack of room or memory, changes nothing, and NoRoom means that fewer pages are free than the rest needs.
+-- The run that begins with the i-th slice was composed. The result is the index of the next slice, and the number of
+-- bytes before it. An error, for lack of room or memory, changes nothing, and NoRoom means that fewer pages are free
+-- than the rest needs.
 pub record ComposesRunOrKeeps (s t : Stored) (pool : ℕ) (source : List Slice) (i : ℕ)
     (r : Result (ℕ × ℕ × List Slice) Refusal) : Type 0 where
   pub further : IfOk r (λ x. i < x.0)

@@ -2,7 +2,7 @@
 use Rattle.std.specs.Prelude.{◌≡◌, ◌≢◌, ◌↔◌, ℕ, zero, suc, ◌+◌, ◌<◌, ◌≤◌, Bool, true, false, List, [], ◌∷◌, length, Option, Some, None, MatchOption, IsTrue}
 use Rattle.std.specs.List.{list_any}
 use Rattle.iol_core.specs.declared.numbers.BufId.{BufId}
-use Rattle.iol_hold.specs.StoreState.{Stored, AllSettled, count_of}
+use Rattle.iol_hold.specs.StoreState.{Stored, AllReclaimed, count_of}
 use Rattle.iol_hold.specs.Moves.{Moves, Counts, SameLists}
 use Rattle.iol_hold.specs.Releases.{FreesOnly}
 use Rattle.iol_hold.specs.Room.{free_of, pages_of}
@@ -54,10 +54,10 @@ pub record Evicts (f at : ℕ) (old new : Holding) : Type 0 where
   pub moves : Moves old.store new.store (bufs_of (parts_at old.cache.files f at)) []
   pub frees : FreesOnly old.store new.store
   pub lists : SameLists old.store new.store
-  pub settles : AllSettled old.store → AllSettled new.store
+  pub reclaims : AllReclaimed old.store → AllReclaimed new.store
 
--- A clean extent is evicted, and the cache is sound. If those of its pool's files below one rank were in use, those below the other
--- are.
+-- A clean extent is evicted, and the cache is sound. If those of its pool's files below one rank were in use, those
+-- below the other are.
 pub record EvictsOne (f at : ℕ) (was now : Rank) (old new : Holding) : Type 0 where
   pub evicts : Evicts f at old new
   pub sound : IsSound new.store new.cache
@@ -109,14 +109,14 @@ pub record GivesUp (old new : Holding) : Type 0 where
   pub fewer : (b : BufId) → count_of new.store b ≤ count_of old.store b
   pub frees : FreesOnly old.store new.store
   pub lists : SameLists old.store new.store
-  pub settles : AllSettled old.store → AllSettled new.store
+  pub reclaims : AllReclaimed old.store → AllReclaimed new.store
   pub mirrors : (slots : List (List ℕ)) → Mirrors old.store slots old.cache.files → Mirrors new.store slots new.cache.files
   pub files : (slots : List (List ℕ)) → Mirrors old.store slots old.cache.files
       → SameFiles old.store old.cache.files new.store new.cache.files slots
   pub keeps : KeepsPlaces old.cache new.cache
 
--- Clean extents of the pool's files were evicted until n pages of the pool were free, or all of them if there is no room for n
--- pages.
+-- Clean extents of the pool's files were evicted until n pages of the pool were free, or all of them if there is no
+-- room for n pages.
 pub record MakesFree (p n : ℕ) (old new : Holding) (has_room : Bool) : Type 0 where
   pub room : IsTrue has_room ↔ HasPages p n old
   pub free : IsTrue has_room → n ≤ length (free_of new.store p)
@@ -133,9 +133,9 @@ pub record DropsClean (p : ℕ) (old new : Holding) : Type 0 where
   pub gives_up : GivesUp old new
   pub sound : IsSound new.store new.cache
 
--- Clean extents of the pool's files were evicted, in the order of eviction, while fewer than n pages of the pool were free. The
--- result is whether the pool has room for n pages: if it has, they are free, and if not, nothing changed. Every file keeps its
--- bytes, and the cache is sound.
+-- Clean extents of the pool's files were evicted, in the order of eviction, while fewer than n pages of the pool were
+-- free. The result is whether the pool has room for n pages: if it has, they are free, and if not, nothing changed.
+-- Every file keeps its bytes, and the cache is sound.
 pub record FreesOrKeeps (p n : ℕ) (old new : Holding) (has_room : Bool) : Type 0 where
   pub room : IsTrue has_room ↔ HasPages p n old
   pub free : IsTrue has_room → n ≤ length (free_of new.store p)

@@ -20,12 +20,12 @@ use Rattle.iol_cache.specs.Gaps.{AreOf}
 use Rattle.iol_cache.specs.ReadSteps.{FillsAllOf, Goes}
 use Rattle.iol_cache.specs.PageChanges.{FillsLowest}
 use Rattle.iol_cache.specs.RangeReads.{MayFill}
-use Rattle.iol_cache.specs.ReadResults.{FillsPinned, IsBacked, IsEnd, NoRoomToRead, ReadsFile, RefusesRead, RoomToRead, TellsFault, TellsRoom, bytes_read}
+use Rattle.iol_cache.specs.ReadResults.{FillsPinned, IsBacked, IsEnd, NoRoomToRead, ReadsFile, RefusesRead, RoomToRead, ReportsFault, ReportsRoom, bytes_read}
 use Rattle.iol_cache.specs.SharedBytes.{CountsBelow}
 use Rattle.iol_cache.specs.Sound.{IsSound}
 
--- A part of a file may be filled, or is: its gaps are read, and it is assembled from them and from slices that have as many bytes
--- as the part outside the gaps. With pins, room is made for the gaps, and the pins are released at the end.
+-- A part of a file may be filled, or is: its gaps are read, and it is assembled from them and from slices that have as
+-- many bytes as the part outside the gaps. With pins, room is made for the gaps, and the pins are released at the end.
 
 abbrev pub MayFillPart : FilePart → (gaps : List Span) → (beside : List Slice) → Holding → Type 0
 MayFillPart part gaps beside h = MayFill part.file part.from part.to gaps beside h
@@ -48,9 +48,10 @@ pub record MayReadFile (f : ℕ) (h : Holding) : Type 0 where
   pub file : is_numbered h.cache.files f ≡ true
   pub few : CountsBelow h.store (2 ^ 59)
 
--- At most n bytes of a file were read from `at` on, up to the end of the file: if the store backs the cache, the file's own bytes.
--- Or the read was refused: for lack of room only if there is none, for lack of memory, or by a fault of the store. In each case the
--- cache is sound, and over an honest store every file keeps its bytes. Except for extents, only the result holds new references.
+-- At most n bytes of a file were read from `at` on, up to the end of the file: if the store backs the cache, the file's
+-- own bytes. Or the read was refused: for lack of room only if there is none, for lack of memory, or by a fault of the
+-- store. In each case the cache is sound, and over an honest store every file keeps its bytes. Except for extents, only
+-- the result holds new references.
 pub record ServesRead (f at n : ℕ) (disk : Disk) (s : Stored) (c : Cache) (r : Result (List Slice) Refusal) (after : Disk)
     (t : Stored) (d : Cache) : Type 0 where
   -- the bytes that are read
@@ -68,11 +69,11 @@ pub record ServesRead (f at n : ℕ) (disk : Disk) (s : Stored) (c : Cache) (r :
   pub sound : IsSound t (cached_of d)
   -- refusals
   pub refused : IfErr r (RefusesRead f at n disk (holding s c) (holding t d))
-  pub room : TellsRoom (RoomToRead f at n disk (holding s c)) (NoRoomToRead f at n disk (holding s c)) r
-  pub fault : TellsFault disk after r
+  pub room : ReportsRoom (RoomToRead f at n disk (holding s c)) (NoRoomToRead f at n disk (holding s c)) r
+  pub fault : ReportsFault disk after r
   pub late : IfErr r (WantOfRoomOrFault (file_in (cached_of c).files f).pool f)
 
 -- n is where a read of a file would end now: of a store that backs the cache, the length of the file
-pub record TellsLength (disk : Disk) (c : Cached) (f n : ℕ) : Type 0 where
+pub record ReportsLength (disk : Disk) (c : Cached) (f n : ℕ) : Type 0 where
   pub end : IsEnd disk c f n
   pub length : (s : Stored) → IsBacked disk (record { store = s; cache = c }) → n ≡ length (bytes_in_slot s disk.slots c.files f)

@@ -16,7 +16,7 @@ use Rattle.iol_extent.specs.declared.spans.Span.{Span}
 use Rattle.iol_hold.specs.Moves.{Moves, SameLists}
 use Rattle.iol_hold.specs.Places.{byte_len}
 use Rattle.iol_hold.specs.Releases.{FreesOnly}
-use Rattle.iol_hold.specs.StoreState.{AllSettled, Stored}
+use Rattle.iol_hold.specs.StoreState.{AllReclaimed, Stored}
 use Rattle.iol_hold.specs.Texts.{text_of, bufs_of, AllReadable}
 use Rattle.iol_hold.specs.declared.slices.Slice.{Slice}
 use Rattle.iol_pool.specs.Pools.{pool_in}
@@ -26,7 +26,8 @@ abbrev pub gap_pages : List Span → ℕ
 gap_pages [] = 0
 gap_pages (g ∷ gs) = pages_for (g.to - g.from) + gap_pages gs
 
--- These are gaps between extents, in order from low to high, and there is room for as many extents, with bytes of an open pool.
+-- These are gaps between extents, in order from low to high, and there is room for as many extents, with bytes of an
+-- open pool.
 pub record HasGaps (s : Stored) (m : ExtentMap) (pool low high : ℕ) (gaps : List Span) : Type 0 where
   pub apart : IsApart 0 m.extents
   pub in_order : AreInOrder low high gaps
@@ -102,8 +103,8 @@ pub record FillsGaps (s t : Stored) (old new : ExtentMap) (pool : ℕ) (gaps : L
   pub places : PlacesPages s t pool (gap_pages gaps)
   pub mirrors : IfHonest disk (AllMirror t pool (content disk.slots file) made)
 
--- A call that reads these gaps of a file into pages of a pool, all of them or none, with one read of the store for each. After an
--- error, everything else is unchanged, and the placed bytes are released.
+-- A call that reads these gaps of a file into pages of a pool, all of them or none, with one read of the store for
+-- each. After an error, everything else is unchanged, and the placed bytes are released.
 pub record ReadsAllGaps {A : Type 0} (pool file : ℕ) (gaps : List Span) (stays : Type 0) (disk after : Disk) (old new : Stored)
     (r : Result A Refusal) : Type 0 where
   pub same : OnErr r stays
@@ -133,7 +134,7 @@ pub record TakesBack (s t : Stored) (old new : ExtentMap) (spans : List Span) : 
   pub moves : Moves s t (bufs_of (parts_back old.extents spans)) []
   pub lists : SameLists s t
   pub frees : FreesOnly s t
-  pub settles : AllReadable s (parts_back old.extents spans) → AllSettled s → AllSettled t
+  pub reclaims : AllReadable s (parts_back old.extents spans) → AllReclaimed s → AllReclaimed t
 
 -- Each gap of a file was read into new buffers of the pool and is a clean extent; or, after an error, the extents are
 -- unchanged.

@@ -16,7 +16,7 @@ use Rattle.iol_hold.specs.Fillings.{Fill, IsFilling, filling_lender, filling_par
 use Rattle.iol_hold.specs.Moves.{Moves, SameLists}
 use Rattle.iol_hold.specs.Pages.{KeepsPages}
 use Rattle.iol_hold.specs.Room.{free_of, lowest_of}
-use Rattle.iol_hold.specs.StoreState.{AllSettled, Buffer, Stored, held_bufs, with_arena}
+use Rattle.iol_hold.specs.StoreState.{AllReclaimed, Buffer, Stored, held_bufs, with_arena}
 use Rattle.iol_hold.specs.Texts.{IsFilled}
 use Rattle.iol_hold.specs.PendingPages.{Fills}
 use Rattle.iol_pool.specs.Pools.{pool_in}
@@ -32,8 +32,8 @@ pub record IsRead {A E : Type 0} (old new : Disk) (r : Result A E) : Type 0 wher
   pub slots : IfHonest old (new.slots ≡ old.slots)
   pub counts : ReadCounts old new r
 
--- The store was read into memory, which has these bytes then. If it did not fail there are at least n, and if it is honest the
--- first n are those of the file from `at` on.
+-- The store was read into memory, which has these bytes then. If it did not fail there are at least n, and if it is
+-- honest the first n are those of the file from `at` on.
 pub record ReadsInto {A E : Type 0} (disk : Disk) (file at n : ℕ) (bytes : List ℕ) (r : Result A E) : Type 0 where
   pub whole : OnOk r (n ≤ length bytes)
   pub read : IfHonest disk (OnOk r (take n bytes ≡ take n (drop at (content disk.slots file))))
@@ -47,8 +47,8 @@ pub record WritesFilling (f g : Fill) : Type 0 where
   pub fills : Fills (filling_store f) (filling_store g) (filling_parts f)
   pub entries : (filling_store g).arena.entries ≡ (filling_store f).arena.entries
 
--- At most `left` bytes of a file were read into part i of a filling. Where an honest store did not fail, they are those of the
--- file from `at` on.
+-- At most `left` bytes of a file were read into part i of a filling. Where an honest store did not fail, they are those
+-- of the file from `at` on.
 pub record ReadsPart {E : Type 0} (f g : Fill) (i left : ℕ) (disk : Disk) (file at : ℕ) (r : Result ℕ E) : Type 0 where
   pub writes : WritesFilling f g
   pub written : List ℕ
@@ -67,8 +67,8 @@ pub record IsBegunFor (f : Fill) (at n : ℕ) : Type 0 where
   pub filling : IsFilling f
   pub long : length (part_pages (filling_parts f)) ≡ pages_for n
 
--- A call that reads n ranges of the store. It fails by a failure of the store, which is counted once, or before it reads; if it
--- had to read and did not fail, the store has not failed too often.
+-- A call that reads n ranges of the store. It fails by a failure of the store, which is counted once, or before it
+-- reads; if it had to read and did not fail, the store has not failed too often.
 abbrev pub AskCounts : {A : Type 0} → (ranges : ℕ) → (old new : Disk) → Result A Refusal → Type 0
 AskCounts ranges old new (Ok x) = (new.failures ≡ old.failures) × (0 < ranges → old.failures < last_failure)
 AskCounts ranges old new (Err (Fault f)) = (new.failures ≡ raised old.failures) × (0 < ranges)
@@ -79,7 +79,8 @@ pub record Asks {A : Type 0} (ranges : ℕ) (old new : Disk) (r : Result A Refus
   pub slots : IfHonest old (new.slots ≡ old.slots)
   pub counts : AskCounts ranges old new r
 
--- the lowest k free pages of a pool were filled: each generation was raised by one, buffers are on them, and all others are unchanged
+-- the lowest k free pages of a pool were filled: each generation was raised by one, buffers are on them, and all others
+-- are unchanged
 pub record PlacesPages (old new : Stored) (pool k : ℕ) : Type 0 where
   pub enough : k ≤ length (free_of old pool)
   pub pages : KeepsPages old new (take k (free_of old pool))
@@ -118,22 +119,22 @@ pub record LoadsHolds (old new : Stored) (pool n : ℕ) (disk : Disk) (file at :
   pub value : IfHonest disk (bytes_in new.arena (held_bufs holds) ≡ take n (drop at (content disk.slots file)))
   pub inside : IfHonest disk (at + n ≤ length (content disk.slots file))
 
--- What does not change when n bytes of a file are read into a pool, or are not: the pools, and that no closed pool keeps its chunks
--- if all of them are empty. After an error, for lack of room or memory or by a fault at the file, the references are unchanged and
--- pages were at most freed, and NoRoom means that fewer pages are free than n bytes need.
+-- What does not change when n bytes of a file are read into a pool, or are not: the pools, and that no closed pool
+-- keeps its chunks if all of them are empty. After an error, for lack of room or memory or by a fault at the file, the
+-- references are unchanged and pages were at most freed, and NoRoom means that fewer pages are free than n bytes need.
 pub record LoadsOrKeeps {A : Type 0} (pool n file : ℕ) (old new : Stored) (r : Result A Refusal) : Type 0 where
   pub none : OnErr r (Moves old new [] [])
   pub kept : OnErr r (KeepsPages old new [])
   pub pools : new.pools ≡ old.pools
-  pub settles : AllSettled old → AllSettled new
+  pub reclaims : AllReclaimed old → AllReclaimed new
   pub no_room : IfErr r (λ x. (p : ℕ) → x ≡ NoRoom p → length (free_of old pool) < pages_for n)
   pub late : IfErr r (WantOfRoomOrFault pool file)
 
--- Bytes are placed on n pages of a pool. After an error the references are unchanged, the placed bytes are released, and NoRoom
--- means that fewer pages are free.
+-- Bytes are placed on n pages of a pool. After an error the references are unchanged, the placed bytes are released,
+-- and NoRoom means that fewer pages are free.
 pub record PlacesOrReleases {A : Type 0} (pool n : ℕ) (old new : Stored) (r : Result A Refusal) : Type 0 where
   pub none : OnErr r (Moves old new [] [])
   pub given_back : OnErr r (PlacesSome old new pool n)
   pub lists : SameLists old new
-  pub settles : AllSettled old → AllSettled new
+  pub reclaims : AllReclaimed old → AllReclaimed new
   pub no_room : IfErr r (λ x. (p : ℕ) → x ≡ NoRoom p → length (free_of old pool) < n)

@@ -11,7 +11,7 @@ use Rattle.iol_extent.specs.Extents.{Cell, Extent, cover}
 use Rattle.iol_hold.specs.Moves.{Covers, Moves, SameLists}
 use Rattle.iol_hold.specs.Places.{byte_len, places}
 use Rattle.iol_hold.specs.Room.{free_of}
-use Rattle.iol_hold.specs.StoreState.{AllSettled, Stored}
+use Rattle.iol_hold.specs.StoreState.{AllReclaimed, Stored}
 use Rattle.iol_hold.specs.Texts.{AllReadable, bufs_of, text_of}
 use Rattle.iol_hold.specs.declared.slices.Slice.{Slice}
 use Rattle.iol_cache.specs.declared.cache.Cache.{Cache}
@@ -65,8 +65,8 @@ pub record LiesDirty (f at : ℕ) (source : List Slice) (cache : Cached) : Type 
   pub own : KeepsOwn (file_in cache.files f).pool (places source)
       (places_over (extents_in cache.files f) at (at + byte_len source))
 
--- Room for extents and entries was reserved, and clean extents of the pool's files were evicted, if needed, until n pages
--- were free.
+-- Room for extents and entries was reserved, and clean extents of the pool's files were evicted, if needed, until n
+-- pages were free.
 pub record MakesRoom (pool n : ℕ) (old new : Holding) : Type 0 where
   pub reserved : Cached
   pub rooms : SameButRoom old.cache reserved
@@ -78,8 +78,8 @@ pub record LeavesAll (old new : Holding) : Type 0 where
   pub store : new.store ≡ old.store
   pub same : SameButRoom old.cache new.cache
 
--- Room was made, and nothing else changed: bytes placed in the pool are released. Extents were evicted, and pages filled, only
--- if n pages could be made free.
+-- Room was made, and nothing else changed: bytes placed in the pool are released. Extents were evicted, and pages
+-- filled, only if n pages could be made free.
 pub record OnlyMakesRoom (pool n : ℕ) (old new : Holding) : Type 0 where
   pub mid : Holding
   pub room : MakesRoom pool n old mid
@@ -114,16 +114,17 @@ pool_of c f = (file_in c.files.items f).pool
 abbrev pub pages_copied : Cache → (f : ℕ) → List Slice → ℕ
 pages_copied c f source = copied_pages (pool_of c f) source
 
--- Room may be made for a write of these bytes to a file: the cache is sound and has the file, and they are no more than a file
--- may have.
+-- Room may be made for a write of these bytes to a file: the cache is sound and has the file, and they are no more than
+-- a file may have.
 pub record MayMakePlace (f : ℕ) (source : List Slice) (h : Holding) : Type 0 where
   pub sound : IsSound h.store h.cache
   pub file : is_numbered h.cache.files f ≡ true
   pub small : byte_len source ≤ MAX_FILE_BYTES
 
--- Room was made for a write of these bytes to a file, for three extents, for their entries, and in the file's pool for the pages
--- of the copied bytes; or no page, extent, entry or height changed. The error is for lack of memory or of room in that pool, and for
--- lack of room only if pinned pages and those for the copies are more than the pool has. The cache is sound.
+-- Room was made for a write of these bytes to a file, for three extents, for their entries, and in the file's pool for
+-- the pages of the copied bytes; or no page, extent, entry or height changed. The error is for lack of memory or of
+-- room in that pool, and for lack of room only if pinned pages and those for the copies are more than the pool has. The
+-- cache is sound.
 pub record MakesPlace {A : Type 0} (f : ℕ) (source : List Slice) (s : Stored) (c : Cache) (t : Stored) (d : Cache)
     (r : Result A Refusal) : Type 0 where
   pub room : MakesRoom (pool_of c f) (pages_copied c f source) (holding s c) (holding t d)
@@ -135,8 +136,9 @@ pub record MakesPlace {A : Type 0} (f : ℕ) (source : List Slice) (s : Stored) 
   pub places : OnOk r (HasPlaces 3 (indexing_in (cached_of d) f))
   pub sound : IsSound t (cached_of d)
 
--- The bytes of a source may be written over those of a file of a sound cache from a place on: they end within what a file may
--- have, can be read, and are held beside all that the cache holds. Each buffer is held fewer than 2 ^ 60 times.
+-- The bytes of a source may be written over those of a file of a sound cache from a place on: they end within what a
+-- file may have, can be read, and are held beside all that the cache holds. Each buffer is held fewer than 2 ^ 60
+-- times.
 pub record MayWrite (f at : ℕ) (source : List Slice) (h : Holding) : Type 0 where
   pub sound : IsSound h.store h.cache
   pub file : is_numbered h.cache.files f ≡ true
@@ -145,14 +147,15 @@ pub record MayWrite (f at : ℕ) (source : List Slice) (h : Holding) : Type 0 wh
   pub readable : AllReadable h.store source
   pub few : CountsBelow h.store (2 ^ 60)
 
--- The bytes of a source may be written, there is one at least, and there is room for three extents of the file and their entries.
+-- The bytes of a source may be written, there is one at least, and there is room for three extents of the file and
+-- their entries.
 pub record MayOverwrite (f at : ℕ) (source : List Slice) (h : Holding) : Type 0 where
   pub may : MayWrite f at source h
   pub some : 0 < byte_len source
   pub places : HasPlaces 3 (indexing_in h.cache f)
 
--- The bytes of a source were written over those of a file from a place on. After an error, for lack of room or memory, the cache is
--- unchanged, and the placed bytes are released. The cache is sound.
+-- The bytes of a source were written over those of a file from a place on. After an error, for lack of room or memory,
+-- the cache is unchanged, and the placed bytes are released. The cache is sound.
 pub record OverwritesOrReleases {A : Type 0} (f at : ℕ) (source : List Slice) (s : Stored) (c : Cache) (t : Stored) (d : Cache)
     (r : Result A Refusal) : Type 0 where
   pub overwrites : OnOk r (Overwrites f at source (holding s c) (holding t d))
@@ -161,8 +164,8 @@ pub record OverwritesOrReleases {A : Type 0} (f at : ℕ) (source : List Slice) 
   pub late : IfErr r (WantOfRoom (pool_of c f))
   pub sound : IsSound t (cached_of d)
 
--- The bytes of a source were written over those of a file from a place on. If there are no bytes, nothing changed. After an error
--- every file keeps its bytes.
+-- The bytes of a source were written over those of a file from a place on. If there are no bytes, nothing changed.
+-- After an error every file keeps its bytes.
 pub record Writes {A : Type 0} (f at : ℕ) (source : List Slice) (s : Stored) (c : Cache) (t : Stored) (d : Cache)
     (r : Result A Refusal) : Type 0 where
   -- The bytes of files.
@@ -175,15 +178,16 @@ pub record Writes {A : Type 0} (f at : ℕ) (source : List Slice) (s : Stored) (
   pub writes : 0 < byte_len source → OnOk r (WritesFile f at source (holding s c) (holding t d))
   pub evicts : OnErr r (OnlyMakesRoom (pool_of c f) (pages_copied c f source) (holding s c) (holding t d))
   pub nothing : byte_len source ≡ 0 → holding t d ≡ holding s c
-  -- It succeeds only if the pages can be made free, and is refused for lack of room only if they cannot: then nothing changes.
-  -- Any other error is for lack of memory.
+  -- It succeeds only if the pages can be made free, and is refused for lack of room only if they cannot: then nothing
+  -- changes. Any other error is for lack of memory.
   pub room : OnOk r (HasPages (pool_of c f) (pages_copied c f source) (holding s c))
   pub no_room : (q : ℕ) → r ≡ Err (NoRoom q) → LacksPages (pool_of c f) (pages_copied c f source) (holding s c)
   pub kept : (q : ℕ) → r ≡ Err (NoRoom q) → LeavesAll (holding s c) (holding t d)
   pub late : IfErr r (WantOfRoom (pool_of c f))
-  -- References change only with the extents, live buffers keep their bytes, and the lowest free pages of the pool are filled.
+  -- References change only with the extents, live buffers keep their bytes, and the lowest free pages of the pool are
+  -- filled.
   pub moves : Moves s t (held c.files.items) (held d.files.items)
   pub pages : FillsLowest (pool_of c f) s t
   pub lists : SameLists s t
-  pub settles : AllSettled s → AllSettled t
+  pub reclaims : AllReclaimed s → AllReclaimed t
   pub sound : IsSound t (cached_of d)

@@ -11,7 +11,7 @@ use Rattle.iol_extent.specs.declared.spans.Span.{Span}
 use Rattle.iol_hold.specs.Moves.{Moves, SameLists, Shares}
 use Rattle.iol_hold.specs.Places.{places}
 use Rattle.iol_hold.specs.Releases.{FreesOnly}
-use Rattle.iol_hold.specs.StoreState.{AllSettled}
+use Rattle.iol_hold.specs.StoreState.{AllReclaimed}
 use Rattle.iol_hold.specs.Texts.{bufs_of}
 use Rattle.iol_hold.specs.declared.slices.Slice.{Slice}
 use Rattle.iol_cache.specs.declared.files.FilePart.{FilePart}
@@ -32,8 +32,8 @@ pub record MayRead (f from to : ℕ) (h : Holding) : Type 0 where
   pub ordered : from ≤ to
   pub few : CountsBelow h.store (2 ^ 59)
 
--- A range has these gaps. The bytes outside them were shared, one slice for each slice of an extent that has a byte of a part
--- between two gaps. The hits were counted, and the gaps have room in the file and in the order.
+-- A range has these gaps. The bytes outside them were shared, one slice for each slice of an extent that has a byte of
+-- a part between two gaps. The hits were counted, and the gaps have room in the file and in the order.
 pub record PinsRange (f from to : ℕ) (old new : Holding) (pins : List Slice) (gaps : List Span) : Type 0 where
   pub hits : List Span
   pub tile : Tile (extents_in old.cache.files f) from to hits gaps
@@ -46,9 +46,9 @@ pub record PinsRange (f from to : ℕ) (old new : Holding) (pins : List Slice) (
   pub space : length gaps ≤ (file_in new.cache.files f).extents.room
   pub entries : length gaps ≤ (order_in new.cache.orders (file_in new.cache.files f).pool).room
 
--- The hits of a part of a file were shared and counted, and its gaps are returned; or, after an error, the references are unchanged,
--- and nothing in the cache changed except the reserved room. The cache is sound, pages were at most freed, and no pool's list
--- changed.
+-- The hits of a part of a file were shared and counted, and its gaps are returned; or, after an error, the references
+-- are unchanged, and nothing in the cache changed except the reserved room. The cache is sound, pages were at most
+-- freed, and no pool's list changed.
 pub record SharesHits {E : Type 0} (part : FilePart) (old new : Holding) (r : Result (List Slice × Vec Span) E) : Type 0 where
   pub pinned : IfOk r (λ x. PinsRange part.file part.from part.to old new x.0 x.1.items)
   pub sound : IsSound new.store new.cache
@@ -56,7 +56,7 @@ pub record SharesHits {E : Type 0} (part : FilePart) (old new : Holding) (r : Re
   pub none : OnErr r (Moves old.store new.store [] [])
   pub frees : FreesOnly old.store new.store
   pub lists : SameLists old.store new.store
-  pub settles : AllSettled old.store → AllSettled new.store
+  pub reclaims : AllReclaimed old.store → AllReclaimed new.store
 
 -- a clean extent is over exactly this span
 pub record IsCleanSpan (es : List Extent) (s : Span) : Type 0 where
@@ -71,8 +71,8 @@ pub record IsAllShared (pins : List Slice) (gaps : List Span) (old new : Holding
   pub all : xs ≡ pins
   pub same : new ≡ old
 
--- Room was made for the gaps, they were read and are clean extents, the range was assembled from them and from the shared bytes
--- outside them, and those were released.
+-- Room was made for the gaps, they were read and are clean extents, the range was assembled from them and from the
+-- shared bytes outside them, and those were released.
 pub record FillsAfter (f from to : ℕ) (pins : List Slice) (gaps : List Span) (disk : Disk) (old new : Holding)
     (xs : List Slice) : Type 0 where
   pub mid : Holding
@@ -91,8 +91,8 @@ abbrev pub CompletesRange : (f from to : ℕ) → List Slice → List Span → D
 CompletesRange f from to pins gaps disk old new xs =
     IsAllShared pins gaps old new xs ⊎ FillsAfter f from to pins gaps disk old new xs
 
--- Room was made for the gaps. The gaps that were read and the shared bytes outside them are released. Extents were evicted, and
--- pages filled, only if the gaps' pages could be made free, and not if there is no room.
+-- Room was made for the gaps. The gaps that were read and the shared bytes outside them are released. Extents were
+-- evicted, and pages filled, only if the gaps' pages could be made free, and not if there is no room.
 pub record UndoesAfter (f : ℕ) (pins : List Slice) (gaps : List Span) (old new : Holding) (x : Refusal) : Type 0 where
   pub mid : Holding
   pub victims : EvictsAll (file_in old.cache.files f).pool (Some (gap_pages gaps)) old mid

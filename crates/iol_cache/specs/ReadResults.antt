@@ -5,7 +5,7 @@ use Rattle.iol_core.specs.Prelude.{WantOfRoomOrFault}
 use Rattle.iol_core.specs.declared.limits.TheConstants.{MAX_FILE_BYTES}
 use Rattle.iol_core.specs.declared.refusals.Refusal.{Refusal}
 use Rattle.iol_core.specs.declared.refusals.Refusal.TheVariants.{NoRoom, Fault, Memory}
-use Rattle.iol_back.specs.Disk.{Disk, IfHonest, content, last_failure, length_told}
+use Rattle.iol_back.specs.Disk.{Disk, IfHonest, content, last_failure, length_reported}
 use Rattle.iol_back.specs.Prelude.{raised}
 use Rattle.iol_extent.specs.Extents.{last_end}
 use Rattle.iol_extent.specs.declared.spans.Span.{Span}
@@ -28,12 +28,13 @@ use Rattle.iol_cache.specs.RangeReads.{SameButRoom}
 use Rattle.iol_cache.specs.Sound.{IsSound}
 use Rattle.iol_cache.specs.Weave.{places_read, slices_read}
 
--- A call that needs pages is refused for lack of room only if it lacks room. It succeeds, or returns a fault, only if it has room.
-abbrev pub TellsRoom : {A : Type 0} → (has lacks : Type 0) → Result A Refusal → Type 0
-TellsRoom has lacks (Ok x) = has
-TellsRoom has lacks (Err (Fault f)) = has
-TellsRoom has lacks (Err (NoRoom p)) = lacks
-TellsRoom has lacks (Err x) = Unit {0}
+-- A call that needs pages is refused for lack of room only if it lacks room. It succeeds, or returns a fault, only if
+-- it has room.
+abbrev pub ReportsRoom : {A : Type 0} → (has lacks : Type 0) → Result A Refusal → Type 0
+ReportsRoom has lacks (Ok x) = has
+ReportsRoom has lacks (Err (Fault f)) = has
+ReportsRoom has lacks (Err (NoRoom p)) = lacks
+ReportsRoom has lacks (Err x) = Unit {0}
 
 -- a failure was counted exactly if the result is a fault
 abbrev pub FaultCounts : {A : Type 0} → (old new : Disk) → Result A Refusal → Type 0
@@ -42,7 +43,7 @@ FaultCounts old new (Err (Fault f)) = new.failures ≡ raised old.failures
 FaultCounts old new (Err x) = new.failures ≡ old.failures
 
 -- The store was read, so an honest one keeps its bytes. The result is a fault exactly if one more failure was counted.
-pub record TellsFault {A : Type 0} (old new : Disk) (r : Result A Refusal) : Type 0 where
+pub record ReportsFault {A : Type 0} (old new : Disk) (r : Result A Refusal) : Type 0 where
   pub honest : new.honest ≡ old.honest
   pub slots : IfHonest old (new.slots ≡ old.slots)
   pub counts : FaultCounts old new r
@@ -53,11 +54,11 @@ pub record IsBacked (disk : Disk) (h : Holding) : Type 0 where
   pub short : (f : ℕ) → is_numbered h.cache.files f ≡ true → length (content disk.slots f) ≤ MAX_FILE_BYTES
   pub mirrors : Mirrors h.store disk.slots h.cache.files
 
--- The end of a file for a read: the length that the store reports, up to the limit of files, or the end of the last extent,
--- whichever is greater. An honest store reports the stored length.
+-- The end of a file for a read: the length that the store reports, up to the limit of files, or the end of the last
+-- extent, whichever is greater. An honest store reports the stored length.
 pub record IsEnd (disk : Disk) (c : Cached) (f end : ℕ) : Type 0 where
   pub short : end ≤ MAX_FILE_BYTES
-  pub is : end ≡ max (min (length_told disk.told f) MAX_FILE_BYTES) (last_end (extents_in c.files f))
+  pub is : end ≡ max (min (length_reported disk.reported f) MAX_FILE_BYTES) (last_end (extents_in c.files f))
   pub stored : IfHonest disk (end ≡ max (min (length (content disk.slots f)) MAX_FILE_BYTES) (last_end (extents_in c.files f)))
 
 -- n bytes from `at` on, up to the end of the file
@@ -73,9 +74,9 @@ pub record Range (disk : Disk) (c : Cached) (f at n : ℕ) : Type 0 where
 abbrev pub LacksPages : (p n : ℕ) → Holding → Type 0
 LacksPages p n h = length (pages_of h.store p) < pinned_beside h.store (clean_held h.cache.files) p + n
 
--- Room is made for the gaps of a range, if there is room; they are filled, all of them or none, and the range is assembled with the
--- shared bytes outside them, which are released in each case. After the release the cache is sound, and over an honest store every
--- file keeps its bytes.
+-- Room is made for the gaps of a range, if there is room; they are filled, all of them or none, and the range is
+-- assembled with the shared bytes outside them, which are released in each case. After the release the cache is sound,
+-- and over an honest store every file keeps its bytes.
 pub record FillsPinned (f from to : ℕ) (pins : List Slice) (gaps : List Span) (disk after : Disk) (old new : Holding)
     (r : Result (List Slice) Refusal) : Type 0 where
   pub filled : IfOk r (FillsAfter f from to pins gaps disk old new)
@@ -85,13 +86,14 @@ pub record FillsPinned (f from to : ℕ) (pins : List Slice) (gaps : List Span) 
   pub gone : OnErr r (Goes disk (bufs_of pins) [] old new)
   pub sound : IsSound new.store new.cache
   pub room : let p = (file_in old.cache.files f).pool in
-      TellsRoom (HasPages p (gap_pages gaps) old) (LacksPages p (gap_pages gaps) old) r
+      ReportsRoom (HasPages p (gap_pages gaps) old) (LacksPages p (gap_pages gaps) old) r
   pub asks : Asks (length gaps) disk after r
   pub late : IfErr r (WantOfRoomOrFault (file_in old.cache.files f).pool f)
 
--- The hits of a range were shared and counted. If there are gaps, extents were evicted to make room for them, and they are clean
--- extents now. Bytes of hits are where they were, and bytes of gaps are in the new extents. There is one slice for each slice of
--- an extent that has a byte of the range, and at most one more for each gap (`pinned` and `completed` state the slices exactly).
+-- The hits of a range were shared and counted. If there are gaps, extents were evicted to make room for them, and they
+-- are clean extents now. Bytes of hits are where they were, and bytes of gaps are in the new extents. There is one
+-- slice for each slice of an extent that has a byte of the range, and at most one more for each gap (`pinned` and
+-- `completed` state the slices exactly).
 pub record ReadsRange (f from to : ℕ) (disk : Disk) (old new : Holding) (xs : List Slice) : Type 0 where
   pub pins : List Slice
   pub gaps : List Span
@@ -102,8 +104,8 @@ pub record ReadsRange (f from to : ℕ) (disk : Disk) (old new : Holding) (xs : 
   pub parts : length xs ≤ length (slices_read (extents_in old.cache.files f) (extents_in new.cache.files f) from to gaps) + length gaps
   pub answers : 0 < length gaps → disk.failures < last_failure
 
--- The hits of a range were shared and counted, and extents were evicted to make room for its gaps. The gaps that were read and the
--- shared bytes were released. If no byte was missing, the error is neither a fault nor lack of room.
+-- The hits of a range were shared and counted, and extents were evicted to make room for its gaps. The gaps that were
+-- read and the shared bytes were released. If no byte was missing, the error is neither a fault nor lack of room.
 pub record GivesBack (f from to : ℕ) (old new : Holding) (x : Refusal) : Type 0 where
   pub pins : List Slice
   pub gaps : List Span

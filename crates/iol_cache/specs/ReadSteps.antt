@@ -7,7 +7,7 @@ use Rattle.iol_back.specs.Disk.{Disk, IfHonest}
 use Rattle.iol_hold.specs.Moves.{Moves, Shares, SameLists}
 use Rattle.iol_hold.specs.Places.{Place, places}
 use Rattle.iol_hold.specs.Room.{pages_of}
-use Rattle.iol_hold.specs.StoreState.{Stored, AllSettled}
+use Rattle.iol_hold.specs.StoreState.{Stored, AllReclaimed}
 use Rattle.iol_hold.specs.Texts.{bufs_of}
 use Rattle.iol_hold.specs.declared.slices.Slice.{Slice}
 use Rattle.iol_extent.specs.Extents.{ExtentMap}
@@ -23,12 +23,12 @@ use Rattle.iol_cache.specs.RangeReads.{FillsRange, SameButRoom, hits_counted, al
 use Rattle.iol_cache.specs.Sound.{IsSound}
 use Rattle.iol_cache.specs.Weave.{HasSlicesWoven, places_beside}
 
--- In addition to the references of the extents, the references `taken` became the references `given`. With an honest store every
--- file keeps its bytes, and clean extents have the stored bytes.
+-- In addition to the references of the extents, the references `taken` became the references `given`. With an honest
+-- store every file keeps its bytes, and clean extents have the stored bytes.
 pub record Goes (disk : Disk) (taken given : List BufId) (old new : Holding) : Type 0 where
   pub moves : Moves old.store new.store (held old.cache.files ++ taken) (held new.cache.files ++ given)
   pub lists : SameLists old.store new.store
-  pub settles : AllSettled old.store → AllSettled new.store
+  pub reclaims : AllReclaimed old.store → AllReclaimed new.store
   pub pages : page_count new.store.arena ≡ page_count old.store.arena
   pub count : length new.cache.files ≡ length old.cache.files
   pub pools : (f : ℕ) → (file_in new.cache.files f).pool ≡ (file_in old.cache.files f).pool
@@ -43,7 +43,8 @@ pub record CountsHits (f : ℕ) (hits : List Span) (old new : Cached) : Type 0 w
   pub orders : let p = (file_in old.files f).pool in
       new.orders ≡ with_order old.orders p (hits_counted (order_in old.orders p) f (extents_in old.files f) hits)
 
--- The hits of a range with one more reference each, and the gaps; which pages are pinned then, and the number of needed pages.
+-- The hits of a range with one more reference each, and the gaps; which pages are pinned then, and the number of needed
+-- pages.
 pub record Pins (s : Stored) (c : Cached) (f from to : ℕ) : Type 0 where
   pub hits : List Span
   pub gaps : List Span
@@ -79,8 +80,8 @@ pub record FillsFile (f from to : ℕ) (beside : List Place) (gaps : List Span) 
       new.cache.orders ≡ with_order old.cache.orders p (all_entered (order_in old.cache.orders p) f extents.extents gaps)
   pub marks : Marks old.cache.marks new.cache.marks (parts_of_spans extents.extents gaps)
 
--- The gaps of a range of a file are filled, all of them or none, and the range is assembled with these slices, which have the bytes
--- outside the gaps.
+-- The gaps of a range of a file are filled, all of them or none, and the range is assembled with these slices, which
+-- have the bytes outside the gaps.
 pub record FillsAllOf (f from to : ℕ) (gaps : List Span) (xs : List Slice) (disk after : Disk) (old new : Holding)
     (r : Result (List Slice) Refusal) : Type 0 where
   pub filled : IfOk r (FillsFile f from to (places xs) gaps disk old new)

@@ -7,7 +7,7 @@ use Rattle.iol_extent.specs.Extents.{ExtentMap, put_in, dirty_count}
 use Rattle.iol_extent.specs.Prelude.{Adds, Extent, IsApart, IsGap, begins_at, end_of, last_end, meets, unmet, without_at}
 use Rattle.iol_hold.specs.Prelude.{Covers, FreesOnly, Moves, SameLists}
 use Rattle.iol_hold.specs.Places.{byte_len}
-use Rattle.iol_hold.specs.StoreState.{AllSettled, Stored}
+use Rattle.iol_hold.specs.StoreState.{AllReclaimed, Stored}
 use Rattle.iol_hold.specs.Texts.{AllReadable, bufs_of}
 use Rattle.iol_cache.specs.declared.files.CachedFile.{CachedFile}
 use Rattle.iol_cache.specs.CacheState.{Cached, all_parts, clean_in, entries_at, file_in, order_in, parts_in}
@@ -32,7 +32,8 @@ pub record HaveClean (marks : List ℕ) (es : List Extent) : Type 0 where
 pub record IsReady (r : Ranking) (es : List Extent) : Type 0 where
   pub enough : dirty_count es ≤ r.kept
 
--- The extents of file f stand apart; the order has the clean ones and a place for each dirty one, and the marks count them.
+-- The extents of file f stand apart; the order has the clean ones and a place for each dirty one, and the marks count
+-- them.
 pub record IsIndexed (f : ℕ) (es : List Extent) (r : Ranking) (marks : List ℕ) : Type 0 where
   pub apart : IsApart 0 es
   pub ranked : RanksFile r f es
@@ -96,8 +97,8 @@ pub record MayForget (f at : ℕ) (old : Indexing) : Type 0 where
   pub indexed : IsIndexed f old.extents.extents old.order old.marks
   pub within : AreWithin (length old.marks) (parts_in (begins_at old.extents.extents at))
 
--- The extent of file f that begins at a place left the order and the marks, or the place that was kept for it was given back. The
--- order has no less room.
+-- The extent of file f that begins at a place left the order and the marks, or the place that was kept for it was given
+-- back. The order has no less room.
 pub record Forgets (f at : ℕ) (es : List Extent) (r t : Ranking) (marks new : List ℕ) : Type 0 where
   pub follows : Reindexes f es (without_at es at) r t marks new
   pub order : t ≡ forgotten_at r f (begins_at es at)
@@ -110,8 +111,8 @@ pub record MayGo (f : ℕ) (s : Stored) (old : Indexing) : Type 0 where
   pub held : Covers s (bufs_of (all_parts old.extents.extents))
   pub readable : AllReadable s (all_parts old.extents.extents)
 
--- Some extents of file f went, or none. What they held was released, and the order and the marks follow. There is no less room,
--- and those that are left may go, too.
+-- Some extents of file f went, or none. What they held was released, and the order and the marks follow. There is no
+-- less room, and those that are left may go, too.
 pub record LetsGo (f : ℕ) (s t : Stored) (old new : Indexing) : Type 0 where
   pub room : old.extents.room ≤ new.extents.room
   pub order_room : old.order.room ≤ new.order.room
@@ -119,7 +120,7 @@ pub record LetsGo (f : ℕ) (s t : Stored) (old new : Indexing) : Type 0 where
   pub moves : Moves s t (bufs_of (all_parts old.extents.extents)) (bufs_of (all_parts new.extents.extents))
   pub frees : FreesOnly s t
   pub lists : SameLists s t
-  pub settles : AllSettled s → AllSettled t
+  pub reclaims : AllReclaimed s → AllReclaimed t
   pub left : MayGo f t new
 
 -- the extent of file f that begins at a place went
@@ -134,8 +135,8 @@ pub record ClearsRange (f from to : ℕ) (s t : Stored) (es fs : ExtentMap) (r q
   pub order : q ≡ all_forgotten r f (filter (meets from to) es.extents)
   pub gone : LetsGo f s t (indexing_of es r marks) (indexing_of fs q new)
 
--- An extent may come into file f, if it has a byte: nothing lies there, there is room for it and its entry, and its slices can be
--- marked.
+-- An extent may come into file f, if it has a byte: nothing lies there, there is room for it and its entry, and its
+-- slices can be marked.
 pub record MayCome (f : ℕ) (e : Extent) (old : Indexing) : Type 0 where
   pub fits : 0 < byte_len e.parts → end_of e < 2 ^ 32
   pub gap : 0 < byte_len e.parts → IsGap old.extents.extents e.at (end_of e)
@@ -152,7 +153,8 @@ pub record ComesIn (e : Extent) (old new : ExtentMap) : Type 0 where
   pub ends : 0 < byte_len e.parts → last_end new.extents ≡ max (end_of e) (last_end old.extents)
   pub room : old.room ≤ new.room + 1
 
--- The order and the marks of file f follow an extent that comes in, if it has a byte. There is room for one entry less at most.
+-- The order and the marks of file f follow an extent that comes in, if it has a byte. There is room for one entry less
+-- at most.
 pub record Remembers (f : ℕ) (e : Extent) (old new : Indexing) : Type 0 where
   pub follows : Reindexes f old.extents.extents new.extents.extents old.order new.order old.marks new.marks
   pub order : new.order ≡ remembered old.order f e

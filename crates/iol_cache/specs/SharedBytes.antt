@@ -8,7 +8,7 @@ use Rattle.iol_extent.specs.declared.spans.Span.{Span}
 use Rattle.iol_hold.specs.Moves.{Covers, Moves, SameLists, Shares, tally}
 use Rattle.iol_hold.specs.Places.{Place, byte_len, places}
 use Rattle.iol_hold.specs.Releases.{FreesOnly}
-use Rattle.iol_hold.specs.StoreState.{AllSettled, Stored, count_of}
+use Rattle.iol_hold.specs.StoreState.{AllReclaimed, Stored, count_of}
 use Rattle.iol_hold.specs.Texts.{AllReadable, bufs_of}
 use Rattle.iol_hold.specs.declared.slices.Slice.{Slice}
 use Rattle.iol_cache.specs.CacheState.{all_parts}
@@ -55,9 +55,10 @@ pub record SharesOrReleases {A E : Type 0} (so_far : List Slice) (given : A → 
   pub gone : OnErr r (Moves old new (bufs_of so_far) [])
   pub frees : FreesOnly old new
   pub lists : SameLists old new
-  pub settles : AllSettled old → AllSettled new
+  pub reclaims : AllReclaimed old → AllReclaimed new
 
--- The bytes of a range lie under extents, and may be added to what was shared so far: all of it is held, and can be read.
+-- The bytes of a range lie under extents, and may be added to what was shared so far: all of it is held, and can be
+-- read.
 pub record MayShare (s : Stored) (es : List Extent) (so_far : List Slice) (from to : ℕ) : Type 0 where
   pub ordered : from ≤ to
   pub apart : IsApart 0 es
@@ -68,8 +69,8 @@ pub record MayShare (s : Stored) (es : List Extent) (so_far : List Slice) (from 
   pub few : (b : BufId) → count_of s b < 2 ^ 62 + tally b (bufs_of so_far)
   pub small : byte_len so_far + (to - from) < 2 ^ 32
 
--- The bytes of a range were added to what was shared so far: one slice for each slice of an extent that has a byte of the range,
--- the first and the last one cut at its ends. If refused, all of it is released.
+-- The bytes of a range were added to what was shared so far: one slice for each slice of an extent that has a byte of
+-- the range, the first and the last one cut at its ends. If refused, all of it is released.
 pub record SharesOver {E : Type 0} (es : List Extent) (so_far : List Slice) (from to : ℕ) (old new : Stored)
     (r : Result (List Slice) E) : Type 0 where
   pub places : IfOk r (λ a. places a ≡ places so_far ++ places_over es from to)

@@ -46,8 +46,8 @@ pub record MayWriteBack (s : Stored) (at : ℕ) (xs : List Slice) : Type 0 where
   pub fits : at + byte_len xs < 2 ^ 32
   pub readable : AllReadable s xs
 
--- The bytes of these slices were written to a file from a place on, slice by slice. If a write failed, the bytes in their range
--- are arbitrary.
+-- The bytes of these slices were written to a file from a place on, slice by slice. If a write failed, the bytes in
+-- their range are arbitrary.
 pub record WritesBack {A E : Type 0} (file at : ℕ) (s : Stored) (xs : List Slice) (old new : Disk)
     (r : Result A E) : Type 0 where
   pub honest : new.honest ≡ old.honest
@@ -88,9 +88,9 @@ pub record KeepsContents (s : Stored) (old new : Cached) (d e : Disk) : Type 0 w
 
 -- The first dirty extent of a file is written back.
 
--- The first dirty extent of a file begins at a place, and may become clean there: the order has the clean ones and a place for
--- each dirty one, and its pages can be marked.
-pub record MaySettle (f at : ℕ) (old : ExtentMap) (r : Ranking) (marks : List ℕ) : Type 0 where
+-- The first dirty extent of a file begins at a place, and may become clean there: the order has the clean ones and a
+-- place for each dirty one, and its pages can be marked.
+pub record MayReclaim (f at : ℕ) (old : ExtentMap) (r : Ranking) (marks : List ℕ) : Type 0 where
   pub apart : IsApart 0 old.extents
   pub dirty : IsFirstDirty old.extents at
   pub ranked : RanksFile r f old.extents
@@ -99,7 +99,7 @@ pub record MaySettle (f at : ℕ) (old : ExtentMap) (r : Ranking) (marks : List 
   pub few : HasMarksLeft marks (parts_in (begins_at old.extents at))
 
 -- The first dirty extent of a file became clean, is marked, and entered the order with the height of a new entry.
-pub record Settles (f at : ℕ) (old new : ExtentMap) (r t : Ranking) (marks marked : List ℕ) : Type 0 where
+pub record Reclaims (f at : ℕ) (old new : ExtentMap) (r t : Ranking) (marks marked : List ℕ) : Type 0 where
   pub extents : new.extents ≡ cleaned_at old.extents at
   pub apart : IsApart 0 new.extents
   pub follows : Reindexes f old.extents new.extents r t marks marked
@@ -201,9 +201,9 @@ Flushes s old new d e (Err x) = ⊥
 
 -- The calls.
 
--- The dirty extents of a file were written back, in the order of offsets, and the written extents are clean: all of them, or those
--- before one at which the store failed; then the result is a fault at the file. Over an honest store each file keeps its bytes. The
--- cache is sound.
+-- The dirty extents of a file were written back, in the order of offsets, and the written extents are clean: all of
+-- them, or those before one at which the store failed; then the result is a fault at the file. Over an honest store
+-- each file keeps its bytes. The cache is sound.
 pub record WritesAll {A : Type 0} (f : ℕ) (s : Stored) (old new : Cache) (d e : Disk)
     (r : Result A Refusal) : Type 0 where
   -- the extents that became clean
@@ -219,8 +219,8 @@ pub record WritesAll {A : Type 0} (f : ℕ) (s : Stored) (old new : Cache) (d e 
   pub succeeds : OnOk r (e.failures ≡ d.failures)
   pub late : IfErr r (FaultOf f)
 
--- The dirty extent with the least file and offset was written back, if there is one, or the store failed at it. Over an honest store
--- each file keeps its bytes. The cache is sound.
+-- The dirty extent with the least file and offset was written back, if there is one, or the store failed at it. Over an
+-- honest store each file keeps its bytes. The cache is sound.
 pub record WritesOne (s : Stored) (old new : Cache) (d e : Disk) (r : Result Flushed Refusal) : Type 0 where
   pub flushes : Flushes s (cached_of old) (cached_of new) d e r
   pub files : KeepsBytes s (cached_of old) (cached_of new) d e

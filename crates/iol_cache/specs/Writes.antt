@@ -6,7 +6,7 @@ use Rattle.iol_arena.specs.State.{page_count}
 use Rattle.iol_pool.specs.Pools.{pool_in}
 use Rattle.iol_hold.specs.Moves.{Covers, Moves, SameLists}
 use Rattle.iol_hold.specs.Releases.{FreesOnly}
-use Rattle.iol_hold.specs.StoreState.{AllSettled, Stored}
+use Rattle.iol_hold.specs.StoreState.{AllReclaimed, Stored}
 use Rattle.iol_hold.specs.Texts.{bufs_of}
 use Rattle.iol_hold.specs.declared.slices.Slice.{Slice}
 use Rattle.iol_evict.specs.Order.{Ranking}
@@ -25,8 +25,8 @@ use Rattle.iol_cache.specs.declared.write.cut.Replacement.{Replacement}
 abbrev pub parts_put : (left right e : Extent) → List Slice
 parts_put left right e = left.parts ++ (right.parts ++ e.parts)
 
--- In place of what a range of file f meets, the parts on both sides of it and an extent of new bytes may come: what stands may
--- go, they are held beside it, they can be marked, and there is room for three extents and their entries.
+-- In place of what a range of file f meets, the parts on both sides of it and an extent of new bytes may come: what
+-- stands may go, they are held beside it, they can be marked, and there is room for three extents and their entries.
 pub record MayReplace (f : ℕ) (range : Span) (put : Replacement) (s : Stored) (old : Indexing) : Type 0 where
   pub cuts : CutsAround old.extents.extents range.from range.to put.left put.right put.bytes
   pub stands : MayGo f s old
@@ -34,8 +34,8 @@ pub record MayReplace (f : ℕ) (range : Span) (put : Replacement) (s : Stored) 
   pub few : HasMarksLeft old.marks (parts_put put.left put.right put.bytes)
   pub places : HasPlaces 3 old
 
--- In place of what a range of file f met, the parts on both sides of it and an extent of new bytes came. The order and the marks
--- follow, and only what was met was released.
+-- In place of what a range of file f met, the parts on both sides of it and an extent of new bytes came. The order and
+-- the marks follow, and only what was met was released.
 pub record Replaces (f : ℕ) (range : Span) (put : Replacement) (s t : Stored) (es fs : ExtentMap) (r q : Ranking)
     (marks new : List ℕ) : Type 0 where
   pub is : fs.extents ≡ put_some (put_some (put_some (unmet es.extents range.from range.to) put.left) put.right) put.bytes
@@ -47,11 +47,11 @@ pub record Replaces (f : ℕ) (range : Span) (put : Replacement) (s t : Stored) 
       (bufs_of (all_parts fs.extents))
   pub frees : FreesOnly s t
   pub lists : SameLists s t
-  pub settles : AllSettled s → AllSettled t
+  pub reclaims : AllReclaimed s → AllReclaimed t
 
--- In place of what a range of a file of a sound cache meets, the parts on both sides of it and an extent of new bytes may come:
--- the range ends within what a file may have, the extent lies in the file's pool, all are held beside what the cache holds, few
--- times, and there is room for three extents and their entries.
+-- In place of what a range of a file of a sound cache meets, the parts on both sides of it and an extent of new bytes
+-- may come: the range ends within what a file may have, the extent lies in the file's pool, all are held beside what
+-- the cache holds, few times, and there is room for three extents and their entries.
 pub record MayPutOver (f : ℕ) (range : Span) (put : Replacement) (h : Holding) : Type 0 where
   pub sound : IsSound h.store h.cache
   pub file : is_numbered h.cache.files f ≡ true
@@ -82,9 +82,10 @@ pub record PutsOver (f : ℕ) (range : Span) (put : Replacement) (old new : Hold
       (bufs_of (all_parts extents.extents))
   pub frees : FreesOnly old.store new.store
   pub lists : SameLists old.store new.store
-  pub settles : AllSettled old.store → AllSettled new.store
+  pub reclaims : AllReclaimed old.store → AllReclaimed new.store
 
--- The extents of a file changed, and with them its order and the marks; slices held by the caller became parts of extents.
+-- The extents of a file changed, and with them its order and the marks; slices held by the caller became parts of
+-- extents.
 pub record Changes (f : ℕ) (own : List Slice) (old new : Holding) : Type 0 where
   pub extents : ExtentMap
   pub order : Ranking

@@ -1,10 +1,11 @@
-//! Reads of files: the bytes in memory are shared, room is made for the gaps, and the gaps are read.
+//! Reads of files: the bytes in memory are shared, room is made for the gaps, and the gaps are
+//! read.
 ghost use Rattle.std.specs.Prelude.{◌≡◌, ◌≤◌, true};
 ghost use Rattle.iol_core.specs.Prelude.{is_numbered};
 ghost use Rattle.iol_extent.specs.Prelude.{last_end};
 ghost use Rattle.iol_cache.specs.CacheState.{extents_in};
 ghost use Rattle.iol_cache.specs.Cache.{cached_of, holding};
-ghost use Rattle.iol_cache.specs.FileReads.{FillsPinnedPart, MayFillPart, MayReadFile, ServesRead, TellsLength};
+ghost use Rattle.iol_cache.specs.FileReads.{FillsPinnedPart, MayFillPart, MayReadFile, ServesRead, ReportsLength};
 ghost use Rattle.iol_cache.specs.ReadResults.{IsEnd};
 
 mod fill;
@@ -26,8 +27,8 @@ use iol_hold::Store;
 use std::alloc::Global;
 
 impl Cache {
-    // Makes room for the gaps of a range, reads them, and assembles the range from them and from `pins`, the shared bytes
-    // outside the gaps. Releases `pins` in each case.
+    // Makes room for the gaps of a range, reads them, and assembles the range from them and from
+    // `pins`, the shared bytes outside the gaps. Releases `pins` in each case.
     fn fill_pinned<B: Backing>(
         &mut self,
         alloc: Global,
@@ -52,7 +53,8 @@ impl Cache {
         filled
     }
 
-    // The end of a file: the length that the store reports or the end of the last extent, whichever is greater.
+    // The end of a file: the length that the store reports or the end of the last extent, whichever
+    // is greater.
     fn file_end<B: Backing>(&self, backing: &B, file: FileId) -> u32
         requires file { is_numbered self.now.files.items file ≡ true }
         requires short { last_end (extents_in self.now.files.items file) ≤ MAX_FILE_BYTES }
@@ -63,23 +65,26 @@ impl Cache {
         stored.max(self.files[place].extents.end())
     }
 
-    /// The length of a file in bytes. If the store is not honest, the place where a read of the file would end now.
+    /// The length of a file in bytes. If the store is not honest, the place where a read of the
+    /// file would end now.
     pub fn file_length<B: Backing>(&self, backing: &B, file: FileId) -> u32
         requires file { is_numbered (cached_of self.now).files file ≡ true }
         requires short { last_end (extents_in (cached_of self.now).files file) ≤ MAX_FILE_BYTES }
-        ensures { TellsLength (B.disk backing.now) (cached_of self.now) file result }
+        ensures { ReportsLength (B.disk backing.now) (cached_of self.now) file result }
     {
         self.file_end(backing, file)
     }
 
     /// Reads at most `count` bytes of a file from byte `at`, up to the end of the file.
     ///
-    /// The bytes in memory are shared. Room is made for the others, which are read into clean extents: all of them, or
-    /// none. If no byte is missing, the read needs no room and does not use the store.
+    /// The bytes in memory are shared. Room is made for the others, which are read into clean
+    /// extents: all of them, or none. If no byte is missing, the read needs no room and does not
+    /// use the store.
     ///
-    /// Errors: `NoRoom`, only if the pinned pages and the pages for the missing bytes do not fit the file's pool; `Fault`,
-    /// only if the store fails; `Memory`. If the pages do not fit, the error is `NoRoom` or `Memory`. An error leaves no new
-    /// extent. It may leave hits that were counted and, if the pages fit, evictions.
+    /// Errors: `NoRoom`, only if the pinned pages and the pages for the missing bytes do not fit
+    /// the file's pool; `Fault`, only if the store fails; `Memory`. If the pages do not fit, the
+    /// error is `NoRoom` or `Memory`. An error leaves no new extent. It may leave hits that were
+    /// counted and, if the pages fit, evictions.
     pub fn read<B: Backing>(
         &mut self,
         alloc: Global,

@@ -4,7 +4,7 @@ ghost use Rattle.iol_core.specs.Prelude.{is_numbered};
 ghost use Rattle.iol_cache.specs.Cache.{cached_of};
 ghost use Rattle.iol_cache.specs.SharedBytes.{CountsBelow};
 ghost use Rattle.iol_cache.specs.Sound.{IsSound};
-ghost use Rattle.iol_cache.specs.WriteBack.{MaySettle, MaySync, MayWriteBack, Settles, WritesAll, WritesBack, WritesFirst, WritesOne};
+ghost use Rattle.iol_cache.specs.WriteBack.{MayReclaim, MaySync, MayWriteBack, Reclaims, WritesAll, WritesBack, WritesFirst, WritesOne};
 
 use crate::cache::Cache;
 use crate::marks::CleanHolds;
@@ -48,11 +48,11 @@ fn write_back<B: Backing>(
     Ok(())
 }
 
-// Makes the first dirty extent clean, which begins at byte `at`: marks its pages, and inserts its entry into the order, in the
-// room kept for it.
-fn settle(order: &mut Order, marks: &mut CleanHolds, extents: &mut Extents, file: FileId, at: u32)
-    requires { MaySettle file at extents.old order.old marks.old }
-    ensures { Settles file at extents.old extents.new order.old order.new marks.old marks.new }
+// Makes the first dirty extent clean, which begins at byte `at`: marks its pages, and inserts its
+// entry into the order, in the room kept for it.
+fn reclaim(order: &mut Order, marks: &mut CleanHolds, extents: &mut Extents, file: FileId, at: u32)
+    requires { MayReclaim file at extents.old order.old marks.old }
+    ensures { Reclaims file at extents.old extents.new order.old order.new marks.old marks.new }
 {
     order.give_back();
     enter_one(order, marks, extents, file, at);
@@ -60,7 +60,8 @@ fn settle(order: &mut Order, marks: &mut CleanHolds, extents: &mut Extents, file
 }
 
 impl Cache {
-    // Writes the first dirty extent of a file back and makes it clean. Returns false if no extent is dirty.
+    // Writes the first dirty extent of a file back and makes it clean. Returns false if no extent
+    // is dirty.
     fn store_first<B: Backing>(
         &mut self,
         store: &Store,
@@ -79,7 +80,7 @@ impl Cache {
         if let Err(_fault) = write_back(store, backing, file, at, agg.slices()) {
             return Err(Refusal::Fault { file });
         }
-        settle(
+        reclaim(
             &mut self.orders[pool.number() as usize - 1],
             &mut self.marks,
             &mut self.files[place].extents,
@@ -89,10 +90,11 @@ impl Cache {
         Ok(true)
     }
 
-    /// Writes all dirty extents of a file back, in the order of offsets, up to the first write that fails. The written
-    /// extents become clean. Needs no memory.
+    /// Writes all dirty extents of a file back, in the order of offsets, up to the first write that
+    /// fails. The written extents become clean. Needs no memory.
     ///
-    /// Returns `Fault` if the store fails. The extent whose write failed and those after it stay dirty.
+    /// Returns `Fault` if the store fails. The extent whose write failed and those after it stay
+    /// dirty.
     pub fn sync<B: Backing>(
         &mut self,
         store: &Store,
@@ -115,7 +117,8 @@ impl Cache {
         Ok(())
     }
 
-    /// Writes the dirty extent with the least file and offset back and makes it clean. Needs no memory.
+    /// Writes the dirty extent with the least file and offset back and makes it clean. Needs no
+    /// memory.
     ///
     /// Returns `Fault` of the extent's file if the store fails. Then no extent has become clean.
     pub fn flush_one<B: Backing>(

@@ -248,10 +248,10 @@ lent_entry {A} holes next n i es e w listed found at is =
 -- the same, of a list whose numbers rise
 
 pub lookup_held : {A : Type 0} (es : List (ℕ × Option A)) (n : ℕ) → IsRising es → lookup (there es) n ≡ held_at es (place_in es n)
-lookup_held es n rising = lookup_there es 0 rising.told.0 n rising.told.1
+lookup_held es n rising = lookup_there es 0 rising.reported.0 n rising.reported.1
 
 pub place_held : {A : Type 0} (es : List (ℕ × Option A)) (n : ℕ) → IsRising es → lookup (there es) n ≢ None → place_in es n < length es
-place_held es n rising found = place_there es 0 rising.told.0 n rising.told.1 found
+place_held es n rising found = place_there es 0 rising.reported.0 n rising.reported.1 found
 
 pub taken_held : {A : Type 0} (holes next n : ℕ) (es : List (ℕ × Option A)) → IsListed holes next es → there (slice_set es (place_in es n) (n, None)) ≡ without (there es) n
 taken_held holes next n es listed = there-taken es 0 next n listed.rises
@@ -260,7 +260,7 @@ pub exchanged_held : {A : Type 0} (holes next n : ℕ) (es : List (ℕ × Option
 exchanged_held holes next n es y listed found = there-exchanged es 0 next n y listed.rises found
 
 pub rising_listed : {A : Type 0} (holes next : ℕ) (es : List (ℕ × Option A)) → IsListed holes next es → IsRising es
-rising_listed holes next es listed = record { told = (next, listed.rises) }
+rising_listed holes next es listed = record { reported = (next, listed.rises) }
 
 pub ruleset found_rules = (lookup_held, place_held)
 

@@ -45,7 +45,7 @@ numbers-rise {X} es to n d r = IsNonDecreasingBy-from_default (λ (e : ℕ × X)
 
 pub found_place : {X : Type 0} (es : List (ℕ × X)) (n i : ℕ) (d : ℕ × X) → IsRising es → i < length es → (get_or es i d).0 ≡ n → i ≡ place_in es n
 found_place {X} es n i d rising lt is = sym (position_or_len_is (λ (e : ℕ × X). e.0 == n) es i d (omega arith)
-    (λ k below. let less = rises-order es 0 rising.told.0 k i d rising.told.1 below lt in grind (arith, nat_tests, less, is))
+    (λ k below. let less = rises-order es 0 rising.reported.0 k i d rising.reported.1 below lt in grind (arith, nat_tests, less, is))
     (λ within. grind (arith, nat_tests, is)))
 
 pub absent_place : {X : Type 0} (es : List (ℕ × X)) (n : ℕ) (d : ℕ × X) → ((k : ℕ) → k < length es → (get_or es k d).0 ≢ n) → length es ≡ place_in es n
@@ -56,7 +56,7 @@ absent_place {X} es n d none = sym (position_or_len_is (λ (e : ℕ × X). e.0 =
 searched : {X : Type 0} (es : List (ℕ × X)) (n : ℕ) (d : ℕ × X) → IsRising es → (r : Result ℕ ℕ) → IsSearchInRange r (length es) → IsBinarySearchResult (λ (e : ℕ × X). nat_cmp e.0 n) es r → MatchResult r (λ i. i ≡ place_in es n) (λ i. length es ≡ place_in es n)
 searched es n d rising (Ok i) within equal = found_place es n i d rising within (ranked _ n _ (sym (equal d)))
 searched es n d rising (Err i) within parted =
-    let parts = parted (numbers-rise es rising.told.0 n d rising.told.1) in
+    let parts = parted (numbers-rise es rising.reported.0 n d rising.reported.1) in
     absent_place es n d (λ k lt same. elim (cases_lt k i) [
       | inl below ↦ (let less : (get_or es k d).0 < n = ranked _ n _ (sym (parts.0 k d (omega arith) below)) in omega (arith, less, same))
       | inr above ↦ (let more : n < (get_or es k d).0 = ranked _ n _ (sym (parts.1 k d above lt)) in omega (arith, more, same))

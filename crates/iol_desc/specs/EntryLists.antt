@@ -16,7 +16,7 @@ Rises from [] to = from ≤ to
 Rises from (e ∷ es) to = (from ≤ e.0) × Rises (e.0 + 1) es to
 
 pub record IsRising {X : Type 0} (es : List (ℕ × X)) : Type 0 where
-  pub told : (to : ℕ) × Rises 0 es to
+  pub reported : (to : ℕ) × Rises 0 es to
 
 -- a list with that many holes, whose numbers are below the next
 pub record IsListed {A : Type 0} (holes next : ℕ) (es : List (ℕ × Option A)) : Type 0 where
@@ -40,8 +40,8 @@ pub record Replaces {A : Type 0} (old new : Vec (ℕ × Option A)) (n : ℕ) (ot
   pub items : new.items ≡ slice_set old.items (place_in old.items n) (n, other)
   pub room : vec_capacity old - vec_len old ≤ vec_capacity new - vec_len new
 
--- The entries and the next number are unchanged, and there is no less room. On success there is room for that many more. It is
--- refused only if there was room for fewer.
+-- The entries and the next number are unchanged, and there is no less room. On success there is room for that many
+-- more. It is refused only if there was room for fewer.
 pub record ReservesEntries {A V E : Type 0} (old new : Listed A) (count : ℕ) (r : Result V E) : Type 0 where
   pub entries : new.entries ≡ old.entries
   pub next : new.next ≡ old.next

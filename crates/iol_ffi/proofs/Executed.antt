@@ -10,7 +10,7 @@ use Rattle.iol_kernel.specs.FileReads.{first_of}
 use Rattle.iol_system.specs.BorrowedMemory.{ReadsTo, ShowsTo, shown}
 use Rattle.iol_system.specs.Machine.{SystemState}
 use Rattle.iol_system.specs.Promises.{Promises}
-use Rattle.iol_system.specs.Replies.{told}
+use Rattle.iol_system.specs.Replies.{reported}
 use Rattle.iol_ffi.specs.Replies.{CountsRead, CountsShown, Encodes, IsDone}
 use Rattle.iol_ffi.specs.Room.{most_bytes}
 use Rattle.iol_ffi.specs.Steps.{Executes}
@@ -21,7 +21,7 @@ pub executed : (old new : SystemState) (e : Event) (x : Reply) (r : IolReply) (o
 executed old new e x r out promises encodes room = record { reply = x; promises = promises; encodes = encodes; fits = fits old new e x r out promises encodes room }
 
 -- the bytes of an aggregate, or their number
-pub shown_in : (by agg : ℕ) (memory filled : List ℕ) (s : SystemState) (o : Result ℕ Refusal) (r : IolReply) (x : ShowsTo by agg memory filled s o) → CountsShown o (length memory) r → Encodes (told reply.Bytes (shown x.shows.bytes o)) r filled
+pub shown_in : (by agg : ℕ) (memory filled : List ℕ) (s : SystemState) (o : Result ℕ Refusal) (r : IolReply) (x : ShowsTo by agg memory filled s o) → CountsShown o (length memory) r → Encodes (reported reply.Bytes (shown x.shows.bytes o)) r filled
 shown_in by agg memory filled s (Ok n) r x (inl (done, few)) =
     let bytes = x.shows.bytes in
     let count : n ≡ length bytes = x.shows.count in
@@ -35,7 +35,7 @@ shown_in by agg memory filled s (Ok n) r x (inr (refused, number, short)) =
 shown_in by agg memory filled s (Err why) r x refused = refused
 
 -- the bytes that were read, at the front
-pub read_in : (by fd : ℕ) (memory filled rest out : List ℕ) (old new : SystemState) (o : Result ℕ Refusal) (r : IolReply) → out ≡ filled ++ rest → ReadsTo by fd memory filled old o new → CountsRead o r → Encodes (told reply.Bytes (first_of filled o)) r out
+pub read_in : (by fd : ℕ) (memory filled rest out : List ℕ) (old new : SystemState) (o : Result ℕ Refusal) (r : IolReply) → out ≡ filled ++ rest → ReadsTo by fd memory filled old o new → CountsRead o r → Encodes (reported reply.Bytes (first_of filled o)) r out
 read_in by fd memory filled rest out old new (Ok n) r is x done =
     let within : n ≤ length filled = omega (arith, x.count, x.len) in
     let size : length (take n filled) ≡ n = length-take-le n filled within in

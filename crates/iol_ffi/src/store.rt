@@ -1,6 +1,6 @@
 //! The store of a system created by C: in memory, or over descriptors that C has opened.
 ghost use Rattle.std.specs.Prelude.{◌≡◌, IfSome};
-ghost use Rattle.iol_back.specs.Disk.{IsSlot, ReadsAt, WritesAt, length_told, raised};
+ghost use Rattle.iol_back.specs.Disk.{IsSlot, ReadsAt, WritesAt, length_reported, raised};
 ghost use Rattle.iol_ffi.specs.Store.{disk_of};
 ghost use Rattle.iol_ffi.specs.declared.store.HostStore.TheVariants.{Opened};
 
@@ -25,9 +25,9 @@ pub enum HostStore {
     Opened(OpenFiles),
 }
 
-#[tactic(auto, unfolding(iol_back::specs::Disk::length_told))]
+#[tactic(auto, unfolding(iol_back::specs::Disk::length_reported))]
 fn length_in(lens: &[u32], file: FileId) -> u32
-    ensures { result ≡ length_told lens.now file }
+    ensures { result ≡ length_reported lens.now file }
 {
     let number = file.number() as usize;
     if number == 0 {

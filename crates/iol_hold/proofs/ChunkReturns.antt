@@ -10,9 +10,9 @@ use Rattle.iol_arena.specs.Buffers.{IsLive}
 use Rattle.iol_arena.specs.Chunks.{is_unused, chunk_pages}
 use Rattle.iol_arena.proofs.Good.{bool_cases}
 use Rattle.iol_arena.proofs.Members.{In, in_range, in_contains}
-use Rattle.iol_pool.specs.Pools.{Pool, pool_in, goes_back, settled, settled_arena, with_emptied, with_returned}
-use Rattle.iol_pool.proofs.Owners.{chunks-emptied, pool_in-there, pool_in-nowhere, is_numbered-settled, owned_settled, settled-yes, settled-no, settled-nowhere, settled_arena-yes, settled_arena-no, settled_arena-nowhere}
-use Rattle.iol_hold.specs.StoreState.{Stored, count_of, IsPlaced, IsSettled}
+use Rattle.iol_pool.specs.Pools.{Pool, pool_in, goes_back, reclaimed, reclaimed_arena, with_emptied, with_returned}
+use Rattle.iol_pool.proofs.Owners.{chunks-emptied, pool_in-there, pool_in-nowhere, is_numbered-reclaimed, owned_reclaimed, reclaimed-yes, reclaimed-no, reclaimed-nowhere, reclaimed_arena-yes, reclaimed_arena-no, reclaimed_arena-nowhere}
+use Rattle.iol_hold.specs.StoreState.{Stored, count_of, IsPlaced, IsReclaimed}
 use Rattle.iol_hold.specs.Moves.{Stays, Moves}
 use Rattle.iol_hold.proofs.LiveBuffers.{placed_stays, tidy_of}
 use Rattle.iol_hold.proofs.Moves.{moves_none}
@@ -66,29 +66,29 @@ emptied_moves s p there back = record {
   counts = record { each = λ b. refl };
   stays = emptied_stays s p back;
   still = λ h. record { each = h.each };
-  tidy = λ h. tidy_of (record { held = λ b live. h.held b (record { head = live.head; generation = live.generation }); placed = λ q. placed q (h.placed q) }) h.runs (owned_settled s.arena s.pools p there h.owned);
+  tidy = λ h. tidy_of (record { held = λ b live. h.held b (record { head = live.head; generation = live.generation }); placed = λ q. placed q (h.placed q) }) h.runs (owned_reclaimed s.arena s.pools p there h.owned);
 }
   where
     placed : (q : ℕ) → IsPlaced s.arena q → IsPlaced (emptied s p).arena q
     placed q h = placed_stays s.arena (emptied s p).arena q refl (λ b live lies. refl) h
 
 -- the pool is settled, whether its chunks go back or not
-pub settled_moves : (s : Stored) (p : ℕ) → Moves s (record { arena = settled_arena s.arena s.pools p; pools = settled s.arena s.pools p; counts = s.counts }) [] []
-settled_moves s p = elim (bool_cases (is_numbered s.pools p)) [
+pub reclaimed_moves : (s : Stored) (p : ℕ) → Moves s (record { arena = reclaimed_arena s.arena s.pools p; pools = reclaimed s.arena s.pools p; counts = s.counts }) [] []
+reclaimed_moves s p = elim (bool_cases (is_numbered s.pools p)) [
   | inl there ↦ elim (bool_cases (goes_back s.arena s.pools p)) [
-    | inl back ↦ to (with_returned s.arena (pool_in s.pools p).chunks) (with_emptied s.pools p) (settled_arena-yes s.arena s.pools p back) (settled-yes s.arena s.pools p back) (emptied_moves s p there back)
-    | inr not ↦ to s.arena s.pools (settled_arena-no s.arena s.pools p not) (settled-no s.arena s.pools p not) (moves_none s)
+    | inl back ↦ to (with_returned s.arena (pool_in s.pools p).chunks) (with_emptied s.pools p) (reclaimed_arena-yes s.arena s.pools p back) (reclaimed-yes s.arena s.pools p back) (emptied_moves s p there back)
+    | inr not ↦ to s.arena s.pools (reclaimed_arena-no s.arena s.pools p not) (reclaimed-no s.arena s.pools p not) (moves_none s)
   ]
-  | inr out ↦ to s.arena s.pools (settled_arena-nowhere s.arena s.pools p out) (settled-nowhere s.arena s.pools p out) (moves_none s)
+  | inr out ↦ to s.arena s.pools (reclaimed_arena-nowhere s.arena s.pools p out) (reclaimed-nowhere s.arena s.pools p out) (moves_none s)
 ]
   where
-    to : (a : State) (ps : List Pool) → settled_arena s.arena s.pools p ≡ a → settled s.arena s.pools p ≡ ps → Moves s (record { arena = a; pools = ps; counts = s.counts }) [] [] → Moves s (record { arena = settled_arena s.arena s.pools p; pools = settled s.arena s.pools p; counts = s.counts }) [] []
-    to a ps e f m = subst (λ b. Moves s (record { arena = b; pools = settled s.arena s.pools p; counts = s.counts }) [] []) (sym e) (subst (λ qs. Moves s (record { arena = a; pools = qs; counts = s.counts }) [] []) (sym f) m)
+    to : (a : State) (ps : List Pool) → reclaimed_arena s.arena s.pools p ≡ a → reclaimed s.arena s.pools p ≡ ps → Moves s (record { arena = a; pools = ps; counts = s.counts }) [] [] → Moves s (record { arena = reclaimed_arena s.arena s.pools p; pools = reclaimed s.arena s.pools p; counts = s.counts }) [] []
+    to a ps e f m = subst (λ b. Moves s (record { arena = b; pools = reclaimed s.arena s.pools p; counts = s.counts }) [] []) (sym e) (subst (λ qs. Moves s (record { arena = a; pools = qs; counts = s.counts }) [] []) (sym f) m)
 
-pub length-settled_arena : (s : State) (ps : List Pool) (p : ℕ) → page_count (settled_arena s ps p) ≡ page_count s
-length-settled_arena s ps p = elim (bool_cases (goes_back s ps p)) [
-  | inl back ↦ ap page_count (settled_arena-yes s ps p back)
-  | inr not ↦ ap page_count (settled_arena-no s ps p not)
+pub length-reclaimed_arena : (s : State) (ps : List Pool) (p : ℕ) → page_count (reclaimed_arena s ps p) ≡ page_count s
+length-reclaimed_arena s ps p = elim (bool_cases (goes_back s ps p)) [
+  | inl back ↦ ap page_count (reclaimed_arena-yes s ps p back)
+  | inr not ↦ ap page_count (reclaimed_arena-no s ps p not)
 ]
 
 emptied_there : (ps : List Pool) (p : ℕ) → is_numbered ps p ≡ true → (pool_in (with_emptied ps p) p).chunks ≡ []
@@ -96,15 +96,15 @@ unfolding with_emptied
 emptied_there ps p there = ap (λ (x : Pool). x.chunks) (pool_in-there ps p (record (pool_in ps p) { chunks = [] }) there)
 
 -- a pool whose chunks go back has none
-pub chunks_returned : (a : State) (ps : List Pool) (p : ℕ) → goes_back a ps p ≡ true → (pool_in (settled a ps p) p).chunks ≡ []
+pub chunks_returned : (a : State) (ps : List Pool) (p : ℕ) → goes_back a ps p ≡ true → (pool_in (reclaimed a ps p) p).chunks ≡ []
 chunks_returned a ps p back = elim (bool_cases (is_numbered ps p)) [
-  | inl there ↦ ap (λ (qs : List Pool). (pool_in qs p).chunks) (settled-yes a ps p back) ∙ emptied_there ps p there
-  | inr out ↦ ap (λ (x : Pool). x.chunks) (pool_in-nowhere (settled a ps p) p (is_numbered-settled a ps p p ∙ out))
+  | inl there ↦ ap (λ (qs : List Pool). (pool_in qs p).chunks) (reclaimed-yes a ps p back) ∙ emptied_there ps p there
+  | inr out ↦ ap (λ (x : Pool). x.chunks) (pool_in-nowhere (reclaimed a ps p) p (is_numbered-reclaimed a ps p p ∙ out))
 ]
 
 -- a pool that was settled has nothing left to give back
-pub settled_settled : (a : State) (ps : List Pool) (p : ℕ) (counts : List ℕ) → IsSettled (record { arena = settled_arena a ps p; pools = settled a ps p; counts = counts }) p
-settled_settled a ps p counts again = elim (bool_cases (goes_back a ps p)) [
+pub reclaimed_reclaimed : (a : State) (ps : List Pool) (p : ℕ) (counts : List ℕ) → IsReclaimed (record { arena = reclaimed_arena a ps p; pools = reclaimed a ps p; counts = counts }) p
+reclaimed_reclaimed a ps p counts again = elim (bool_cases (goes_back a ps p)) [
   | inl back ↦ chunks_returned a ps p back
-  | inr not ↦ (let same = ap (λ s. goes_back s (settled a ps p) p) (settled_arena-no a ps p not) ∙ ap (λ (qs : List Pool). goes_back a qs p) (settled-no a ps p not) in let bad = sym again ∙ same ∙ not in cc bad)
+  | inr not ↦ (let same = ap (λ s. goes_back s (reclaimed a ps p) p) (reclaimed_arena-no a ps p not) ∙ ap (λ (qs : List Pool). goes_back a qs p) (reclaimed-no a ps p not) in let bad = sym again ∙ same ∙ not in cc bad)
 ]

@@ -25,7 +25,7 @@ pub keeps_pages_same : (s t : Stored) → t.arena ≡ s.arena → t.pools ≡ s.
 keeps_pages_same s t arena pools = record {
   count = ap page_count arena;
   limit = ap (λ (a : State). a.limit) arena;
-  raises = record { raised = λ q h. absurd (no_member q h); kept = λ q out. ap (λ a. generation_at a q) arena };
+  raises = record { incremented = λ q h. absurd (no_member q h); kept = λ q out. ap (λ a. generation_at a q) arena };
   others = λ q out. inl (ap (λ a. (entry_at a q).kind) arena);
   chunks = λ p was is. ap (λ (ps : List Pool). (pool_in ps p).chunks) pools;
   returned = λ p is. inl (ap (λ (ps : List Pool). (pool_in ps p).chunks) pools);
@@ -38,7 +38,7 @@ pub keeps_pages_frees : {s t : Stored} → FreesOnly s t → KeepsPages s t []
 keeps_pages_frees frees = record {
   count = frees.count;
   limit = frees.limit;
-  raises = record { raised = λ q h. absurd (no_member q h); kept = λ q out. frees.raised q };
+  raises = record { incremented = λ q h. absurd (no_member q h); kept = λ q out. frees.incremented q };
   others = λ q out. frees.each q;
   chunks = λ p was is. ap (λ (x : Pool). x.chunks) (frees.pools p was);
   returned = λ p is. frees.chunks p;
@@ -51,7 +51,7 @@ pub keeps_pages_entries : (s t : Stored) → t.arena.entries ≡ s.arena.entries
 keeps_pages_entries s t entries limit chunks returned = record {
   count = ap length entries;
   limit = limit;
-  raises = record { raised = λ q h. absurd (no_member q h); kept = λ q out. ap (λ (es : List Entry). (entry_in es q).generation) entries };
+  raises = record { incremented = λ q h. absurd (no_member q h); kept = λ q out. ap (λ (es : List Entry). (entry_in es q).generation) entries };
   others = λ q out. inl (ap (λ (es : List Entry). (entry_in es q).kind) entries);
   chunks = chunks;
   returned = returned;
@@ -100,7 +100,7 @@ pub keeps_pages_trans : {a b c : Stored} → SameLists a b → KeepsPages a b []
 keeps_pages_trans {a = a} {b = b} {c = c} same m n = record {
   count = n.count ∙ m.count;
   limit = n.limit ∙ m.limit;
-  raises = record { raised = λ q h. absurd (no_member q h); kept = λ q out. n.raises.kept q out ∙ m.raises.kept q out };
+  raises = record { incremented = λ q h. absurd (no_member q h); kept = λ q out. n.raises.kept q out ∙ m.raises.kept q out };
   others = λ q out. elim (n.others q out) [
     | inl same ↦ elim (m.others q out) [ inl was ↦ inl (same ∙ was) | inr free ↦ inr (same ∙ free) ]
     | inr free ↦ inr free

@@ -6,13 +6,13 @@ use Rattle.iol_core.specs.NumberedLists.{is_numbered}
 use Rattle.iol_arena.specs.State.{State}
 use Rattle.iol_arena.specs.Chunks.{TakesChunks}
 use Rattle.iol_pool.specs.Owners.{AreOwned}
-use Rattle.iol_pool.specs.Pools.{Pool, pool_in, with_closed, AddsPool, settled, settled_arena}
+use Rattle.iol_pool.specs.Pools.{Pool, pool_in, with_closed, AddsPool, reclaimed, reclaimed_arena}
 use Rattle.iol_pool.proofs.Owners.{pool_in-before, chunks-closed, nowhere, owned_added, owned_closed}
 use Rattle.iol_hold.specs.StoreState.{Stored, count_of, IsPlaced}
 use Rattle.iol_hold.specs.Moves.{Moves}
 use Rattle.iol_hold.proofs.Moves.{moves_trans}
 use Rattle.iol_hold.proofs.LiveBuffers.{placed_stays, tidy_of}
-use Rattle.iol_hold.proofs.ChunkReturns.{settled_moves}
+use Rattle.iol_hold.proofs.ChunkReturns.{reclaimed_moves}
 
 -- the store with these pools, where memory and pages are the same
 abbrev with_taken : Stored → List Bool → List Pool → Stored
@@ -50,7 +50,7 @@ created_moves s a ps n list x =
     (subst (λ qs. Moves s (with_taken s taken qs) [] []) (sym x.added) (pools_move s taken grown kept owned))
 
 pub closed_moves : (s : Stored) (p : ℕ) → is_numbered s.pools p ≡ true
-    → Moves s (record { arena = settled_arena s.arena (with_closed s.pools p) p; pools = settled s.arena (with_closed s.pools p) p; counts = s.counts }) [] []
+    → Moves s (record { arena = reclaimed_arena s.arena (with_closed s.pools p) p; pools = reclaimed s.arena (with_closed s.pools p) p; counts = s.counts }) [] []
 closed_moves s p there =
     let t = with_taken s s.arena.taken (with_closed s.pools p) in
-    moves_trans (pools_move s s.arena.taken (with_closed s.pools p) (λ q c h. subst (λ cs. Contains cs c) (sym (chunks-closed s.pools p q there)) h) (λ o. owned_closed (with_taken s s.arena.taken s.pools).arena s.pools p there o)) (settled_moves t p)
+    moves_trans (pools_move s s.arena.taken (with_closed s.pools p) (λ q c h. subst (λ cs. Contains cs c) (sym (chunks-closed s.pools p q there)) h) (λ o. owned_closed (with_taken s s.arena.taken s.pools).arena s.pools p there o)) (reclaimed_moves t p)

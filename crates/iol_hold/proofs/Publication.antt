@@ -16,7 +16,7 @@ use Rattle.iol_arena.specs.declared.pages.Entry.{Entry}
 use Rattle.iol_arena.specs.declared.pages.PageKind.TheVariants.{Free, Pending, Head, Tail}
 use Rattle.iol_arena.proofs.Good.{and_left, kind_is_free}
 use Rattle.iol_arena.proofs.Members.{In, in_either, in_or_out, in_rising, range_in, rising_from, in_contains}
-use Rattle.iol_hold.specs.StoreState.{Stored, Buffer, IsHome, count_in, count_of, held_bufs, held_in}
+use Rattle.iol_hold.specs.StoreState.{Stored, Buffer, IsInPool, count_in, count_of, held_bufs, held_in}
 use Rattle.iol_hold.specs.Moves.{same, tally, Counts}
 use Rattle.iol_hold.specs.Texts.{IsFilled}
 use Rattle.iol_hold.specs.PendingPages.{Publishes, all_held}
@@ -93,7 +93,8 @@ run_of s t (r ∷ rs) q whole h = elim (in_either (range_with_len r.first r.coun
   | inr k ↦ (let x = run_of s t rs q (ap (drop 1) whole) k in (x.0, inr x.1, x.2))
 ]
 
--- The pages waited. On those that are placed lie new buffers, each held once, and the others are free. Nothing else changed.
+-- The pages waited. On those that are placed lie new buffers, each held once, and the others are free. Nothing else
+-- changed.
 pub record Makes (s t : Stored) (pages placed : List ℕ) (bufs : List BufId) : Type 0 where
   pub waited : (q : ℕ) → In pages q → (entry_at s.arena q).kind ≡ Pending
   pub others : IsSameBut pages s.arena t.arena
@@ -252,7 +253,7 @@ held_pool p bufs holds is =
     let one : BufId → Buffer = λ b. record { pool = p; buf = b } in
     subst (All P) (sym is) (All-map P one bufs (λ k d h. refl))
 
-pub held_filled : (s t : Stored) (p : ℕ) (bufs : List BufId) (holds : List Buffer) → holds ≡ held_in p bufs → All (IsNew s.arena t.arena) bufs → All (IsHome t p) bufs → All (IsFilled t) holds
+pub held_filled : (s t : Stored) (p : ℕ) (bufs : List BufId) (holds : List Buffer) → holds ≡ held_in p bufs → All (IsNew s.arena t.arena) bufs → All (IsInPool t p) bufs → All (IsFilled t) holds
 held_filled s t p bufs holds is made homes =
     let one : BufId → Buffer = λ b. record { pool = p; buf = b } in
     subst (All (IsFilled t)) (sym is) (All-map (IsFilled t) one bufs (λ k d h. (let new = made k d h in record { live = new.live; home = homes k d h; some = new.some })))

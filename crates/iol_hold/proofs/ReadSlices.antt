@@ -6,7 +6,7 @@ use Rattle.std.proofs.lemmas.List.Elements.{All-nil, All-append, All-take, All-d
 use Rattle.std.proofs.lemmas.List.FromFn.{length-map-range_with_len, get_or-map-range_with_len}
 use Rattle.iol_core.specs.Text as text
 use Rattle.iol_arena.specs.Buffers.{IsLive, bytes_of}
-use Rattle.iol_hold.specs.StoreState.{Stored, IsHome, count_of}
+use Rattle.iol_hold.specs.StoreState.{Stored, IsInPool, count_of}
 use Rattle.iol_hold.specs.Moves.{Stays, Covers}
 use Rattle.iol_hold.proofs.Counts.{live_of}
 use Rattle.iol_hold.proofs.Moves.{covers_first, covers_later, bytes_stay}
@@ -152,5 +152,5 @@ readable_last (y ∷ ys) x h =
     (readable_cons y ys (readable_first y (ys ++ x ∷ []) h) r.0, r.1)
 
 -- what was readable and is held is where it was
-pub home_stays : {old new : Stored} (x : Slice) → Stays old new → 0 < count_of new x.hold.buf → IsReadable old x → IsHome new x.hold.pool x.hold.buf
+pub home_stays : {old new : Stored} (x : Slice) → Stays old new → 0 < count_of new x.hold.buf → IsReadable old x → IsInPool new x.hold.pool x.hold.buf
 home_stays {new = new} x m held h = m.homes x.hold.pool x.hold.buf h.live (live_of new x.hold.buf held) h.home

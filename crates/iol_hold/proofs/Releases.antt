@@ -13,8 +13,8 @@ use Rattle.iol_arena.proofs.Each.{order, each_before, each_after, each_there}
 use Rattle.iol_arena.specs.Firsts.{first_on}
 use Rattle.iol_hold.specs.StoreState.{Stored, count_of, with_arena}
 use Rattle.iol_hold.specs.Moves.{Counts}
-use Rattle.iol_pool.specs.Pools.{Pool, pool_in, goes_back, with_returned, settled, settled_arena}
-use Rattle.iol_pool.proofs.Owners.{settled-no, pool_in-settled}
+use Rattle.iol_pool.specs.Pools.{Pool, pool_in, goes_back, with_returned, reclaimed, reclaimed_arena}
+use Rattle.iol_pool.proofs.Owners.{reclaimed-no, pool_in-reclaimed}
 use Rattle.std.specs.List.{list_all}
 use Rattle.iol_arena.specs.Chunks.{is_unused}
 use Rattle.iol_arena.proofs.Good.{bool_cases}
@@ -43,7 +43,7 @@ frees_chunks s t same limit open_stays chunks = record {
   runs = λ h. subst HasRuns (sym same) h;
   pools = open_stays;
   limit = limit;
-  raised = λ q. ap (λ (es : List Entry). (entry_in es q).generation) same;
+  incremented = λ q. ap (λ (es : List Entry). (entry_in es q).generation) same;
   each = λ q. inl (ap (λ (es : List Entry). (entry_in es q).kind) same);
   freed = λ q p free some. absurd (none_first (entry_at s.arena q).kind q p (sym (ap (λ (es : List Entry). (entry_in es q).kind) same) ∙ free) some);
 }
@@ -58,7 +58,7 @@ frees_trans {a = a} {b = b} {c = c} {xs = xs} m n counts = record {
   chunks = λ p. all_or_none a b c p (m.chunks p) (n.chunks p);
   count = n.count ∙ m.count;
   limit = n.limit ∙ m.limit;
-  raised = λ q. n.raised q ∙ m.raised q;
+  incremented = λ q. n.incremented q ∙ m.incremented q;
   each = λ q. elim (n.each q) [
     | inl same ↦ elim (m.each q) [ inl was ↦ inl (same ∙ was) | inr free ↦ inr (same ∙ free) ]
     | inr free ↦ inr free
@@ -66,7 +66,7 @@ frees_trans {a = a} {b = b} {c = c} {xs = xs} m n counts = record {
   freed = λ q p free some. elim (m.each q) [
     | inl was ↦ (
         let there = ap (λ (k : kind.PageKind). first_on k q) was ∙ some in
-        let buf : buf_at b.arena p ≡ buf_at a.arena p = λ i. (let x : BufId = record { page = p; generation = m.raised p i } in x) in
+        let buf : buf_at b.arena p ≡ buf_at a.arena p = λ i. (let x : BufId = record { page = p; generation = m.incremented p i } in x) in
         ap (count_of c) (sym buf) ∙ n.freed q p free there)
     | inr gone ↦ (let z = m.freed q p gone some in omega (arith, z, counts.each (buf_at a.arena p), tally_none (buf_at a.arena p)))
   ];
@@ -111,7 +111,7 @@ frees_one s b runs after live = record {
   chunks = λ p. inl refl;
   count = length-with_freed s.arena b.page;
   limit = refl;
-  raised = λ q. elim (page_after s.arena b.page runs live.head q) [
+  incremented = λ q. elim (page_after s.arena b.page runs live.head q) [
     | inl e ↦ ap (λ (x : Entry). x.generation) e
     | inr e ↦ ap (λ (x : Entry). x.generation) e.2 ∙ omega arith
   ];
@@ -128,29 +128,29 @@ frees_one s b runs after live = record {
 }
 
 -- chunks that go back leave pages as they are
-pub settled_entries : (s : State) (ps : List Pool) (p : ℕ) → (settled_arena s ps p).entries ≡ s.entries
-unfolding settled_arena
-settled_entries s ps p = elim (goes_back s ps p) as (λ b. ◌≡◌ {A = List Entry} (cond b (with_returned s (pool_in ps p).chunks) s).entries s.entries) [ true ↦ refl | false ↦ refl ]
+pub reclaimed_entries : (s : State) (ps : List Pool) (p : ℕ) → (reclaimed_arena s ps p).entries ≡ s.entries
+unfolding reclaimed_arena
+reclaimed_entries s ps p = elim (goes_back s ps p) as (λ b. ◌≡◌ {A = List Entry} (cond b (with_returned s (pool_in ps p).chunks) s).entries s.entries) [ true ↦ refl | false ↦ refl ]
 
-pub settled_limit : (s : State) (ps : List Pool) (p : ℕ) → (settled_arena s ps p).limit ≡ s.limit
-unfolding settled_arena
-settled_limit s ps p = elim (goes_back s ps p) as (λ b. ◌≡◌ {A = ℕ} (cond b (with_returned s (pool_in ps p).chunks) s).limit s.limit) [ true ↦ refl | false ↦ refl ]
+pub reclaimed_limit : (s : State) (ps : List Pool) (p : ℕ) → (reclaimed_arena s ps p).limit ≡ s.limit
+unfolding reclaimed_arena
+reclaimed_limit s ps p = elim (goes_back s ps p) as (λ b. ◌≡◌ {A = ℕ} (cond b (with_returned s (pool_in ps p).chunks) s).limit s.limit) [ true ↦ refl | false ↦ refl ]
 
-pub open_settled : (s : State) (ps : List Pool) (p q : ℕ) → (pool_in ps q).closed ≡ false → pool_in (settled s ps p) q ≡ pool_in ps q
-open_settled s ps p q is = elim (cases_eq q p) [
+pub open_reclaimed : (s : State) (ps : List Pool) (p q : ℕ) → (pool_in ps q).closed ≡ false → pool_in (reclaimed s ps p) q ≡ pool_in ps q
+open_reclaimed s ps p q is = elim (cases_eq q p) [
   | inl e ↦ (
       let shut : (pool_in ps p).closed ≡ false = ap (λ n. (pool_in ps n).closed) (sym e) ∙ is in
       let stays : goes_back s ps p ≡ false = ap (λ b. b && list_all (is_unused s) (pool_in ps p).chunks) shut in
-      ap (λ (xs : List Pool). pool_in xs q) (settled-no s ps p stays))
-  | inr ne ↦ pool_in-settled s ps p q ne
+      ap (λ (xs : List Pool). pool_in xs q) (reclaimed-no s ps p stays))
+  | inr ne ↦ pool_in-reclaimed s ps p q ne
 ]
 
 -- all chunks of one pool may go back, and those of the others stay
-pub chunks_settled : (s : State) (ps : List Pool) (p q : ℕ) → ((pool_in (settled s ps p) q).chunks ≡ (pool_in ps q).chunks) ⊎ ((pool_in (settled s ps p) q).chunks ≡ [])
-chunks_settled s ps p q = elim (cases_eq q p) [
-  | inr ne ↦ inl (ap (λ (x : Pool). x.chunks) (pool_in-settled s ps p q ne))
+pub chunks_reclaimed : (s : State) (ps : List Pool) (p q : ℕ) → ((pool_in (reclaimed s ps p) q).chunks ≡ (pool_in ps q).chunks) ⊎ ((pool_in (reclaimed s ps p) q).chunks ≡ [])
+chunks_reclaimed s ps p q = elim (cases_eq q p) [
+  | inr ne ↦ inl (ap (λ (x : Pool). x.chunks) (pool_in-reclaimed s ps p q ne))
   | inl e ↦ elim (bool_cases (goes_back s ps p)) [
-    | inl back ↦ inr (ap (λ r. (pool_in (settled s ps p) r).chunks) e ∙ chunks_returned s ps p back)
-    | inr stays ↦ inl (ap (λ (xs : List Pool). (pool_in xs q).chunks) (settled-no s ps p stays))
+    | inl back ↦ inr (ap (λ r. (pool_in (reclaimed s ps p) r).chunks) e ∙ chunks_returned s ps p back)
+    | inr stays ↦ inl (ap (λ (xs : List Pool). (pool_in xs q).chunks) (reclaimed-no s ps p stays))
   ]
 ]

@@ -14,7 +14,7 @@ use Rattle.iol_arena.proofs.Grows.{grows_none, grows_trans}
 use Rattle.iol_arena.proofs.NewBuffers.{made_none}
 use Rattle.iol_arena.proofs.Keeps.{keeps_trans}
 use Rattle.iol_arena.proofs.Steps.{all_at, some_at}
-use Rattle.iol_hold.specs.StoreState.{Stored, count_in, count_of, IsHome, IsTidy, with_arena}
+use Rattle.iol_hold.specs.StoreState.{Stored, count_in, count_of, IsInPool, IsTidy, with_arena}
 use Rattle.iol_hold.specs.Moves.{tally, Counts, Moves}
 use Rattle.iol_hold.specs.PendingPages.{PendingOn, Fills, Publishes}
 use Rattle.iol_hold.proofs.Counts.{no_head, count_live}
@@ -125,7 +125,7 @@ fills_trans m n = record {
 pub fill_publish : {a b c : Stored} {ps : List Part} {given : List BufId} → Fills a b ps → Publishes b c ps given → IsTidy c → Moves a c [] given
 fill_publish {a} {b} {c} m n tidy = record {
   counts = counts_trans m.counts n.counts;
-  stays = record { keeps = keeps_trans m.grows.keeps n.grows.keeps; homes = λ p b h k home. subst (λ qs. IsHome (record a { pools = qs }) p b) (sym (n.pools ∙ m.pools)) home };
+  stays = record { keeps = keeps_trans m.grows.keeps n.grows.keeps; homes = λ p b h k home. subst (λ qs. IsInPool (record a { pools = qs }) p b) (sym (n.pools ∙ m.pools)) home };
   still = λ h. n.still (m.waits (record { each = λ q pending. absurd (h.each q pending) }));
   tidy = λ h. tidy;
 }
@@ -139,7 +139,7 @@ none_filled s p tidy = record {
   filled = λ k d h. absurd (omega arith);
   made_on = made_none s.arena (free_of s p);
   others = record { each = λ q out. refl };
-  settles = λ h. h;
+  reclaims = λ h. h;
   pool = λ k d h. absurd (omega arith);
   few = omega arith;
   small = omega arith;

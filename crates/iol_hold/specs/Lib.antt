@@ -15,5 +15,5 @@ pub mod Layout
 pub mod Releases
 pub mod Pages
 pub mod StoreAndPools
-pub mod Loose
+pub mod Reclaimable
 pub mod Prelude

@@ -12,7 +12,7 @@ use Rattle.iol_arena.specs.declared.pages.Part.{Part}
 use Rattle.iol_pool.specs.Pools.{pool_in}
 use Rattle.iol_hold.specs.Moves.{Moves}
 use Rattle.iol_hold.specs.Room.{has_room, lowest_of, others_of}
-use Rattle.iol_hold.specs.StoreState.{Stored, Buffer, AllSettled, IsTidy, held_bufs}
+use Rattle.iol_hold.specs.StoreState.{Stored, Buffer, AllReclaimed, IsTidy, held_bufs}
 use Rattle.iol_hold.specs.Texts.{IsFilled}
 use Rattle.iol_hold.specs.PendingPages.{FreesNone, Publishes, all_held}
 use Rattle.iol_hold.specs.declared.parts.Reserved.{Reserved}
@@ -27,8 +27,8 @@ pub record FillsPart (s t : Stored) (p : Part) (bytes : List ℕ) (b : BufId) : 
   pub pools : t.pools ≡ s.pools
   pub counts : t.counts ≡ all_held s.counts (b ∷ [])
 
--- n bytes may be filled into parts: these are pending and disjoint, all their pages are needed, and an empty list has room for
--- their buffers.
+-- n bytes may be filled into parts: these are pending and disjoint, all their pages are needed, and an empty list has
+-- room for their buffers.
 pub record MayFillParts (s : State) (ps : List Part) (bufs : SmallVec BufId) (n : ℕ) : Type 0 where
   pub reserved : AreReserved s ps bufs
   pub pages : length (part_pages ps) ≡ pages_for n
@@ -45,8 +45,8 @@ pub record FillsParts (s t : Stored) (ps : List Part) (bytes : List ℕ) (bufs :
   pub made_on : MadeOn s.arena t.arena bufs (part_pages ps)
   pub others : IsSameBut (part_pages ps) s.arena t.arena
 
--- Bytes, at most 2^24, were filled into new buffers on the lowest free pages of pool p. If they were not, nothing changed:
--- there was no room for them, or no memory.
+-- Bytes, at most 2^24, were filled into new buffers on the lowest free pages of pool p. If they were not, nothing
+-- changed: there was no room for them, or no memory.
 pub record FillsHolds (s t : Stored) (p : ℕ) (bytes : List ℕ) (r : Result (List Buffer) Refusal) : Type 0 where
   pub moves : IfOk r (λ holds. Moves s t [] (held_bufs holds))
   pub made : IfOk r (λ holds. All (IsNew s.arena t.arena) (held_bufs holds))
@@ -54,7 +54,7 @@ pub record FillsHolds (s t : Stored) (p : ℕ) (bytes : List ℕ) (r : Result (L
   pub filled : IfOk r (λ holds. All (IsFilled t) holds)
   pub made_on : IfOk r (λ holds. MadeOn s.arena t.arena (held_bufs holds) (lowest_of s p (length bytes)))
   pub others : OnOk r (IsSameBut (lowest_of s p (length bytes)) s.arena t.arena)
-  pub settles : AllSettled s → AllSettled t
+  pub reclaims : AllReclaimed s → AllReclaimed t
   pub pool : IfOk r (λ holds. All (λ h. h.pool ≡ p) holds)
   pub few : IfOk r (λ holds. length holds ≤ pages_for (length bytes))
   pub small : OnOk r (length bytes ≤ MAX_AGGREGATE_BYTES)
@@ -71,8 +71,8 @@ pub record FillsHolds (s t : Stored) (p : ℕ) (bytes : List ℕ) (r : Result (L
 abbrev pub reserved_parts : Reserved → List Part
 reserved_parts r = r.reservation.parts.items
 
--- Buffers of the pool were made of the first n bytes of the reserved parts. Each is held once, and pages that got no byte are
--- free again, unraised.
+-- Buffers of the pool were made of the first n bytes of the reserved parts. Each is held once, and pages that got no
+-- byte are free again, unraised.
 pub record PublishesFirst (s t : Stored) (r : Reserved) (n : ℕ) (holds : List Buffer) : Type 0 where
   pub publishes : Publishes s t (reserved_parts r) (held_bufs holds)
   pub made : All (IsNew s.arena t.arena) (held_bufs holds)

@@ -38,20 +38,20 @@ unfoldable pub count_of : Stored → BufId → ℕ
 count_of s b = count_in (entry_at s.arena b.page) (slice_index s.counts b.page) b.generation
 
 -- the buffer is in a chunk of the pool
-abbrev pub IsHome : Stored → (p : ℕ) → BufId → Type 0
-IsHome s p b = Contains (pool_in s.pools p).chunks (b.page / CHUNK_PAGES)
+abbrev pub IsInPool : Stored → (p : ℕ) → BufId → Type 0
+IsInPool s p b = Contains (pool_in s.pools p).chunks (b.page / CHUNK_PAGES)
 
 -- the pool has no chunks that it should have returned
-abbrev pub IsSettled : Stored → (p : ℕ) → Type 0
-IsSettled s p = goes_back s.arena s.pools p ≡ true → (pool_in s.pools p).chunks ≡ []
+abbrev pub IsReclaimed : Stored → (p : ℕ) → Type 0
+IsReclaimed s p = goes_back s.arena s.pools p ≡ true → (pool_in s.pools p).chunks ≡ []
 
 -- no closed pool keeps chunks whose pages are all empty
-pub record AllSettled (s : Stored) : Type 0 where
-  pub each : (p : ℕ) → IsSettled s p
+pub record AllReclaimed (s : Stored) : Type 0 where
+  pub each : (p : ℕ) → IsReclaimed s p
 
 -- no closed pool except one keeps chunks whose pages are all empty
-pub record AllSettledBut (but : ℕ) (s : Stored) : Type 0 where
-  pub each : (p : ℕ) → p ≢ but → IsSettled s p
+pub record AllReclaimedBut (but : ℕ) (s : Stored) : Type 0 where
+  pub each : (p : ℕ) → p ≢ but → IsReclaimed s p
 
 -- page q is part of a live buffer
 abbrev pub IsInBuffer : State → (q : ℕ) → Type 0
@@ -61,8 +61,8 @@ IsInBuffer s q = (b : BufId) × IsLive s b × LiesOn s b q
 abbrev pub IsPlaced : State → (q : ℕ) → Type 0
 IsPlaced s q = ((entry_at s q).kind ≡ Free) ⊎ ((entry_at s q).kind ≡ Pending) ⊎ IsInBuffer s q
 
--- Every live buffer is held and is in one chunk, each page is empty, is pending or is in exactly one live buffer, and each taken
--- chunk has exactly one pool.
+-- Every live buffer is held and is in one chunk, each page is empty, is pending or is in exactly one live buffer, and
+-- each taken chunk has exactly one pool.
 pub record IsTidy (s : Stored) : Type 0 where
   pub held : (b : BufId) → IsLive s.arena b → 0 < count_of s b
   pub placed : (q : ℕ) → IsPlaced s.arena q

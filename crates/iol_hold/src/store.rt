@@ -4,7 +4,7 @@ ghost use Rattle.std.specs.Ptr.{as_ptr};
 ghost use Rattle.iol_arena.specs.Prelude.{HasRange, IsLive, SharesNoPage, address_of, bytes_of, live_pages};
 ghost use Rattle.iol_hold.specs.StoreAndPools.{MakesStore};
 ghost use Rattle.iol_hold.specs.Moves.{SharesHold};
-ghost use Rattle.iol_hold.specs.Releases.{FreesBuffer, ReleasesHold, Settles};
+ghost use Rattle.iol_hold.specs.Releases.{FreesBuffer, ReleasesHold, Reclaims};
 ghost use Rattle.iol_hold.specs.StoreState.{SetsCount, count_of};
 
 use crate::holds::Hold;
@@ -40,7 +40,8 @@ impl Model for Store {
 }
 
 impl Store {
-    /// A store of free pages without pools. Returns `BadRange` exactly if the configuration is out of its ranges, and `Memory`.
+    /// A store of free pages without pools. Returns `BadRange` exactly if the configuration is out
+    /// of its ranges, and `Memory`.
     pub fn new(alloc: Global, config: Config) -> Result<Store, Refusal>
         ensures { MakesStore config result }
     {
@@ -99,14 +100,14 @@ impl Store {
     }
 
     // Returns the chunks of a closed pool, if all their pages are empty.
-    fn settle(&mut self, pool: PoolId)
-        ensures { Settles self.old self.new pool }
+    fn reclaim(&mut self, pool: PoolId)
+        ensures { Reclaims self.old self.new pool }
     {
-        self.pools.settle(&mut self.arena, pool);
+        self.pools.reclaim(&mut self.arena, pool);
     }
 
-    /// Releases a hold. With the last hold the buffer's pages are free at once, and the chunks of a closed pool are
-    /// returned if all their pages are empty.
+    /// Releases a hold. With the last hold the buffer's pages are free at once, and the chunks of a
+    /// closed pool are returned if all their pages are empty.
     pub fn release(&mut self, hold: Hold)
         requires { 0 < count_of self.old hold.buf }
         ensures { ReleasesHold self.old self.new hold }
@@ -117,7 +118,7 @@ impl Store {
             self.set_count(buf, count - 1);
         } else {
             self.free(buf);
-            self.settle(hold.pool());
+            self.reclaim(hold.pool());
         }
     }
 

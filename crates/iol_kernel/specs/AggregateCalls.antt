@@ -6,7 +6,7 @@ use Rattle.iol_core.specs.declared.limits.TheConstants.{LAST_AGGREGATE}
 use Rattle.iol_hold.specs.Moves.{Moves, SameLists, Shares}
 use Rattle.iol_hold.specs.Places.{byte_len, places}
 use Rattle.iol_hold.specs.Releases.{FreesOnly}
-use Rattle.iol_hold.specs.StoreState.{Stored, AllSettled}
+use Rattle.iol_hold.specs.StoreState.{Stored, AllReclaimed}
 use Rattle.iol_hold.specs.Texts.{AllReadable, bufs_of}
 use Rattle.iol_hold.specs.declared.slices.Slice.{Slice}
 use Rattle.iol_desc.specs.Tables.{Row, agg_in, domain_in, domains_of, with_agg_in, with_domain_in, with_next, without_agg_in}
@@ -33,8 +33,8 @@ pub record SplitsAgg (s t : Stored) (old new : List (Domain (List Slice))) (d a 
   pub shares : Shares s t (bufs_of (slices_in old d a)) (bufs_of first ++ bufs_of second)
   pub split : new ≡ with_domain_in old d (with_two (domain_in old d) a first second)
 
--- A live domain's aggregate may be split at this index: the count of each of its slices can be incremented, and two aggregate
--- numbers are left.
+-- A live domain's aggregate may be split at this index: the count of each of its slices can be incremented, and two
+-- aggregate numbers are left.
 pub record MaySplitIn (s : Stored) (ds : List (Domain (List Slice))) (d a at : ℕ) : Type 0 where
   pub live : (domain_in ds d).live ≡ true
   pub there : agg_in ds d a ≢ None
@@ -85,9 +85,10 @@ pub record GivesNext {E : Type 0} (old new : List (Domain (List Slice))) (d a e 
   pub err : OnErr r (new ≡ old)
 
 -- The buffers that the dropped aggregates held are released, except those that the remaining aggregates hold. No list
--- changes. If the dropped aggregates were readable, no closed pool keeps unused chunks afterwards, provided none did before.
+-- changes. If the dropped aggregates were readable, no closed pool keeps unused chunks afterwards, provided none did
+-- before.
 pub record ReleasesAll (s t : Stored) (aggs left : List (ℕ × List Slice)) : Type 0 where
   pub moves : Moves s t (bufs_in aggs) (bufs_in left)
   pub lists : SameLists s t
   pub frees : FreesOnly s t
-  pub settles : Each (λ e. AllReadable s e.1) aggs → AllSettled s → AllSettled t
+  pub reclaims : Each (λ e. AllReadable s e.1) aggs → AllReclaimed s → AllReclaimed t

@@ -1,4 +1,5 @@
--- The effect of a call on the state of the system, in terms of the copying machine, for each reading of the places of bytes.
+-- The effect of a call on the state of the system, in terms of the copying machine, for each reading of the places of
+-- bytes.
 use Rattle.std.specs.Prelude.{◌≡◌, ℕ, ◌+◌, ◌≤◌, Bool, nat_lt, length, ◌⊎◌, ◌++◌, true, false, List, [], ◌∷◌, None, Some, Result, Ok, Err, IfOk, IfErr, OnOk, OnErr}
 use Rattle.iol_core.specs.Text.{Text, labelled}
 use Rattle.iol_core.specs.State.{State, is_live, text, descriptor, conn_at, with_conn}
@@ -14,7 +15,7 @@ use Rattle.iol_arena.specs.Pages.{MadeOn}
 use Rattle.iol_hold.specs.Moves.{Stays}
 use Rattle.iol_hold.specs.StoreState.{with_pools}
 use Rattle.iol_hold.specs.Pages.{KeepsPages}
-use Rattle.iol_hold.specs.Room.{TellsRoom, has_room, lowest_of}
+use Rattle.iol_hold.specs.Room.{ReportsRoom, has_room, lowest_of}
 use Rattle.iol_hold.specs.Texts.{bufs_of}
 use Rattle.iol_hold.specs.declared.slices.Slice.{Slice}
 use Rattle.iol_cache.specs.CacheState.{Cached, new_file, order_in}
@@ -52,9 +53,9 @@ ShowsSoMany d a n h = (stored : List (List ℕ))
 abbrev pub RefusesShow : (d a : ℕ) → Refusal → KernelState → Type 0
 RefusesShow d a x h = (f : Reading) → first (show (read_of f h) d a).refusals ≡ Some x
 
--- The machine's step for each reading. A reading of bytes gives the meaning of the call. A reading of places says that each
--- byte of the result is at the place that the meaning names, so that no byte was copied or moved. Pages, pools and remembered
--- sums are unchanged.
+-- The machine's step for each reading. A reading of bytes gives the meaning of the call. A reading of places says that
+-- each byte of the result is at the place that the meaning names, so that no byte was copied or moved. Pages, pools and
+-- remembered sums are unchanged.
 pub record CarriesOut {A : Type 0} (m : State → Meaning A) (old : KernelState) (r : Result A Refusal)
     (new : KernelState) : Type 0 where
   pub step : (f : Reading) → KeepsPools f → Step (m (read_of f old)) (read_of f old) r (read_of f new)
@@ -67,9 +68,9 @@ pub record CarriesOut {A : Type 0} (m : State → Meaning A) (old : KernelState)
   pub sound : IsSound new
   pub stays : Stays old.store new.store
 
--- The machine's step, of bytes and of places: every byte that the call leaves keeps its place. Pages and chunks may be freed
--- or taken, and lists may grow. No page's generation is incremented, an open pool keeps its chunks, and the remembered sums
--- are unchanged.
+-- The machine's step, of bytes and of places: every byte that the call leaves keeps its place. Pages and chunks may be
+-- freed or taken, and lists may grow. No page's generation is incremented, an open pool keeps its chunks, and the
+-- remembered sums are unchanged.
 pub record KeepsPlaces {A : Type 0} (m : State → Meaning A) (old : KernelState) (r : Result A Refusal)
     (new : KernelState) : Type 0 where
   pub step : Steps m old r new
@@ -87,9 +88,9 @@ pub record AddsEmpty (old new : Cached) : Type 0 where
   pub files : new.files ≡ old.files ++ new_file pool ∷ []
   pub orders : (p : ℕ) → order_in new.orders p ≡ order_in old.orders p
 
--- The machine's step on files if the store under them is honest; over any store, the step except for the bytes of files. Only
--- the list of files and their extents in memory change: pages, pools and remembered sums are unchanged, and every byte keeps
--- its place.
+-- The machine's step on files if the store under them is honest; over any store, the step except for the bytes of
+-- files. Only the list of files and their extents in memory change: pages, pools and remembered sums are unchanged, and
+-- every byte keeps its place.
 pub record Names {A : Type 0} (disk : Disk) (m : State → Meaning A) (old : KernelState) (r : Result A Refusal)
     (new : KernelState) : Type 0 where
   pub step : IfHonest disk (Step (m (machine_of disk.slots old)) (machine_of disk.slots old) r (machine_of disk.slots new))
@@ -106,7 +107,7 @@ pub record Names {A : Type 0} (disk : Disk) (m : State → Meaning A) (old : Ker
   pub sound : IsSound new
 
 -- for some content of the next slot, this says whether it is longer than a file may be
-pub record TellsNext (h : KernelState) (long : Bool) : Type 0 where
+pub record ReportsNext (h : KernelState) (long : Bool) : Type 0 where
   pub stored : List (List ℕ)
   pub is : (f : Reading) → f.stored ≡ stored
       → long ≡ nat_lt MAX_FILE_BYTES (length (machine.content (read_of f h) (length (read_of f h).files + 1)))
@@ -164,9 +165,9 @@ with_reader h p d = record h { store = with_pools h.store (with_admitted h.store
 abbrev pub with_incoming : (c : ℕ) → State → Text → State
 with_incoming c s t = with_conn s c (record (conn_at s c) { incoming = (conn_at s c).incoming ++ t })
 
--- n new bytes are placed in a pool and stored where `put` says, and nothing else changes: for each reading, every other byte
--- keeps its place. Their buffers are made on the lowest free pages of the pool, and the generation of each of these pages is
--- incremented.
+-- n new bytes are placed in a pool and stored where `put` says, and nothing else changes: for each reading, every other
+-- byte keeps its place. Their buffers are made on the lowest free pages of the pool, and the generation of each of
+-- these pages is incremented.
 pub record MakesBytes (put : State → Text → State) (pool n : ℕ) (old new : KernelState) : Type 0 where
   pub slices : List Slice
   pub each : (f : Reading) → read_of f new ≡ put (read_of f old) (read f slices)
@@ -196,7 +197,7 @@ pub record MakesNext (by pool : ℕ) (bytes : List ℕ) (old : KernelState) (r :
   pub cache : new.cache ≡ old.cache
   pub sound : IsSound new
   pub stays : Stays old.store new.store
-  pub room : TellsRoom (has_room old.store pool (length bytes)) r
+  pub room : ReportsRoom (has_room old.store pool (length bytes)) r
   pub late : IfErr r (WantOfRoom pool)
   pub err : OnErr r (new ≡ old)
 
@@ -238,12 +239,12 @@ IsUnopened h d fd x =
     ⊎ ((x ≡ BadFd) × ((f : Reading) → (is_live (read_of f h) d ≡ true) × (descriptor (read_of f h) d fd ≡ None)))
 
 -- the segment sent, as its bytes and their checksum
-abbrev pub told : Result Segment Refusal → Result (List ℕ × ℕ) Refusal
-told (Ok g) = Ok (g.bytes, g.checksum)
-told (Err x) = Err x
+abbrev pub reported : Result Segment Refusal → Result (List ℕ × ℕ) Refusal
+reported (Ok g) = Ok (g.bytes, g.checksum)
+reported (Err x) = Err x
 
--- The machine's `transmit`: the remaining bytes keep their places, and pages may be freed. The sum of each slice sent is
--- used, in order. A refusal changes nothing.
+-- The machine's `transmit`: the remaining bytes keep their places, and pages may be freed. The sum of each slice sent
+-- is used, in order. A refusal changes nothing.
 pub record Transmits (c max : ℕ) (old : KernelState) (r : Result (List ℕ × ℕ) Refusal) (new : KernelState) : Type 0 where
   pub step : Steps (λ s. transmit s c max) old r new
   pub places : OnOk r ((f : Reading) → KeepsPools f → read_of f new ≡ (transmit (read_of f old) c max).after)

@@ -1,5 +1,5 @@
--- The effect of a read of a file, in addition to the machine's step: the places of its bytes, and the changes of pages and of
--- the cache.
+-- The effect of a read of a file, in addition to the machine's step: the places of its bytes, and the changes of pages
+-- and of the cache.
 use Rattle.std.specs.Prelude.{◌≡◌, ◌⊎◌, ℕ, ◌+◌, ◌-◌, ◌≤◌, ◌&&◌, Bool, not, min, List, [], ◌∷◌, length, take, drop, slice_set, Option, Some, None, Result, Ok, Err, IfOk, IfErr, OnErr, OnOk, if◌then◌else◌}
 use Rattle.iol_core.specs.State as machine
 use Rattle.iol_core.specs.State.{State, Domain, is_live, descriptor}
@@ -26,7 +26,7 @@ use Rattle.iol_cache.specs.CacheState.{Cached, file_in}
 use Rattle.iol_cache.specs.Contents.{bytes_in_slot}
 use Rattle.iol_cache.specs.PageChanges.{FillsLowest}
 use Rattle.iol_cache.specs.Evictions.{Holding}
-use Rattle.iol_cache.specs.ReadResults.{IsBacked, IsEnd, NoRoomToRead, ReadsFile, RefusesRead, RoomToRead, TellsFault, TellsRoom}
+use Rattle.iol_cache.specs.ReadResults.{IsBacked, IsEnd, NoRoomToRead, ReadsFile, RefusesRead, RoomToRead, ReportsFault, ReportsRoom}
 use Rattle.iol_kernel.specs.FileCalls.{Serves, holding_of}
 use Rattle.iol_kernel.specs.Calls.{CarriesOut}
 use Rattle.iol_kernel.specs.KeptCover.{KeepsUnless, LacksPagesToRead}
@@ -101,39 +101,41 @@ pub record GivesRead (x : FileRead) (disk : Disk) (old new : KernelState) : Type
 abbrev pub holding_over : Stored → KernelState → Holding
 holding_over s h = record { store = s; cache = h.cache }
 
--- The state after a refused read. A read that was refused before it asked for room changed nothing. After a late refusal hits
--- may have been counted, and, if the pages needed could be had, clean extents may have been evicted to make room, in the
--- order of eviction. A refusal for lack of memory may come before any hit was shared.
+-- The state after a refused read. A read that was refused before it asked for room changed nothing. After a late
+-- refusal hits may have been counted, and, if the pages needed could be had, clean extents may have been evicted to
+-- make room, in the order of eviction. A refusal for lack of memory may come before any hit was shared.
 abbrev pub LeavesAtRefusal : (x : FileRead) → Disk → (old : KernelState) → (after : Disk) → (new : KernelState) → Refusal → Type 0
 LeavesAtRefusal x disk old after new y =
     (IsBeforeRoom y × (new ≡ old) × (after ≡ disk))
     ⊎ (WantOfRoomOrFault (pool_read old x) x.file y × RefusesRead x.file x.at x.count disk (holding_of old) (holding_of new) y)
 
 -- A read of a file by reference. Every byte of a file that was in memory keeps its place, except that clean ones of the
--- file's pool may have been evicted if more pages were needed than were free. The lowest free pages of the file's pool are
--- filled, and no others. NoRoom is returned only if the pages pinned and needed do not fit the pool, and success only if they
--- do. Fault is returned exactly when one more failure of the store was counted. A refusal before that changed nothing.
+-- file's pool may have been evicted if more pages were needed than were free. The lowest free pages of the file's pool
+-- are filled, and no others. NoRoom is returned only if the pages pinned and needed do not fit the pool, and success
+-- only if they do. Fault is returned exactly when one more failure of the store was counted. A refusal before that
+-- changed nothing.
 pub record ReadsFileAs {A : Type 0} (x : FileRead) (disk : Disk) (old : KernelState) (r : Result A Refusal)
     (after : Disk) (new : KernelState) : Type 0 where
   pub keeps : KeepsUnless (pool_read old x) (LacksPagesToRead x.file x.at x.count disk (holding_of old)) old.cache new.cache
   pub pages : FillsLowest (pool_read old x) old.store new.store
   pub lists : SameLists old.store new.store
-  pub room : TellsRoom (RoomToRead x.file x.at x.count disk (holding_of old))
+  pub room : ReportsRoom (RoomToRead x.file x.at x.count disk (holding_of old))
       (NoRoomToRead x.file x.at x.count disk (holding_of old)) r
-  pub fault : TellsFault disk after r
+  pub fault : ReportsFault disk after r
   pub same : new ≡ record old { store = new.store; cache = new.cache; domains = new.domains }
   pub refused : OnErr r (new.domains ≡ old.domains)
   pub leaves : IfErr r (LeavesAtRefusal x disk old after new)
 
--- The result of a read by reference of an open file: the machine's step, the places of the bytes, and the new aggregate.
+-- The result of a read by reference of an open file: the machine's step, the places of the bytes, and the new
+-- aggregate.
 pub record TakesFromFile (x : FileRead) (disk : Disk) (old : KernelState) (r : Result ℕ Refusal) (after : Disk)
     (new : KernelState) : Type 0 where
   pub serves : Serves (λ s. calls.iol_read s x.domain x.fd x.count) disk old r after new
   pub reads : ReadsFileAs x disk old r after new
   pub gives : OnOk r (GivesRead x disk old new)
 
--- The bytes read by reference over these pages were copied and released, and the position moved past them. The bytes copied
--- are those in memory then, whatever the store had returned before. Gaps have new clean extents.
+-- The bytes read by reference over these pages were copied and released, and the position moved past them. The bytes
+-- copied are those in memory then, whatever the store had returned before. Gaps have new clean extents.
 pub record GivesCopy (x : FileRead) (disk : Disk) (old : KernelState) (mid : Stored) (new : KernelState)
     (bytes : List ℕ) : Type 0 where
   pub slices : List Slice
@@ -165,8 +167,8 @@ abbrev pub first_of : (filled : List ℕ) → Result ℕ Refusal → Result (Lis
 first_of filled (Ok n) = Ok (take n filled)
 first_of filled (Err y) = Err y
 
--- The result of a read by copying into a memory. The bytes read are at its front, as many as it returns the number of, and the
--- rest of the memory is unchanged. A refusal leaves all of it unchanged.
+-- The result of a read by copying into a memory. The bytes read are at its front, as many as it returns the number of,
+-- and the rest of the memory is unchanged. A refusal leaves all of it unchanged.
 pub record CopiesInto (x : FileRead) (memory filled : List ℕ) (disk : Disk) (old : KernelState) (r : Result ℕ Refusal)
     (after : Disk) (new : KernelState) : Type 0 where
   pub copies : CopiesFromFile x disk old (first_of filled r) after new
@@ -175,8 +177,8 @@ pub record CopiesInto (x : FileRead) (memory filled : List ℕ) (disk : Disk) (o
   pub rest : IfOk r (λ n. drop n filled ≡ drop n memory)
   pub err : OnErr r (filled ≡ memory)
 
--- A read by reference, by the descriptor's object: for a file, as above; for anything else nothing is copied and the store
--- under the files is not asked.
+-- A read by reference, by the descriptor's object: for a file, as above; for anything else nothing is copied and the
+-- store under the files is not asked.
 abbrev pub ReadsOn : (d fd n : ℕ) → Option Descriptor → Disk → KernelState → Result ℕ Refusal → Disk → KernelState → Type 0
 ReadsOn d fd n (Some (on.File f at mode)) disk old r after new =
     ReadsFileAs (file_read d fd f at mode n) disk old r after new × OnOk r (GivesRead (file_read d fd f at mode n) disk old new)

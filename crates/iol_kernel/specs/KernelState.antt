@@ -5,7 +5,7 @@ use Rattle.iol_core.specs.State as machine
 use Rattle.iol_core.specs.declared.descriptors.Descriptor.{Descriptor}
 use Rattle.iol_core.specs.declared.descriptors.Descriptor.TheVariants as on
 use Rattle.iol_core.specs.declared.limits.TheConstants.{MAX_AGGREGATE_BYTES, MAX_AGGREGATES, MAX_QUEUE_BYTES, MAX_FILES, MAX_FILE_BYTES, MAX_PIPES, MAX_POOLS, MAX_CONNECTIONS, LAST_CONNECTION}
-use Rattle.iol_hold.specs.StoreState.{Stored, IsTidy, IsStill, AllSettled}
+use Rattle.iol_hold.specs.StoreState.{Stored, IsTidy, IsStill, AllReclaimed}
 use Rattle.iol_hold.specs.Places.{byte_len}
 use Rattle.iol_hold.specs.Layout.{number_at}
 use Rattle.iol_hold.specs.Texts.{AllReadable}
@@ -25,8 +25,8 @@ use Rattle.iol_kernel.specs.Views.{Pipe, Objects, pipe_in, state_view}
 use Rattle.iol_kernel.specs.HoldCounts.{IsCounted}
 use Rattle.iol_kernel.specs.EndCounts.{IsOpenOnce}
 
--- the values of the layers: an aggregate and a queue are lists of slices of the store's buffers, sums are remembered, and
--- parts of files are in a cache
+-- the values of the layers: an aggregate and a queue are lists of slices of the store's buffers, sums are remembered,
+-- and parts of files are in a cache
 pub record KernelState : Type 0 where
   pub store : Stored
   pub domains : List (machine.Domain (List Slice))
@@ -93,8 +93,8 @@ slices_in ds d a = unwrap_or (agg_in ds d a) []
 abbrev pub queue_at : List (Option (Pipe (List Slice))) → (p : ℕ) → Pipe (List Slice)
 queue_at pipes p = pipe_in [] pipes p
 
--- a descriptor is open on an open end of a pipe, or on a connection that was accepted and not closed, or on a file, at a
--- position within the limit of a file
+-- a descriptor is open on an open end of a pipe, or on a connection that was accepted and not closed, or on a file, at
+-- a position within the limit of a file
 abbrev pub IsOpenEnd : Objects (List Slice) → Option Descriptor → Type 0
 IsOpenEnd objects None = Unit {0}
 IsOpenEnd objects (Some (on.ReadEnd p)) = (queue_at objects.pipes p).reading ≡ true
@@ -150,10 +150,10 @@ AreFiled files cached = map (λ x. x.pool) cached ≡ map (λ x. x.pool) files
 unfoldable pub IsCached : Stored → Cached → Type 0
 IsCached s c = cache.IsSound s c
 
--- The invariant between any two events: slices of aggregates and queues and extents of files are in live buffers of their
--- pools, each buffer is counted once per slice, no page is lost and no closed pool keeps unused chunks, descriptors are open
--- on open ends of pipes and on accepted connections, each on one of its own, and on files, the remembered sums are right, and
--- the cache of files is sound.
+-- The invariant between any two events: slices of aggregates and queues and extents of files are in live buffers of
+-- their pools, each buffer is counted once per slice, no page is lost and no closed pool keeps unused chunks,
+-- descriptors are open on open ends of pipes and on accepted connections, each on one of its own, and on files, the
+-- remembered sums are right, and the cache of files is sound.
 pub record IsSound (h : KernelState) : Type 0 where
   pub domains : Each (IsDomainReadable h.store) h.domains
   pub objects : AreReadable h.store (objects_of h)
@@ -162,7 +162,7 @@ pub record IsSound (h : KernelState) : Type 0 where
   pub counted : IsCounted h.store h.domains (objects_of h)
   pub tidy : IsTidy h.store
   pub still : IsStill h.store.arena
-  pub settled : AllSettled h.store
+  pub reclaimed : AllReclaimed h.store
   pub limits : IsLimited h.domains (objects_of h)
   pub pooled : ArePooled h.store.pools h.conns h.cache.files
   pub sums : IsRight h.store.arena h.sums

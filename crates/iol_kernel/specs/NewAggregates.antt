@@ -4,7 +4,7 @@ use Rattle.iol_core.specs.Text.{Text}
 use Rattle.iol_core.specs.State.{Domain}
 use Rattle.iol_arena.specs.Pages.{MadeOn}
 use Rattle.iol_hold.specs.Pages.{KeepsPages}
-use Rattle.iol_hold.specs.StoreState.{Stored, AllSettled}
+use Rattle.iol_hold.specs.StoreState.{Stored, AllReclaimed}
 use Rattle.iol_hold.specs.Moves.{Moves, Shares}
 use Rattle.iol_hold.specs.Places.{Place, places, byte_len}
 use Rattle.iol_hold.specs.Texts.{text_of, bufs_of, AllReadable}
@@ -31,7 +31,7 @@ pub record AddsText (s t : Stored) (old new : List (Domain (List Slice))) (d : �
   pub moves : Moves s t [] (bufs_of slices)
   pub made_on : MadeOn s.arena t.arena (bufs_of slices) placed
   pub pages : KeepsPages s t placed
-  pub settles : AllSettled s → AllSettled t
+  pub reclaims : AllReclaimed s → AllReclaimed t
   pub pools : t.pools ≡ s.pools
   pub added : new ≡ with_agg_in old d slices
 

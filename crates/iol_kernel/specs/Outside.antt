@@ -26,8 +26,9 @@ pub record TestsArrival (c : ℕ) (bytes : List ℕ) (h : KernelState) (r : Resu
   pub may : IfOk r (λ x. MayArrive c bytes x.0 x.1 h)
   pub refused : IfErr r (λ x. Refuses (λ s. arrive s c bytes) x h)
 
--- A connection that is over was removed, and its buffers were released. No domain changed, and all other ends stay open.
-pub record Settles (c : ℕ) (old new : KernelState) : Type 0 where
+-- A connection that is over was removed, and its buffers were released. No domain changed, and all other ends stay
+-- open.
+pub record Reclaims (c : ℕ) (old new : KernelState) : Type 0 where
   pub left : Leaves (λ s. machine.with_conn s c (machine.conn_at s c)) old new
   pub domains : new.domains ≡ old.domains
   pub others : KeepsEnds (on.Connection c) (objects_of old) (objects_of new)

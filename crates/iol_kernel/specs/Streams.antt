@@ -54,16 +54,17 @@ pub record TakesIn (left after : Option (List ℕ)) (n : ℕ) (P : List ℕ → 
 abbrev pub most_asked : (max : ℕ) → (incoming : Text) → ℕ
 most_asked max incoming = min (min max PAGE_BYTES) (MAX_QUEUE_BYTES - length incoming)
 
--- One read arrived on connection c, after which the reader has the bytes `after` left. Room was made for one byte, and the
--- bytes of the read are on the lowest page that was free then, in at most one slice. If the read gave no bytes, the system
--- represents the same machine state.
+-- One read arrived on connection c, after which the reader has the bytes `after` left. Room was made for one byte, and
+-- the bytes of the read are on the lowest page that was free then, in at most one slice. If the read gave no bytes, the
+-- system represents the same machine state.
 pub record BringsIn (c max : ℕ) (after : Option (List ℕ)) (old new : KernelState) (a : Arrived) : Type 0 where
-  pub told : IsOneRead (most_asked max (conn_at (machine_of [] old) c).incoming) after a
+  pub reported : IsOneRead (most_asked max (conn_at (machine_of [] old) c).incoming) after a
   pub made : AfterRoom (conn_at (machine_of [] old) c).pool 1 old (λ roomy. Arrives c a.taken roomy new)
   pub slices : ArrivesFew a.taken c old new
   pub none : a.taken ≡ 0 → IsSame old new
 
--- A read is refused as an arrival of one byte is: NoRoom only if there is no room for the byte, and success only if there is.
+-- A read is refused as an arrival of one byte is: NoRoom only if there is no room for the byte, and success only if
+-- there is.
 pub record RefusesByte {A : Type 0} (s : State) (c max : ℕ) (has_room : Bool) (r : Result A Refusal) : Type 0 where
   pub passed : OnOk r (IsPassed (arrive_from_refusals s c max))
   pub refused : IfErr r (IsRefused (arrive_from_refusals s c max) (WantOfRoom (conn_at s c).pool))
@@ -79,8 +80,8 @@ pub record RefusesArrival {A R : Type 0} (c max : ℕ) (old new : KernelState) (
   pub err : IfErr r (MayHaveEvicted (conn_at (machine_of [] old) c).pool 1 old new)
   pub err_reader : OnErr r (after ≡ reader)
 
--- One read arrives, of bytes that the reader has left, and no extent is evicted for them. If it gives no bytes, the system
--- represents the same machine state; a refusal changes nothing.
+-- One read arrives, of bytes that the reader has left, and no extent is evicted for them. If it gives no bytes, the
+-- system represents the same machine state; a refusal changes nothing.
 pub record TakesRead (c max : ℕ) (left after : Option (List ℕ)) (old : KernelState)
     (r : Result Arrived Refusal) (new : KernelState) : Type 0 where
   pub refuses : RefusesByte (machine_of [] old) c max (has_room old.store (conn_at (machine_of [] old) c).pool 1) r
@@ -88,7 +89,7 @@ pub record TakesRead (c max : ℕ) (left after : Option (List ℕ)) (old : Kerne
       (λ bytes. Steps (λ s. arrive s c bytes) old (Ok a.taken) new))
   pub made : IfOk r (λ a. Arrives c a.taken old new)
   pub slices : IfOk r (λ a. ArrivesFew a.taken c old new)
-  pub told : IfOk r (IsOneRead (most_asked max (conn_at (machine_of [] old) c).incoming) after)
+  pub reported : IfOk r (IsOneRead (most_asked max (conn_at (machine_of [] old) c).incoming) after)
   pub none : IfOk r (λ a. a.taken ≡ 0 → (stored : List (List ℕ))
       → machine_of stored new ≡ machine_of stored old)
   pub cache : new.cache ≡ old.cache
@@ -103,8 +104,8 @@ abbrev pub sent_on : (c n : ℕ) → State → State
 sent_on c zero s = s
 sent_on c (suc n) s = (transmit s c (suc n)).after
 
--- A writer was given the first bytes queued for sending on connection c, at most max. The bytes it accepted are written and
--- count as sent. They are all of these bytes, or fewer, and then the writer failed.
+-- A writer was given the first bytes queued for sending on connection c, at most max. The bytes it accepted are written
+-- and count as sent. They are all of these bytes, or fewer, and then the writer failed.
 pub record DrainsTo (c max : ℕ) (held now : Option (List ℕ)) (old new : KernelState) (d : Drained) : Type 0 where
   pub most : d.taken ≤ min max (length (conn_at (machine_of [] old) c).outgoing)
   pub all : d.failed ≡ false → d.taken ≡ min max (length (conn_at (machine_of [] old) c).outgoing)

@@ -26,9 +26,9 @@ pub record MaySync (d fd f : ℕ) (h : KernelState) : Type 0 where
   pub passed : (g : Reading) → first (fsync (read_of g h) d fd).refusals ≡ None
   pub file : (g : Reading) → f ≡ file_on (read_of g h) d fd
 
--- The first dirty extents of the file in slot f were written back and are clean: all of them, or those before the one at
--- which the store failed. Each entered the order of eviction as a new one. Fault is returned exactly when one more failure
--- was counted. Nothing else changed; a refusal before the store was asked changed nothing.
+-- The first dirty extents of the file in slot f were written back and are clean: all of them, or those before the one
+-- at which the store failed. Each entered the order of eviction as a new one. Fault is returned exactly when one more
+-- failure was counted. Nothing else changed; a refusal before the store was asked changed nothing.
 pub record SyncsFile {A : Type 0} (f : ℕ) (disk : Disk) (old : KernelState) (r : Result A Refusal) (after : Disk)
     (new : KernelState) : Type 0 where
   pub syncs : cache.Syncs old.store f old.cache new.cache disk after
@@ -49,12 +49,12 @@ abbrev pub done_of : Result Flushed Refusal → Result (Unit {0}) Refusal
 done_of (Ok x) = Ok tt
 done_of (Err x) = Err x
 
--- The dirty extent of least file and offset was written back and is clean, unless no extent was dirty or the store failed.
--- Fault is returned exactly when one more failure was counted. Nothing else changed.
+-- The dirty extent of least file and offset was written back and is clean, unless no extent was dirty or the store
+-- failed. Fault is returned exactly when one more failure was counted. Nothing else changed.
 pub record FlushesOne (disk : Disk) (old : KernelState) (r : Result (Unit {0}) Refusal) (after : Disk)
     (new : KernelState) : Type 0 where
   pub flushed : Result Flushed Refusal
-  pub told : r ≡ done_of flushed
+  pub reported : r ≡ done_of flushed
   pub flushes : cache.Flushes old.store old.cache new.cache disk after flushed
   pub counts : FaultCounts disk after r
   pub same : new ≡ record old { cache = new.cache }
@@ -69,8 +69,9 @@ pub record FlushesBack (disk : Disk) (old : KernelState) (r : Result (Unit {0}) 
   pub serves : Serves outside.flush disk old r after new
   pub flushes : FlushesOne disk old r after new
 
--- All clean extents were evicted, pool by pool, in the order of eviction: the machine's step, over any store. Dirty ones keep
--- their places, and no page's generation is incremented. Only pages and the extents of files in memory changed.
+-- All clean extents were evicted, pool by pool, in the order of eviction: the machine's step, over any store. Dirty
+-- ones keep their places, and no page's generation is incremented. Only pages and the extents of files in memory
+-- changed.
 pub record DropsClean (old new : KernelState) : Type 0 where
   pub serves : (disk : Disk) → Serves outside.drop_clean disk old (Ok tt) disk new
   pub pages : KeepsPages old.store new.store []

@@ -22,7 +22,7 @@ use Rattle.iol_core.proofs.Lookups.{domain-same}
 use Rattle.iol_core.proofs.TestedLists.{passed, when-none}
 use Rattle.iol_laws.proofs.Gives.{agg_given}
 use Rattle.iol_laws.specs.Order.{IsOrderly, Once}
-use Rattle.iol_laws.specs.Caller.{lent_at}
+use Rattle.iol_laws.specs.Caller.{readable_at}
 use Rattle.iol_laws.specs.Aggregates.{brings, is_refusal}
 use Rattle.iol_laws.proofs.AggsOfEach.{Brings, BringsIn, IsOfAggs, of_meant}
 use Rattle.iol_laws.proofs.Connections.{forgotten, once-without}
@@ -76,19 +76,19 @@ other_event s e d a un = tt
 lacks_meant : (s : State) (e : Event) (d a : ℕ) → brings e (meaning s e).answer d a ≡ false → Lacks s d a → Lacks (meaning s e).after d a
 lacks_meant s e d a un none = of_meant (LacksIn d a) (IsOther d a) (stays_lacking d a) s e (other_event s e d a un) (λ b same. subst (λ n. Lacks s n a) (sym same) none) d refl
 
-lent-none : (s : State) (d a : ℕ) → lent_at s d a ≡ None → Lacks s d a
-lent-none s d a none = by (aggregate s d a) none
+readable-none : (s : State) (d a : ℕ) → readable_at s d a ≡ None → Lacks s d a
+readable-none s d a none = by (aggregate s d a) none
   where
     by : (o : Option Text) → option_map bytes_of o ≡ None → o ≡ None
     by None none = refl
     by (Some t) none = absurd (cc)
 
-unlent : (s : State) (d a : ℕ) → Lacks s d a → lent_at s d a ≡ None
+unlent : (s : State) (d a : ℕ) → Lacks s d a → readable_at s d a ≡ None
 unlent s d a none = ap (λ (o : Option Text). option_map bytes_of o) none
 
-pub none_step : (s t : State) (e : Event) (r : Reply) (d a : ℕ) → StepsTo s e r t → lent_at s d a ≡ None → brings e r d a ≡ false → lent_at t d a ≡ None
-none_step s t e (reply.Refused x) d a step none un = ap (λ u. lent_at u d a) step.1 ∙ none
-none_step s t e r d a step none un = ap (λ u. lent_at u d a) step.2 ∙ unlent (meaning s e).after d a (lacks_meant s e d a (sym (ap (λ q. brings e q d a) step.1) ∙ un) (lent-none s d a none))
+pub none_step : (s t : State) (e : Event) (r : Reply) (d a : ℕ) → StepsTo s e r t → readable_at s d a ≡ None → brings e r d a ≡ false → readable_at t d a ≡ None
+none_step s t e (reply.Refused x) d a step none un = ap (λ u. readable_at u d a) step.1 ∙ none
+none_step s t e r d a step none un = ap (λ u. readable_at u d a) step.2 ∙ unlent (meaning s e).after d a (lacks_meant s e d a (sym (ap (λ q. brings e q d a) step.1) ∙ un) (readable-none s d a none))
 
 -- What is given up.
 
@@ -187,6 +187,6 @@ gone_meant : (s : State) (e : Event) (d a : ℕ) → IsOrderly s → first (mean
 gone_meant s (event.Call by k) d a order passes is = gone_called s by k d a order passes is
 gone_meant s e d a order passes is = absurd (cc)
 
-pub gone_step : (s t : State) (e : Event) (r : Reply) (d a : ℕ) → IsOrderly s → StepsTo s e r t → gives_up e d a ≡ true → is_refusal r ≡ false → lent_at t d a ≡ None
+pub gone_step : (s t : State) (e : Event) (r : Reply) (d a : ℕ) → IsOrderly s → StepsTo s e r t → gives_up e d a ≡ true → is_refusal r ≡ false → readable_at t d a ≡ None
 gone_step s t e (reply.Refused x) d a order step is answered = absurd (cc)
-gone_step s t e r d a order step is answered = ap (λ u. lent_at u d a) step.2 ∙ unlent (meaning s e).after d a (gone_meant s e d a order step.0 is)
+gone_step s t e r d a order step is answered = ap (λ u. readable_at u d a) step.2 ∙ unlent (meaning s e).after d a (gone_meant s e d a order step.0 is)

@@ -16,17 +16,17 @@ use Rattle.iol_core.specs.declared.events.Reply.{Reply}
 use Rattle.iol_core.specs.declared.events.Reply.TheVariants as reply
 use Rattle.iol_core.proofs.Lookups.{domain-same}
 use Rattle.iol_laws.specs.Order.{IsOrderly}
-use Rattle.iol_laws.specs.Caller.{lent_at, is_agg, is_fd, gives_away}
+use Rattle.iol_laws.specs.Caller.{readable_at, is_agg, is_fd, gives_away}
 use Rattle.iol_laws.proofs.Domains.{domain-with_same, domains-with_conn, domains-with_pipe, live-first}
-use Rattle.iol_laws.proofs.Numbers.{lent-made, number}
+use Rattle.iol_laws.proofs.Numbers.{readable-made, number}
 use Rattle.iol_laws.proofs.Places.{lookup-without_none, lowest-free}
 use Rattle.iol_laws.proofs.Tests.{same-number}
 
-fresh : (s : State) (d b a : ℕ) → IsOrderly s → b ≡ aggs.next_agg s d → (b == a) ≡ true → lent_at s d a ≡ None
-fresh s d b a order next is = ap (λ k. lent_at s d k) (sym (same-number b a is) ∙ next) ∙ ap (λ (o : Option Text). option_map bytes_of o) (order.aggs d (aggs.next_agg s d) (omega arith))
+fresh : (s : State) (d b a : ℕ) → IsOrderly s → b ≡ aggs.next_agg s d → (b == a) ≡ true → readable_at s d a ≡ None
+fresh s d b a order next is = ap (λ k. readable_at s d k) (sym (same-number b a is) ∙ next) ∙ ap (λ (o : Option Text). option_map bytes_of o) (order.aggs d (aggs.next_agg s d) (omega arith))
 
 -- the number of a new aggregate
-pub fresh_agg : (s t : State) (d : ℕ) (k : Call) (r : Reply) (a : ℕ) → IsOrderly s → StepsTo s (event.Call d k) r t → gives_away k ≡ false → is_agg r a ≡ true → lent_at s d a ≡ None
+pub fresh_agg : (s t : State) (d : ℕ) (k : Call) (r : Reply) (a : ℕ) → IsOrderly s → StepsTo s (event.Call d k) r t → gives_away k ≡ false → is_agg r a ≡ true → readable_at s d a ≡ None
 fresh_agg s t d (call.AggMake bytes) (reply.Agg b) a order step stays is = fresh s d b a order (ap number step.1) is
 fresh_agg s t d (call.AggDup x) (reply.Agg b) a order step stays is = fresh s d b a order (ap number step.1) is
 fresh_agg s t d (call.AggCut x from to) (reply.Agg b) a order step stays is = fresh s d b a order (ap number step.1) is
@@ -54,13 +54,13 @@ domain-read_on s d fd (Some (on.Connection c)) n live = (let e = domain-same s (
 domain-read_on s d fd o n live = (live, refl, refl)
 
 abbrev Named : State → (d b : ℕ) → Type 0
-Named t d b = (bytes : List ℕ) × (lent_at t d b ≡ Some bytes)
+Named t d b = (bytes : List ℕ) × (readable_at t d b ≡ Some bytes)
 
 named_new : (s t : State) (d b a : ℕ) (kept : List (ℕ × Text)) (x : Text) → is_live s d ≡ true → lookup kept (aggs.next_agg s d) ≡ None → t ≡ aggs.with_new s d kept x → b ≡ aggs.next_agg s d → (b == a) ≡ true → Named t d a
-named_new s t d b a kept x live none same next is = (bytes_of x, ap (λ k. lent_at t d k) (sym (same-number b a is) ∙ next) ∙ lent-made s t d kept x live none same)
+named_new s t d b a kept x live none same next is = (bytes_of x, ap (λ k. readable_at t d k) (sym (same-number b a is) ∙ next) ∙ readable-made s t d kept x live none same)
 
 -- and what it names is there
-pub named_agg : (s t : State) (d : ℕ) (k : Call) (r : Reply) (a : ℕ) → IsOrderly s → StepsTo s (event.Call d k) r t → gives_away k ≡ false → is_agg r a ≡ true → (bytes : List ℕ) × (lent_at t d a ≡ Some bytes)
+pub named_agg : (s t : State) (d : ℕ) (k : Call) (r : Reply) (a : ℕ) → IsOrderly s → StepsTo s (event.Call d k) r t → gives_away k ≡ false → is_agg r a ≡ true → (bytes : List ℕ) × (readable_at t d a ≡ Some bytes)
 named_agg s t d (call.AggMake bytes) (reply.Agg b) a order step stays is = named_new s t d b a (domain s d).aggs _ (live-first s d _ step.0) (order.aggs d (aggs.next_agg s d) (omega arith)) step.2 (ap number step.1) is
 named_agg s t d (call.AggDup x) (reply.Agg b) a order step stays is = named_new s t d b a (domain s d).aggs _ (live-first s d _ step.0) (order.aggs d (aggs.next_agg s d) (omega arith)) step.2 (ap number step.1) is
 named_agg s t d (call.AggCut x from to) (reply.Agg b) a order step stays is = named_new s t d b a (domain s d).aggs _ (live-first s d _ step.0) (order.aggs d (aggs.next_agg s d) (omega arith)) step.2 (ap number step.1) is

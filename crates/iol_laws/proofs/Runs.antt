@@ -20,20 +20,20 @@ run-even s t [] (r ∷ rs) run = absurd run
 run-even s t (e ∷ es) [] run = absurd run
 
 -- what each of a list tells with its reply, one after another
-pub record Tells {A : Type 0} (one : A → Reply → List ℕ) (all : List A → List Reply → List ℕ) : Type 0 where
+pub record Reports {A : Type 0} (one : A → Reply → List ℕ) (all : List A → List Reply → List ℕ) : Type 0 where
   pub none : all [] [] ≡ []
   pub next : (x : A) (r : Reply) (xs : List A) (rs : List Reply) → all (x ∷ xs) (r ∷ rs) ≡ one x r ++ all xs rs
 
-module _ {A : Type 0} (one : A → Reply → List ℕ) (all : List A → List Reply → List ℕ) (tells : Tells one all) where
-  pub told-append : (xs ys : List A) (rs qs : List Reply) → length xs ≡ length rs → all (xs ++ ys) (rs ++ qs) ≡ all xs rs ++ all ys qs
-  told-append [] ys [] qs even = ap (λ (l : List ℕ). l ++ all ys qs) (sym tells.none)
-  told-append (x ∷ xs) ys (r ∷ rs) qs even =
-      tells.next x r (xs ++ ys) (rs ++ qs) ∙ (ap (λ (l : List ℕ). one x r ++ l) (told-append xs ys rs qs (omega (arith, even)))
-      ∙ (sym (append_assoc (one x r) (all xs rs) (all ys qs)) ∙ ap (λ (l : List ℕ). l ++ all ys qs) (sym (tells.next x r xs rs))))
-  told-append [] ys (r ∷ rs) qs even = absurd (omega (arith, even))
-  told-append (x ∷ xs) ys [] qs even = absurd (omega (arith, even))
+module _ {A : Type 0} (one : A → Reply → List ℕ) (all : List A → List Reply → List ℕ) (reports : Reports one all) where
+  pub reported-append : (xs ys : List A) (rs qs : List Reply) → length xs ≡ length rs → all (xs ++ ys) (rs ++ qs) ≡ all xs rs ++ all ys qs
+  reported-append [] ys [] qs even = ap (λ (l : List ℕ). l ++ all ys qs) (sym reports.none)
+  reported-append (x ∷ xs) ys (r ∷ rs) qs even =
+      reports.next x r (xs ++ ys) (rs ++ qs) ∙ (ap (λ (l : List ℕ). one x r ++ l) (reported-append xs ys rs qs (omega (arith, even)))
+      ∙ (sym (append_assoc (one x r) (all xs rs) (all ys qs)) ∙ ap (λ (l : List ℕ). l ++ all ys qs) (sym (reports.next x r xs rs))))
+  reported-append [] ys (r ∷ rs) qs even = absurd (omega (arith, even))
+  reported-append (x ∷ xs) ys [] qs even = absurd (omega (arith, even))
 
-  pub told-more : (xs : List A) (rs : List Reply) (x : A) (r : Reply) → length xs ≡ length rs → all (xs ++ x ∷ []) (rs ++ r ∷ []) ≡ all xs rs ++ one x r
-  told-more xs rs x r even =
-      told-append xs (x ∷ []) rs (r ∷ []) even
-      ∙ ap (λ (l : List ℕ). all xs rs ++ l) (tells.next x r [] [] ∙ (ap (λ (l : List ℕ). one x r ++ l) tells.none ∙ append-nil (one x r)))
+  pub reported-more : (xs : List A) (rs : List Reply) (x : A) (r : Reply) → length xs ≡ length rs → all (xs ++ x ∷ []) (rs ++ r ∷ []) ≡ all xs rs ++ one x r
+  reported-more xs rs x r even =
+      reported-append xs (x ∷ []) rs (r ∷ []) even
+      ∙ ap (λ (l : List ℕ). all xs rs ++ l) (reports.next x r [] [] ∙ (ap (λ (l : List ℕ). one x r ++ l) reports.none ∙ append-nil (one x r)))

@@ -9,9 +9,10 @@ use Rattle.iol_core.specs.declared.events.Event.TheVariants as event
 use Rattle.iol_core.specs.declared.events.Reply.{Reply}
 use Rattle.iol_core.specs.declared.events.Reply.TheVariants as reply
 use Rattle.iol_laws.specs.Order.{IsOrderly}
-use Rattle.iol_laws.specs.Caller.{lent_at}
+use Rattle.iol_laws.specs.Caller.{readable_at}
 
--- whether the reply gives the domain this number of an aggregate: as the caller, or as the receiver of a given aggregate
+-- whether the reply gives the domain this number of an aggregate: as the caller, or as the receiver of a given
+-- aggregate
 abbrev pub brings : Event → Reply → (d a : ℕ) → Bool
 brings (event.Call by (call.AggGive b to)) (reply.Agg n) d a = (to == d) && (n == a)
 brings (event.Call by k) (reply.Agg n) d a = (by == d) && (n == a)
@@ -24,8 +25,8 @@ is_refusal r = false
 
 pub record AggregatesComeAndGo : Type 0 where
   -- a number without aggregate has none after a step that does not give the domain this number
-  pub none : (s t : State) (e : Event) (r : Reply) (d a : ℕ) → StepsTo s e r t → lent_at s d a ≡ None
-      → brings e r d a ≡ false → lent_at t d a ≡ None
+  pub none : (s t : State) (e : Event) (r : Reply) (d a : ℕ) → StepsTo s e r t → readable_at s d a ≡ None
+      → brings e r d a ≡ false → readable_at t d a ≡ None
   -- an aggregate that a successful call consumes is gone
   pub gone : (s t : State) (e : Event) (r : Reply) (d a : ℕ) → IsOrderly s → StepsTo s e r t → gives_up e d a ≡ true
-      → is_refusal r ≡ false → lent_at t d a ≡ None
+      → is_refusal r ≡ false → readable_at t d a ≡ None

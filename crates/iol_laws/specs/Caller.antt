@@ -1,7 +1,7 @@
 -- The effect of a call for its caller, in terms that the caller observes: bytes by number, descriptors, connections.
 --
--- Each definition has three cases for the reply: its effect if the call succeeds, an unchanged state if it is refused, and that
--- no other reply is possible.
+-- Each definition has three cases for the reply: its effect if the call succeeds, an unchanged state if it is refused,
+-- and that no other reply is possible.
 use Rattle.std.specs.Prelude.{◌≡◌, ◌≢◌, ℕ, ◌-◌, ◌<◌, ◌≤◌, ◌==◌, min, Bool, true, false, if◌then◌else◌, List, [], ◌++◌, is_none, length, take, drop, Option, Some, None, option_map, slice_range}
 use Rattle.iol_core.specs.Text.{Text, bytes_of, admitted}
 use Rattle.iol_core.specs.State.{State, Connection, aggregate, descriptor, may_read, conn_at, pipe_at, new_pipe, no_conn, is_gone, is_over}
@@ -18,37 +18,37 @@ use Rattle.iol_core.specs.declared.events.Reply.TheVariants as reply
 use Rattle.iol_laws.specs.Order.{IsOrderly}
 
 -- the bytes that a domain has under a number
-abbrev pub lent_at : State → (d a : ℕ) → Option (List ℕ)
-lent_at s d a = option_map bytes_of (aggregate s d a)
+abbrev pub readable_at : State → (d a : ℕ) → Option (List ℕ)
+readable_at s d a = option_map bytes_of (aggregate s d a)
 
 -- whether the reply is a resource refusal: out of numbers, pages or memory, or a fault of the store
-abbrev pub is_rough : Reply → Bool
-is_rough (reply.Refused TooMany) = true
-is_rough (reply.Refused (NoRoom p)) = true
-is_rough (reply.Refused (Fault f)) = true
-is_rough (reply.Refused Memory) = true
-is_rough r = false
+abbrev pub is_resource_failure : Reply → Bool
+is_resource_failure (reply.Refused TooMany) = true
+is_resource_failure (reply.Refused (NoRoom p)) = true
+is_resource_failure (reply.Refused (Fault f)) = true
+is_resource_failure (reply.Refused Memory) = true
+is_resource_failure r = false
 
 -- an aggregate of these bytes is made, under a new number
 abbrev pub Makes : State → (d : ℕ) → List ℕ → Reply → State → Type 0
-Makes s d bytes (reply.Agg n) t = (lent_at t d n ≡ Some bytes) × (lent_at s d n ≡ None)
+Makes s d bytes (reply.Agg n) t = (readable_at t d n ≡ Some bytes) × (readable_at s d n ≡ None)
 Makes s d bytes (reply.Refused x) t = t ≡ s
 Makes s d bytes r t = ⊥
 
 -- two aggregates of these bytes are made, under two new numbers
 abbrev pub MakesTwo : State → (d : ℕ) → (front back : List ℕ) → Reply → State → Type 0
-MakesTwo s d front back (reply.Aggs n m) t = (lent_at t d n ≡ Some front) × (lent_at t d m ≡ Some back)
-    × (lent_at s d n ≡ None) × (lent_at s d m ≡ None)
+MakesTwo s d front back (reply.Aggs n m) t = (readable_at t d n ≡ Some front) × (readable_at t d m ≡ Some back)
+    × (readable_at s d n ≡ None) × (readable_at s d m ≡ None)
 MakesTwo s d front back (reply.Refused x) t = t ≡ s
 MakesTwo s d front back r t = ⊥
 
--- the first bytes of a connection's input, at most count, are taken as aggregate n; if count is positive and no byte is taken,
--- the peer sends no more
+-- the first bytes of a connection's input, at most count, are taken as aggregate n; if count is positive and no byte is
+-- taken, the peer sends no more
 pub record Takes (s : State) (d c count n : ℕ) (t : State) : Type 0 where
   pub text : Text
   pub incoming : Text
-  pub lends : lent_at t d n ≡ Some (bytes_of text)
-  pub new : lent_at s d n ≡ None
+  pub is_readable : readable_at t d n ≡ Some (bytes_of text)
+  pub new : readable_at s d n ≡ None
   pub was : (conn_at s c).incoming ≡ text ++ incoming
   -- the longest prefix that the domain may read
   pub most : text ≡ admitted (may_read s d) (take count (conn_at s c).incoming)
@@ -75,13 +75,13 @@ WritesConn s c bytes (reply.Count k) t = Puts s c bytes k t
 WritesConn s c bytes (reply.Refused x) t = t ≡ s
 WritesConn s c bytes r t = ⊥
 
--- the first bytes of a pipe, at most count, are taken as aggregate n; if count is positive and no byte is taken, the pipe has
--- no writer any more
+-- the first bytes of a pipe, at most count, are taken as aggregate n; if count is positive and no byte is taken, the
+-- pipe has no writer any more
 pub record TakesFromPipe (s : State) (d p count n : ℕ) (t : State) : Type 0 where
   pub text : Text
   pub rest : Text
-  pub lends : lent_at t d n ≡ Some (bytes_of text)
-  pub new : lent_at s d n ≡ None
+  pub is_readable : readable_at t d n ≡ Some (bytes_of text)
+  pub new : readable_at s d n ≡ None
   pub was : (pipe_at s p).queue ≡ text ++ rest
   -- the longest prefix that the domain may read
   pub most : text ≡ admitted (may_read s d) (take count (pipe_at s p).queue)
@@ -130,7 +130,7 @@ Shows s bytes r t = ⊥
 
 -- an aggregate is dropped
 abbrev pub Drops : State → (d a : ℕ) → Reply → State → Type 0
-Drops s d a reply.Done t = lent_at t d a ≡ None
+Drops s d a reply.Done t = readable_at t d a ≡ None
 Drops s d a (reply.Refused x) t = t ≡ s
 Drops s d a r t = ⊥
 
@@ -140,8 +140,8 @@ Closes s d fd reply.Done t = descriptor t d fd ≡ None
 Closes s d fd (reply.Refused x) t = t ≡ s
 Closes s d fd r t = ⊥
 
--- the object of a descriptor is given to a domain as its descriptor g; if that is another domain, g is new there, and fd is
--- closed here
+-- the object of a descriptor is given to a domain as its descriptor g; if that is another domain, g is new there, and
+-- fd is closed here
 pub record HandsOn (s : State) (d fd to : ℕ) (x : Descriptor) (g : ℕ) (t : State) : Type 0 where
   pub open_on : descriptor t to g ≡ Some x
   pub new : d ≢ to → descriptor s to g ≡ None
@@ -154,7 +154,7 @@ GivesFd s d fd to x r t = ⊥
 
 -- an aggregate is given to a domain, under a new number there
 abbrev pub GivesAgg : State → (to : ℕ) → List ℕ → Reply → State → Type 0
-GivesAgg s to bytes (reply.Agg n) t = (lent_at t to n ≡ Some bytes) × (lent_at s to n ≡ None)
+GivesAgg s to bytes (reply.Agg n) t = (readable_at t to n ≡ Some bytes) × (readable_at s to n ≡ None)
 GivesAgg s to bytes (reply.Refused x) t = t ≡ s
 GivesAgg s to bytes r t = ⊥
 
@@ -201,31 +201,31 @@ Accepts s d r t = ⊥
 pub record CallsServeTheirDomain : Type 0 where
   pub make : (s t : State) (d : ℕ) (bytes : List ℕ) (r : Reply) → IsOrderly s
       → StepsTo s (event.Call d (call.AggMake bytes)) r t → Makes s d bytes r t
-  pub cut : (s t : State) (d a from to : ℕ) (bytes : List ℕ) (r : Reply) → IsOrderly s → lent_at s d a ≡ Some bytes
+  pub cut : (s t : State) (d a from to : ℕ) (bytes : List ℕ) (r : Reply) → IsOrderly s → readable_at s d a ≡ Some bytes
       → StepsTo s (event.Call d (call.AggCut a from to)) r t → Makes s d (slice_range bytes from to) r t
-  pub split : (s t : State) (d a at : ℕ) (bytes : List ℕ) (r : Reply) → IsOrderly s → lent_at s d a ≡ Some bytes
+  pub split : (s t : State) (d a at : ℕ) (bytes : List ℕ) (r : Reply) → IsOrderly s → readable_at s d a ≡ Some bytes
       → StepsTo s (event.Call d (call.AggSplit a at)) r t → MakesTwo s d (take at bytes) (drop at bytes) r t
-  pub join : (s t : State) (d a b : ℕ) (xs ys : List ℕ) (r : Reply) → IsOrderly s → lent_at s d a ≡ Some xs
-      → lent_at s d b ≡ Some ys → StepsTo s (event.Call d (call.AggJoin a b)) r t → Makes s d (xs ++ ys) r t
-  pub dup : (s t : State) (d a : ℕ) (bytes : List ℕ) (r : Reply) → IsOrderly s → lent_at s d a ≡ Some bytes
+  pub join : (s t : State) (d a b : ℕ) (xs ys : List ℕ) (r : Reply) → IsOrderly s → readable_at s d a ≡ Some xs
+      → readable_at s d b ≡ Some ys → StepsTo s (event.Call d (call.AggJoin a b)) r t → Makes s d (xs ++ ys) r t
+  pub dup : (s t : State) (d a : ℕ) (bytes : List ℕ) (r : Reply) → IsOrderly s → readable_at s d a ≡ Some bytes
       → StepsTo s (event.Call d (call.AggDup a)) r t → Makes s d bytes r t
-  pub replace : (s t : State) (d a from to b : ℕ) (xs ys : List ℕ) (r : Reply) → IsOrderly s → lent_at s d a ≡ Some xs
-      → lent_at s d b ≡ Some ys → StepsTo s (event.Call d (call.AggReplace a from to b)) r t
+  pub replace : (s t : State) (d a from to b : ℕ) (xs ys : List ℕ) (r : Reply) → IsOrderly s → readable_at s d a ≡ Some xs
+      → readable_at s d b ≡ Some ys → StepsTo s (event.Call d (call.AggReplace a from to b)) r t
       → Makes s d (take from xs ++ ys ++ drop to xs) r t
-  pub shows : (s t : State) (d a : ℕ) (bytes : List ℕ) (r : Reply) → lent_at s d a ≡ Some bytes
+  pub shows : (s t : State) (d a : ℕ) (bytes : List ℕ) (r : Reply) → readable_at s d a ≡ Some bytes
       → StepsTo s (event.Call d (call.Show a)) r t → Shows s bytes r t
   pub drops : (s t : State) (d a : ℕ) (r : Reply) → IsOrderly s → StepsTo s (event.Call d (call.AggDrop a)) r t
       → Drops s d a r t
   pub read_conn : (s t : State) (d fd c n : ℕ) (r : Reply) → IsOrderly s → descriptor s d fd ≡ Some (on.Connection c)
       → StepsTo s (event.Call d (call.IolRead fd n)) r t → ReadsConn s d c n r t
   pub write_conn : (s t : State) (d fd c a : ℕ) (bytes : List ℕ) (r : Reply) → IsOrderly s
-      → descriptor s d fd ≡ Some (on.Connection c) → lent_at s d a ≡ Some bytes
+      → descriptor s d fd ≡ Some (on.Connection c) → readable_at s d a ≡ Some bytes
       → StepsTo s (event.Call d (call.IolWrite fd a)) r t → WritesConn s c bytes r t
   pub makes_pipe : (s t : State) (d : ℕ) (r : Reply) → StepsTo s (event.Call d call.Pipe) r t → MakesPipe s d r t
   pub read_pipe : (s t : State) (d fd p n : ℕ) (r : Reply) → IsOrderly s → descriptor s d fd ≡ Some (on.ReadEnd p)
       → StepsTo s (event.Call d (call.IolRead fd n)) r t → ReadsPipe s d p n r t
   pub write_pipe : (s t : State) (d fd p a : ℕ) (bytes : List ℕ) (r : Reply) → IsOrderly s
-      → descriptor s d fd ≡ Some (on.WriteEnd p) → lent_at s d a ≡ Some bytes
+      → descriptor s d fd ≡ Some (on.WriteEnd p) → readable_at s d a ≡ Some bytes
       → StepsTo s (event.Call d (call.IolWrite fd a)) r t → WritesPipe s p bytes r t
   pub closes_write_end : (s t : State) (d fd p : ℕ) (r : Reply) → IsOrderly s → descriptor s d fd ≡ Some (on.WriteEnd p)
       → StepsTo s (event.Call d (call.Close fd)) r t → ClosesWriteEnd s p r t
@@ -233,7 +233,7 @@ pub record CallsServeTheirDomain : Type 0 where
       → StepsTo s (event.Call d (call.Close fd)) r t → ClosesReadEnd s p r t
   pub gives_fd : (s t : State) (d fd to : ℕ) (x : Descriptor) (r : Reply) → descriptor s d fd ≡ Some x
       → StepsTo s (event.Call d (call.GiveFd fd to)) r t → GivesFd s d fd to x r t
-  pub gives_agg : (s t : State) (d a to : ℕ) (bytes : List ℕ) (r : Reply) → IsOrderly s → lent_at s d a ≡ Some bytes
+  pub gives_agg : (s t : State) (d a to : ℕ) (bytes : List ℕ) (r : Reply) → IsOrderly s → readable_at s d a ≡ Some bytes
       → StepsTo s (event.Call d (call.AggGive a to)) r t → GivesAgg s to bytes r t
   pub closes : (s t : State) (d fd : ℕ) (r : Reply) → StepsTo s (event.Call d (call.Close fd)) r t → Closes s d fd r t
   pub closes_conn : (s t : State) (d fd c : ℕ) (r : Reply) → IsOrderly s → descriptor s d fd ≡ Some (on.Connection c)
@@ -258,8 +258,8 @@ gives_away k = false
 -- The numbers that a domain gets from its calls are new, and the number of an aggregate names an existing one.
 pub record NumbersAreNew : Type 0 where
   pub agg : (s t : State) (d : ℕ) (k : Call) (r : Reply) (a : ℕ) → IsOrderly s → StepsTo s (event.Call d k) r t
-      → gives_away k ≡ false → is_agg r a ≡ true → lent_at s d a ≡ None
+      → gives_away k ≡ false → is_agg r a ≡ true → readable_at s d a ≡ None
   pub named : (s t : State) (d : ℕ) (k : Call) (r : Reply) (a : ℕ) → IsOrderly s → StepsTo s (event.Call d k) r t
-      → gives_away k ≡ false → is_agg r a ≡ true → (bytes : List ℕ) × (lent_at t d a ≡ Some bytes)
+      → gives_away k ≡ false → is_agg r a ≡ true → (bytes : List ℕ) × (readable_at t d a ≡ Some bytes)
   pub fd : (s t : State) (d : ℕ) (k : Call) (r : Reply) (g : ℕ) → IsOrderly s → StepsTo s (event.Call d k) r t
       → gives_away k ≡ false → is_fd r g ≡ true → descriptor s d g ≡ None

@@ -1,5 +1,5 @@
--- The effect of the copying calls for their caller: `write` of its own bytes, and `read` without an aggregate. They write and
--- read the same bytes as `iol_write` and `iol_read`.
+-- The effect of the copying calls for their caller: `write` of its own bytes, and `read` without an aggregate. They
+-- write and read the same bytes as `iol_write` and `iol_read`.
 use Rattle.std.specs.Prelude.{◌≡◌, ℕ, ◌+◌, ◌<◌, true, false, List, [], ◌++◌, length, take, drop, Some, is_none}
 use Rattle.iol_core.specs.Text.{Text, bytes_of, admitted}
 use Rattle.iol_core.specs.State.{State, descriptor, content, file, may_read, conn_at, pipe_at, is_live}
@@ -14,27 +14,27 @@ use Rattle.iol_core.specs.declared.events.Event.TheVariants as event
 use Rattle.iol_core.specs.declared.events.Reply.{Reply}
 use Rattle.iol_core.specs.declared.events.Reply.TheVariants as reply
 use Rattle.iol_laws.specs.Order.{IsOrderly}
-use Rattle.iol_laws.specs.Caller.{lent_at, is_rough, WritesConn, WritesPipe}
+use Rattle.iol_laws.specs.Caller.{readable_at, is_resource_failure, WritesConn, WritesPipe}
 use Rattle.iol_laws.specs.CallerFiles.{WritesFile}
 
 -- the domain keeps all its aggregates
-abbrev pub SameLent : State → (d : ℕ) → State → Type 0
-SameLent s d t = (a : ℕ) → lent_at t d a ≡ lent_at s d a
+abbrev pub SameReadable : State → (d : ℕ) → State → Type 0
+SameReadable s d t = (a : ℕ) → readable_at t d a ≡ readable_at s d a
 
 -- the reply is these bytes of a file, and the position moves past them
-pub record TellsFile (s : State) (d fd f at : ℕ) (mode : Mode) (bytes found : List ℕ) (t : State) : Type 0 where
+pub record ReportsFile (s : State) (d fd f at : ℕ) (mode : Mode) (bytes found : List ℕ) (t : State) : Type 0 where
   pub found_is : found ≡ bytes
-  pub goes_on : descriptor t d fd ≡ Some (on.File f (at + length bytes) mode)
-  pub lent : SameLent s d t
+  pub proceeds : descriptor t d fd ≡ Some (on.File f (at + length bytes) mode)
+  pub readable : SameReadable s d t
 
 abbrev pub CopiesFile : State → (d fd f at : ℕ) → Mode → List ℕ → Reply → State → Type 0
-CopiesFile s d fd f at mode bytes (reply.Bytes found) t = TellsFile s d fd f at mode bytes found t
-CopiesFile s d fd f at mode bytes (reply.Refused x) t = (is_rough (reply.Refused x) ≡ true) × (t ≡ s)
+CopiesFile s d fd f at mode bytes (reply.Bytes found) t = ReportsFile s d fd f at mode bytes found t
+CopiesFile s d fd f at mode bytes (reply.Refused x) t = (is_resource_failure (reply.Refused x) ≡ true) × (t ≡ s)
 CopiesFile s d fd f at mode bytes r t = ⊥
 
--- the reply is the first bytes of a connection's input, at most count, which are removed; if count is positive and there are
--- none, the peer sends no more
-pub record TellsConn (s : State) (d c count : ℕ) (found : List ℕ) (t : State) : Type 0 where
+-- the reply is the first bytes of a connection's input, at most count, which are removed; if count is positive and
+-- there are none, the peer sends no more
+pub record ReportsConn (s : State) (d c count : ℕ) (found : List ℕ) (t : State) : Type 0 where
   pub text : Text
   pub incoming : Text
   pub found_is : found ≡ bytes_of text
@@ -42,16 +42,16 @@ pub record TellsConn (s : State) (d c count : ℕ) (found : List ℕ) (t : State
   -- the longest prefix that the domain may read
   pub most : text ≡ admitted (may_read s d) (take count (conn_at s c).incoming)
   pub conn : conn_at t c ≡ record (conn_at s c) { incoming = incoming }
-  pub lent : SameLent s d t
+  pub readable : SameReadable s d t
   pub ended : 0 < count → text ≡ [] → ((conn_at s c).incoming ≡ []) × (is_none (conn_at s c).peer ≡ false)
 
 abbrev pub CopiesConn : State → (d c count : ℕ) → Reply → State → Type 0
-CopiesConn s d c count (reply.Bytes found) t = TellsConn s d c count found t
+CopiesConn s d c count (reply.Bytes found) t = ReportsConn s d c count found t
 CopiesConn s d c count (reply.Refused x) t = t ≡ s
 CopiesConn s d c count r t = ⊥
 
 -- the same for a pipe; if count is positive and there are none, the pipe has no writer any more
-pub record TellsPipe (s : State) (d p count : ℕ) (found : List ℕ) (t : State) : Type 0 where
+pub record ReportsPipe (s : State) (d p count : ℕ) (found : List ℕ) (t : State) : Type 0 where
   pub text : Text
   pub rest : Text
   pub found_is : found ≡ bytes_of text
@@ -59,11 +59,11 @@ pub record TellsPipe (s : State) (d p count : ℕ) (found : List ℕ) (t : State
   -- the longest prefix that the domain may read
   pub most : text ≡ admitted (may_read s d) (take count (pipe_at s p).queue)
   pub pipe : pipe_at t p ≡ record (pipe_at s p) { queue = rest }
-  pub lent : SameLent s d t
+  pub readable : SameReadable s d t
   pub ended : 0 < count → text ≡ [] → ((pipe_at s p).queue ≡ []) × ((pipe_at s p).writing ≡ false)
 
 abbrev pub CopiesPipe : State → (d p count : ℕ) → Reply → State → Type 0
-CopiesPipe s d p count (reply.Bytes found) t = TellsPipe s d p count found t
+CopiesPipe s d p count (reply.Bytes found) t = ReportsPipe s d p count found t
 CopiesPipe s d p count (reply.Refused x) t = t ≡ s
 CopiesPipe s d p count r t = ⊥
 

@@ -10,7 +10,7 @@ use Rattle.iol_core.specs.declared.events.Event.TheVariants as event
 use Rattle.iol_core.specs.declared.events.Reply.{Reply}
 use Rattle.iol_core.specs.declared.events.Reply.TheVariants as reply
 use Rattle.iol_laws.specs.Order.{IsOrderly}
-use Rattle.iol_laws.specs.Caller.{is_rough, remains, ClosesReadEnd, ClosesWriteEnd}
+use Rattle.iol_laws.specs.Caller.{is_resource_failure, remains, ClosesReadEnd, ClosesWriteEnd}
 use Rattle.iol_laws.specs.Others.{HasNotEnd}
 
 -- a new domain is live and has nothing, and all other domains are unchanged
@@ -21,11 +21,11 @@ pub record StartsDomain (s : State) (n : ℕ) (t : State) : Type 0 where
 
 abbrev pub MakesDomain : State → Reply → State → Type 0
 MakesDomain s (reply.Domain n) t = StartsDomain s n t
-MakesDomain s (reply.Refused x) t = (is_rough (reply.Refused x) ≡ true) × (t ≡ s)
+MakesDomain s (reply.Refused x) t = (is_resource_failure (reply.Refused x) ≡ true) × (t ≡ s)
 MakesDomain s r t = ⊥
 
--- The domain has nothing any more, and each of its descriptors is closed as by `close`. Queued output of a connection remains.
--- The bytes of a pipe remain, unless the domain had the read end.
+-- The domain has nothing any more, and each of its descriptors is closed as by `close`. Queued output of a connection
+-- remains. The bytes of a pipe remain, unless the domain had the read end.
 pub record EndsDomain (s : State) (d : ℕ) (t : State) : Type 0 where
   pub nothing : domain t d ≡ no_domain
   pub others : (e : ℕ) → d ≢ e → domain t e ≡ domain s e
@@ -74,8 +74,8 @@ ClosesPool s d p reply.Done t = ShutsPool s d p t
 ClosesPool s d p (reply.Refused x) t = t ≡ s
 ClosesPool s d p r t = ⊥
 
--- One more domain may read an open pool that the caller may read, and nothing else changes. If the domain could read it before,
--- nothing changes.
+-- One more domain may read an open pool that the caller may read, and nothing else changes. If the domain could read it
+-- before, nothing changes.
 pub record AdmitsDomain (s : State) (d p e : ℕ) (t : State) : Type 0 where
   pub may_admit : may_read s d p ≡ true
   pub open_yet : (pool s p).closed ≡ false

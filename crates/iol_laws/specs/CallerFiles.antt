@@ -1,5 +1,5 @@
--- The effect of file calls for their caller, a live domain with a known file and position of its descriptor. So each definition
--- also lists the possible refusals.
+-- The effect of file calls for their caller, a live domain with a known file and position of its descriptor. So each
+-- definition also lists the possible refusals.
 use Rattle.std.specs.Prelude.{◌≡◌, ℕ, ◌+◌, ◌<◌, ◌≤◌, true, false, List, ◌++◌, length, take, drop, Some, None}
 use Rattle.iol_core.specs.NumberedLists.{is_numbered}
 use Rattle.iol_core.specs.State.{State, descriptor, content, file, may_read, is_live}
@@ -17,7 +17,7 @@ use Rattle.iol_core.specs.declared.events.Event.TheVariants as event
 use Rattle.iol_core.specs.declared.events.Reply.{Reply}
 use Rattle.iol_core.specs.declared.events.Reply.TheVariants as reply
 use Rattle.iol_laws.specs.Order.{IsOrderly}
-use Rattle.iol_laws.specs.Caller.{lent_at, is_rough}
+use Rattle.iol_laws.specs.Caller.{readable_at, is_resource_failure}
 
 -- the next file has this name and pool, and the bytes of its slot
 pub record NamesFile (s : State) (d : ℕ) (name : List ℕ) (p f : ℕ) (t : State) : Type 0 where
@@ -52,7 +52,7 @@ abbrev pub Opening : State → (d : ℕ) → (name : List ℕ) → Mode → Repl
 Opening s d name mode (reply.Fd fd) t = OpensFile s d name mode fd t
 Opening s d name mode (reply.Refused NoFile) t = (file_called s name ≡ None) × (t ≡ s)
 Opening s d name mode (reply.Refused (Denied p)) t = IsBarred s d name p × (t ≡ s)
-Opening s d name mode (reply.Refused x) t = (is_rough (reply.Refused x) ≡ true) × (t ≡ s)
+Opening s d name mode (reply.Refused x) t = (is_resource_failure (reply.Refused x) ≡ true) × (t ≡ s)
 Opening s d name mode r t = ⊥
 
 -- the position is the requested one, which is at most the file's length
@@ -62,9 +62,9 @@ Seeks s d fd f at mode (reply.Refused x) t = (x ≡ BadRange) × (length (conten
 Seeks s d fd f at mode r t = ⊥
 
 -- the reply is this number, and nothing changes; the call is never refused
-abbrev pub Tells : State → ℕ → Reply → State → Type 0
-Tells s n (reply.Count k) t = (k ≡ n) × (t ≡ s)
-Tells s n r t = ⊥
+abbrev pub Reports : State → ℕ → Reply → State → Type 0
+Reports s n (reply.Count k) t = (k ≡ n) × (t ≡ s)
+Reports s n r t = ⊥
 
 -- nothing changes; the call is refused only if the store fails at this file
 abbrev pub Syncs : State → (f : ℕ) → Reply → State → Type 0
@@ -73,14 +73,14 @@ Syncs s f (reply.Refused x) t = (x ≡ Fault f) × (t ≡ s)
 Syncs s f r t = ⊥
 
 -- these bytes of a file are returned as aggregate n, and the position moves past them
-pub record LendsFile (s : State) (d fd f at : ℕ) (mode : Mode) (bytes : List ℕ) (n : ℕ) (t : State) : Type 0 where
-  pub lends : lent_at t d n ≡ Some bytes
-  pub new : lent_at s d n ≡ None
+pub record FileIsReadable (s : State) (d fd f at : ℕ) (mode : Mode) (bytes : List ℕ) (n : ℕ) (t : State) : Type 0 where
+  pub is_readable : readable_at t d n ≡ Some bytes
+  pub new : readable_at s d n ≡ None
   pub moves : descriptor t d fd ≡ Some (on.File f (at + length bytes) mode)
 
 abbrev pub ReadsFile : State → (d fd f at : ℕ) → Mode → List ℕ → Reply → State → Type 0
-ReadsFile s d fd f at mode bytes (reply.Agg n) t = LendsFile s d fd f at mode bytes n t
-ReadsFile s d fd f at mode bytes (reply.Refused x) t = (is_rough (reply.Refused x) ≡ true) × (t ≡ s)
+ReadsFile s d fd f at mode bytes (reply.Agg n) t = FileIsReadable s d fd f at mode bytes n t
+ReadsFile s d fd f at mode bytes (reply.Refused x) t = (is_resource_failure (reply.Refused x) ≡ true) × (t ≡ s)
 ReadsFile s d fd f at mode bytes r t = ⊥
 
 -- bytes that replace those of a list from a position on, or extend it
@@ -96,7 +96,7 @@ pub record PutsInFile (s : State) (d fd f at : ℕ) (mode : Mode) (bytes : List 
 abbrev pub WritesFile : State → (d fd f at : ℕ) → Mode → List ℕ → Reply → State → Type 0
 WritesFile s d fd f at mode bytes (reply.Count k) t = PutsInFile s d fd f at mode bytes k t
 WritesFile s d fd f at mode bytes (reply.Refused TooLong) t = (MAX_FILE_BYTES < at + length bytes) × (t ≡ s)
-WritesFile s d fd f at mode bytes (reply.Refused x) t = (is_rough (reply.Refused x) ≡ true) × (t ≡ s)
+WritesFile s d fd f at mode bytes (reply.Refused x) t = (is_resource_failure (reply.Refused x) ≡ true) × (t ≡ s)
 WritesFile s d fd f at mode bytes r t = ⊥
 
 -- Each call on a file. The invariant of positions is a premise only if bytes are written.
@@ -110,12 +110,12 @@ pub record FileCallsServeTheirDomain : Type 0 where
       → Seeks s d fd f at mode r t
   pub measures : (s t : State) (d fd f at : ℕ) (mode : Mode) (r : Reply) → is_live s d ≡ true
       → descriptor s d fd ≡ Some (on.File f at mode) → StepsTo s (event.Call d (call.Length fd)) r t
-      → Tells s (length (content s f)) r t
+      → Reports s (length (content s f)) r t
   pub syncs : (s t : State) (d fd f at : ℕ) (mode : Mode) (r : Reply) → is_live s d ≡ true
       → descriptor s d fd ≡ Some (on.File f at mode) → StepsTo s (event.Call d (call.Fsync fd)) r t → Syncs s f r t
   pub reads_file : (s t : State) (d fd f at n : ℕ) (mode : Mode) (r : Reply) → IsOrderly s → is_live s d ≡ true
       → may_read s d (file s f).pool ≡ true → reads mode ≡ true → descriptor s d fd ≡ Some (on.File f at mode)
       → StepsTo s (event.Call d (call.IolRead fd n)) r t → ReadsFile s d fd f at mode (take n (drop at (content s f))) r t
   pub writes_file : (s t : State) (d fd f at a : ℕ) (mode : Mode) (bytes : List ℕ) (r : Reply) → ArePlaced s
-      → is_live s d ≡ true → writes mode ≡ true → descriptor s d fd ≡ Some (on.File f at mode) → lent_at s d a ≡ Some bytes
+      → is_live s d ≡ true → writes mode ≡ true → descriptor s d fd ≡ Some (on.File f at mode) → readable_at s d a ≡ Some bytes
       → StepsTo s (event.Call d (call.IolWrite fd a)) r t → WritesFile s d fd f at mode bytes r t

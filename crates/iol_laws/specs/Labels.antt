@@ -17,20 +17,20 @@ abbrev pub lies_in : (pool : ℕ) → Text → Bool
 lies_in pool t = list_all (λ b. b.1 == pool) t
 
 -- the unread bytes of each connection are in the connection's pool
-abbrev pub AreAtHome : State → Type 0
-AreAtHome s = list_all (λ e. lies_in e.1.pool e.1.incoming) s.conns ≡ true
+abbrev pub AreInOwnPool : State → Type 0
+AreInOwnPool s = list_all (λ e. lies_in e.1.pool e.1.incoming) s.conns ≡ true
 
 pub record ArrivalsLieInTheirPool : Type 0 where
-  pub new : (slots : List (List ℕ)) → AreAtHome (new_state slots)
-  pub step : (s t : State) (e : Event) (r : Reply) → AreAtHome s → StepsTo s e r t → AreAtHome t
+  pub new : (slots : List (List ℕ)) → AreInOwnPool (new_state slots)
+  pub step : (s t : State) (e : Event) (r : Reply) → AreInOwnPool s → StepsTo s e r t → AreInOwnPool t
   -- the same in each reachable state
   pub reached : (slots : List (List ℕ)) (t : State) (es : List Event) (rs : List Reply) → Run (new_state slots) es rs t
-      → AreAtHome t
-  pub each : (s : State) (c : ℕ) → AreAtHome s → lies_in (conn_at s c).pool (conn_at s c).incoming ≡ true
+      → AreInOwnPool t
+  pub each : (s : State) (c : ℕ) → AreInOwnPool s → lies_in (conn_at s c).pool (conn_at s c).incoming ≡ true
   -- a domain that may read the pool is never denied a read
-  pub reads : (s t : State) (d fd c n p : ℕ) → AreAtHome s → descriptor s d fd ≡ Some (on.Connection c)
+  pub reads : (s t : State) (d fd c n p : ℕ) → AreInOwnPool s → descriptor s d fd ≡ Some (on.Connection c)
       → may_read s d (conn_at s c).pool ≡ true → StepsTo s (event.Call d (call.IolRead fd n)) (reply.Refused (Denied p)) t
       → ⊥
-  pub copies : (s t : State) (d fd c n p : ℕ) → AreAtHome s → descriptor s d fd ≡ Some (on.Connection c)
+  pub copies : (s t : State) (d fd c n p : ℕ) → AreInOwnPool s → descriptor s d fd ≡ Some (on.Connection c)
       → may_read s d (conn_at s c).pool ≡ true → StepsTo s (event.Call d (call.Read fd n)) (reply.Refused (Denied p)) t
       → ⊥

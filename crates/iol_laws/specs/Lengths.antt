@@ -9,7 +9,7 @@ use Rattle.iol_core.specs.Run.{StepsTo, Run}
 use Rattle.iol_core.specs.declared.limits.TheConstants.{MAX_AGGREGATE_BYTES, MAX_FILES, MAX_FILE_BYTES, MAX_QUEUE_BYTES}
 use Rattle.iol_core.specs.declared.events.Event.{Event}
 use Rattle.iol_core.specs.declared.events.Reply.{Reply}
-use Rattle.iol_laws.specs.Caller.{lent_at}
+use Rattle.iol_laws.specs.Caller.{readable_at}
 
 -- whether the text is within the limit of an aggregate
 abbrev pub fits_aggregate : Text → Bool
@@ -39,7 +39,7 @@ pub record LengthsStayBounded : Type 0 where
   pub reached : (slots : List (List ℕ)) (t : State) (es : List Event) (rs : List Reply) → MAX_FILES ≤ length slots
       → Run (new_state slots) es rs t → AreShort t
   -- the aggregate that a domain has under a number, and the bytes in a queue
-  pub lent : (s : State) (d a : ℕ) (bytes : List ℕ) → AreShort s → lent_at s d a ≡ Some bytes
+  pub readable : (s : State) (d a : ℕ) (bytes : List ℕ) → AreShort s → readable_at s d a ≡ Some bytes
       → length bytes ≤ MAX_AGGREGATE_BYTES
   pub written : (s : State) (p : ℕ) → AreShort s → length (pipe_at s p).queue ≤ MAX_QUEUE_BYTES
   pub incoming : (s : State) (c : ℕ) → AreShort s → length (conn_at s c).incoming ≤ MAX_QUEUE_BYTES

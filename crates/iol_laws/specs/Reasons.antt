@@ -1,5 +1,5 @@
--- The condition that a refusal reports to its caller: why nothing can be read, written or accepted now. Also the calls that are
--- never refused.
+-- The condition that a refusal reports to its caller: why nothing can be read, written or accepted now. Also the calls
+-- that are never refused.
 use Rattle.std.specs.Prelude.{◌≡◌, ℕ, ◌≤◌, ◌⊎◌, true, false, List, [], ◌∷◌, length, Some, None, is_some}
 use Rattle.iol_core.specs.Text.{Text}
 use Rattle.iol_core.specs.State.{State, descriptor, may_read, conn_at, pipe_at, is_gone, is_live}
@@ -12,7 +12,7 @@ use Rattle.iol_core.specs.declared.events.Call.TheVariants as call
 use Rattle.iol_core.specs.declared.events.Event.TheVariants as event
 use Rattle.iol_core.specs.declared.events.Reply.{Reply}
 use Rattle.iol_core.specs.declared.events.Reply.TheVariants as reply
-use Rattle.iol_laws.specs.Caller.{lent_at}
+use Rattle.iol_laws.specs.Caller.{readable_at}
 
 -- the first byte is in this pool, which the domain may not read
 pub record IsHidden (s : State) (d p : ℕ) (text : Text) : Type 0 where
@@ -61,5 +61,5 @@ pub record RefusalsTellWhy : Type 0 where
   -- an existing object is closed or dropped without refusal
   pub close_is_done : (s t : State) (d fd : ℕ) (x : Descriptor) (r : Reply) → is_live s d ≡ true
       → descriptor s d fd ≡ Some x → StepsTo s (event.Call d (call.Close fd)) r t → r ≡ reply.Done
-  pub drop_is_done : (s t : State) (d a : ℕ) (bytes : List ℕ) (r : Reply) → is_live s d ≡ true → lent_at s d a ≡ Some bytes
+  pub drop_is_done : (s t : State) (d a : ℕ) (bytes : List ℕ) (r : Reply) → is_live s d ≡ true → readable_at s d a ≡ Some bytes
       → StepsTo s (event.Call d (call.AggDrop a)) r t → r ≡ reply.Done

@@ -1,5 +1,5 @@
--- The refusals that a call may still get if the domain lives and the objects and arguments of the call are valid, with one
--- definition for each set of refusals. Also the calls that may get WouldBlock.
+-- The refusals that a call may still get if the domain lives and the objects and arguments of the call are valid, with
+-- one definition for each set of refusals. Also the calls that may get WouldBlock.
 use Rattle.std.specs.Prelude.{◌≡◌, ◌≢◌, ℕ, ◌+◌, ◌≤◌, ◌<◌, Bool, true, false, List, ◌++◌, length, take, drop, Some, None, ⊤}
 use Rattle.std.specs.List.{list_all}
 use Rattle.iol_core.specs.State.{State, domain, descriptor, file, content, conn_at, is_live, is_pool, may_read, pool}
@@ -22,7 +22,7 @@ use Rattle.iol_core.specs.declared.events.Call.TheVariants as call
 use Rattle.iol_core.specs.declared.events.Event.{Event}
 use Rattle.iol_core.specs.declared.events.Event.TheVariants as event
 use Rattle.iol_core.specs.declared.events.Reply.TheVariants as reply
-use Rattle.iol_laws.specs.Caller.{lent_at}
+use Rattle.iol_laws.specs.Caller.{readable_at}
 
 -- the calls that may get WouldBlock
 abbrev pub may_wait : Call → Bool
@@ -135,19 +135,19 @@ pub record RefusalsThatAreLeft : Type 0 where
   pub make : (s t : State) (d p : ℕ) (bytes : List ℕ) (x : Refusal) → is_live s d ≡ true → (domain s d).default ≡ Some p
       → (pool s p).closed ≡ false → length bytes ≤ MAX_AGGREGATE_BYTES
       → StepsTo s (event.Call d (call.AggMake bytes)) (reply.Refused x) t → LacksNumbersOrRoom p x
-  pub dup : (s t : State) (d a : ℕ) (bytes : List ℕ) (x : Refusal) → is_live s d ≡ true → lent_at s d a ≡ Some bytes
+  pub dup : (s t : State) (d a : ℕ) (bytes : List ℕ) (x : Refusal) → is_live s d ≡ true → readable_at s d a ≡ Some bytes
       → StepsTo s (event.Call d (call.AggDup a)) (reply.Refused x) t → LacksNumbers x
-  pub cut : (s t : State) (d a from to : ℕ) (bytes : List ℕ) (x : Refusal) → is_live s d ≡ true → lent_at s d a ≡ Some bytes
+  pub cut : (s t : State) (d a from to : ℕ) (bytes : List ℕ) (x : Refusal) → is_live s d ≡ true → readable_at s d a ≡ Some bytes
       → from ≤ to → to ≤ length bytes → StepsTo s (event.Call d (call.AggCut a from to)) (reply.Refused x) t → LacksNumbers x
-  pub split : (s t : State) (d a at : ℕ) (bytes : List ℕ) (x : Refusal) → is_live s d ≡ true → lent_at s d a ≡ Some bytes
+  pub split : (s t : State) (d a at : ℕ) (bytes : List ℕ) (x : Refusal) → is_live s d ≡ true → readable_at s d a ≡ Some bytes
       → at ≤ length bytes → StepsTo s (event.Call d (call.AggSplit a at)) (reply.Refused x) t → LacksNumbers x
-  pub join : (s t : State) (d a b : ℕ) (xs ys : List ℕ) (x : Refusal) → is_live s d ≡ true → lent_at s d a ≡ Some xs
-      → lent_at s d b ≡ Some ys → a ≢ b → length xs + length ys ≤ MAX_AGGREGATE_BYTES
+  pub join : (s t : State) (d a b : ℕ) (xs ys : List ℕ) (x : Refusal) → is_live s d ≡ true → readable_at s d a ≡ Some xs
+      → readable_at s d b ≡ Some ys → a ≢ b → length xs + length ys ≤ MAX_AGGREGATE_BYTES
       → StepsTo s (event.Call d (call.AggJoin a b)) (reply.Refused x) t → LacksNumbers x
-  pub shows : (s t : State) (d a : ℕ) (bytes : List ℕ) (x : Refusal) → is_live s d ≡ true → lent_at s d a ≡ Some bytes
+  pub shows : (s t : State) (d a : ℕ) (bytes : List ℕ) (x : Refusal) → is_live s d ≡ true → readable_at s d a ≡ Some bytes
       → StepsTo s (event.Call d (call.Show a)) (reply.Refused x) t → x ≡ Memory
   pub gives_agg : (s t : State) (d a to : ℕ) (bytes : List ℕ) (x : Refusal) → is_live s d ≡ true → is_live s to ≡ true
-      → lent_at s d a ≡ Some bytes → StepsTo s (event.Call d (call.AggGive a to)) (reply.Refused x) t
+      → readable_at s d a ≡ Some bytes → StepsTo s (event.Call d (call.AggGive a to)) (reply.Refused x) t
       → LacksNumbersOrIsDenied x
   pub pipe : (s t : State) (d : ℕ) (x : Refusal) → is_live s d ≡ true
       → StepsTo s (event.Call d call.Pipe) (reply.Refused x) t → LacksNumbers x
@@ -165,7 +165,7 @@ pub record RefusalsThatAreLeft : Type 0 where
       → StepsTo s (event.Call d (call.Read fd n)) (reply.Refused x) t → HasNothingToRead x
   -- for a pipe's write end or a connection
   pub writes_queue : (s t : State) (d fd a : ℕ) (y : Descriptor) (bytes : List ℕ) (x : Refusal) → is_live s d ≡ true
-      → descriptor s d fd ≡ Some y → is_file (Some y) ≡ false → can_write (Some y) ≡ true → lent_at s d a ≡ Some bytes
+      → descriptor s d fd ≡ Some y → is_file (Some y) ≡ false → can_write (Some y) ≡ true → readable_at s d a ≡ Some bytes
       → StepsTo s (event.Call d (call.IolWrite fd a)) (reply.Refused x) t → CannotPut x
   pub copies_to_queue : (s t : State) (d fd p : ℕ) (y : Descriptor) (bytes : List ℕ) (x : Refusal) → is_live s d ≡ true
       → descriptor s d fd ≡ Some y → is_file (Some y) ≡ false → can_write (Some y) ≡ true → (domain s d).default ≡ Some p
@@ -180,7 +180,7 @@ pub record RefusalsThatAreLeft : Type 0 where
       → StepsTo s (event.Call d (call.Read fd n)) (reply.Refused x) t → CannotLoad (file s f).pool f x
   -- for a file that stays within its limit
   pub writes_file : (s t : State) (d fd f at a : ℕ) (mode : Mode) (bytes : List ℕ) (x : Refusal) → is_live s d ≡ true
-      → descriptor s d fd ≡ Some (on.File f at mode) → writes mode ≡ true → lent_at s d a ≡ Some bytes
+      → descriptor s d fd ≡ Some (on.File f at mode) → writes mode ≡ true → readable_at s d a ≡ Some bytes
       → at + length bytes ≤ MAX_FILE_BYTES → StepsTo s (event.Call d (call.IolWrite fd a)) (reply.Refused x) t
       → LacksRoom (file s f).pool x
   pub copies_to_file : (s t : State) (d fd f at : ℕ) (mode : Mode) (bytes : List ℕ) (x : Refusal) → is_live s d ≡ true
@@ -198,7 +198,7 @@ pub record RefusalsThatAreLeft : Type 0 where
       → descriptor s d fd ≡ Some (on.File f at mode) → StepsTo s (event.Call d (call.Fsync fd)) (reply.Refused x) t
       → x ≡ Fault f
   pub replace : (s t : State) (d a from to b : ℕ) (xs ys : List ℕ) (x : Refusal) → is_live s d ≡ true
-      → lent_at s d a ≡ Some xs → lent_at s d b ≡ Some ys → from ≤ to → to ≤ length xs
+      → readable_at s d a ≡ Some xs → readable_at s d b ≡ Some ys → from ≤ to → to ≤ length xs
       → length (take from xs ++ ys ++ drop to xs) ≤ MAX_AGGREGATE_BYTES
       → StepsTo s (event.Call d (call.AggReplace a from to b)) (reply.Refused x) t → LacksNumbers x
   -- for live domains; TooMany also if they exceed the limit of a list
@@ -230,7 +230,7 @@ pub record RefusalsThatAreLeft : Type 0 where
       → descriptor s d fd ≡ Some (on.File f at mode) → StepsTo s (event.Call d (call.Length fd)) (reply.Refused x) t → ⊥
   pub closes : (s t : State) (d fd : ℕ) (y : Descriptor) (x : Refusal) → is_live s d ≡ true → descriptor s d fd ≡ Some y
       → StepsTo s (event.Call d (call.Close fd)) (reply.Refused x) t → ⊥
-  pub drops : (s t : State) (d a : ℕ) (bytes : List ℕ) (x : Refusal) → is_live s d ≡ true → lent_at s d a ≡ Some bytes
+  pub drops : (s t : State) (d a : ℕ) (bytes : List ℕ) (x : Refusal) → is_live s d ≡ true → readable_at s d a ≡ Some bytes
       → StepsTo s (event.Call d (call.AggDrop a)) (reply.Refused x) t → ⊥
   pub exits : (s t : State) (d : ℕ) (x : Refusal) → is_live s d ≡ true
       → StepsTo s (event.Call d call.Exit) (reply.Refused x) t → ⊥

@@ -3,7 +3,7 @@ use Rattle.std.proofs.Common.{◌≡◌, ℕ, ◌+◌, ◌-◌, ◌<◌, ◌≤�
 use Rattle.std.proofs.Math.Seq.{drop-append-add}
 use Rattle.std.proofs.lemmas.List.{drop-append-le}
 use Rattle.iol_core.specs.declared.numbers.BufId.{BufId}
-use Rattle.iol_hold.specs.StoreState.{Stored, IsHome}
+use Rattle.iol_hold.specs.StoreState.{Stored, IsInPool}
 use Rattle.iol_hold.specs.Moves.{Covers, Moves}
 use Rattle.iol_hold.specs.Places.{slice_places, places}
 use Rattle.iol_hold.specs.Texts.{bufs_of, AllReadable}
@@ -38,5 +38,5 @@ moves_first {y = y} ys m n = record {
   tidy = λ h. n.tidy (m.tidy h);
 }
 
-pub readable_rest : {s t : Stored} (x : Slice) (rest : List Slice) → AllReadable s (x ∷ rest) → Moves s t (x.hold.buf ∷ []) [] → Covers t (bufs_of rest) → IsHome s x.hold.pool x.hold.buf × AllReadable t rest
+pub readable_rest : {s t : Stored} (x : Slice) (rest : List Slice) → AllReadable s (x ∷ rest) → Moves s t (x.hold.buf ∷ []) [] → Covers t (bufs_of rest) → IsInPool s x.hold.pool x.hold.buf × AllReadable t rest
 readable_rest x rest h m c = ((readable_first x rest h).home, readable_stays rest m.stays c (readable_later x rest h))

@@ -22,7 +22,7 @@ use Rattle.iol_hold.specs.Pages.{KeepsPages}
 use Rattle.iol_hold.specs.Room.{has_room, free_of, lowest_of, pages_of, pinned}
 use Rattle.iol_hold.specs.Texts.{IsFilled}
 use Rattle.iol_hold.specs.PendingPages.{Fills, Publishes}
-use Rattle.iol_hold.proofs.EmptyPools.{all_settled_placed}
+use Rattle.iol_hold.proofs.EmptyPools.{all_reclaimed_placed}
 use Rattle.iol_hold.proofs.PageChanges.{keeps_pages_made}
 use Rattle.iol_hold.proofs.Reservations.{fill_publish, fills_trans, same_fills}
 use Rattle.iol_hold.proofs.Rooms.{no_pages}
@@ -123,7 +123,7 @@ module _ (s u t : Stored) (parts : List Part) (pool n : ℕ) (w : List ℕ)
         moves = fill_publish written publishes tidy;
         made_on = on;
         pages = keeps_pages_made on (subst (λ l. IsSameBut l s.arena t.arena) same rest) (grows_trans written.grows publishes.grows) (publishes.pools ∙ written.pools);
-        settles = all_settled_placed s t (pool_in s.pools pool).chunks (pages_for n) (publishes.pools ∙ written.pools) rest;
+        reclaims = all_reclaimed_placed s t (pool_in s.pools pool).chunks (pages_for n) (publishes.pools ∙ written.pools) rest;
         pools = publishes.pools ∙ written.pools;
       }
 
@@ -156,7 +156,7 @@ module _ (s u t : Stored) (parts : List Part) (pool n : ℕ) (w : List ℕ)
           chunks = λ p was is. ap (λ (ps : List Pool). (pool_in ps p).chunks) pools;
           returned = λ p is. inl (ap (λ (ps : List Pool). (pool_in ps p).chunks) pools);
         });
-        settles = all_settled_placed s t (pool_in s.pools pool).chunks (pages_for n) pools rest;
+        reclaims = all_reclaimed_placed s t (pool_in s.pools pool).chunks (pages_for n) pools rest;
         pools = pools;
       }
 
@@ -164,9 +164,9 @@ module _ (s u t : Stored) (parts : List Part) (pool n : ℕ) (w : List ℕ)
 pub reads_once : {R : Type 0} {left : R → Option (List ℕ)} {reader after : R} {s : Stored} {pool n : ℕ} {x : Option (List Buffer) × Arrived} (t r : Stored)
     → MayRead s pool n → has_room s pool n ≡ true → MakesRead (left reader) (left after) s t (listed x.0) pool x.1.taken → t ≡ r → IsOneRead n (left after) x.1
     → ReadsOnce left reader after s r pool n (Ok x)
-reads_once {R} {left} {reader} {after} {s} {pool} {n} {x} t r may had made same told = record {
+reads_once {R} {left} {reader} {after} {s} {pool} {n} {x} t r may had made same reported = record {
   made = subst (λ u. MakesRead (left reader) (left after) s u (listed x.0) pool x.1.taken) same made;
-  told = told;
+  reported = reported;
   room = record { room = sym (room_for_one s pool n may.some may.page) ∙ had; no_room = λ p is. absurd (cc is) };
   late = tt;
   err = tt;
@@ -197,7 +197,7 @@ module _ (left after : Option (List ℕ)) (s t : Stored) (old new : List Slice) 
       moves = subst (λ bs. Moves s t [] bs) (sym adds.whole.bufs) made.moves;
       made_on = subst (λ bs. MadeOn s.arena t.arena bs (lowest_of s pool (length made.bytes))) (sym adds.whole.bufs) made.made_on;
       pages = made.pages;
-      settles = made.settles;
+      reclaims = made.reclaims;
       pools = made.pools;
     };
   }

@@ -11,7 +11,7 @@ use Rattle.iol_arena.proofs.NewBuffers.{made_none, same_but_entries}
 use Rattle.iol_hold.specs.Moves.{Moves}
 use Rattle.iol_hold.specs.Places.{byte_len}
 use Rattle.iol_hold.specs.Room.{free_of, lowest_of}
-use Rattle.iol_hold.specs.StoreState.{Stored, Buffer, AllSettled, held_bufs}
+use Rattle.iol_hold.specs.StoreState.{Stored, Buffer, AllReclaimed, held_bufs}
 use Rattle.iol_hold.specs.Texts.{text_of, bufs_of, AllReadable, IsFilled}
 use Rattle.iol_hold.specs.declared.slices.Slice.{Slice}
 use Rattle.iol_hold.proofs.Counts.{bufs-push}
@@ -81,8 +81,8 @@ module _ (s t : Stored) (old new : List Slice) (pool : ℕ) (bytes : List ℕ) (
       let pair : ℕ → ℕ × ℕ = λ b. (b, pool) in
       omega (arith, ap byte_len adds.added, byte_len-append old adds.slices, length-text_of t adds.slices, ap length text_added, length-map bytes pair)
 
-  pub bytes_added : Moves s t [] (held_bufs holds) → MadeOn s.arena t.arena (held_bufs holds) (lowest_of s pool (length bytes)) → IsSameBut (lowest_of s pool (length bytes)) s.arena t.arena → Grows s.arena t.arena → (AllSettled s → AllSettled t) → t.pools ≡ s.pools → AddsBytes s t old new pool bytes
-  bytes_added moves made others grows settles pools = record {
+  pub bytes_added : Moves s t [] (held_bufs holds) → MadeOn s.arena t.arena (held_bufs holds) (lowest_of s pool (length bytes)) → IsSameBut (lowest_of s pool (length bytes)) s.arena t.arena → Grows s.arena t.arena → (AllReclaimed s → AllReclaimed t) → t.pools ≡ s.pools → AddsBytes s t old new pool bytes
+  bytes_added moves made others grows reclaims pools = record {
     slices = adds.slices;
     few = few_made s s.arena t.arena adds.slices pool (length bytes) (subst (λ bs. MadeOn s.arena t.arena bs (lowest_of s pool (length bytes))) (sym adds.whole.bufs) made);
     added = adds.added;
@@ -91,7 +91,7 @@ module _ (s t : Stored) (old new : List Slice) (pool : ℕ) (bytes : List ℕ) (
     moves = subst (λ bs. Moves s t [] bs) (sym adds.whole.bufs) moves;
     made_on = subst (λ bs. MadeOn s.arena t.arena bs (lowest_of s pool (length bytes))) (sym adds.whole.bufs) made;
     pages = keeps_pages_made made others grows pools;
-    settles = settles;
+    reclaims = reclaims;
     pools = pools;
   }
 
@@ -106,6 +106,6 @@ none_added s old pool = record {
   moves = moves_none s;
   made_on = made_none s.arena (free_of s pool);
   pages = keeps_pages_made (made_none s.arena (free_of s pool)) (same_but_entries (lowest_of s pool 0) refl) (grows_none s.arena) refl;
-  settles = λ h. h;
+  reclaims = λ h. h;
   pools = refl;
 }

@@ -4,7 +4,7 @@ ghost use Rattle.std.specs.List.{All};
 ghost use Rattle.std.specs.VecDeque.{deque_len, deque_capacity};
 ghost use Rattle.iol_core.specs.Prelude.{WantOfRoom};
 ghost use Rattle.iol_pool.specs.Prelude.{pool_in};
-ghost use Rattle.iol_hold.specs.Prelude.{TellsRoom, has_room, IsFilled};
+ghost use Rattle.iol_hold.specs.Prelude.{ReportsRoom, has_room, IsFilled};
 ghost use Rattle.iol_pipe.specs.NewBytes.{AddsFitting, AddsWhole};
 ghost use Rattle.iol_pipe.specs.Queue.{fitting};
 
@@ -30,7 +30,7 @@ impl Pipe {
         requires { (pool_in store.old.pools pool).closed ≡ false }
         ensures adds { IfOk result (AddsFitting store.old store.new self.old self.new pool
             bytes.now) }
-        ensures room { TellsRoom (has_room store.old pool (fitting self.old (length bytes.now)))
+        ensures room { ReportsRoom (has_room store.old pool (fitting self.old (length bytes.now)))
             result }
         ensures late { IfErr result (WantOfRoom pool) }
         ensures none { fitting self.old (length bytes.now) ≡ 0 → IsOk result }

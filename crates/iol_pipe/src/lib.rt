@@ -4,7 +4,7 @@
 //! slices that are taken off move: no byte is copied.
 //!
 //! The contract. Bytes in: `push` (`shares`: the longest prefix that fits), `fill` (`adds`: new
-//! bytes on the lowest free pages of a pool; `room`, `late`), `fill_from` (`read`, `told`: the
+//! bytes on the lowest free pages of a pool; `room`, `late`), `fill_from` (`read`, `reported`: the
 //! bytes of one read, in place). Bytes off: `front` (`gives`: the longest prefix of at most n bytes
 //! whose pools all name the domain), `take` (`cuts`: the first n bytes), `skip` and `clear`
 //! (`releases`). A refused call changes nothing (`err`). Queries: `len`, `is_empty`, `first_pool`,

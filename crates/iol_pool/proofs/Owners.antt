@@ -15,7 +15,7 @@ use Rattle.iol_arena.specs.Buffers.{IsLive, Keeps, bytes_of}
 use Rattle.iol_arena.specs.Chunks.{TakesChunks, free_chunks, is_taken, is_untaken}
 use Rattle.iol_arena.proofs.Good.{bool_cases}
 use Rattle.iol_arena.proofs.Members.{In, in_contains, contains_in, in_or_out, in_passes, in_take}
-use Rattle.iol_pool.specs.Pools.{Pool, no_pool, pool_in, with_closed, with_emptied, all_returned, with_returned, goes_back, settled, settled_arena}
+use Rattle.iol_pool.specs.Pools.{Pool, no_pool, pool_in, with_closed, with_emptied, all_returned, with_returned, goes_back, reclaimed, reclaimed_arena}
 use Rattle.iol_pool.specs.Owners.{AreOwned}
 
 -- whether one of them is q
@@ -179,53 +179,53 @@ returned_last taken cs i h = ap (λ l. all_returned taken l) (drop_all i cs h) �
 
 -- what becomes of a pool that is settled
 
-pub settled-no : (s : State) (ps : List Pool) (p : ℕ) → goes_back s ps p ≡ false → settled s ps p ≡ ps
-unfolding settled
-settled-no s ps p out = rw out refl
+pub reclaimed-no : (s : State) (ps : List Pool) (p : ℕ) → goes_back s ps p ≡ false → reclaimed s ps p ≡ ps
+unfolding reclaimed
+reclaimed-no s ps p out = rw out refl
 
-pub settled-yes : (s : State) (ps : List Pool) (p : ℕ) → goes_back s ps p ≡ true → settled s ps p ≡ with_emptied ps p
-unfolding settled
-settled-yes s ps p back = rw back refl
+pub reclaimed-yes : (s : State) (ps : List Pool) (p : ℕ) → goes_back s ps p ≡ true → reclaimed s ps p ≡ with_emptied ps p
+unfolding reclaimed
+reclaimed-yes s ps p back = rw back refl
 
-pub settled_arena-no : (s : State) (ps : List Pool) (p : ℕ) → goes_back s ps p ≡ false → settled_arena s ps p ≡ s
-unfolding settled_arena
-settled_arena-no s ps p out = rw out refl
+pub reclaimed_arena-no : (s : State) (ps : List Pool) (p : ℕ) → goes_back s ps p ≡ false → reclaimed_arena s ps p ≡ s
+unfolding reclaimed_arena
+reclaimed_arena-no s ps p out = rw out refl
 
-pub settled_arena-yes : (s : State) (ps : List Pool) (p : ℕ) → goes_back s ps p ≡ true → settled_arena s ps p ≡ with_returned s (pool_in ps p).chunks
-unfolding settled_arena
-settled_arena-yes s ps p back = rw back refl
+pub reclaimed_arena-yes : (s : State) (ps : List Pool) (p : ℕ) → goes_back s ps p ≡ true → reclaimed_arena s ps p ≡ with_returned s (pool_in ps p).chunks
+unfolding reclaimed_arena
+reclaimed_arena-yes s ps p back = rw back refl
 
-pub settled-nowhere : (s : State) (ps : List Pool) (p : ℕ) → is_numbered ps p ≡ false → settled s ps p ≡ ps
+pub reclaimed-nowhere : (s : State) (ps : List Pool) (p : ℕ) → is_numbered ps p ≡ false → reclaimed s ps p ≡ ps
 unfolding with_emptied
-settled-nowhere s ps p out = elim (bool_cases (goes_back s ps p)) [
-  | inl e ↦ settled-yes s ps p e ∙ with_numbered-nowhere ps p (record (pool_in ps p) { chunks = [] }) out
-  | inr e ↦ settled-no s ps p e
+reclaimed-nowhere s ps p out = elim (bool_cases (goes_back s ps p)) [
+  | inl e ↦ reclaimed-yes s ps p e ∙ with_numbered-nowhere ps p (record (pool_in ps p) { chunks = [] }) out
+  | inr e ↦ reclaimed-no s ps p e
 ]
 
-pub settled_arena-nowhere : (s : State) (ps : List Pool) (p : ℕ) → is_numbered ps p ≡ false → settled_arena s ps p ≡ s
-settled_arena-nowhere s ps p out = elim (bool_cases (goes_back s ps p)) [
-  | inl e ↦ settled_arena-yes s ps p e ∙ ap (λ (x : Pool). with_returned s x.chunks) (pool_in-nowhere ps p out) ∙ ap (λ (l : List Bool). record { memory = s.memory; base = s.base; entries = s.entries; limit = s.limit; taken = l }) (all_returned-none s.taken)
-  | inr e ↦ settled_arena-no s ps p e
+pub reclaimed_arena-nowhere : (s : State) (ps : List Pool) (p : ℕ) → is_numbered ps p ≡ false → reclaimed_arena s ps p ≡ s
+reclaimed_arena-nowhere s ps p out = elim (bool_cases (goes_back s ps p)) [
+  | inl e ↦ reclaimed_arena-yes s ps p e ∙ ap (λ (x : Pool). with_returned s x.chunks) (pool_in-nowhere ps p out) ∙ ap (λ (l : List Bool). record { memory = s.memory; base = s.base; entries = s.entries; limit = s.limit; taken = l }) (all_returned-none s.taken)
+  | inr e ↦ reclaimed_arena-no s ps p e
 ]
 
 -- settling a pool leaves the others as they were
-pub pool_in-settled : (s : State) (ps : List Pool) (p q : ℕ) → (q ≡ p → ⊥) → pool_in (settled s ps p) q ≡ pool_in ps q
+pub pool_in-reclaimed : (s : State) (ps : List Pool) (p q : ℕ) → (q ≡ p → ⊥) → pool_in (reclaimed s ps p) q ≡ pool_in ps q
 unfolding with_emptied
-pool_in-settled s ps p q other = elim (bool_cases (goes_back s ps p)) [
-  | inl e ↦ ap (λ (l : List Pool). pool_in l q) (settled-yes s ps p e) ∙ pool_in-other ps p q (record (pool_in ps p) { chunks = [] }) other
-  | inr e ↦ ap (λ (l : List Pool). pool_in l q) (settled-no s ps p e)
+pool_in-reclaimed s ps p q other = elim (bool_cases (goes_back s ps p)) [
+  | inl e ↦ ap (λ (l : List Pool). pool_in l q) (reclaimed-yes s ps p e) ∙ pool_in-other ps p q (record (pool_in ps p) { chunks = [] }) other
+  | inr e ↦ ap (λ (l : List Pool). pool_in l q) (reclaimed-no s ps p e)
 ]
 
 -- a settled pool is closed as it was
-pub closed-settled : (s : State) (ps : List Pool) (p q : ℕ) → (pool_in (settled s ps p) q).closed ≡ (pool_in ps q).closed
+pub closed-reclaimed : (s : State) (ps : List Pool) (p q : ℕ) → (pool_in (reclaimed s ps p) q).closed ≡ (pool_in ps q).closed
 unfolding with_emptied
-closed-settled s ps p q = elim (cases_eq q p) [
-  | inr ne ↦ ap (λ (x : Pool). x.closed) (pool_in-settled s ps p q ne)
+closed-reclaimed s ps p q = elim (cases_eq q p) [
+  | inr ne ↦ ap (λ (x : Pool). x.closed) (pool_in-reclaimed s ps p q ne)
   | inl e ↦ elim (bool_cases (is_numbered ps p)) [
-    | inr out ↦ ap (λ (l : List Pool). (pool_in l q).closed) (settled-nowhere s ps p out)
+    | inr out ↦ ap (λ (l : List Pool). (pool_in l q).closed) (reclaimed-nowhere s ps p out)
     | inl there ↦ elim (bool_cases (goes_back s ps p)) [
-      | inr stays ↦ ap (λ (l : List Pool). (pool_in l q).closed) (settled-no s ps p stays)
-      | inl back ↦ ap (λ (l : List Pool). (pool_in l q).closed) (settled-yes s ps p back) ∙ ap (λ r. (pool_in (with_numbered ps p (record (pool_in ps p) { chunks = [] })) r).closed) e
+      | inr stays ↦ ap (λ (l : List Pool). (pool_in l q).closed) (reclaimed-no s ps p stays)
+      | inl back ↦ ap (λ (l : List Pool). (pool_in l q).closed) (reclaimed-yes s ps p back) ∙ ap (λ r. (pool_in (with_numbered ps p (record (pool_in ps p) { chunks = [] })) r).closed) e
           ∙ ap (λ (x : Pool). x.closed) (pool_in-there ps p (record (pool_in ps p) { chunks = [] }) there) ∙ ap (λ r. (pool_in ps r).closed) (sym e)
     ]
   ]
@@ -242,34 +242,34 @@ map-emptied f same ps p = elim (cases_eq p 0) [
       ap (λ (l : List Pool). map f l) is ∙ map-set_same f ps (p - 1) (record (pool_in ps p) { chunks = [] }) no_pool (same (pool_in ps p) [] ∙ ap f x)
 ]
 
-pub map-settled : {A : Type 0} (f : Pool → A) → ((x : Pool) (cs : List ℕ) → f (record x { chunks = cs }) ≡ f x) → (s : State) (ps : List Pool) (p : ℕ) → map f (settled s ps p) ≡ map f ps
-map-settled f same s ps p = elim (bool_cases (goes_back s ps p)) [
-  | inl e ↦ ap (λ (l : List Pool). map f l) (settled-yes s ps p e) ∙ map-emptied f same ps p
-  | inr e ↦ ap (λ (l : List Pool). map f l) (settled-no s ps p e)
+pub map-reclaimed : {A : Type 0} (f : Pool → A) → ((x : Pool) (cs : List ℕ) → f (record x { chunks = cs }) ≡ f x) → (s : State) (ps : List Pool) (p : ℕ) → map f (reclaimed s ps p) ≡ map f ps
+map-reclaimed f same s ps p = elim (bool_cases (goes_back s ps p)) [
+  | inl e ↦ ap (λ (l : List Pool). map f l) (reclaimed-yes s ps p e) ∙ map-emptied f same ps p
+  | inr e ↦ ap (λ (l : List Pool). map f l) (reclaimed-no s ps p e)
 ]
 
-pub length-settled : (s : State) (ps : List Pool) (p : ℕ) → length (settled s ps p) ≡ length ps
+pub length-reclaimed : (s : State) (ps : List Pool) (p : ℕ) → length (reclaimed s ps p) ≡ length ps
 unfolding with_emptied
-length-settled s ps p = elim (bool_cases (goes_back s ps p)) [
-  | inl e ↦ ap (λ (l : List Pool). length l) (settled-yes s ps p e) ∙ length-with_numbered ps p (record (pool_in ps p) { chunks = [] })
-  | inr e ↦ ap (λ (l : List Pool). length l) (settled-no s ps p e)
+length-reclaimed s ps p = elim (bool_cases (goes_back s ps p)) [
+  | inl e ↦ ap (λ (l : List Pool). length l) (reclaimed-yes s ps p e) ∙ length-with_numbered ps p (record (pool_in ps p) { chunks = [] })
+  | inr e ↦ ap (λ (l : List Pool). length l) (reclaimed-no s ps p e)
 ]
 
 pub length-closed : (ps : List Pool) (p : ℕ) → length (with_closed ps p) ≡ length ps
 unfolding with_closed
 length-closed ps p = length-with_numbered ps p (record (pool_in ps p) { closed = true })
 
-pub is_numbered-settled : (s : State) (ps : List Pool) (p q : ℕ) → is_numbered (settled s ps p) q ≡ is_numbered ps q
-is_numbered-settled s ps p q = ap (λ n. nat_lt 0 q && nat_le q n) (length-settled s ps p)
+pub is_numbered-reclaimed : (s : State) (ps : List Pool) (p q : ℕ) → is_numbered (reclaimed s ps p) q ≡ is_numbered ps q
+is_numbered-reclaimed s ps p q = ap (λ n. nat_lt 0 q && nat_le q n) (length-reclaimed s ps p)
 
 pub is_numbered-closed : (ps : List Pool) (p q : ℕ) → is_numbered (with_closed ps p) q ≡ is_numbered ps q
 is_numbered-closed ps p q = ap (λ n. nat_lt 0 q && nat_le q n) (length-closed ps p)
 
 -- settling moves no byte, and changes no page
-pub settled_arena-same : (s : State) (ps : List Pool) (p : ℕ) → settled_arena s ps p ≡ record { memory = s.memory; base = s.base; entries = s.entries; limit = s.limit; taken = (settled_arena s ps p).taken }
-settled_arena-same s ps p = elim (bool_cases (goes_back s ps p)) [
-  | inl e ↦ subst (λ (t : State). t ≡ record { memory = s.memory; base = s.base; entries = s.entries; limit = s.limit; taken = t.taken }) (sym (settled_arena-yes s ps p e)) refl
-  | inr e ↦ subst (λ (t : State). t ≡ record { memory = s.memory; base = s.base; entries = s.entries; limit = s.limit; taken = t.taken }) (sym (settled_arena-no s ps p e)) refl
+pub reclaimed_arena-same : (s : State) (ps : List Pool) (p : ℕ) → reclaimed_arena s ps p ≡ record { memory = s.memory; base = s.base; entries = s.entries; limit = s.limit; taken = (reclaimed_arena s ps p).taken }
+reclaimed_arena-same s ps p = elim (bool_cases (goes_back s ps p)) [
+  | inl e ↦ subst (λ (t : State). t ≡ record { memory = s.memory; base = s.base; entries = s.entries; limit = s.limit; taken = t.taken }) (sym (reclaimed_arena-yes s ps p e)) refl
+  | inr e ↦ subst (λ (t : State). t ≡ record { memory = s.memory; base = s.base; entries = s.entries; limit = s.limit; taken = t.taken }) (sym (reclaimed_arena-no s ps p e)) refl
 ]
 
 live_kept : (s : State) (taken : List Bool) (b : BufId) → IsLive s b → IsLive (record { memory = s.memory; base = s.base; entries = s.entries; limit = s.limit; taken = taken }) b
@@ -278,26 +278,26 @@ live_kept s taken b h = record { head = h.head; generation = h.generation }
 live_was : (s : State) (taken : List Bool) (b : BufId) → IsLive (record { memory = s.memory; base = s.base; entries = s.entries; limit = s.limit; taken = taken }) b → IsLive s b
 live_was s taken b h = record { head = h.head; generation = h.generation }
 
-pub live-settled : (s : State) (ps : List Pool) (p : ℕ) (b : BufId) → IsLive s b → IsLive (settled_arena s ps p) b
-live-settled s ps p b h = subst (λ (t : State). IsLive t b) (sym (settled_arena-same s ps p)) (live_kept s (settled_arena s ps p).taken b h)
+pub live-reclaimed : (s : State) (ps : List Pool) (p : ℕ) (b : BufId) → IsLive s b → IsLive (reclaimed_arena s ps p) b
+live-reclaimed s ps p b h = subst (λ (t : State). IsLive t b) (sym (reclaimed_arena-same s ps p)) (live_kept s (reclaimed_arena s ps p).taken b h)
 
-pub live_before-settled : (s : State) (ps : List Pool) (p : ℕ) (b : BufId) → IsLive (settled_arena s ps p) b → IsLive s b
-live_before-settled s ps p b h = live_was s (settled_arena s ps p).taken b (subst (λ (t : State). IsLive t b) (settled_arena-same s ps p) h)
+pub live_before-reclaimed : (s : State) (ps : List Pool) (p : ℕ) (b : BufId) → IsLive (reclaimed_arena s ps p) b → IsLive s b
+live_before-reclaimed s ps p b h = live_was s (reclaimed_arena s ps p).taken b (subst (λ (t : State). IsLive t b) (reclaimed_arena-same s ps p) h)
 
-pub bytes_of-settled : (s : State) (ps : List Pool) (p : ℕ) (b : BufId) → bytes_of (settled_arena s ps p) b ≡ bytes_of s b
-bytes_of-settled s ps p b = ap (λ (t : State). bytes_of t b) (settled_arena-same s ps p)
+pub bytes_of-reclaimed : (s : State) (ps : List Pool) (p : ℕ) (b : BufId) → bytes_of (reclaimed_arena s ps p) b ≡ bytes_of s b
+bytes_of-reclaimed s ps p b = ap (λ (t : State). bytes_of t b) (reclaimed_arena-same s ps p)
 
-pub keeps-settled : (s : State) (ps : List Pool) (p : ℕ) → Keeps s (settled_arena s ps p)
-keeps-settled s ps p = record {
-  rising = λ q. (let e : generation_at (settled_arena s ps p) q ≡ generation_at s q = ap (λ (t : State). generation_at t q) (settled_arena-same s ps p) in omega (arith, e));
-  kept = λ b h. inl (live_before-settled s ps p b h, bytes_of-settled s ps p b);
-  base = ap (λ (t : State). t.base) (settled_arena-same s ps p);
+pub keeps-reclaimed : (s : State) (ps : List Pool) (p : ℕ) → Keeps s (reclaimed_arena s ps p)
+keeps-reclaimed s ps p = record {
+  rising = λ q. (let e : generation_at (reclaimed_arena s ps p) q ≡ generation_at s q = ap (λ (t : State). generation_at t q) (reclaimed_arena-same s ps p) in omega (arith, e));
+  kept = λ b h. inl (live_before-reclaimed s ps p b h, bytes_of-reclaimed s ps p b);
+  base = ap (λ (t : State). t.base) (reclaimed_arena-same s ps p);
 }
 
-pub chunk_count-settled : (s : State) (ps : List Pool) (p : ℕ) → chunk_count (settled_arena s ps p) ≡ chunk_count s
-chunk_count-settled s ps p = elim (bool_cases (goes_back s ps p)) [
-  | inl e ↦ ap (λ (t : State). length t.taken) (settled_arena-yes s ps p e) ∙ length-all_returned s.taken (pool_in ps p).chunks
-  | inr e ↦ ap (λ (t : State). length t.taken) (settled_arena-no s ps p e)
+pub chunk_count-reclaimed : (s : State) (ps : List Pool) (p : ℕ) → chunk_count (reclaimed_arena s ps p) ≡ chunk_count s
+chunk_count-reclaimed s ps p = elim (bool_cases (goes_back s ps p)) [
+  | inl e ↦ ap (λ (t : State). length t.taken) (reclaimed_arena-yes s ps p e) ∙ length-all_returned s.taken (pool_in ps p).chunks
+  | inr e ↦ ap (λ (t : State). length t.taken) (reclaimed_arena-no s ps p e)
 ]
 
 -- Whose each chunk is.
@@ -345,8 +345,8 @@ all_owned s ps p o = λ k d h. o.within p (get_or (pool_in ps p).chunks k d) (Co
 pub within_chunks : (s : State) (ps : List Pool) (p : ℕ) (cs ds : List ℕ) → AreOwned s ps → cs ≡ ds → ds ≡ (pool_in ps p).chunks → All (λ k. k < chunk_count s) cs
 within_chunks s ps p cs ds o a b = subst (λ (l : List ℕ). All (λ k. k < chunk_count s) l) (sym (a ∙ b)) (all_owned s ps p o)
 
-pub owned_settled : (s : State) (ps : List Pool) (p : ℕ) → is_numbered ps p ≡ true → AreOwned s ps → AreOwned (with_returned s (pool_in ps p).chunks) (with_emptied ps p)
-owned_settled s ps p there o = record {
+pub owned_reclaimed : (s : State) (ps : List Pool) (p : ℕ) → is_numbered ps p ≡ true → AreOwned s ps → AreOwned (with_returned s (pool_in ps p).chunks) (with_emptied ps p)
+owned_reclaimed s ps p there o = record {
   within = λ q c h. omega (arith, o.within q c (emptied ps p q c there h).1, length-all_returned s.taken (pool_in ps p).chunks);
   taken = λ q c h. (let e = emptied ps p q c there h in returned_out s.taken (pool_in ps p).chunks c (λ k. e.0 (o.single q p c e.1 (contains_in (pool_in ps p).chunks c k))) ∙ o.taken q c e.1);
   single = λ q r c h k. o.single q r c (emptied ps p q c there h).1 (emptied ps p r c there k).1;

@@ -5,11 +5,11 @@ use Rattle.iol_arena.specs.Prelude.{State, free_chunks, free_pages, retired_page
 use Rattle.iol_arena.specs.declared.pages.Unfilled.{Unfilled}
 use Rattle.iol_arena.specs.declared.pages.Unfilled.TheVariants.{NoRoom}
 use Rattle.iol_pool.specs.Owners.{AreOwned}
-use Rattle.iol_pool.specs.Pools.{AddsPool, Pool, pool_in, settled, settled_arena}
+use Rattle.iol_pool.specs.Pools.{AddsPool, Pool, pool_in, reclaimed, reclaimed_arena}
 use Rattle.iol_pool.specs.declared.report.PoolReport.{PoolReport}
 
--- A pool of n chunks, the lowest free ones, was made for the domains of a list: its number is the next. Or nothing changed, for
--- want of room only where fewer chunks are free. Each chunk that is taken has just one pool.
+-- A pool of n chunks, the lowest free ones, was made for the domains of a list: its number is the next. Or nothing
+-- changed, for want of room only where fewer chunks are free. Each chunk that is taken has just one pool.
 pub record CreatesPool (s t : State) (old new : List Pool) (n : ℕ) (list : List ℕ) (r : Result ℕ Unfilled) : Type 0 where
   pub number : IfOk r (λ p. p ≡ length old + 1)
   pub added : OnOk r (AddsPool s t old new n list)
@@ -19,10 +19,11 @@ pub record CreatesPool (s t : State) (old new : List Pool) (n : ℕ) (list : Lis
   pub err_arena : OnErr r (t ≡ s)
   pub owned : AreOwned t new
 
--- The chunks of pool p were returned, if it is closed and all their pages are empty. Each taken chunk has exactly one pool.
-pub record SettlesPool (s t : State) (old new : List Pool) (p : ℕ) : Type 0 where
-  pub pools : new ≡ settled s old p
-  pub arena : t ≡ settled_arena s old p
+-- The chunks of pool p were returned, if it is closed and all their pages are empty. Each taken chunk has exactly one
+-- pool.
+pub record ReclaimsPool (s t : State) (old new : List Pool) (p : ℕ) : Type 0 where
+  pub pools : new ≡ reclaimed s old p
+  pub arena : t ≡ reclaimed_arena s old p
   pub owned : AreOwned t new
 
 -- the pages of pool p, counted: all, those that may be used, and those that are retired

@@ -56,11 +56,11 @@ abbrev pub goes_back : State → List Pool → (p : ℕ) → Bool
 goes_back s ps p = (pool_in ps p).closed && list_all (is_unused s) (pool_in ps p).chunks
 
 -- the pools, and the arena, after the chunks of pool p are returned, if they are to be
-unfoldable pub settled : State → List Pool → (p : ℕ) → List Pool
-settled s ps p = if goes_back s ps p then with_emptied ps p else ps
+unfoldable pub reclaimed : State → List Pool → (p : ℕ) → List Pool
+reclaimed s ps p = if goes_back s ps p then with_emptied ps p else ps
 
-unfoldable pub settled_arena : State → List Pool → (p : ℕ) → State
-settled_arena s ps p = if goes_back s ps p then with_returned s (pool_in ps p).chunks else s
+unfoldable pub reclaimed_arena : State → List Pool → (p : ℕ) → State
+reclaimed_arena s ps p = if goes_back s ps p then with_returned s (pool_in ps p).chunks else s
 
 -- whether the page is retired, or may be used
 abbrev pub is_counted : State → (retired : Bool) → ℕ → Bool

@@ -6,7 +6,7 @@ ghost use Rattle.iol_core.specs.Prelude.{is_numbered, has_place};
 ghost use Rattle.iol_arena.specs.Prelude.{chunk_count, free_pages, is_unused};
 ghost use Rattle.iol_pool.specs.Pools.{counted_pages, goes_back, names_in, no_pool, pool_in, with_admitted, with_closed, with_emptied, with_returned};
 ghost use Rattle.iol_pool.specs.Owners.{AreChunksOf, AreOwned};
-ghost use Rattle.iol_pool.specs.Calls.{CreatesPool, ReportsPool, SettlesPool};
+ghost use Rattle.iol_pool.specs.Calls.{CreatesPool, ReportsPool, ReclaimsPool};
 
 use crate::names::Names;
 use crate::report::PoolReport;
@@ -252,8 +252,9 @@ impl Pools {
         self.chunks(p).as_slice()
     }
 
-    /// Makes a pool of `chunks` chunks, the lowest free ones, for these domains, and returns its number, the next. Returns
-    /// `NoRoom` only if fewer chunks are free, and `Memory`. An error changes nothing.
+    /// Makes a pool of `chunks` chunks, the lowest free ones, for these domains, and returns its
+    /// number, the next. Returns `NoRoom` only if fewer chunks are free, and `Memory`. An error
+    /// changes nothing.
     pub fn create(
         &mut self,
         alloc: Global,
@@ -306,9 +307,9 @@ impl Pools {
     }
 
     /// Returns the chunks of a pool if it is closed and all their pages are empty.
-    pub fn settle(&mut self, arena: &mut Arena, p: PoolId)
+    pub fn reclaim(&mut self, arena: &mut Arena, p: PoolId)
         requires { AreOwned arena.old self.old }
-        ensures { SettlesPool arena.old arena.new self.old self.new p }
+        ensures { ReclaimsPool arena.old arena.new self.old self.new p }
     {
         if !self.is_pool(p) {
             return;
@@ -320,17 +321,19 @@ impl Pools {
         set_emptied(self.alloc, &mut self.list, p);
     }
 
-    /// Closes a pool: nothing more is placed in it, and its chunks are returned at once if all their pages are empty.
+    /// Closes a pool: nothing more is placed in it, and its chunks are returned at once if all
+    /// their pages are empty.
     pub fn close(&mut self, arena: &mut Arena, p: PoolId)
         requires there { is_numbered self.old p ≡ true }
         requires owned { AreOwned arena.old self.old }
-        ensures { SettlesPool arena.old arena.new (with_closed self.old p) self.new p }
+        ensures { ReclaimsPool arena.old arena.new (with_closed self.old p) self.new p }
     {
         set_closed(&mut self.list, p);
-        self.settle(arena, p);
+        self.reclaim(arena, p);
     }
 
-    /// The number of pages of a pool that may be used. It reads one count for each of the pool's chunks.
+    /// The number of pages of a pool that may be used. It reads one count for each of the pool's
+    /// chunks.
     pub fn free_count(&self, arena: &Arena, p: PoolId) -> u32
         requires there { is_numbered self.now p ≡ true }
         requires owned { AreOwned arena.now self.now }
@@ -339,8 +342,8 @@ impl Pools {
         count_pages(arena, self.chunks_in(arena, p), false)
     }
 
-    /// Whether at least `pages` pages of a pool may be used. It looks at the chunks in order, and stops at the first that
-    /// completes the number.
+    /// Whether at least `pages` pages of a pool may be used. It looks at the chunks in order, and
+    /// stops at the first that completes the number.
     pub fn has_free(&self, arena: &Arena, p: PoolId, pages: u32) -> bool
         requires there { is_numbered self.now p ≡ true }
         requires owned { AreOwned arena.now self.now }

@@ -8,13 +8,13 @@ use Rattle.iol_system.specs.Promises.{Promises, Chain}
 use Rattle.iol_system.proofs.Chains.{chain_honest}
 use Rattle.iol_proc.specs.Histories.{RunsAs}
 use Rattle.iol_proc.specs.Laws.{HasEvents, KeepsHonesty}
-use Rattle.iol_proc.specs.Turns.{Account, Comes, SeatTurn}
+use Rattle.iol_proc.specs.Turns.{TransitionRelation, Comes, ProcessSlotTurn}
 use Rattle.iol_proc.specs.World.{Stage, sharing, DomainTurn, OutsideStep, WorldStep, WorldRun}
 use Rattle.iol_proc.specs.declared.choice.Choice.{Choice}
 use Rattle.iol_proc.specs.declared.choice.Choice.TheVariants as choice
 use Rattle.iol_proc.specs.declared.process.Turn.{Turn}
 use Rattle.iol_proc.specs.declared.process.Turn.TheVariants as turn
-use Rattle.iol_proc.specs.declared.seat.Seat.{Seat}
+use Rattle.iol_proc.specs.declared.process_slot.ProcessSlot.{ProcessSlot}
 use Rattle.iol_proc.proofs.Streams.{run_as}
 
 nothing : (old new : SystemState) → new ≡ old → HasEvents old new
@@ -29,19 +29,19 @@ chain_then old mid new (e ∷ es) fs [] ss first next = absurd first
 both : (old mid new : SystemState) → HasEvents old mid → HasEvents mid new → HasEvents old new
 both old mid new a b = record { events = a.events ++ b.events; replies = a.replies ++ b.replies; chain = chain_then old mid new a.events b.events a.replies b.replies a.chain b.chain }
 
-module _ {P : Type 0} (turns : Account P) where
+module _ {P : Type 0} (turns : TransitionRelation P) where
   comes_chained : (m : SystemState) (by : ℕ) (t : Turn) (yields : Bool) (r : Reply) (after : SystemState) → Comes sharing turns m by t yields r after → HasEvents m after
   comes_chained m by turn.Yield yields r after c = nothing m after c.2
   comes_chained m by (turn.Make call) yields r after c = record { events = event.Call by call ∷ []; replies = r ∷ []; chain = (after, c.1, refl) }
 
-  seat_chained : (m : SystemState) (seat : Seat P) (yields : Bool) (r : Reply) (after : SystemState) (next : Seat P) → SeatTurn sharing turns m seat yields r after next → HasEvents m after
-  seat_chained m seat yields r after next t = elim t [ inl s ↦ nothing m after s.machine_stays | inr v ↦ comes_chained m seat.by v.turn yields r after v.comes ]
+  process_slot_chained : (m : SystemState) (process_slot : ProcessSlot P) (yields : Bool) (r : Reply) (after : SystemState) (next : ProcessSlot P) → ProcessSlotTurn sharing turns m process_slot yields r after next → HasEvents m after
+  process_slot_chained m process_slot yields r after next t = elim t [ inl s ↦ nothing m after s.machine_stays | inr v ↦ comes_chained m process_slot.by v.turn yields r after v.comes ]
 
   domain_chained : (w : Stage SystemState P) (by : ℕ) (r : Reply) (after : Stage SystemState P) → DomainTurn sharing turns w by r after → HasEvents w.machine after.machine
   domain_chained w by r after t =
       elim t [
         | inl a ↦ nothing w.machine after.machine (ap (λ (v : Stage SystemState P). v.machine) a.stays)
-        | inr p ↦ seat_chained w.machine p.turn.seat p.yields r after.machine p.turn.next p.turn.turn
+        | inr p ↦ process_slot_chained w.machine p.turn.process_slot p.yields r after.machine p.turn.next p.turn.turn
       ]
 
   pub outside_chained : (w : Stage SystemState P) (e : Event) (r : Reply) (after : Stage SystemState P) → OutsideStep sharing turns w e r after → HasEvents w.machine after.machine
@@ -69,6 +69,6 @@ chain_none old new same = same
 chain_step : (old mid new : SystemState) (e : Event) (r : Reply) (es : List Event) (rs : List Reply) → Promises old e r mid → Chain mid es rs new → Chain old (e ∷ es) (r ∷ rs) new
 chain_step old mid new e r es rs step rest = (mid, step, rest)
 
-module _ {P : Type 0} (turns : Account P) where
+module _ {P : Type 0} (turns : TransitionRelation P) where
   pub system_as : (w after : Stage SystemState P) (xs : List Choice) (rs : List Reply) → WorldRun sharing turns w xs rs after → RunsAs Chain w.machine xs rs after.machine
   system_as w after xs rs ran = run_as sharing turns Chain chain_none chain_step w after xs rs ran

@@ -6,49 +6,49 @@ use Rattle.std.proofs.lemmas.Grind.{common_steps}
 use Rattle.std.proofs.Math.Seq.{map-set_same}
 use Rattle.std.proofs.lemmas.Option.{get_or_from_slice_get}
 use Rattle.iol_core.specs.declared.events.Reply.{Reply}
-use Rattle.iol_proc.specs.Turns.{Machine, Account, SeatTurn}
+use Rattle.iol_proc.specs.Turns.{Machine, TransitionRelation, ProcessSlotTurn}
 use Rattle.iol_proc.specs.World.{Stage, domains_of, PlaceTurn, WorldRun}
 use Rattle.iol_proc.specs.Idle.{Went, RoundRun, counted, counted_over, yields_of, is_idle, rounds}
-use Rattle.iol_proc.specs.declared.seat.Seat.{Seat}
+use Rattle.iol_proc.specs.declared.process_slot.ProcessSlot.{ProcessSlot}
 
-module _ {M P : Type 0} (machine : Machine M) (turns : Account P) where
+module _ {M P : Type 0} (machine : Machine M) (turns : TransitionRelation P) where
   -- one turn more
-  round_more : (w : Stage M P) (i : ℕ) (ts : List Went) (mid : Stage M P) (t : Went) (after : Stage M P) → RoundRun machine turns w i ts mid → PlaceTurn machine turns mid ((i + length ts) % length mid.seats) t.0 t.1 after → RoundRun machine turns w i (ts ++ t ∷ []) after
-  round_more w i [] mid t after ran turn = (after, subst (λ (v : Stage M P). PlaceTurn machine turns v (i % length v.seats) t.0 t.1 after) ran (rw add-zero at turn), refl)
+  round_more : (w : Stage M P) (i : ℕ) (ts : List Went) (mid : Stage M P) (t : Went) (after : Stage M P) → RoundRun machine turns w i ts mid → PlaceTurn machine turns mid ((i + length ts) % length mid.process_slots) t.0 t.1 after → RoundRun machine turns w i (ts ++ t ∷ []) after
+  round_more w i [] mid t after ran turn = (after, subst (λ (v : Stage M P). PlaceTurn machine turns v (i % length v.process_slots) t.0 t.1 after) ran (rw add-zero at turn), refl)
   round_more w i (s ∷ ss) mid t after ran turn =
       let e : i + suc (length ss) ≡ suc i + length ss = omega arith in
-      (ran.0, ran.1, round_more ran.0 (suc i) ss mid t after ran.2 (subst (λ (n : ℕ). PlaceTurn machine turns mid (n % length mid.seats) t.0 t.1 after) e turn))
+      (ran.0, ran.1, round_more ran.0 (suc i) ss mid t after ran.2 (subst (λ (n : ℕ). PlaceTurn machine turns mid (n % length mid.process_slots) t.0 t.1 after) e turn))
 
   -- the same from the first turn on
-  pub round_next : (w : Stage M P) (ts : List Went) (mid : Stage M P) (t : Went) (after : Stage M P) (i k : ℕ) → RoundRun machine turns w 0 ts mid → length ts ≡ i → k ≡ length mid.seats → PlaceTurn machine turns mid (i % k) t.0 t.1 after → RoundRun machine turns w 0 (ts ++ t ∷ []) after
+  pub round_next : (w : Stage M P) (ts : List Went) (mid : Stage M P) (t : Went) (after : Stage M P) (i k : ℕ) → RoundRun machine turns w 0 ts mid → length ts ≡ i → k ≡ length mid.process_slots → PlaceTurn machine turns mid (i % k) t.0 t.1 after → RoundRun machine turns w 0 (ts ++ t ∷ []) after
   round_next w ts mid t after i k ran count size turn =
-      let e : i % k ≡ (0 + length ts) % length mid.seats = rw (zero-add, count, size) in
+      let e : i % k ≡ (0 + length ts) % length mid.process_slots = rw (zero-add, count, size) in
       round_more w 0 ts mid t after ran (subst (λ (n : ℕ). PlaceTurn machine turns mid n t.0 t.1 after) e turn)
 
   -- a turn leaves the domains as they are
-  same_domain : (m : M) (seat : Seat P) (yields : Bool) (r : Reply) (after : M) (next : Seat P) → SeatTurn machine turns m seat yields r after next → next.by ≡ seat.by
-  same_domain m seat yields r after next turn = elim turn [ inl s ↦ ap (λ (v : Seat P). v.by) s.seat_stays | inr v ↦ v.domain_stays ]
+  same_domain : (m : M) (process_slot : ProcessSlot P) (yields : Bool) (r : Reply) (after : M) (next : ProcessSlot P) → ProcessSlotTurn machine turns m process_slot yields r after next → next.by ≡ process_slot.by
+  same_domain m process_slot yields r after next turn = elim turn [ inl s ↦ ap (λ (v : ProcessSlot P). v.by) s.process_slot_stays | inr v ↦ v.domain_stays ]
 
-  same_domains : (w : Stage M P) (place : ℕ) (yields : Bool) (r : Reply) (after : Stage M P) → PlaceTurn machine turns w place yields r after → domains_of after.seats ≡ domains_of w.seats
+  same_domains : (w : Stage M P) (place : ℕ) (yields : Bool) (r : Reply) (after : Stage M P) → PlaceTurn machine turns w place yields r after → domains_of after.process_slots ≡ domains_of w.process_slots
   same_domains w place yields r after t =
       ap domains_of t.others_stay
-      ∙ map-set_same (λ (s : Seat P). s.by) w.seats place t.next t.seat
-      (same_domain w.machine t.seat yields r after.machine t.next t.turn ∙ sym (ap (λ (s : Seat P). s.by) (get_or_from_slice_get w.seats place t.seat t.seat t.sits)))
+      ∙ map-set_same (λ (s : ProcessSlot P). s.by) w.process_slots place t.next t.process_slot
+      (same_domain w.machine t.process_slot yields r after.machine t.next t.turn ∙ sym (ap (λ (s : ProcessSlot P). s.by) (get_or_from_slice_get w.process_slots place t.process_slot t.process_slot t.sits)))
 
   -- the domain at a place
-  place_domain : (xs : List (Seat P)) (k : ℕ) (x : Seat P) → slice_get xs k ≡ Some x → slice_index (domains_of xs) k ≡ x.by
+  place_domain : (xs : List (ProcessSlot P)) (k : ℕ) (x : ProcessSlot P) → slice_get xs k ≡ Some x → slice_index (domains_of xs) k ≡ x.by
   place_domain [] k x e = absurd (cc)
-  place_domain (y ∷ ys) zero x e = let same : y ≡ x = cc in ap (λ (s : Seat P). s.by) same
+  place_domain (y ∷ ys) zero x e = let same : y ≡ x = cc in ap (λ (s : ProcessSlot P). s.by) same
   place_domain (y ∷ ys) (suc k) x e = place_domain ys k x e
 
   -- turns in rounds are a run of turns
-  pub rounds_run : (w : Stage M P) (i : ℕ) (ts : List Went) (after : Stage M P) → RoundRun machine turns w i ts after → WorldRun machine turns w (rounds (domains_of w.seats) i (length ts)) (map (λ t. t.1) ts) after
+  pub rounds_run : (w : Stage M P) (i : ℕ) (ts : List Went) (after : Stage M P) → RoundRun machine turns w i ts after → WorldRun machine turns w (rounds (domains_of w.process_slots) i (length ts)) (map (λ t. t.1) ts) after
   rounds_run w i [] after ran = ran
   rounds_run w i (t ∷ ts) after ran =
-      let place : i % length w.seats ≡ i % length (domains_of w.seats) = rw (length-map w.seats (λ s. s.by)) in (
+      let place : i % length w.process_slots ≡ i % length (domains_of w.process_slots) = rw (length-map w.process_slots (λ s. s.by)) in (
         ran.0,
-        inr (record { place = i % length w.seats; yields = t.0; turn = ran.1; domain = sym (ap (λ (k : ℕ). slice_index (domains_of w.seats) k) (sym place) ∙ place_domain w.seats (i % length w.seats) ran.1.seat ran.1.sits) }),
-        subst (λ (ds : List ℕ). WorldRun machine turns ran.0 (rounds ds (suc i) (length ts)) (map (λ t. t.1) ts) after) (same_domains w (i % length w.seats) t.0 t.1 ran.0 ran.1) (rounds_run ran.0 (suc i) ts after ran.2),
+        inr (record { place = i % length w.process_slots; yields = t.0; turn = ran.1; domain = sym (ap (λ (k : ℕ). slice_index (domains_of w.process_slots) k) (sym place) ∙ place_domain w.process_slots (i % length w.process_slots) ran.1.process_slot ran.1.sits) }),
+        subst (λ (ds : List ℕ). WorldRun machine turns ran.0 (rounds ds (suc i) (length ts)) (map (λ t. t.1) ts) after) (same_domains w (i % length w.process_slots) t.0 t.1 ran.0 ran.1) (rounds_run ran.0 (suc i) ts after ran.2),
       )
 
 -- one turn more counted

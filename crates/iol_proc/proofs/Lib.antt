@@ -2,10 +2,10 @@ pub mod StreamEvents
 pub mod Chains
 pub mod MachineRuns
 pub mod InRounds
-pub mod LentBytes
+pub mod ReadableBytes
 pub mod Plain
 pub mod Runs
-pub mod Seats
-pub mod Settlement
-pub mod Smooth
+pub mod ProcessSlots
+pub mod Quiescence
+pub mod FailureFree
 pub mod Streams

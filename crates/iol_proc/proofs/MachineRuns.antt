@@ -3,19 +3,19 @@ use Rattle.std.proofs.Common.{◌≡◌, inl, inr, ℕ, List, [], ◌∷◌, Boo
 use Rattle.iol_core.specs.declared.events.Event.{Event}
 use Rattle.iol_core.specs.declared.events.Reply.{Reply}
 use Rattle.iol_system.specs.Machine.{SystemState, machine_of}
-use Rattle.iol_proc.specs.Turns.{Account, Comes, Starves, SeatTurn}
+use Rattle.iol_proc.specs.Turns.{TransitionRelation, Comes, Starves, ProcessSlotTurn}
 use Rattle.iol_proc.specs.World.{Stage, copying, sharing, copied, PlaceTurn, DomainTurn, OutsideStep, WorldStep, WorldRun}
 use Rattle.iol_proc.specs.Idle.{Went, RoundRun, Idles}
 use Rattle.iol_proc.specs.declared.choice.Choice.{Choice}
 use Rattle.iol_proc.specs.declared.choice.Choice.TheVariants as choice
 use Rattle.iol_proc.specs.declared.process.Turn.{Turn}
 use Rattle.iol_proc.specs.declared.process.Turn.TheVariants as turn
-use Rattle.iol_proc.specs.declared.seat.Seat.{Seat}
+use Rattle.iol_proc.specs.declared.process_slot.ProcessSlot.{ProcessSlot}
 
 abbrev IsHonest : SystemState → Type 0
 IsHonest s = s.disk.honest ≡ true
 
-module _ {P : Type 0} (turns : Account P) where
+module _ {P : Type 0} (turns : TransitionRelation P) where
   -- the machine that copies goes on so, and the store stays honest
   abbrev Both : SystemState → Type 0 → Type 0
   Both after Q = Q × IsHonest after
@@ -24,22 +24,22 @@ module _ {P : Type 0} (turns : Account P) where
   comes_copied m by turn.Yield yields r after honest c = ((c.0, c.1, ap machine_of c.2), subst IsHonest (sym c.2) honest)
   comes_copied m by (turn.Make call) yields r after honest c = ((c.0, c.1.step honest), c.1.honest ∙ honest)
 
-  starves_copied : (m : SystemState) (seat : Seat P) (yields : Bool) (r : Reply) (after : SystemState) (next : Seat P) → Starves sharing turns m seat yields r after next → Starves copying turns (machine_of m) seat yields r (machine_of after) next
-  starves_copied m seat yields r after next s = record { wanted = s.wanted; no_yield = s.no_yield; answer = s.answer; machine_stays = ap machine_of s.machine_stays; seat_stays = s.seat_stays }
+  starves_copied : (m : SystemState) (process_slot : ProcessSlot P) (yields : Bool) (r : Reply) (after : SystemState) (next : ProcessSlot P) → Starves sharing turns m process_slot yields r after next → Starves copying turns (machine_of m) process_slot yields r (machine_of after) next
+  starves_copied m process_slot yields r after next s = record { wanted = s.wanted; no_yield = s.no_yield; answer = s.answer; machine_stays = ap machine_of s.machine_stays; process_slot_stays = s.process_slot_stays }
 
-  seat_copied : (m : SystemState) (seat : Seat P) (yields : Bool) (r : Reply) (after : SystemState) (next : Seat P) → IsHonest m → SeatTurn sharing turns m seat yields r after next → Both after (SeatTurn copying turns (machine_of m) seat yields r (machine_of after) next)
-  seat_copied m seat yields r after next honest t =
+  process_slot_copied : (m : SystemState) (process_slot : ProcessSlot P) (yields : Bool) (r : Reply) (after : SystemState) (next : ProcessSlot P) → IsHonest m → ProcessSlotTurn sharing turns m process_slot yields r after next → Both after (ProcessSlotTurn copying turns (machine_of m) process_slot yields r (machine_of after) next)
+  process_slot_copied m process_slot yields r after next honest t =
       elim t [
-        | inl s ↦ (inl (starves_copied m seat yields r after next s), subst IsHonest (sym s.machine_stays) honest)
+        | inl s ↦ (inl (starves_copied m process_slot yields r after next s), subst IsHonest (sym s.machine_stays) honest)
         | inr v ↦
-            let comes = comes_copied m seat.by v.turn yields r after honest v.comes in
-            (inr (record { turn = v.turn; goes_on = v.goes_on; comes = comes.0; told = v.told; domain_stays = v.domain_stays }), comes.1)
+            let comes = comes_copied m process_slot.by v.turn yields r after honest v.comes in
+            (inr (record { turn = v.turn; proceeds = v.proceeds; comes = comes.0; reported = v.reported; domain_stays = v.domain_stays }), comes.1)
       ]
 
   pub place_copied : (w : Stage SystemState P) (place : ℕ) (yields : Bool) (r : Reply) (after : Stage SystemState P) → IsHonest w.machine → PlaceTurn sharing turns w place yields r after → Both after.machine (PlaceTurn copying turns (copied w) place yields r (copied after))
   place_copied w place yields r after honest t =
-      let both = seat_copied w.machine t.seat yields r after.machine t.next honest t.turn in
-      (record { seat = t.seat; next = t.next; sits = t.sits; turn = both.0; others_stay = t.others_stay; notes = t.notes }, both.1)
+      let both = process_slot_copied w.machine t.process_slot yields r after.machine t.next honest t.turn in
+      (record { process_slot = t.process_slot; next = t.next; sits = t.sits; turn = both.0; others_stay = t.others_stay; notes = t.notes }, both.1)
 
   domain_copied : (w : Stage SystemState P) (by : ℕ) (r : Reply) (after : Stage SystemState P) → IsHonest w.machine → DomainTurn sharing turns w by r after → Both after.machine (DomainTurn copying turns (copied w) by r (copied after))
   unfolding place_copied
@@ -52,7 +52,7 @@ module _ {P : Type 0} (turns : Account P) where
       ]
 
   pub outside_copied : (w : Stage SystemState P) (e : Event) (r : Reply) (after : Stage SystemState P) → IsHonest w.machine → OutsideStep sharing turns w e r after → Both after.machine (OutsideStep copying turns (copied w) e r (copied after))
-  outside_copied w e r after honest o = (record { step = o.step.step honest; seats_stay = o.seats_stay; rough_stays = o.rough_stays }, o.step.honest ∙ honest)
+  outside_copied w e r after honest o = (record { step = o.step.step honest; process_slots_stay = o.process_slots_stay; resource_failure_stays = o.resource_failure_stays }, o.step.honest ∙ honest)
 
   step_copied : (w : Stage SystemState P) (c : Choice) (r : Reply) (after : Stage SystemState P) → IsHonest w.machine → WorldStep sharing turns w c r after → Both after.machine (WorldStep copying turns (copied w) c r (copied after))
   step_copied w (choice.Turn by) r after honest step = domain_copied w by r after honest step
@@ -78,7 +78,7 @@ module _ {P : Type 0} (turns : Account P) where
     ran = rounds_copied w 0 i.went after honest i.ran;
     run = run_copied w _ _ after honest i.run;
     within = i.within;
-    told = i.told;
+    reported = i.reported;
     first = i.first;
     all_taken = i.all_taken;
   }

@@ -3,24 +3,24 @@ use Rattle.std.proofs.Common.{◌≡◌, ℕ, ◌+◌, ◌<◌, List, [], ◌∷
 use Rattle.std.proofs.lemmas.List.{length-map, take_more}
 use Rattle.std.proofs.Math.Seq.{map-set_same}
 use Rattle.iol_core.specs.declared.events.Reply.{Reply}
-use Rattle.iol_proc.specs.Turns.{Machine, Account}
-use Rattle.iol_proc.specs.World.{Stage, domains_of, IsSeated, WorldStep, WorldRun}
+use Rattle.iol_proc.specs.Turns.{Machine, TransitionRelation}
+use Rattle.iol_proc.specs.World.{Stage, domains_of, IsInSlots, WorldStep, WorldRun}
 use Rattle.iol_proc.specs.declared.choice.Choice.{Choice}
-use Rattle.iol_proc.specs.declared.seat.Seat.{Seat}
+use Rattle.iol_proc.specs.declared.process_slot.ProcessSlot.{ProcessSlot}
 
 -- what holds of a value that is there
 pub of_some : {X : Type 0} (P : X → Type 0) (o : Option X) (x : X) → o ≡ Some x → IfSome o P → P x
 of_some {X = X} P o x e h = subst (λ (v : Option X). IfSome v P) e h
 
--- a seat that keeps its domain
-pub domains_of-slice_set : {P : Type 0} (xs : List (Seat P)) (k : ℕ) (x y : Seat P) → x ≡ get_or xs k x → y.by ≡ x.by → domains_of (slice_set xs k y) ≡ domains_of xs
+-- a process slot that keeps its domain
+pub domains_of-slice_set : {P : Type 0} (xs : List (ProcessSlot P)) (k : ℕ) (x y : ProcessSlot P) → x ≡ get_or xs k x → y.by ≡ x.by → domains_of (slice_set xs k y) ≡ domains_of xs
 domains_of-slice_set xs k x y at_k same = map-set_same (λ s. s.by) xs k y x (same ∙ ap (λ s. s.by) at_k)
 
 -- as many processes as domains
-pub same_length : {P : Type 0} (xs ys : List (Seat P)) → domains_of xs ≡ domains_of ys → length xs ≡ length ys
+pub same_length : {P : Type 0} (xs ys : List (ProcessSlot P)) → domains_of xs ≡ domains_of ys → length xs ≡ length ys
 same_length xs ys e = sym (length-map xs (λ s. s.by)) ∙ (ap length e ∙ length-map ys (λ s. s.by))
 
-module _ {M P : Type 0} (machine : Machine M) (turns : Account P) where
+module _ {M P : Type 0} (machine : Machine M) (turns : TransitionRelation P) where
   -- one step more
   pub run_more : (w : Stage M P) (cs : List Choice) (rs : List Reply) (mid : Stage M P) (c : Choice) (r : Reply) (after : Stage M P) → WorldRun machine turns w cs rs mid → WorldStep machine turns mid c r after → WorldRun machine turns w (cs ++ c ∷ []) (rs ++ r ∷ []) after
   run_more w [] [] mid c r after ran step = (after, subst (λ (v : Stage M P). WorldStep machine turns v c r after) ran step, refl)
@@ -34,11 +34,11 @@ module _ {M P : Type 0} (machine : Machine M) (turns : Account P) where
       rw (take_more cs i c lt) (subst (λ (x : Choice). WorldRun machine turns w (take i cs ++ x ∷ []) (rs ++ r ∷ []) after) is (run_more w (take i cs) rs mid c r after ran step))
 
 -- the process that sits at the place that was found
-pub seated_at : {P : Type 0} (seats : List (Seat P)) (by k : ℕ) (seat : Seat P) → slice_get seats k ≡ Some seat → IfSome (slice_get seats k) (λ s. s.by ≡ by) → IsSeated seats by seat.process
-seated_at seats by k seat sits found = record {
+pub in_slots_at : {P : Type 0} (process_slots : List (ProcessSlot P)) (by k : ℕ) (process_slot : ProcessSlot P) → slice_get process_slots k ≡ Some process_slot → IfSome (slice_get process_slots k) (λ s. s.by ≡ by) → IsInSlots process_slots by process_slot.process
+in_slots_at process_slots by k process_slot sits found = record {
   place = k;
-  seat = seat;
+  process_slot = process_slot;
   sits = sits;
-  domain = of_some (λ s. s.by ≡ by) (slice_get seats k) seat sits found;
+  domain = of_some (λ s. s.by ≡ by) (slice_get process_slots k) process_slot sits found;
   process = refl;
 }

@@ -17,9 +17,9 @@ use Rattle.iol_sock.specs.declared.drain_to.Drained.{Drained}
 use Rattle.iol_system.specs.Machine.{SystemState, machine_of, tables_of}
 use Rattle.iol_system.specs.Streams.{Comes}
 use Rattle.iol_proc.specs.Streams.{ArrivesAs, SendsAs}
-use Rattle.iol_proc.specs.Turns.{Account}
+use Rattle.iol_proc.specs.Turns.{TransitionRelation}
 use Rattle.iol_proc.specs.World.{Stage, copied}
-use Rattle.iol_proc.specs.declared.seat.Seat.{Seat}
+use Rattle.iol_proc.specs.declared.process_slot.ProcessSlot.{ProcessSlot}
 
 -- the store's bytes do not show in connections
 conn-slots : (slots : List (List ℕ)) (h : KernelState) (c : ℕ) → conn_at (held.machine_of slots h) c ≡ conn_at (tables_of h) c
@@ -45,48 +45,48 @@ sends slots h c n max there most =
     first_none _ _ _ _ _ _ (lacks_conn-slots slots h c ∙ there) asked some
 
 -- a stage from its parts
-staged : {P : Type 0} → State → List (Seat P) → Bool → Stage State P
-staged m seats rough = record { machine = m; seats = seats; rough = rough }
+staged : {P : Type 0} → State → List (ProcessSlot P) → Bool → Stage State P
+staged m process_slots resource_failure = record { machine = m; process_slots = process_slots; resource_failure = resource_failure }
 
-same_copied : {P : Type 0} (old new : Stage SystemState P) → new.seats ≡ old.seats → new.rough ≡ old.rough → machine_of new.machine ≡ machine_of old.machine → copied new ≡ copied old
+same_copied : {P : Type 0} (old new : Stage SystemState P) → new.process_slots ≡ old.process_slots → new.resource_failure ≡ old.resource_failure → machine_of new.machine ≡ machine_of old.machine → copied new ≡ copied old
 unfolding staged
-same_copied old new seats rough machine =
-    ap (λ m. staged m new.seats new.rough) machine
-    ∙ (ap (λ s. staged (machine_of old.machine) s new.rough) seats ∙ ap (λ r. staged (machine_of old.machine) old.seats r) rough)
+same_copied old new process_slots resource_failure machine =
+    ap (λ m. staged m new.process_slots new.resource_failure) machine
+    ∙ (ap (λ s. staged (machine_of old.machine) s new.resource_failure) process_slots ∙ ap (λ r. staged (machine_of old.machine) old.process_slots r) resource_failure)
 
 -- a refusal leaves the machine, and the processes
-pub refused_copied : {P A E : Type 0} (r : Result A E) (old new : Stage SystemState P) → new.seats ≡ old.seats → new.rough ≡ old.rough → IfHonest old.machine.disk (OnErr r (machine_of new.machine ≡ machine_of old.machine)) → IfHonest old.machine.disk (OnErr r (copied new ≡ copied old))
-refused_copied (Ok a) old new seats rough same = λ honest. tt
-refused_copied (Err e) old new seats rough same = λ honest. same_copied old new seats rough (same honest)
+pub refused_copied : {P A E : Type 0} (r : Result A E) (old new : Stage SystemState P) → new.process_slots ≡ old.process_slots → new.resource_failure ≡ old.resource_failure → IfHonest old.machine.disk (OnErr r (machine_of new.machine ≡ machine_of old.machine)) → IfHonest old.machine.disk (OnErr r (copied new ≡ copied old))
+refused_copied (Ok a) old new process_slots resource_failure same = λ honest. tt
+refused_copied (Err e) old new process_slots resource_failure same = λ honest. same_copied old new process_slots resource_failure (same honest)
 
-module _ {P : Type 0} (turns : Account P) where
-  arrives_as : (c n : ℕ) (bytes : List ℕ) (old new : Stage SystemState P) → new.seats ≡ old.seats → new.rough ≡ old.rough → old.machine.disk.honest ≡ true → Comes c n bytes old.machine new.machine → ArrivesAs turns c n bytes (copied old) (copied new)
-  arrives_as c n bytes old new seats rough honest came =
+module _ {P : Type 0} (turns : TransitionRelation P) where
+  arrives_as : (c n : ℕ) (bytes : List ℕ) (old new : Stage SystemState P) → new.process_slots ≡ old.process_slots → new.resource_failure ≡ old.resource_failure → old.machine.disk.honest ≡ true → Comes c n bytes old.machine new.machine → ArrivesAs turns c n bytes (copied old) (copied new)
+  arrives_as c n bytes old new process_slots resource_failure honest came =
       let step = came.step honest in
-      record { step = (step.0, ap reply.Count step.1, step.2); seats_stay = seats; rough_stays = rough }
+      record { step = (step.0, ap reply.Count step.1, step.2); process_slots_stay = process_slots; resource_failure_stays = resource_failure }
 
-  pub arrived_copied : {E : Type 0} (c : ℕ) (left after : Option (List ℕ)) (r : Result Arrived E) (old new : Stage SystemState P) → new.seats ≡ old.seats → new.rough ≡ old.rough
+  pub arrived_copied : {E : Type 0} (c : ℕ) (left after : Option (List ℕ)) (r : Result Arrived E) (old new : Stage SystemState P) → new.process_slots ≡ old.process_slots → new.resource_failure ≡ old.resource_failure
       → IfOk r (λ a. TakesIn left after a.taken (λ bytes. Comes c a.taken bytes old.machine new.machine))
       → IfHonest old.machine.disk (IfOk r (λ a. TakesIn left after a.taken (λ bytes. ArrivesAs turns c a.taken bytes (copied old) (copied new))))
-  arrived_copied c left after (Ok a) old new seats rough read = λ honest. record {
+  arrived_copied c left after (Ok a) old new process_slots resource_failure read = λ honest. record {
     bytes = read.bytes;
     count = read.count;
     given = read.given;
-    arrives = arrives_as c a.taken read.bytes old new seats rough honest read.arrives;
+    arrives = arrives_as c a.taken read.bytes old new process_slots resource_failure honest read.arrives;
   }
-  arrived_copied c left after (Err e) old new seats rough read = λ honest. tt
+  arrived_copied c left after (Err e) old new process_slots resource_failure read = λ honest. tt
 
-  sends_as : (c n max : ℕ) (old new : Stage SystemState P) → new.seats ≡ old.seats → new.rough ≡ old.rough → lacks_conn (tables_of old.machine.kernel) c ≡ false → n ≤ min max (length (conn_at (tables_of old.machine.kernel) c).outgoing)
+  sends_as : (c n max : ℕ) (old new : Stage SystemState P) → new.process_slots ≡ old.process_slots → new.resource_failure ≡ old.resource_failure → lacks_conn (tables_of old.machine.kernel) c ≡ false → n ≤ min max (length (conn_at (tables_of old.machine.kernel) c).outgoing)
       → machine_of new.machine ≡ sent_on c n (machine_of old.machine) → SendsAs turns c n (copied old) (copied new)
-  sends_as c zero max old new seats rough there most sent = same_copied old new seats rough sent
-  sends_as c (suc n) max old new seats rough there most sent = record {
+  sends_as c zero max old new process_slots resource_failure there most sent = same_copied old new process_slots resource_failure sent
+  sends_as c (suc n) max old new process_slots resource_failure there most sent = record {
     step = (sends old.machine.disk.slots old.machine.kernel c n max there most, refl, sent);
-    seats_stay = seats;
-    rough_stays = rough;
+    process_slots_stay = process_slots;
+    resource_failure_stays = resource_failure;
   }
 
-  pub drained_copied : {E : Type 0} (c max : ℕ) (before after : Option (List ℕ)) (r : Result Drained E) (old new : Stage SystemState P) → new.seats ≡ old.seats → new.rough ≡ old.rough → new.machine.disk ≡ old.machine.disk
+  pub drained_copied : {E : Type 0} (c max : ℕ) (before after : Option (List ℕ)) (r : Result Drained E) (old new : Stage SystemState P) → new.process_slots ≡ old.process_slots → new.resource_failure ≡ old.resource_failure → new.machine.disk ≡ old.machine.disk
       → OnOk r (lacks_conn (tables_of old.machine.kernel) c ≡ false) → IfOk r (DrainsTo c max before after old.machine.kernel new.machine.kernel) → IfOk r (λ d. SendsAs turns c d.taken (copied old) (copied new))
-  drained_copied c max before after (Ok d) old new seats rough disk there drains =
-      sends_as c d.taken max old new seats rough there drains.most (ap (λ k. held.machine_of k.slots new.machine.kernel) disk ∙ drains.left.bytes old.machine.disk.slots)
-  drained_copied c max before after (Err e) old new seats rough disk there drains = tt
+  drained_copied c max before after (Ok d) old new process_slots resource_failure disk there drains =
+      sends_as c d.taken max old new process_slots resource_failure there drains.most (ap (λ k. held.machine_of k.slots new.machine.kernel) disk ∙ drains.left.bytes old.machine.disk.slots)
+  drained_copied c max before after (Err e) old new process_slots resource_failure disk there drains = tt

@@ -11,20 +11,20 @@ use Rattle.iol_core.specs.declared.events.Event.TheVariants as event
 use Rattle.iol_core.specs.declared.events.Reply.{Reply}
 use Rattle.iol_laws.specs.History.{stream_of, sent_of, drops_unsent, came_by, sent_by, IsEndOf, GoesFirst, IsAllUnread}
 use Rattle.iol_laws.specs.Order.{IsOrderly}
-use Rattle.iol_laws.proofs.Runs.{Tells, told-append, told-more}
+use Rattle.iol_laws.proofs.Runs.{Reports, reported-append, reported-more}
 use Rattle.iol_laws.proofs.Streams.Histories.{stream-append, sent-append, unread_run, unsent_run}
 use Rattle.iol_laws.proofs.Streams.Backlog.{waiting_run}
-use Rattle.iol_proc.specs.Histories.{came_with, sent_with, stream_over, sent_over, drops_with, may_be_no_call, RunsAs, GoesOn}
-use Rattle.iol_proc.specs.Turns.{Machine, Account, Comes, SeatTurn}
+use Rattle.iol_proc.specs.Histories.{came_with, sent_with, stream_over, sent_over, drops_with, may_be_no_call, RunsAs, Proceeds}
+use Rattle.iol_proc.specs.Turns.{Machine, TransitionRelation, Comes, ProcessSlotTurn}
 use Rattle.iol_proc.specs.World.{Stage, copying, DomainTurn, WorldStep, WorldRun}
 use Rattle.iol_proc.specs.declared.choice.Choice.{Choice}
 use Rattle.iol_proc.specs.declared.choice.Choice.TheVariants as choice
 use Rattle.iol_proc.specs.declared.process.Turn.{Turn}
 use Rattle.iol_proc.specs.declared.process.Turn.TheVariants as turn
-use Rattle.iol_proc.specs.declared.seat.Seat.{Seat}
+use Rattle.iol_proc.specs.declared.process_slot.ProcessSlot.{ProcessSlot}
 
 -- A machine whose runs begin with nothing, and with one step more.
-module _ {M P : Type 0} (machine : Machine M) (turns : Account P) (Runs : M → List Event → List Reply → M → Type 0) (none : (old new : M) → new ≡ old → Runs old [] [] new) (more : (old mid new : M) (e : Event) (r : Reply) (es : List Event) (rs : List Reply) → machine.Step old e r mid → Runs mid es rs new → Runs old (e ∷ es) (r ∷ rs) new) where
+module _ {M P : Type 0} (machine : Machine M) (turns : TransitionRelation P) (Runs : M → List Event → List Reply → M → Type 0) (none : (old new : M) → new ≡ old → Runs old [] [] new) (more : (old mid new : M) (e : Event) (r : Reply) (es : List Event) (rs : List Reply) → machine.Step old e r mid → Runs mid es rs new → Runs old (e ∷ es) (r ∷ rs) new) where
   -- a choice at which the machine stays
   stays_as : (by : ℕ) (r : Reply) (old mid new : M) (xs : List Choice) (rs : List Reply) → may_be_no_call r ≡ true → mid ≡ old → RunsAs Runs mid xs rs new → RunsAs Runs old (choice.Turn by ∷ xs) (r ∷ rs) new
   unfolding stream_over sent_over
@@ -55,18 +55,18 @@ module _ {M P : Type 0} (machine : Machine M) (turns : Account P) (Runs : M → 
   comes_as by d turn.Yield yields r old mid new xs rs its comes rest = stays_as by r old mid new xs rs (subst (λ (v : Reply). may_be_no_call v ≡ true) (sym comes.1) refl) comes.2 rest
   comes_as by d (turn.Make k) yields r old mid new xs rs its comes rest = calls_as by d k r old mid new xs rs its comes.1 rest
 
-  seat_as : (by : ℕ) (seat next : Seat P) (yields : Bool) (r : Reply) (old mid new : M) (xs : List Choice) (rs : List Reply) → seat.by ≡ by → SeatTurn machine turns old seat yields r mid next → RunsAs Runs mid xs rs new → RunsAs Runs old (choice.Turn by ∷ xs) (r ∷ rs) new
-  seat_as by seat next yields r old mid new xs rs its t rest =
+  process_slot_as : (by : ℕ) (process_slot next : ProcessSlot P) (yields : Bool) (r : Reply) (old mid new : M) (xs : List Choice) (rs : List Reply) → process_slot.by ≡ by → ProcessSlotTurn machine turns old process_slot yields r mid next → RunsAs Runs mid xs rs new → RunsAs Runs old (choice.Turn by ∷ xs) (r ∷ rs) new
+  process_slot_as by process_slot next yields r old mid new xs rs its t rest =
       elim t [
         | inl starves ↦ stays_as by r old mid new xs rs (subst (λ (v : Reply). may_be_no_call v ≡ true) (sym starves.answer) refl) starves.machine_stays rest
-        | inr moves ↦ comes_as by seat.by moves.turn yields r old mid new xs rs its moves.comes rest
+        | inr moves ↦ comes_as by process_slot.by moves.turn yields r old mid new xs rs its moves.comes rest
       ]
 
   domain_as : (by : ℕ) (r : Reply) (w mid : Stage M P) (new : M) (xs : List Choice) (rs : List Reply) → DomainTurn machine turns w by r mid → RunsAs Runs mid.machine xs rs new → RunsAs Runs w.machine (choice.Turn by ∷ xs) (r ∷ rs) new
   domain_as by r w mid new xs rs t rest =
       elim t [
         | inl absent ↦ stays_as by r w.machine mid.machine new xs rs (subst (λ (v : Reply). may_be_no_call v ≡ true) (sym absent.answer) refl) (ap (λ (v : Stage M P). v.machine) absent.stays) rest
-        | inr here ↦ seat_as by here.turn.seat here.turn.next here.yields r w.machine mid.machine new xs rs here.domain here.turn.turn rest
+        | inr here ↦ process_slot_as by here.turn.process_slot here.turn.next here.yields r w.machine mid.machine new xs rs here.domain here.turn.turn rest
       ]
 
   step_as : (x : Choice) (r : Reply) (w mid : Stage M P) (new : M) (xs : List Choice) (rs : List Reply) → WorldStep machine turns w x r mid → RunsAs Runs mid.machine xs rs new → RunsAs Runs w.machine (x ∷ xs) (r ∷ rs) new
@@ -90,7 +90,7 @@ module _ {M P : Type 0} (machine : Machine M) (turns : Account P) (Runs : M → 
   run_as w after (x ∷ xs) [] ran = absurd ran
 
 -- In parts.
-module _ {M P : Type 0} (machine : Machine M) (turns : Account P) where
+module _ {M P : Type 0} (machine : Machine M) (turns : TransitionRelation P) where
   pub runs_follow : (w mid after : Stage M P) (past future : List Choice) (rs qs : List Reply) → WorldRun machine turns w past rs mid → WorldRun machine turns mid future qs after → WorldRun machine turns w (past ++ future) (rs ++ qs) after
   runs_follow w mid after [] future [] qs first next = subst (λ (v : Stage M P). WorldRun machine turns v future qs after) first next
   runs_follow w mid after (x ∷ past) future (r ∷ rs) qs first next = (first.0, first.1, runs_follow first.0 mid after past future rs qs first.2 next)
@@ -104,27 +104,27 @@ module _ {M P : Type 0} (machine : Machine M) (turns : Account P) where
   world-even w after [] (r ∷ rs) ran = absurd ran
   world-even w after (x ∷ xs) [] ran = absurd ran
 
-stream_tells : (c : ℕ) → Tells (λ (x : Choice) (r : Reply). came_with c x r) (λ xs rs. stream_over c xs rs)
+stream_reports : (c : ℕ) → Reports (λ (x : Choice) (r : Reply). came_with c x r) (λ xs rs. stream_over c xs rs)
 unfolding stream_over
-stream_tells c = record { none = refl; next = λ x r xs rs. refl }
+stream_reports c = record { none = refl; next = λ x r xs rs. refl }
 
-sent_tells : (c : ℕ) → Tells (λ (x : Choice) (r : Reply). sent_with c x r) (λ xs rs. sent_over c xs rs)
+sent_reports : (c : ℕ) → Reports (λ (x : Choice) (r : Reply). sent_with c x r) (λ xs rs. sent_over c xs rs)
 unfolding sent_over
-sent_tells c = record { none = refl; next = λ x r xs rs. refl }
+sent_reports c = record { none = refl; next = λ x r xs rs. refl }
 
-module _ {M P : Type 0} (machine : Machine M) (turns : Account P) where
+module _ {M P : Type 0} (machine : Machine M) (turns : TransitionRelation P) where
   pub stream_over-append : (w mid : Stage M P) (past future : List Choice) (rs qs : List Reply) (c : ℕ) → WorldRun machine turns w past rs mid → stream_over c (past ++ future) (rs ++ qs) ≡ stream_over c past rs ++ stream_over c future qs
-  stream_over-append w mid past future rs qs c ran = told-append _ _ (stream_tells c) past future rs qs (world-even machine turns w mid past rs ran)
+  stream_over-append w mid past future rs qs c ran = reported-append _ _ (stream_reports c) past future rs qs (world-even machine turns w mid past rs ran)
 
   pub sent_over-append : (w mid : Stage M P) (past future : List Choice) (rs qs : List Reply) (c : ℕ) → WorldRun machine turns w past rs mid → sent_over c (past ++ future) (rs ++ qs) ≡ sent_over c past rs ++ sent_over c future qs
-  sent_over-append w mid past future rs qs c ran = told-append _ _ (sent_tells c) past future rs qs (world-even machine turns w mid past rs ran)
+  sent_over-append w mid past future rs qs c ran = reported-append _ _ (sent_reports c) past future rs qs (world-even machine turns w mid past rs ran)
 
 -- One choice more.
 pub stream_over-more : (xs : List Choice) (rs : List Reply) (x : Choice) (r : Reply) (c : ℕ) → length xs ≡ length rs → stream_over c (xs ++ x ∷ []) (rs ++ r ∷ []) ≡ stream_over c xs rs ++ came_with c x r
-stream_over-more xs rs x r c even = told-more _ _ (stream_tells c) xs rs x r even
+stream_over-more xs rs x r c even = reported-more _ _ (stream_reports c) xs rs x r even
 
 pub sent_over-more : (xs : List Choice) (rs : List Reply) (x : Choice) (r : Reply) (c : ℕ) → length xs ≡ length rs → sent_over c (xs ++ x ∷ []) (rs ++ r ∷ []) ≡ sent_over c xs rs ++ sent_with c x r
-sent_over-more xs rs x r c even = told-more _ _ (sent_tells c) xs rs x r even
+sent_over-more xs rs x r c even = reported-more _ _ (sent_reports c) xs rs x r even
 
 -- Over the machine that copies.
 
@@ -140,12 +140,12 @@ run_then old mid new (e ∷ past) future (r ∷ rs) qs first next = (first.0, fi
 run_then old mid new [] future (r ∷ rs) qs first next = absurd first
 run_then old mid new (e ∷ past) future [] qs first next = absurd first
 
-module _ {P : Type 0} (turns : Account P) where
+module _ {P : Type 0} (turns : TransitionRelation P) where
   pub machine_as : (w after : Stage State P) (xs : List Choice) (rs : List Reply) → WorldRun copying turns w xs rs after → RunsAs Run w.machine xs rs after.machine
   machine_as w after xs rs ran = run_as copying turns Run run_none run_step w after xs rs ran
 
-  pub history_goes_on : (first : State) (past : List Event) (ps : List Reply) (w after : Stage State P) (xs : List Choice) (rs : List Reply) → Run first past ps w.machine → WorldRun copying turns w xs rs after → GoesOn first past ps xs rs after.machine
-  history_goes_on first past ps w after xs rs was ran =
+  pub history_proceeds : (first : State) (past : List Event) (ps : List Reply) (w after : Stage State P) (xs : List Choice) (rs : List Reply) → Run first past ps w.machine → WorldRun copying turns w xs rs after → Proceeds first past ps xs rs after.machine
+  history_proceeds first past ps w after xs rs was ran =
       let now = machine_as w after xs rs ran in record {
         events = now.events;
         replies = now.replies;

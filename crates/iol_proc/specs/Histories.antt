@@ -1,7 +1,7 @@
 -- The bytes received and sent on each connection, by number, over choices and their replies.
 --
--- For a single event it is the `History` of `iol_laws`. A turn neither receives nor sends: a process reads and writes the
--- queues, and external events fill and drain them.
+-- For a single event it is the `History` of `iol_laws`. A turn neither receives nor sends: a process reads and writes
+-- the queues, and external events fill and drain them.
 use Rattle.std.specs.Prelude.{◌≡◌, ◌⊎◌, ℕ, Bool, true, false, List, [], ◌∷◌, ◌++◌, length}
 use Rattle.std.specs.List.{list_any}
 use Rattle.iol_core.specs.Text.{bytes_of}
@@ -17,7 +17,7 @@ use Rattle.iol_laws.specs.History.{came_by, sent_by, stream_of, sent_of, drops_u
 use Rattle.iol_laws.specs.Order.{IsOrderly}
 use Rattle.iol_system.specs.Machine.{SystemState}
 use Rattle.iol_system.specs.Promises.{Chain}
-use Rattle.iol_proc.specs.Turns.{Account}
+use Rattle.iol_proc.specs.Turns.{TransitionRelation}
 use Rattle.iol_proc.specs.World.{Stage, copying, sharing, WorldRun}
 use Rattle.iol_proc.specs.declared.choice.Choice.{Choice}
 use Rattle.iol_proc.specs.declared.choice.Choice.TheVariants as choice
@@ -58,8 +58,8 @@ abbrev pub Begin : Event → Reply → (List Event → List Reply → Type 0) �
 Begin e r Rest (f ∷ es) (s ∷ qs) = (f ≡ e) × (s ≡ r) × Rest es qs
 Begin e r Rest es qs = ⊥
 
--- Choices with these replies cause exactly these events, with their replies: an external event is itself an event, and a turn
--- is one call of its own domain, or none.
+-- Choices with these replies cause exactly these events, with their replies: an external event is itself an event, and
+-- a turn is one call of its own domain, or none.
 abbrev pub BringAbout : List Choice → List Reply → List Event → List Reply → Type 0
 BringAbout [] [] es qs = (es ≡ []) × (qs ≡ [])
 BringAbout (choice.Outside e ∷ xs) (r ∷ rs) es qs = Begin e r (BringAbout xs rs) es qs
@@ -79,7 +79,7 @@ pub record RunsAs {M : Type 0} (Runs : M → List Event → List Reply → M →
   pub drops : (c : ℕ) → list_any (λ e. drops_unsent e c) events ≡ list_any (λ x. drops_with x c) xs
 
 -- The choices extend an earlier run of the machine, and each connection's history is extended by that of the choices.
-pub record GoesOn (first : State) (past : List Event) (ps : List Reply) (xs : List Choice) (rs : List Reply)
+pub record Proceeds (first : State) (past : List Event) (ps : List Reply) (xs : List Choice) (rs : List Reply)
     (new : State) : Type 0 where
   pub events : List Event
   pub replies : List Reply
@@ -88,16 +88,16 @@ pub record GoesOn (first : State) (past : List Event) (ps : List Reply) (xs : Li
   pub stream : (c : ℕ) → stream_of c (past ++ events) (ps ++ replies) ≡ stream_of c past ps ++ stream_over c xs rs
   pub sent : (c : ℕ) → sent_of c (past ++ events) (ps ++ replies) ≡ sent_of c past ps ++ sent_over c xs rs
 
-pub record HistoriesOfChoices {P : Type 0} (turns : Account P) : Type 0 where
+pub record HistoriesOfChoices {P : Type 0} (turns : TransitionRelation P) : Type 0 where
   -- a run of a world is a run of the copying machine and, over any store, of the system
   pub machine : (w after : Stage State P) (xs : List Choice) (rs : List Reply) → WorldRun copying turns w xs rs after
       → RunsAs Run w.machine xs rs after.machine
   pub system : (w after : Stage SystemState P) (xs : List Choice) (rs : List Reply) → WorldRun sharing turns w xs rs after
       → RunsAs Chain w.machine xs rs after.machine
   -- the choices extend histories by the bytes that they receive and send
-  pub goes_on : (first : State) (past : List Event) (ps : List Reply) (w after : Stage State P)
+  pub proceeds : (first : State) (past : List Event) (ps : List Reply) (w after : Stage State P)
       (xs : List Choice) (rs : List Reply)
-      → Run first past ps w.machine → WorldRun copying turns w xs rs after → GoesOn first past ps xs rs after.machine
+      → Run first past ps w.machine → WorldRun copying turns w xs rs after → Proceeds first past ps xs rs after.machine
   -- two successive runs are one run, whose history is that of the first followed by that of the second
   pub follows : (w mid after : Stage State P) (past future : List Choice) (rs qs : List Reply)
       → WorldRun copying turns w past rs mid

@@ -2,7 +2,7 @@
 use Rattle.std.specs.Prelude.{◌≡◌, ◌<◌, ◌≤◌, ◌+◌, ◌%◌, ℕ, zero, suc, List, [], ◌∷◌, length, map, take, replicate, Bool, false, if◌then◌else◌, nat_lt, nat_le, slice_index, slice_set}
 use Rattle.std.specs.List.{list_all}
 use Rattle.iol_core.specs.declared.events.Reply.{Reply}
-use Rattle.iol_proc.specs.Turns.{Machine, Account, is_would_block}
+use Rattle.iol_proc.specs.Turns.{Machine, TransitionRelation, is_would_block}
 use Rattle.iol_system.specs.Machine.{SystemState}
 use Rattle.iol_proc.specs.World.{Stage, PlaceTurn, WorldRun, copied, copying, domains_of, sharing}
 use Rattle.iol_proc.specs.declared.choice.Choice.{Choice}
@@ -21,8 +21,8 @@ went o = (o.yields, o.reply)
 abbrev pub more_of_two : ℕ → ℕ
 more_of_two n = if nat_lt n 2 then n + 1 else n
 
--- The number of yields of each process, up to two, after one more turn. A yield counts, WouldBlock leaves the counts unchanged,
--- and any other reply resets them.
+-- The number of yields of each process, up to two, after one more turn. A yield counts, WouldBlock leaves the counts
+-- unchanged, and any other reply resets them.
 abbrev pub counted : List ℕ → (place : ℕ) → Went → List ℕ
 counted ns place t =
     if t.0 then slice_set ns place (more_of_two (slice_index ns place))
@@ -46,25 +46,25 @@ abbrev pub rounds : (domains : List ℕ) → (i n : ℕ) → List Choice
 rounds ds i zero = []
 rounds ds i (suc n) = choice.Turn (slice_index ds (i % length ds)) ∷ rounds ds (suc i) n
 
-module _ {M P : Type 0} (machine : Machine M) (turns : Account P) where
+module _ {M P : Type 0} (machine : Machine M) (turns : TransitionRelation P) where
   -- Turns in rounds, from the i-th on: the processes in order of index, then the first again.
   abbrev pub RoundRun : Stage M P → (i : ℕ) → List Went → Stage M P → Type 0
   RoundRun w i [] after = after ≡ w
-  RoundRun w i (t ∷ ts) after = (mid : Stage M P) × PlaceTurn machine turns w (i % length w.seats) t.0 t.1 mid
+  RoundRun w i (t ∷ ts) after = (mid : Stage M P) × PlaceTurn machine turns w (i % length w.process_slots) t.0 t.1 mid
       × RoundRun mid (suc i) ts after
 
-  -- Turns in rounds in ascending order of domains, up to the maximum number, or until every process has yielded twice since the
-  -- last turn whose reply was not WouldBlock.
+  -- Turns in rounds in ascending order of domains, up to the maximum number, or until every process has yielded twice
+  -- since the last turn whose reply was not WouldBlock.
   pub record Idles (w : Stage M P) (most : ℕ) (idle : Bool) (after : Stage M P) : Type 0 where
     pub went : List Went
     pub ran : RoundRun w 0 went after
-    pub run : WorldRun machine turns w (rounds (domains_of w.seats) 0 (length went)) (map (λ t. t.1) went) after
+    pub run : WorldRun machine turns w (rounds (domains_of w.process_slots) 0 (length went)) (map (λ t. t.1) went) after
     pub within : length went ≤ most
-    pub told : idle ≡ is_idle (yields_of (length w.seats) went)
-    pub first : (j : ℕ) → j < length went → is_idle (yields_of (length w.seats) (take j went)) ≡ false
+    pub reported : idle ≡ is_idle (yields_of (length w.process_slots) went)
+    pub first : (j : ℕ) → j < length went → is_idle (yields_of (length w.process_slots) (take j went)) ≡ false
     pub all_taken : idle ≡ false → length went ≡ most
 
-module _ {P : Type 0} (turns : Account P) where
+module _ {P : Type 0} (turns : TransitionRelation P) where
   -- a turn of the process at this index of a world, with this outcome
   abbrev pub TurnGoes : Stage SystemState P → (place : ℕ) → Outcome → Stage SystemState P → Type 0
   TurnGoes w place o after = PlaceTurn sharing turns w place o.yields o.reply after

@@ -2,11 +2,11 @@ pub mod Streams
 pub mod Histories
 pub mod Idle
 pub mod Laws
-pub mod LentBytes
+pub mod ReadableBytes
 pub mod Looks
 pub mod Quiet
-pub mod Settlement
-pub mod Smooth
+pub mod Quiescence
+pub mod FailureFree
 pub mod Turns
 pub mod World
 pub mod Prelude

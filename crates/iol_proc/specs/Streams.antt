@@ -9,10 +9,10 @@ use Rattle.iol_back.specs.Disk.{IfHonest}
 use Rattle.iol_kernel.specs.Prelude.{TakesIn}
 use Rattle.iol_pipe.specs.declared.arrive.Arrived.{Arrived}
 use Rattle.iol_system.specs.Machine.{SystemState}
-use Rattle.iol_proc.specs.Turns.{Account}
+use Rattle.iol_proc.specs.Turns.{TransitionRelation}
 use Rattle.iol_proc.specs.World.{Stage, copied, copying, OutsideStep}
 
-module _ {P : Type 0} (turns : Account P) where
+module _ {P : Type 0} (turns : TransitionRelation P) where
   -- These bytes arrive, and n of them are taken.
   abbrev pub ArrivesAs : (c n : ℕ) (bytes : List ℕ) (w after : Stage State P) → Type 0
   ArrivesAs c n bytes w after = OutsideStep copying turns w (event.Arrive c bytes) (reply.Count n) after

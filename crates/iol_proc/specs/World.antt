@@ -1,6 +1,7 @@
 -- Processes that take turns on a machine, and external events.
 --
--- The definitions are used for two machines: the copying machine, and a system over any store, with all that it guarantees.
+-- The definitions are used for two machines: the copying machine, and a system over any store, with all that it
+-- guarantees.
 use Rattle.std.specs.Prelude.{◌≡◌, ◌≢◌, ◌⊎◌, ◌<◌, ◌||◌, ℕ, List, [], ◌∷◌, length, map, Some, IfSome, Bool, All, slice_get, slice_set}
 use Rattle.iol_core.specs.State.{State}
 use Rattle.iol_core.specs.Run.{StepsTo}
@@ -8,44 +9,44 @@ use Rattle.iol_core.specs.declared.events.Event.{Event}
 use Rattle.iol_core.specs.declared.events.Reply.{Reply}
 use Rattle.iol_core.specs.declared.events.Reply.TheVariants as reply
 use Rattle.iol_core.specs.declared.refusals.Refusal.TheVariants.{NoDomain}
-use Rattle.iol_laws.specs.Caller.{is_rough}
+use Rattle.iol_laws.specs.Caller.{is_resource_failure}
 use Rattle.iol_system.specs.Machine.{SystemState, machine_of}
 use Rattle.iol_system.specs.Promises.{Promises}
-use Rattle.iol_proc.specs.LentBytes.{lent_to}
-use Rattle.iol_proc.specs.Turns.{Machine, Account, SeatTurn}
+use Rattle.iol_proc.specs.ReadableBytes.{readable_to}
+use Rattle.iol_proc.specs.Turns.{Machine, TransitionRelation, ProcessSlotTurn}
 use Rattle.iol_proc.specs.declared.choice.Choice.{Choice}
 use Rattle.iol_proc.specs.declared.choice.Choice.TheVariants as choice
-use Rattle.iol_proc.specs.declared.seat.Seat.{Seat}
+use Rattle.iol_proc.specs.declared.process_slot.ProcessSlot.{ProcessSlot}
 
 -- the machine that copies at every call
 abbrev pub copying : Machine State
-copying = record { Step = StepsTo; lends = lent_to }
+copying = record { Step = StepsTo; is_readable = readable_to }
 
 -- a system, with all guarantees of each of its steps
 abbrev pub sharing : Machine SystemState
-sharing = record { Step = Promises; lends = λ s by. lent_to (machine_of s) by }
+sharing = record { Step = Promises; is_readable = λ s by. readable_to (machine_of s) by }
 
 -- a machine, its processes, each with its last reply, and whether a turn got a resource refusal
 pub record Stage (M P : Type 0) : Type 0 where
   pub machine : M
-  pub seats : List (Seat P)
-  pub rough : Bool
+  pub process_slots : List (ProcessSlot P)
+  pub resource_failure : Bool
 
 -- the stage of a system with its processes
-abbrev pub staged : {P : Type 0} → SystemState → List (Seat P) → (rough : Bool) → Stage SystemState P
-staged system seats rough = record { machine = system; seats = seats; rough = rough }
+abbrev pub staged : {P : Type 0} → SystemState → List (ProcessSlot P) → (resource_failure : Bool) → Stage SystemState P
+staged system process_slots resource_failure = record { machine = system; process_slots = process_slots; resource_failure = resource_failure }
 
 -- the same processes over the copying machine
 abbrev pub copied : {P : Type 0} → Stage SystemState P → Stage State P
-copied w = record { machine = machine_of w.machine; seats = w.seats; rough = w.rough }
+copied w = record { machine = machine_of w.machine; process_slots = w.process_slots; resource_failure = w.resource_failure }
 
 -- the domains of the processes, in their order
-abbrev pub domains_of : {P : Type 0} → List (Seat P) → List ℕ
-domains_of seats = map (λ s. s.by) seats
+abbrev pub domains_of : {P : Type 0} → List (ProcessSlot P) → List ℕ
+domains_of process_slots = map (λ s. s.by) process_slots
 
 -- a process in its domain, before its first turn
-abbrev pub seat_of : {P : Type 0} → ℕ × P → Seat P
-seat_of p = record { by = p.0; process = p.1; last = reply.Done }
+abbrev pub process_slot_of : {P : Type 0} → ℕ × P → ProcessSlot P
+process_slot_of p = record { by = p.0; process = p.1; last = reply.Done }
 
 -- each number is above the one before
 abbrev pub IsRising : List ℕ → Type 0
@@ -54,34 +55,34 @@ IsRising (x ∷ []) = Unit {0}
 IsRising (x ∷ y ∷ ys) = (x < y) × IsRising (y ∷ ys)
 
 -- no process is in this domain
-abbrev pub HasNoSeat : {P : Type 0} → List (Seat P) → (by : ℕ) → Type 0
-HasNoSeat seats by = All (λ s. s.by ≢ by) seats
+abbrev pub HasNoProcessSlot : {P : Type 0} → List (ProcessSlot P) → (by : ℕ) → Type 0
+HasNoProcessSlot process_slots by = All (λ s. s.by ≢ by) process_slots
 
 -- the process at this index is in this domain
-abbrev pub SitsAt : {P : Type 0} → List (Seat P) → (by place : ℕ) → Type 0
-SitsAt seats by place = IfSome (slice_get seats place) (λ seat. seat.by ≡ by) × (place < length seats)
+abbrev pub SitsAt : {P : Type 0} → List (ProcessSlot P) → (by place : ℕ) → Type 0
+SitsAt process_slots by place = IfSome (slice_get process_slots place) (λ process_slot. process_slot.by ≡ by) × (place < length process_slots)
 
 -- the process of a domain
-pub record IsSeated {P : Type 0} (seats : List (Seat P)) (by : ℕ) (p : P) : Type 0 where
+pub record IsInSlots {P : Type 0} (process_slots : List (ProcessSlot P)) (by : ℕ) (p : P) : Type 0 where
   pub place : ℕ
-  pub seat : Seat P
-  pub sits : slice_get seats place ≡ Some seat
-  pub domain : seat.by ≡ by
-  pub process : seat.process ≡ p
+  pub process_slot : ProcessSlot P
+  pub sits : slice_get process_slots place ≡ Some process_slot
+  pub domain : process_slot.by ≡ by
+  pub process : process_slot.process ≡ p
 
-module _ {M P : Type 0} (machine : Machine M) (turns : Account P) where
+module _ {M P : Type 0} (machine : Machine M) (turns : TransitionRelation P) where
   -- a turn of the process at this index: whether it yielded, and the reply
   pub record PlaceTurn (w : Stage M P) (place : ℕ) (yields : Bool) (r : Reply) (after : Stage M P) : Type 0 where
-    pub seat : Seat P
-    pub next : Seat P
-    pub sits : slice_get w.seats place ≡ Some seat
-    pub turn : SeatTurn machine turns w.machine seat yields r after.machine next
-    pub others_stay : after.seats ≡ slice_set w.seats place next
-    pub notes : after.rough ≡ (w.rough || is_rough r)
+    pub process_slot : ProcessSlot P
+    pub next : ProcessSlot P
+    pub sits : slice_get w.process_slots place ≡ Some process_slot
+    pub turn : ProcessSlotTurn machine turns w.machine process_slot yields r after.machine next
+    pub others_stay : after.process_slots ≡ slice_set w.process_slots place next
+    pub notes : after.resource_failure ≡ (w.resource_failure || is_resource_failure r)
 
   -- no process is in this domain
   pub record Absent (w : Stage M P) (by : ℕ) (r : Reply) (after : Stage M P) : Type 0 where
-    pub nobody : HasNoSeat w.seats by
+    pub nobody : HasNoProcessSlot w.process_slots by
     pub answer : r ≡ reply.Refused NoDomain
     pub stays : after ≡ w
 
@@ -90,7 +91,7 @@ module _ {M P : Type 0} (machine : Machine M) (turns : Account P) where
     pub place : ℕ
     pub yields : Bool
     pub turn : PlaceTurn w place yields r after
-    pub domain : turn.seat.by ≡ by
+    pub domain : turn.process_slot.by ≡ by
 
   -- a turn of a domain
   abbrev pub DomainTurn : Stage M P → (by : ℕ) → Reply → Stage M P → Type 0
@@ -99,8 +100,8 @@ module _ {M P : Type 0} (machine : Machine M) (turns : Account P) where
   -- an external event
   pub record OutsideStep (w : Stage M P) (e : Event) (r : Reply) (after : Stage M P) : Type 0 where
     pub step : machine.Step w.machine e r after.machine
-    pub seats_stay : after.seats ≡ w.seats
-    pub rough_stays : after.rough ≡ w.rough
+    pub process_slots_stay : after.process_slots ≡ w.process_slots
+    pub resource_failure_stays : after.resource_failure ≡ w.resource_failure
 
   -- one choice
   abbrev pub WorldStep : Stage M P → Choice → Reply → Stage M P → Type 0
@@ -114,7 +115,7 @@ module _ {M P : Type 0} (machine : Machine M) (turns : Account P) where
   WorldRun w [] (r ∷ rs) after = ⊥
   WorldRun w (c ∷ cs) [] after = ⊥
 
-module _ {P : Type 0} (turns : Account P) where
+module _ {P : Type 0} (turns : TransitionRelation P) where
   -- An external event, and a list of choices, in the copying machine.
   abbrev pub CopiedStep : Stage SystemState P → Event → Reply → Stage SystemState P → Type 0
   CopiedStep w e r after = OutsideStep copying turns (copied w) e r (copied after)

@@ -29,8 +29,8 @@ impl<B: Backing + Drop, P: Process> World<B, P> {
             (R.remaining reader.new) self.old self.new result }
         ensures err_copied { IfHonest self.old.machine.disk
             (OnErr result (copied self.new ≡ copied self.old)) }
-        ensures seats { self.new.seats ≡ self.old.seats }
-        ensures rough { self.new.rough ≡ self.old.rough }
+        ensures process_slots { self.new.process_slots ≡ self.old.process_slots }
+        ensures resource_failure { self.new.resource_failure ≡ self.old.resource_failure }
 
         // The effect on the system.
         ensures system { ServesFrom R.remaining reader.old reader.new conn max self.old.machine
@@ -50,8 +50,8 @@ impl<B: Backing + Drop, P: Process> World<B, P> {
     ) -> Result<Drained, Refusal>
         ensures copied { IfOk result
             (λ d. SendsAs P.turns conn d.taken (copied self.old) (copied self.new)) }
-        ensures seats { self.new.seats ≡ self.old.seats }
-        ensures rough { self.new.rough ≡ self.old.rough }
+        ensures process_slots { self.new.process_slots ≡ self.old.process_slots }
+        ensures resource_failure { self.new.resource_failure ≡ self.old.resource_failure }
 
         // The effect on the system.
         ensures system { ServesTo W.contents writer.old writer.new conn max self.old.machine
@@ -71,8 +71,8 @@ impl<B: Backing + Drop, P: Process> World<B, P> {
     ) -> Result<Drained, Refusal>
         ensures copied { IfOk result
             (λ d. SendsAs P.turns conn d.taken (copied self.old) (copied self.new)) }
-        ensures seats { self.new.seats ≡ self.old.seats }
-        ensures rough { self.new.rough ≡ self.old.rough }
+        ensures process_slots { self.new.process_slots ≡ self.old.process_slots }
+        ensures resource_failure { self.new.resource_failure ≡ self.old.resource_failure }
         ensures failed { IfOk result (λ d. EndsShort G.gathers taker.new d.failed) }
 
         // The effect on the system.

@@ -1,6 +1,6 @@
 //! Copies of replies, and their classification for turns.
 ghost use Rattle.std.specs.Prelude.{◌≡◌};
-ghost use Rattle.iol_laws.specs.Prelude.{is_rough};
+ghost use Rattle.iol_laws.specs.Prelude.{is_resource_failure};
 ghost use Rattle.iol_proc.specs.Quiet.{IsPlain};
 ghost use Rattle.iol_proc.specs.Turns.{is_would_block};
 
@@ -29,8 +29,8 @@ pub(crate) fn again(reply: &Reply) -> Reply
 }
 
 /// Returns whether the reply is out of numbers, pages or memory, or a fault of the store.
-pub(crate) fn is_rough(reply: &Reply) -> bool
-    ensures { result ≡ is_rough reply.now }
+pub(crate) fn is_resource_failure(reply: &Reply) -> bool
+    ensures { result ≡ is_resource_failure reply.now }
 {
     match reply {
         Reply::Refused(refusal) => matches!(

@@ -4,8 +4,8 @@ ghost use Rattle.iol_proc.specs.Idle.{RoundsGo, counted, is_idle, went};
 ghost use Rattle.iol_proc.specs.World.{domains_of, staged};
 
 use crate::process::Process;
+use crate::process_slot::ProcessSlot;
 use crate::replies::is_would_block;
-use crate::seat::Seat;
 use crate::turn::{Outcome, place_turn};
 use iol_back::backing::Backing;
 use iol_system::system::System;
@@ -38,24 +38,24 @@ fn count(yields: &mut Vec<u8>, place: usize, outcome: &Outcome)
 /// yields, so that no memory is needed.
 pub(crate) fn until_idle<B: Backing + Drop, P: Process>(
     system: &mut System<B>,
-    seats: &mut Vec<Seat<P>>,
-    rough: &mut bool,
+    process_slots: &mut Vec<ProcessSlot<P>>,
+    resource_failure: &mut bool,
     yields: &mut Vec<u8>,
     turns: usize,
 ) -> bool
-    requires { length yields.old.items ≡ length seats.old.items }
-    ensures domains { domains_of seats.new.items ≡ domains_of seats.old.items }
-    ensures length { length yields.new.items ≡ length seats.new.items }
-    ensures idles { RoundsGo P.turns (staged system.old seats.old.items rough.old) turns result
-        (staged system.new seats.new.items rough.new) }
+    requires { length yields.old.items ≡ length process_slots.old.items }
+    ensures domains { domains_of process_slots.new.items ≡ domains_of process_slots.old.items }
+    ensures length { length yields.new.items ≡ length process_slots.new.items }
+    ensures idles { RoundsGo P.turns (staged system.old process_slots.old.items resource_failure.old) turns result
+        (staged system.new process_slots.new.items resource_failure.new) }
 {
     yields.fill(0);
     for i in 0..turns {
         if all_twice(yields) {
             return true;
         }
-        let place = i % seats.len();
-        let outcome = place_turn(system, seats, rough, place);
+        let place = i % process_slots.len();
+        let outcome = place_turn(system, process_slots, resource_failure, place);
         count(yields, place, &outcome);
     }
     all_twice(yields)

@@ -1,13 +1,13 @@
 //! One turn of one process.
 ghost use Rattle.std.specs.Prelude.{◌≡◌, ◌<◌, length};
 ghost use Rattle.iol_proc.specs.Idle.{TurnGoes};
-ghost use Rattle.iol_proc.specs.Turns.{SeatTurn};
+ghost use Rattle.iol_proc.specs.Turns.{ProcessSlotTurn};
 ghost use Rattle.iol_proc.specs.World.{sharing, domains_of, staged};
 
-use crate::look::Look;
+use crate::byte_view::ByteView;
 use crate::process::{Process, Turn};
-use crate::replies::{again, is_rough};
-use crate::seat::Seat;
+use crate::process_slot::ProcessSlot;
+use crate::replies::{again, is_resource_failure};
 use iol_back::backing::Backing;
 use iol_core::events::{Event, Reply};
 use iol_core::refusals::Refusal;
@@ -20,28 +20,34 @@ pub(crate) struct Outcome {
     pub reply: Reply,
 }
 
-/// Runs a turn of the process in a seat.
-fn seat_turn<B: Backing + Drop, P: Process>(system: &mut System<B>, seat: &mut Seat<P>) -> Outcome
-    ensures domain { seat.new.by ≡ seat.old.by }
-    ensures turn { SeatTurn sharing P.turns system.old seat.old result.yields result.reply
-        system.new seat.new }
+/// Runs a turn of the process in a process slot.
+fn process_slot_turn<B: Backing + Drop, P: Process>(
+    system: &mut System<B>,
+    process_slot: &mut ProcessSlot<P>,
+) -> Outcome
+    ensures domain { process_slot.new.by ≡ process_slot.old.by }
+    ensures turn { ProcessSlotTurn sharing P.turns system.old process_slot.old result.yields result.reply
+        system.new process_slot.new }
 {
-    let look = Look::new(system.aggregates(), seat.by);
-    match seat.process.next(&seat.last, &look) {
+    let byte_view = ByteView::new(system.aggregates(), process_slot.by);
+    match process_slot.process.next(&process_slot.last, &byte_view) {
         Err(_) => Outcome {
             yields: false,
             reply: Reply::Refused(Refusal::Memory),
         },
         Ok(Turn::Yield) => {
-            seat.last = Reply::Done;
+            process_slot.last = Reply::Done;
             Outcome {
                 yields: true,
                 reply: Reply::Done,
             }
         }
         Ok(Turn::Make(call)) => {
-            let reply = system.step_ref(&Event::Call { by: seat.by, call });
-            seat.last = again(&reply);
+            let reply = system.step_ref(&Event::Call {
+                by: process_slot.by,
+                call,
+            });
+            process_slot.last = again(&reply);
             Outcome {
                 yields: false,
                 reply,
@@ -53,17 +59,17 @@ fn seat_turn<B: Backing + Drop, P: Process>(system: &mut System<B>, seat: &mut S
 /// Runs a turn of the process at an index.
 pub(crate) fn place_turn<B: Backing + Drop, P: Process>(
     system: &mut System<B>,
-    seats: &mut Vec<Seat<P>>,
-    rough: &mut bool,
+    process_slots: &mut Vec<ProcessSlot<P>>,
+    resource_failure: &mut bool,
     place: usize,
 ) -> Outcome
-    requires { place < length seats.old.items }
-    ensures domains { domains_of seats.new.items ≡ domains_of seats.old.items }
-    ensures turn { TurnGoes P.turns (staged system.old seats.old.items rough.old) place result
-        (staged system.new seats.new.items rough.new) }
+    requires { place < length process_slots.old.items }
+    ensures domains { domains_of process_slots.new.items ≡ domains_of process_slots.old.items }
+    ensures turn { TurnGoes P.turns (staged system.old process_slots.old.items resource_failure.old) place result
+        (staged system.new process_slots.new.items resource_failure.new) }
 {
-    let seat = &mut seats[place];
-    let outcome = seat_turn(system, seat);
-    *rough |= is_rough(&outcome.reply);
+    let process_slot = &mut process_slots[place];
+    let outcome = process_slot_turn(system, process_slot);
+    *resource_failure |= is_resource_failure(&outcome.reply);
     outcome
 }

@@ -5,17 +5,17 @@ ghost use Rattle.std.specs.List.Sorted.{IsPermutation};
 ghost use Rattle.iol_back.specs.Prelude.{IfHonest};
 ghost use Rattle.iol_kernel.specs.Prelude.{Reports};
 ghost use Rattle.iol_system.specs.Prelude.{machine_of};
-ghost use Rattle.iol_proc.specs.Prelude.{KeepsHonesty, copied, lent};
+ghost use Rattle.iol_proc.specs.Prelude.{KeepsHonesty, copied, readable};
 ghost use Rattle.iol_proc.specs.Idle.{CopiedIdles, Idles};
 ghost use Rattle.iol_proc.specs.Laws.{HasEvents};
-ghost use Rattle.iol_proc.specs.LentBytes.{lent_to};
-ghost use Rattle.iol_proc.specs.World.{Stage, sharing, seat_of, domains_of, IsRising, IsSeated, HasNoSeat, SitsAt, WorldStep, WorldRun, DomainTurn, OutsideStep, CopiedStep, CopiedRun};
+ghost use Rattle.iol_proc.specs.ReadableBytes.{readable_to};
+ghost use Rattle.iol_proc.specs.World.{Stage, sharing, process_slot_of, domains_of, IsRising, IsInSlots, HasNoProcessSlot, SitsAt, WorldStep, WorldRun, DomainTurn, OutsideStep, CopiedStep, CopiedRun};
 
+use crate::byte_view::ByteView;
 use crate::choice::Choice;
-use crate::look::Look;
 use crate::process::Process;
+use crate::process_slot::ProcessSlot;
 use crate::rounds::until_idle;
-use crate::seat::Seat;
 use crate::turn::place_turn;
 use iol_back::backing::Backing;
 use iol_core::events::{Event, Reply};
@@ -31,8 +31,8 @@ use std::marker::Model;
 pub struct World<B: Backing, P: Process> {
     alloc: Global,
     pub(crate) system: System<B>,
-    seats: Vec<Seat<P>>,
-    rough: bool,
+    process_slots: Vec<ProcessSlot<P>>,
+    resource_failure: bool,
 
     // Space for the counts of yields in `until_idle`.
     yields: Vec<u8>,
@@ -45,10 +45,10 @@ impl<B: Backing, P: Process> Model for World<B, P> {
 
     ghost Value = { Stage SystemState P };
 
-    ghost view = { λ w. record { machine = w.system; seats = w.seats.items; rough = w.rough } };
+    ghost view = { λ w. record { machine = w.system; process_slots = w.process_slots.items; resource_failure = w.resource_failure } };
 
-    ghost invariant = { λ w. (length w.yields.items ≡ length w.seats.items)
-        × IsRising (domains_of w.seats.items) };
+    ghost invariant = { λ w. (length w.yields.items ≡ length w.process_slots.items)
+        × IsRising (domains_of w.process_slots.items) };
 }
 
 impl<B: Backing + Drop, P: Process> World<B, P> {
@@ -61,26 +61,26 @@ impl<B: Backing + Drop, P: Process> World<B, P> {
     ) -> Result<World<B, P>, AllocError>
         requires { IsDistinct nat_eq (map (λ p. p.0) processes.items) }
         ensures system { IfOk result (λ w. w.machine ≡ system) }
-        ensures seats { IfOk result (λ w. IsPermutation (map seat_of processes.items) w.seats) }
-        ensures rising { IfOk result (λ w. IsRising (domains_of w.seats)) }
-        ensures smooth { IfOk result (λ w. w.rough ≡ false) }
+        ensures process_slots { IfOk result (λ w. IsPermutation (map process_slot_of processes.items) w.process_slots) }
+        ensures rising { IfOk result (λ w. IsRising (domains_of w.process_slots)) }
+        ensures failure_free { IfOk result (λ w. w.resource_failure ≡ false) }
     {
-        let seats = seats_by_domain(alloc, processes)?;
-        let yields = vec![in alloc; 0u8; seats.len()]?;
+        let process_slots = process_slots_by_domain(alloc, processes)?;
+        let yields = vec![in alloc; 0u8; process_slots.len()]?;
         Ok(World {
             alloc,
             system,
-            seats,
-            rough: false,
+            process_slots,
+            resource_failure: false,
             yields,
         })
     }
 
     /// The aggregates of a domain, as its process sees them.
-    pub fn look(&self, by: DomainId) -> Look<'_>
-        ensures { lent result ≡ lent_to (machine_of self.now.machine) by }
+    pub fn byte_view(&self, by: DomainId) -> ByteView<'_>
+        ensures { readable result ≡ readable_to (machine_of self.now.machine) by }
     {
-        Look::new(self.system.aggregates(), by)
+        ByteView::new(self.system.aggregates(), by)
     }
 
     /// Borrows the system, for its aggregates and reports.
@@ -92,11 +92,11 @@ impl<B: Backing + Drop, P: Process> World<B, P> {
 
     /// The process of a domain.
     pub fn process(&self, by: DomainId) -> Option<&P>
-        ensures { MatchOption result (HasNoSeat self.now.seats by)
-            (λ p. IsSeated self.now.seats by p.now) }
+        ensures { MatchOption result (HasNoProcessSlot self.now.process_slots by)
+            (λ p. IsInSlots self.now.process_slots by p.now) }
     {
-        let place = place_of(&self.seats, by)?;
-        Some(&self.seats[place].process)
+        let place = place_of(&self.process_slots, by)?;
+        Some(&self.process_slots[place].process)
     }
 
     /// Executes an external event.
@@ -121,10 +121,15 @@ impl<B: Backing + Drop, P: Process> World<B, P> {
     fn turn(&mut self, by: DomainId) -> Reply
         ensures { DomainTurn sharing P.turns self.old by result self.new }
     {
-        match place_of(&self.seats, by) {
+        match place_of(&self.process_slots, by) {
             None => Reply::Refused(Refusal::NoDomain),
             Some(place) => {
-                let outcome = place_turn(&mut self.system, &mut self.seats, &mut self.rough, place);
+                let outcome = place_turn(
+                    &mut self.system,
+                    &mut self.process_slots,
+                    &mut self.resource_failure,
+                    place,
+                );
                 outcome.reply
             }
         }
@@ -176,8 +181,8 @@ impl<B: Backing + Drop, P: Process> World<B, P> {
     {
         until_idle(
             &mut self.system,
-            &mut self.seats,
-            &mut self.rough,
+            &mut self.process_slots,
+            &mut self.resource_failure,
             &mut self.yields,
             turns,
         )
@@ -192,50 +197,50 @@ impl<B: Backing + Drop, P: Process> World<B, P> {
 
     /// Returns whether the reply to a turn since [`World::new`] was TooMany, NoRoom, Fault or
     /// Memory. Once true, it stays true.
-    pub fn rough(&self) -> bool
-        ensures { result ≡ self.now.rough }
+    pub fn resource_failure(&self) -> bool
+        ensures { result ≡ self.now.resource_failure }
     {
-        self.rough
+        self.resource_failure
     }
 }
 
 /// Sorts processes by ascending domains.
-fn seats_by_domain<P: Process>(
+fn process_slots_by_domain<P: Process>(
     alloc: Global,
     processes: Vec<(DomainId, P)>,
-) -> Result<Vec<Seat<P>>, AllocError>
+) -> Result<Vec<ProcessSlot<P>>, AllocError>
     requires { IsDistinct nat_eq (map (λ p. p.0) processes.items) }
-    ensures seats { IfOk result (λ seats. IsPermutation (map seat_of processes.items) seats.items) }
-    ensures rising { IfOk result (λ seats. IsRising (domains_of seats.items)) }
+    ensures process_slots { IfOk result (λ process_slots. IsPermutation (map process_slot_of processes.items) process_slots.items) }
+    ensures rising { IfOk result (λ process_slots. IsRising (domains_of process_slots.items)) }
 {
-    let mut seats = seats_for(alloc, processes)?;
-    seats.sort_by_key(|seat| seat.by.number())?;
-    Ok(seats)
+    let mut process_slots = process_slots_for(alloc, processes)?;
+    process_slots.sort_by_key(|process_slot| process_slot.by.number())?;
+    Ok(process_slots)
 }
 
-/// Makes a seat of each process, in the given order.
-fn seats_for<P: Process>(
+/// Makes a process slot of each process, in the given order.
+fn process_slots_for<P: Process>(
     alloc: Global,
     processes: Vec<(DomainId, P)>,
-) -> Result<Vec<Seat<P>>, AllocError>
-    ensures { IfOk result (λ seats. seats.items ≡ map seat_of processes.items) }
+) -> Result<Vec<ProcessSlot<P>>, AllocError>
+    ensures { IfOk result (λ process_slots. process_slots.items ≡ map process_slot_of processes.items) }
 {
-    let mut seats = Vec::new(alloc);
+    let mut process_slots = Vec::new(alloc);
     for (by, process) in processes {
-        seats.push(Seat {
+        process_slots.push(ProcessSlot {
             by,
             process,
             last: Reply::Done,
         })?;
     }
-    Ok(seats)
+    Ok(process_slots)
 }
 
 /// The index of the process of a domain.
-fn place_of<P: Process>(seats: &[Seat<P>], by: DomainId) -> Option<usize>
-    ensures { MatchOption result (HasNoSeat seats.now by) (SitsAt seats.now by) }
+fn place_of<P: Process>(process_slots: &[ProcessSlot<P>], by: DomainId) -> Option<usize>
+    ensures { MatchOption result (HasNoProcessSlot process_slots.now by) (SitsAt process_slots.now by) }
 {
-    seats
+    process_slots
         .iter()
-        .position(|seat| seat.by.number() == by.number())
+        .position(|process_slot| process_slot.by.number() == by.number())
 }

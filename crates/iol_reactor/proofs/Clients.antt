@@ -5,12 +5,12 @@ use Rattle.std.proofs.Math.Seq.{take-length}
 use Rattle.std.proofs.lemmas.List.{length-append, length-take, take-append-drop, take-append-le, take_min}
 use Rattle.iol_core.specs.Calls.Outside.{lacks_conn}
 use Rattle.iol_system.specs.Machine.{SystemState}
-use Rattle.iol_proc.specs.Turns.{Account}
+use Rattle.iol_proc.specs.Turns.{TransitionRelation}
 use Rattle.iol_proc.specs.World.{Stage, copied}
 use Rattle.iol_reactor.specs.Bytes.{IsBegun, IsGiven}
 use Rattle.iol_reactor.specs.Clients.{AreWhole, BytesMove, ConnectionsFollow, Holds, IsAsking, IsClosed, IsDone, IsLeft, IsOpen, Request, Visit, WereLeft, bytes_of, bytes_of_all, frame_as}
 use Rattle.iol_reactor.specs.Visits.{HasVisited}
-use Rattle.iol_reactor.specs.LinkVisits.{HasLinkVisited, IsOver, IsOverIn, IsVisitOf, LinkGoesOn, LinksStay, Serving, world_of}
+use Rattle.iol_reactor.specs.LinkVisits.{HasLinkVisited, IsOver, IsOverIn, IsVisitOf, LinkProceeds, LinksStay, Serving, world_of}
 use Rattle.iol_reactor.specs.declared.input.Input.{Input}
 use Rattle.iol_reactor.specs.declared.links.Link.{Link}
 use Rattle.iol_reactor.specs.declared.service.Frame.{Frame}
@@ -88,7 +88,7 @@ given_more asked given now bytes more rest within less split place = sym (take_f
 
 -- ---- the connections
 
-module _ {P : Type 0} (turns : Account P) (starts : Stage SystemState P → Type 0) (frames : List ℕ → Frame → Type 0) (pool : ℕ) where
+module _ {P : Type 0} (turns : TransitionRelation P) (starts : Stage SystemState P → Type 0) (frames : List ℕ → Frame → Type 0) (pool : ℕ) where
   whole_more : (before came : List ℕ) (r : Request) → AreWhole turns starts frames pool before → frames r.waiting (Complete r.size) → came ≡ before ++ bytes_of r → AreWhole turns starts frames pool came
   whole_more before came r whole framed are = record {
     requests = whole.requests ++ r ∷ [];
@@ -119,7 +119,7 @@ module _ {P : Type 0} (turns : Account P) (starts : Stage SystemState P → Type
   }
 
   asking_handed : (s after : Serving P) (l : Link) (is_last : Bool) (input next : Input) (came sent more rest : List ℕ) → drop input.given (take input.asked input.bytes.items) ≡ more ++ rest → IsGiven (length rest) input next
-      → LinkGoesOn turns starts pool l more [] false s after → IsAsking turns starts frames pool s l is_last input came sent → IsAsking turns starts frames pool after l is_last next (came ++ more) sent
+      → LinkProceeds turns starts pool l more [] false s after → IsAsking turns starts frames pool s l is_last input came sent → IsAsking turns starts frames pool after l is_last next (came ++ more) sent
   asking_handed s after l is_last input next came sent more rest split is goes a = record {
     visited = subst (λ (k : List ℕ). HasLinkVisited turns starts pool after l (came ++ more) k false) (append-nil sent) (goes.own came sent false a.visited);
     before = a.before;

@@ -3,10 +3,10 @@ use Rattle.std.proofs.Common.{◌≡◌, ◌==◌, ◌≤◌, ◌+◌, ◌∙◌
 use Rattle.std.specs.Prelude.{◌≢◌}
 use Rattle.std.proofs.lemmas.Bool.Decides.{nat_tests}
 use Rattle.iol_system.specs.Machine.{SystemState}
-use Rattle.iol_proc.specs.Turns.{Account}
+use Rattle.iol_proc.specs.Turns.{TransitionRelation}
 use Rattle.iol_proc.specs.World.{Stage}
-use Rattle.iol_reactor.specs.Visits.{HasVisited, VisitsGoOn, VisitsStay}
-use Rattle.iol_reactor.specs.LinkVisits.{HasLinkVisited, IsVisitOf, LinkGoesOn, LinksStay, Serving, SlotGoesOn, world_of}
+use Rattle.iol_reactor.specs.Visits.{HasVisited, VisitsAdvance, VisitsStay}
+use Rattle.iol_reactor.specs.LinkVisits.{HasLinkVisited, IsVisitOf, LinkProceeds, LinksStay, Serving, SlotProceeds, world_of}
 use Rattle.iol_reactor.specs.declared.links.Link.{Link}
 
 -- the world that two tests find, of the current one and the one before
@@ -26,7 +26,7 @@ conns_differ d l n apart of other = λ equal. apart (let same : l.generation ≡
 conns_before : (d l : Link) (n : ℕ) → l ≢ d → (d.generation + 1 == n) ≡ true → (l.generation + 1 == n) ≡ true → d.conn ≢ l.conn
 conns_before d l n apart of other = λ equal. apart (let same : l.generation ≡ d.generation = grind (arith, nat_tests, of, other) in link_equal l d (sym equal) same)
 
-module _ {P : Type 0} (turns : Account P) (starts : Stage SystemState P → Type 0) (pool : ℕ) where
+module _ {P : Type 0} (turns : TransitionRelation P) (starts : Stage SystemState P → Type 0) (pool : ℕ) where
   -- a step of the current world that leaves every history unchanged
   stays_current : (b e : Bool) (w after : Stage SystemState P) (before : Option (Stage SystemState P)) (c : ℕ) (came sent : List ℕ) (gone : Bool) → VisitsStay turns starts pool w after
       → IsVisitOf turns starts pool (which b e w before) c came sent gone → IsVisitOf turns starts pool (which b e after before) c came sent gone
@@ -95,42 +95,42 @@ module _ {P : Type 0} (turns : Account P) (starts : Stage SystemState P → Type
   -- ---- a step of one connection
 
   own_current : (b e : Bool) (w after : Stage SystemState P) (before : Option (Stage SystemState P)) (c : ℕ) (came sent more next : List ℕ) (gone last : Bool) → b ≡ true
-      → VisitsGoOn turns starts pool c more next last w after
+      → VisitsAdvance turns starts pool c more next last w after
       → IsVisitOf turns starts pool (which b e w before) c came sent gone → IsVisitOf turns starts pool (which b e after before) c (came ++ more) (sent ++ next) (gone || last)
   own_current true e w after before c came sent more next gone last is goes v = goes.own came sent gone v
   own_current false e w after before c came sent more next gone last is goes v = absurd (cc (is))
 
   other_current : (b e : Bool) (w after : Stage SystemState P) (before : Option (Stage SystemState P)) (d c : ℕ) (came sent more next : List ℕ) (gone last : Bool) → (b ≡ true → d ≢ c)
-      → VisitsGoOn turns starts pool d more next last w after
+      → VisitsAdvance turns starts pool d more next last w after
       → IsVisitOf turns starts pool (which b e w before) c came sent gone → IsVisitOf turns starts pool (which b e after before) c came sent gone
   other_current true e w after before d c came sent more next gone last apart goes v = goes.others c came sent gone (apart refl) v
   other_current false e w after before d c came sent more next gone last apart goes v = v
 
   pub link_current : (n : ℕ) (w after : Stage SystemState P) (before : Option (Stage SystemState P)) (d : Link) (more next : List ℕ) (last : Bool) → (d.generation == n) ≡ true
-      → VisitsGoOn turns starts pool d.conn more next last w after
-      → LinkGoesOn turns starts pool d more next last (record { number = n; current = w; before = before }) (record { number = n; current = after; before = before })
+      → VisitsAdvance turns starts pool d.conn more next last w after
+      → LinkProceeds turns starts pool d more next last (record { number = n; current = w; before = before }) (record { number = n; current = after; before = before })
   link_current n w after before d more next last is goes = record {
     own = λ came sent gone v. own_current (d.generation == n) (d.generation + 1 == n) w after before d.conn came sent more next gone last is goes v;
     others = λ l came sent gone apart v. other_current (l.generation == n) (l.generation + 1 == n) w after before d.conn l.conn came sent more next gone last (λ of. conns_differ d l n apart is of) goes v;
   }
 
   own_before : (b e : Bool) (w u after : Stage SystemState P) (c : ℕ) (came sent more next : List ℕ) (gone last : Bool) → b ≡ false → e ≡ true
-      → VisitsGoOn turns starts pool c more next last u after
+      → VisitsAdvance turns starts pool c more next last u after
       → IsVisitOf turns starts pool (which b e w (Some u)) c came sent gone → IsVisitOf turns starts pool (which b e w (Some after)) c (came ++ more) (sent ++ next) (gone || last)
   own_before false true w u after c came sent more next gone last off is goes v = goes.own came sent gone v
   own_before false false w u after c came sent more next gone last off is goes v = absurd (cc (is))
   own_before true e w u after c came sent more next gone last off is goes v = absurd (cc (off))
 
   other_before : (b e : Bool) (w u after : Stage SystemState P) (d c : ℕ) (came sent more next : List ℕ) (gone last : Bool) → (e ≡ true → d ≢ c)
-      → VisitsGoOn turns starts pool d more next last u after
+      → VisitsAdvance turns starts pool d more next last u after
       → IsVisitOf turns starts pool (which b e w (Some u)) c came sent gone → IsVisitOf turns starts pool (which b e w (Some after)) c came sent gone
   other_before true e w u after d c came sent more next gone last apart goes v = v
   other_before false true w u after d c came sent more next gone last apart goes v = goes.others c came sent gone (apart refl) v
   other_before false false w u after d c came sent more next gone last apart goes v = v
 
   pub link_before : (n : ℕ) (w u after : Stage SystemState P) (d : Link) (more next : List ℕ) (last : Bool) → (d.generation == n) ≡ false → (d.generation + 1 == n) ≡ true
-      → VisitsGoOn turns starts pool d.conn more next last u after
-      → LinkGoesOn turns starts pool d more next last (record { number = n; current = w; before = Some u }) (record { number = n; current = w; before = Some after })
+      → VisitsAdvance turns starts pool d.conn more next last u after
+      → LinkProceeds turns starts pool d more next last (record { number = n; current = w; before = Some u }) (record { number = n; current = w; before = Some after })
   link_before n w u after d more next last off is goes = record {
     own = λ came sent gone v. own_before (d.generation == n) (d.generation + 1 == n) w u after d.conn came sent more next gone last off is goes v;
     others = λ l came sent gone apart v. other_before (l.generation == n) (l.generation + 1 == n) w u after d.conn l.conn came sent more next gone last (λ of. conns_before d l n apart is of) goes v;
@@ -147,29 +147,29 @@ module _ {P : Type 0} (turns : Account P) (starts : Stage SystemState P → Type
       or-false true = refl
       or-false false = refl
 
-  pub link_same : (s : Serving P) (d : Link) → LinkGoesOn turns starts pool d [] [] false s s
+  pub link_same : (s : Serving P) (d : Link) → LinkProceeds turns starts pool d [] [] false s s
   link_same s d = record { own = λ came sent gone v. keeps_visit s d came sent gone v; others = λ l came sent gone apart v. v }
 
 -- ---- the connection of a client that may have none
 
-module _ {P : Type 0} (turns : Account P) (starts : Stage SystemState P → Type 0) where
-  pub slot_same : (pool : ℕ) (s : Serving P) (o : Option Link) → SlotGoesOn turns starts pool o [] [] false s s
+module _ {P : Type 0} (turns : TransitionRelation P) (starts : Stage SystemState P → Type 0) where
+  pub slot_same : (pool : ℕ) (s : Serving P) (o : Option Link) → SlotProceeds turns starts pool o [] [] false s s
   slot_same pool s None = links_same turns starts pool s
   slot_same pool s (Some d) = link_same turns starts pool s d
 
   pub slot_current : (pool q n : ℕ) (w after : Stage SystemState P) (before : Option (Stage SystemState P)) (o : Option Link) (d : Link) (e : ℕ) (more next : List ℕ) (last : Bool) → o ≡ Some d → e ≡ d.conn → q ≡ pool
-      → (d.generation == n) ≡ true → VisitsGoOn turns starts q e more next last w after
-      → SlotGoesOn turns starts pool o more next last (record { number = n; current = w; before = before }) (record { number = n; current = after; before = before })
+      → (d.generation == n) ≡ true → VisitsAdvance turns starts q e more next last w after
+      → SlotProceeds turns starts pool o more next last (record { number = n; current = w; before = before }) (record { number = n; current = after; before = before })
   slot_current pool q n w after before o d e more next last has same own is goes =
-      subst (λ (x : Option Link). SlotGoesOn turns starts pool x more next last (record { number = n; current = w; before = before }) (record { number = n; current = after; before = before })) (sym has)
+      subst (λ (x : Option Link). SlotProceeds turns starts pool x more next last (record { number = n; current = w; before = before }) (record { number = n; current = after; before = before })) (sym has)
       (link_current turns starts pool n w after before d more next last is
-      (subst (λ (k : ℕ). VisitsGoOn turns starts pool k more next last w after) same (subst (λ (k : ℕ). VisitsGoOn turns starts k e more next last w after) own goes)))
+      (subst (λ (k : ℕ). VisitsAdvance turns starts pool k more next last w after) same (subst (λ (k : ℕ). VisitsAdvance turns starts k e more next last w after) own goes)))
 
   pub slot_before : (pool q n : ℕ) (w u after : Stage SystemState P) (before : Option (Stage SystemState P)) (o : Option Link) (d : Link) (e : ℕ) (more next : List ℕ) (last : Bool) → o ≡ Some d → e ≡ d.conn → q ≡ pool → before ≡ Some u
-      → (d.generation == n) ≡ false → (d.generation + 1 == n) ≡ true → VisitsGoOn turns starts q e more next last u after
-      → SlotGoesOn turns starts pool o more next last (record { number = n; current = w; before = before }) (record { number = n; current = w; before = Some after })
+      → (d.generation == n) ≡ false → (d.generation + 1 == n) ≡ true → VisitsAdvance turns starts q e more next last u after
+      → SlotProceeds turns starts pool o more next last (record { number = n; current = w; before = before }) (record { number = n; current = w; before = Some after })
   slot_before pool q n w u after before o d e more next last has same own there off is goes =
-      subst (λ (b : Option (Stage SystemState P)). SlotGoesOn turns starts pool o more next last (record { number = n; current = w; before = b }) (record { number = n; current = w; before = Some after })) (sym there)
-      (subst (λ (x : Option Link). SlotGoesOn turns starts pool x more next last (record { number = n; current = w; before = Some u }) (record { number = n; current = w; before = Some after })) (sym has)
+      subst (λ (b : Option (Stage SystemState P)). SlotProceeds turns starts pool o more next last (record { number = n; current = w; before = b }) (record { number = n; current = w; before = Some after })) (sym there)
+      (subst (λ (x : Option Link). SlotProceeds turns starts pool x more next last (record { number = n; current = w; before = Some u }) (record { number = n; current = w; before = Some after })) (sym has)
       (link_before turns starts pool n w u after d more next last off is
-      (subst (λ (k : ℕ). VisitsGoOn turns starts pool k more next last u after) same (subst (λ (k : ℕ). VisitsGoOn turns starts k e more next last u after) own goes))))
+      (subst (λ (k : ℕ). VisitsAdvance turns starts pool k more next last u after) same (subst (λ (k : ℕ). VisitsAdvance turns starts k e more next last u after) own goes))))

@@ -9,13 +9,13 @@ use Rattle.iol_core.specs.declared.events.Reply.{Reply}
 use Rattle.iol_system.specs.Machine.{SystemState}
 use Rattle.iol_proc.specs.Laws.{KeepsHonesty}
 use Rattle.iol_proc.specs.Streams.{ArrivesAs}
-use Rattle.iol_proc.specs.Turns.{Account}
+use Rattle.iol_proc.specs.Turns.{TransitionRelation}
 use Rattle.iol_proc.specs.World.{Stage, copied, copying, OutsideStep}
 use Rattle.iol_proc.specs.declared.choice.Choice.{Choice}
 use Rattle.iol_proc.specs.declared.choice.Choice.TheVariants as choice
 use Rattle.iol_proc.proofs.Streams.{runs_follow}
 use Rattle.iol_serve.proofs.Steps.{goes_arrived, goes_none, goes_then}
-use Rattle.iol_serve.specs.Service.{IsOn, AreOn, GoesOn}
+use Rattle.iol_serve.specs.Service.{IsOn, AreOn, Proceeds}
 use Rattle.iol_reactor.specs.Serving.{IsServing, AreServing, Arrives, Continues, Ends, HasServed}
 
 serving_on : (pool c : ℕ) (x : Choice) → IsOn c x → IsServing pool x
@@ -36,7 +36,7 @@ pub serving-append : (pool : ℕ) (xs ys : List Choice) → AreServing pool xs �
 serving-append pool [] ys first next = next
 serving-append pool (x ∷ xs) ys first next = (first.0, serving-append pool xs ys first.1 next)
 
-module _ {P : Type 0} (turns : Account P) where
+module _ {P : Type 0} (turns : TransitionRelation P) where
   continues_none : (pool : ℕ) (w : Stage State P) → Continues turns pool w w
   continues_none pool w = record { choices = []; replies = []; run = refl; serving = tt }
 
@@ -51,7 +51,7 @@ module _ {P : Type 0} (turns : Account P) where
   pub continues_same : (pool : ℕ) (w after : Stage State P) → after ≡ w → Continues turns pool w after
   continues_same pool w after same = record { choices = []; replies = []; run = same; serving = tt }
 
-  pub continues_on : (pool c : ℕ) (came sent : List ℕ) (gone : Bool) (w after : Stage State P) → GoesOn turns c came sent gone w after → Continues turns pool w after
+  pub continues_on : (pool c : ℕ) (came sent : List ℕ) (gone : Bool) (w after : Stage State P) → Proceeds turns c came sent gone w after → Continues turns pool w after
   continues_on pool c came sent gone w after g = record { choices = g.choices; replies = g.replies; run = g.run; serving = serving_all pool c g.choices g.alone }
 
   pub continues_new : (pool : ℕ) (r : Reply) (w after : Stage State P) → OutsideStep copying turns w (event.ConnNew pool) r after → Continues turns pool w after
@@ -60,24 +60,24 @@ module _ {P : Type 0} (turns : Account P) where
   -- bytes that arrive
 
   pub arrives_none : (c : ℕ) (bytes : List ℕ) (w : Stage State P) → Arrives turns c bytes bytes w w
-  arrives_none c bytes w = record { came = []; split = refl; goes_on = goes_none turns c w w refl }
+  arrives_none c bytes w = record { came = []; split = refl; proceeds = goes_none turns c w w refl }
 
   pub arrives_refused : (c : ℕ) (bytes rest : List ℕ) (w after : Stage State P) → rest ≡ bytes → after ≡ w → Arrives turns c bytes rest w after
-  arrives_refused c bytes rest w after still same = record { came = []; split = sym still; goes_on = goes_none turns c w after same }
+  arrives_refused c bytes rest w after still same = record { came = []; split = sym still; proceeds = goes_none turns c w after same }
 
   pub arrives_page : (c n : ℕ) (bytes rest came : List ℕ) (w after : Stage State P) → bytes ≡ came ++ rest → length came ≡ n → ArrivesAs turns c n came w after → Arrives turns c bytes rest w after
-  arrives_page c n bytes rest came w after split count step = record { came = came; split = split; goes_on = goes_arrived turns c n came w after count step }
+  arrives_page c n bytes rest came w after split count step = record { came = came; split = split; proceeds = goes_arrived turns c n came w after count step }
 
   pub arrives_then : (c : ℕ) (bytes more rest : List ℕ) (w mid after : Stage State P) → Arrives turns c bytes more w mid → Arrives turns c more rest mid after → Arrives turns c bytes rest w after
   arrives_then c bytes more rest w mid after a b = record {
     came = a.came ++ b.came;
     split = a.split ∙ (ap (λ (l : List ℕ). a.came ++ l) b.split ∙ sym (append_assoc a.came b.came rest));
-    goes_on = goes_then turns c a.came [] b.came [] false false w mid after a.goes_on b.goes_on;
+    proceeds = goes_then turns c a.came [] b.came [] false false w mid after a.proceeds b.proceeds;
   }
 
   -- a peer that has ended
-  pub ends_told : (c : ℕ) (how : How) (r : Reply) (w after : Stage State P) → OutsideStep copying turns w (event.PeerClosed c how) r after → Ends turns c how w after
-  ends_told c how r w after step = record { reply = r; step = step }
+  pub ends_reported : (c : ℕ) (how : How) (r : Reply) (w after : Stage State P) → OutsideStep copying turns w (event.PeerClosed c how) r after → Ends turns c how w after
+  ends_reported c how r w after step = record { reply = r; step = step }
 
   served_first : (starts : Stage SystemState P → Type 0) (pool : ℕ) (w : Stage SystemState P) → starts w → HasServed turns starts pool w
   served_first starts pool w started = record { begun = w; started = started; honest = record { same = refl }; continues = λ honest. continues_none pool (copied w) }
@@ -95,6 +95,6 @@ module _ {P : Type 0} (turns : Account P) where
   pub began : (starts : Stage SystemState P → Type 0) (pool : ℕ) (w : Stage SystemState P) → starts w → ∥ HasServed turns starts pool w ∥₁
   began starts pool w started = ∣ served_first starts pool w started ∣₁
 
-  pub goes_on : (starts : Stage SystemState P → Type 0) (pool : ℕ) (w after : Stage SystemState P) → KeepsHonesty w.machine after.machine
+  pub proceeds : (starts : Stage SystemState P → Type 0) (pool : ℕ) (w after : Stage SystemState P) → KeepsHonesty w.machine after.machine
       → IfHonest w.machine.disk (Continues turns pool (copied w) (copied after)) → ∥ HasServed turns starts pool w ∥₁ → ∥ HasServed turns starts pool after ∥₁
-  goes_on starts pool w after kept next h = ∥∥₁_map h (served_next starts pool w after kept next)
+  proceeds starts pool w after kept next h = ∥∥₁_map h (served_next starts pool w after kept next)

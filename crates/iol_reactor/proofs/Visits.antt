@@ -17,14 +17,14 @@ use Rattle.iol_core.specs.Calls.Outside.{lacks_conn}
 use Rattle.iol_system.specs.Machine.{SystemState, machine_of, tables_of}
 use Rattle.iol_system.specs.Prelude.{read_of, state_view}
 use Rattle.iol_proc.specs.Laws.{KeepsHonesty}
-use Rattle.iol_proc.specs.Turns.{Account}
+use Rattle.iol_proc.specs.Turns.{TransitionRelation}
 use Rattle.iol_proc.specs.World.{Stage, copied, copying, OutsideStep}
 use Rattle.iol_proc.specs.declared.choice.Choice.{Choice}
 use Rattle.iol_proc.specs.declared.choice.Choice.TheVariants as choice
 use Rattle.iol_proc.proofs.Streams.{runs_follow, stream_over-append, sent_over-append}
-use Rattle.iol_serve.specs.Service.{IsOn, AreOn, GoesOn}
+use Rattle.iol_serve.specs.Service.{IsOn, AreOn, Proceeds}
 use Rattle.iol_reactor.specs.Serving.{Arrives, HasServed}
-use Rattle.iol_reactor.specs.Visits.{Carries, HasVisited, Visits, VisitsArrive, VisitsContinue, VisitsGoOn, VisitsStay}
+use Rattle.iol_reactor.specs.Visits.{Carries, HasVisited, Visits, VisitsArrive, VisitsContinue, VisitsAdvance, VisitsStay}
 use Rattle.iol_reactor.proofs.Serving.{serving-append, serving_all}
 
 -- ---- events of other connections bring nothing to this one
@@ -87,10 +87,10 @@ or-false : (b : Bool) → (b || false) ≡ b
 or-false true = refl
 or-false false = refl
 
-module _ {P : Type 0} (turns : Account P) where
+module _ {P : Type 0} (turns : TransitionRelation P) where
   carries_none : (pool c : ℕ) (w : Stage State P) → Carries turns pool c [] [] false w w
   unfolding stream_over sent_over
-  carries_none pool c w = record { continues = record { choices = []; replies = []; run = refl; serving = tt }; comes = refl; goes = refl; tells = refl }
+  carries_none pool c w = record { continues = record { choices = []; replies = []; run = refl; serving = tt }; comes = refl; goes = refl; reports = refl }
 
   carries_then : (pool c : ℕ) (came sent more next : List ℕ) (gone last : Bool) (w mid after : Stage State P) → Carries turns pool c came sent gone w mid
       → Carries turns pool c more next last mid after → Carries turns pool c (came ++ more) (sent ++ next) (gone || last) w after
@@ -105,24 +105,24 @@ module _ {P : Type 0} (turns : Account P) where
         ∙ (ap (λ (l : List ℕ). l ++ stream_over c b.continues.choices b.continues.replies) a.comes ∙ ap (λ (l : List ℕ). came ++ l) b.comes);
     goes = sent_over-append copying turns w mid a.continues.choices b.continues.choices a.continues.replies b.continues.replies c a.continues.run
         ∙ (ap (λ (l : List ℕ). l ++ sent_over c b.continues.choices b.continues.replies) a.goes ∙ ap (λ (l : List ℕ). sent ++ l) b.goes);
-    tells = list_any-append (λ x. drops_with x c) a.continues.choices b.continues.choices
-        ∙ (ap (λ (t : Bool). t || list_any (λ x. drops_with x c) b.continues.choices) a.tells ∙ ap (λ (t : Bool). gone || t) b.tells);
+    reports = list_any-append (λ x. drops_with x c) a.continues.choices b.continues.choices
+        ∙ (ap (λ (t : Bool). t || list_any (λ x. drops_with x c) b.continues.choices) a.reports ∙ ap (λ (t : Bool). gone || t) b.reports);
   }
 
-  pub carries_own : (pool c : ℕ) (came sent : List ℕ) (gone : Bool) (w after : Stage State P) → GoesOn turns c came sent gone w after → Carries turns pool c came sent gone w after
-  carries_own pool c came sent gone w after g = record { continues = record { choices = g.choices; replies = g.replies; run = g.run; serving = serving_all pool c g.choices g.alone }; comes = g.comes; goes = g.goes; tells = g.tells }
+  pub carries_own : (pool c : ℕ) (came sent : List ℕ) (gone : Bool) (w after : Stage State P) → Proceeds turns c came sent gone w after → Carries turns pool c came sent gone w after
+  carries_own pool c came sent gone w after g = record { continues = record { choices = g.choices; replies = g.replies; run = g.run; serving = serving_all pool c g.choices g.alone }; comes = g.comes; goes = g.goes; reports = g.reports }
 
-  carries_other : (pool c d : ℕ) (came sent : List ℕ) (gone : Bool) (w after : Stage State P) → d ≢ c → GoesOn turns d came sent gone w after → Carries turns pool c [] [] false w after
+  carries_other : (pool c d : ℕ) (came sent : List ℕ) (gone : Bool) (w after : Stage State P) → d ≢ c → Proceeds turns d came sent gone w after → Carries turns pool c [] [] false w after
   carries_other pool c d came sent gone w after apart g = record {
     continues = record { choices = g.choices; replies = g.replies; run = g.run; serving = serving_all pool d g.choices g.alone };
     comes = streams_other d c g.choices g.replies apart g.alone;
     goes = sents_other d c g.choices g.replies apart g.alone;
-    tells = all_drops_other d c g.choices apart g.alone;
+    reports = all_drops_other d c g.choices apart g.alone;
   }
 
   pub carries_made : (pool c : ℕ) (r : Reply) (w after : Stage State P) → OutsideStep copying turns w (event.ConnNew pool) r after → Carries turns pool c [] [] false w after
   unfolding stream_over sent_over
-  carries_made pool c r w after step = record { continues = record { choices = choice.Outside (event.ConnNew pool) ∷ []; replies = r ∷ []; run = (after, step, refl); serving = (refl, tt) }; comes = refl; goes = refl; tells = refl }
+  carries_made pool c r w after step = record { continues = record { choices = choice.Outside (event.ConnNew pool) ∷ []; replies = r ∷ []; run = (after, step, refl); serving = (refl, tt) }; comes = refl; goes = refl; reports = refl }
 
   visits_then : (pool c : ℕ) (came sent more next : List ℕ) (gone last : Bool) (begun w after : Stage State P) → Visits turns pool c came sent gone begun w
       → Carries turns pool c more next last w after → Visits turns pool c (came ++ more) (sent ++ next) (gone || last) begun after
@@ -158,7 +158,7 @@ lacks_same m c = refl
 
 -- ---- histories in a world over a store, which may be dishonest
 
-module _ {P : Type 0} (turns : Account P) (starts : Stage SystemState P → Type 0) (pool : ℕ) where
+module _ {P : Type 0} (turns : TransitionRelation P) (starts : Stage SystemState P → Type 0) (pool : ℕ) where
   visited_next : (c : ℕ) (came sent more next : List ℕ) (gone last : Bool) (w after : Stage SystemState P) → KeepsHonesty w.machine after.machine
       → ((begun : Stage State P) → w.machine.disk.honest ≡ true → Visits turns pool c came sent gone begun (copied w) → Visits turns pool c more next last begun (copied after))
       → HasVisited turns starts pool c came sent gone w → HasVisited turns starts pool c more next last after
@@ -180,9 +180,9 @@ module _ {P : Type 0} (turns : Account P) (starts : Stage SystemState P → Type
   visits_same w after kept same = visits_stay w after kept (λ c honest. subst (λ (v : Stage State P). Carries turns pool c [] [] false (copied w) v) (sym same) (carries_none turns pool c (copied w)))
 
   -- turns, and events of d
-  pub visits_go_on : (d : ℕ) (more next : List ℕ) (last : Bool) (w after : Stage SystemState P) → KeepsHonesty w.machine after.machine
-      → IfHonest w.machine.disk (GoesOn turns d more next last (copied w) (copied after)) → VisitsGoOn turns starts pool d more next last w after
-  visits_go_on d more next last w after kept goes = record {
+  pub visits_advance : (d : ℕ) (more next : List ℕ) (last : Bool) (w after : Stage SystemState P) → KeepsHonesty w.machine after.machine
+      → IfHonest w.machine.disk (Proceeds turns d more next last (copied w) (copied after)) → VisitsAdvance turns starts pool d more next last w after
+  visits_advance d more next last w after kept goes = record {
     own = λ came sent gone v. visited_next d came sent (came ++ more) (sent ++ next) gone (gone || last) w after kept
         (λ begun honest past. visits_then turns pool d came sent more next gone last begun (copied w) (copied after) past (carries_own turns pool d more next last (copied w) (copied after) (goes honest))) v;
     others = λ c came sent gone apart v. visited_next c came sent came sent gone gone w after kept
@@ -195,8 +195,8 @@ module _ {P : Type 0} (turns : Account P) (starts : Stage SystemState P → Type
   visits_arrive d bytes rest came w after kept split arrives = (
     came,
     split,
-    visits_go_on d came [] false w after kept
-        (λ honest. let a = arrives honest in subst (λ (l : List ℕ). GoesOn turns d l [] false (copied w) (copied after)) (append_cancel_right a.came came rest (sym a.split ∙ split)) a.goes_on),
+    visits_advance d came [] false w after kept
+        (λ honest. let a = arrives honest in subst (λ (l : List ℕ). Proceeds turns d l [] false (copied w) (copied after)) (append_cancel_right a.came came rest (sym a.split ∙ split)) a.proceeds),
   )
 
   -- a new connection

@@ -3,11 +3,11 @@ use Rattle.std.specs.Prelude.{◌≡◌, ◌≤◌, ℕ, Bool, true, false, List
 use Rattle.std.specs.List.{AllByRecursion, concat}
 use Rattle.iol_core.specs.Calls.Outside.{lacks_conn}
 use Rattle.iol_system.specs.Machine.{SystemState}
-use Rattle.iol_proc.specs.Turns.{Account}
+use Rattle.iol_proc.specs.Turns.{TransitionRelation}
 use Rattle.iol_proc.specs.World.{Stage, copied}
 use Rattle.iol_reactor.specs.Bytes.{IsBegun, IsGiven}
 use Rattle.iol_reactor.specs.Visits.{HasVisited}
-use Rattle.iol_reactor.specs.LinkVisits.{HasLinkVisited, IsOver, LinkGoesOn, LinksStay, Serving}
+use Rattle.iol_reactor.specs.LinkVisits.{HasLinkVisited, IsOver, LinkProceeds, LinksStay, Serving}
 use Rattle.iol_reactor.specs.declared.input.Input.{Input}
 use Rattle.iol_reactor.specs.declared.links.Link.{Link}
 use Rattle.iol_reactor.specs.declared.service.Frame.{Frame}
@@ -15,8 +15,8 @@ use Rattle.iol_reactor.specs.declared.service.Frame.TheVariants.{Complete, Last}
 
 -- ---- the bytes of a client
 
--- Its socket supplied the bytes received on the connections that it left, on its present one, and those that wait; it accepted
--- the bytes sent on them, except for the last of them, which it has not accepted yet.
+-- Its socket supplied the bytes received on the connections that it left, on its present one, and those that wait; it
+-- accepted the bytes sent on them, except for the last of them, which it has not accepted yet.
 pub record Holds (past_came past_sent came sent waiting unsent supplied accepted : List ℕ) : Type 0 where
   pub received : supplied ≡ past_came ++ (came ++ waiting)
   pub produced : past_sent ++ sent ≡ accepted ++ unsent
@@ -68,7 +68,7 @@ pub record Visit (P : Type 0) : Type 0 where
   pub came : List ℕ
   pub sent : List ℕ
 
-module _ {P : Type 0} (turns : Account P) (starts : Stage SystemState P → Type 0) (frames : List ℕ → Frame → Type 0) (pool : ℕ) where
+module _ {P : Type 0} (turns : TransitionRelation P) (starts : Stage SystemState P → Type 0) (frames : List ℕ → Frame → Type 0) (pool : ℕ) where
   -- The bytes are those of requests, each of which keeps its connection.
   pub record AreWhole (came : List ℕ) : Type 0 where
     pub requests : List Request
@@ -141,14 +141,14 @@ module _ {P : Type 0} (turns : Account P) (starts : Stage SystemState P → Type
     -- more of it arrives, and the last bytes of this number remain
     pub handed : (s after : Serving P) (l : Link) (is_last : Bool) (input next : Input) (came sent more rest : List ℕ)
         → drop input.given (take input.asked input.bytes.items) ≡ more ++ rest → IsGiven (length rest) input next
-        → LinkGoesOn turns starts pool l more [] false s after → IsAsking s l is_last input came sent
+        → LinkProceeds turns starts pool l more [] false s after → IsAsking s l is_last input came sent
         → IsAsking after l is_last next (came ++ more) sent
     -- the connection sends bytes
     pub sends : (s after : Serving P) (l : Link) (is_last : Bool) (input : Input) (came sent more : List ℕ)
-        → LinkGoesOn turns starts pool l [] more false s after → IsAsking s l is_last input came sent
+        → LinkProceeds turns starts pool l [] more false s after → IsAsking s l is_last input came sent
         → IsAsking after l is_last input came (sent ++ more)
     pub open_sends : (s after : Serving P) (l : Link) (came sent more : List ℕ)
-        → LinkGoesOn turns starts pool l [] more false s after → IsOpen s l came sent → IsOpen after l came (sent ++ more)
+        → LinkProceeds turns starts pool l [] more false s after → IsOpen s l came sent → IsOpen after l came (sent ++ more)
     -- its request was handed in whole, and keeps it
     pub answered : (s : Serving P) (l : Link) (input : Input) (came sent : List ℕ) → input.asked ≤ input.given
         → IsAsking s l false input came sent → IsOpen s l came sent

@@ -3,7 +3,7 @@ use Rattle.std.specs.Prelude.{◌≡◌, ◌≢◌, ◌≤◌, ◌+◌, ◌==◌
 use Rattle.std.specs.Io.KnownBytes.{Appends}
 use Rattle.iol_core.specs.Calls.Outside.{lacks_conn}
 use Rattle.iol_system.specs.Machine.{SystemState}
-use Rattle.iol_proc.specs.Turns.{Account}
+use Rattle.iol_proc.specs.Turns.{TransitionRelation}
 use Rattle.iol_proc.specs.World.{Stage, copied}
 use Rattle.iol_reactor.specs.Visits.{HasVisited}
 use Rattle.iol_reactor.specs.declared.links.Link.{Link}
@@ -23,9 +23,9 @@ abbrev pub serving : {P H : Type 0} → (number : ℕ) → (current : Stage Syst
     → Serving P
 serving number current world before = record { number = number; current = current; before = option_map world before }
 
-module _ {P : Type 0} (turns : Account P) (starts : Stage SystemState P → Type 0) (pool : ℕ) where
-  -- Since its creation, these bytes were received and sent on a connection in its world; gone is whether its peer was reported as
-  -- gone. If the world no longer serves, this was so in one of its states.
+module _ {P : Type 0} (turns : TransitionRelation P) (starts : Stage SystemState P → Type 0) (pool : ℕ) where
+  -- Since its creation, these bytes were received and sent on a connection in its world; gone is whether its peer was
+  -- reported as gone. If the world no longer serves, this was so in one of its states.
   abbrev pub IsVisitOf : Option (Stage SystemState P) → (c : ℕ) (came sent : List ℕ) (gone : Bool) → Type 0
   IsVisitOf (Some w) c came sent gone = HasVisited turns starts pool c came sent gone w
   IsVisitOf None c came sent gone = (w : Stage SystemState P) × HasVisited turns starts pool c came sent gone w
@@ -39,16 +39,16 @@ module _ {P : Type 0} (turns : Account P) (starts : Stage SystemState P → Type
       → HasLinkVisited after l came sent gone
 
   -- The history of one is continued by these bytes, and those of the others are unchanged.
-  pub record LinkGoesOn (d : Link) (more next : List ℕ) (last : Bool) (s after : Serving P) : Type 0 where
+  pub record LinkProceeds (d : Link) (more next : List ℕ) (last : Bool) (s after : Serving P) : Type 0 where
     pub own : (came sent : List ℕ) (gone : Bool) → HasLinkVisited s d came sent gone
         → HasLinkVisited after d (came ++ more) (sent ++ next) (gone || last)
     pub others : (l : Link) (came sent : List ℕ) (gone : Bool) → l ≢ d → HasLinkVisited s l came sent gone
         → HasLinkVisited after l came sent gone
 
   -- The same for the connection of a client that may have none.
-  abbrev pub SlotGoesOn : Option Link → (more next : List ℕ) (last : Bool) (s after : Serving P) → Type 0
-  SlotGoesOn (Some d) more next last s after = LinkGoesOn d more next last s after
-  SlotGoesOn None more next last s after = LinksStay s after
+  abbrev pub SlotProceeds : Option Link → (more next : List ℕ) (last : Bool) (s after : Serving P) → Type 0
+  SlotProceeds (Some d) more next last s after = LinkProceeds d more next last s after
+  SlotProceeds None more next last s after = LinksStay s after
 
 -- A connection of one of the worlds was removed.
 abbrev pub IsOverIn : {P : Type 0} → Option (Stage SystemState P) → (c : ℕ) → Type 0

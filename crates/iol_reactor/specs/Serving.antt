@@ -7,14 +7,14 @@ use Rattle.iol_core.specs.declared.events.Event.TheVariants as event
 use Rattle.iol_core.specs.declared.events.Reply.{Reply}
 use Rattle.iol_system.specs.Machine.{SystemState}
 use Rattle.iol_proc.specs.Laws.{KeepsHonesty}
-use Rattle.iol_proc.specs.Turns.{Account}
+use Rattle.iol_proc.specs.Turns.{TransitionRelation}
 use Rattle.iol_proc.specs.World.{Stage, copied, copying, OutsideStep, WorldRun}
-use Rattle.iol_serve.specs.Service.{GoesOn}
+use Rattle.iol_serve.specs.Service.{Proceeds}
 use Rattle.iol_proc.specs.declared.choice.Choice.{Choice}
 use Rattle.iol_proc.specs.declared.choice.Choice.TheVariants as choice
 
--- A turn of a process, or an event of a connection: a connection of this pool is created, bytes arrive, the peer closes it, or
--- bytes are sent. It is never an external call.
+-- A turn of a process, or an event of a connection: a connection of this pool is created, bytes arrive, the peer closes
+-- it, or bytes are sent. It is never an external call.
 abbrev pub IsServing : (pool : ℕ) → Choice → Type 0
 IsServing pool (choice.Turn by) = Unit {0}
 IsServing pool (choice.Outside (event.ConnNew p)) = p ≡ pool
@@ -27,7 +27,7 @@ abbrev pub AreServing : (pool : ℕ) → List Choice → Type 0
 AreServing pool [] = Unit {0}
 AreServing pool (x ∷ xs) = IsServing pool x × AreServing pool xs
 
-module _ {P : Type 0} (turns : Account P) where
+module _ {P : Type 0} (turns : TransitionRelation P) where
   -- From w, the choices are process turns and events of connections.
   pub record Continues (pool : ℕ) (w after : Stage State P) : Type 0 where
     pub choices : List Choice
@@ -35,8 +35,8 @@ module _ {P : Type 0} (turns : Account P) where
     pub run : WorldRun copying turns w choices replies after
     pub serving : AreServing pool choices
 
-  -- This world began as one of those that may serve. Since then, if the store is honest, the choices were process turns and
-  -- events of connections, in terms of the copying machine.
+  -- This world began as one of those that may serve. Since then, if the store is honest, the choices were process turns
+  -- and events of connections, in terms of the copying machine.
   pub record HasServed (starts : Stage SystemState P → Type 0) (pool : ℕ) (w : Stage SystemState P) : Type 0 where
     pub begun : Stage SystemState P
     pub started : starts begun
@@ -47,7 +47,7 @@ module _ {P : Type 0} (turns : Account P) where
   pub record Arrives (c : ℕ) (bytes rest : List ℕ) (w after : Stage State P) : Type 0 where
     pub came : List ℕ
     pub split : bytes ≡ came ++ rest
-    pub goes_on : GoesOn turns c came [] false w after
+    pub proceeds : Proceeds turns c came [] false w after
 
   -- An event reports that the peer of a connection has ended so.
   pub record Ends (c : ℕ) (how : How) (w after : Stage State P) : Type 0 where
@@ -55,7 +55,7 @@ module _ {P : Type 0} (turns : Account P) where
     pub step : OutsideStep copying turns w (event.PeerClosed c how) reply after
 
 -- Both, where the store is honest, as the copying machine has it.
-module _ {P : Type 0} (turns : Account P) where
+module _ {P : Type 0} (turns : TransitionRelation P) where
   abbrev pub ArrivesIn : (c : ℕ) (bytes rest : List ℕ) (w after : Stage SystemState P) → Type 0
   ArrivesIn c bytes rest w after = IfHonest w.machine.disk (Arrives turns c bytes rest (copied w) (copied after))
 

@@ -10,19 +10,19 @@ use Rattle.iol_core.specs.declared.events.Reply.TheVariants as reply
 use Rattle.iol_system.specs.Machine.{SystemState}
 use Rattle.iol_proc.specs.Histories.{stream_over, sent_over, drops_with}
 use Rattle.iol_proc.specs.Laws.{KeepsHonesty}
-use Rattle.iol_proc.specs.Turns.{Account}
+use Rattle.iol_proc.specs.Turns.{TransitionRelation}
 use Rattle.iol_proc.specs.World.{Stage, copied, copying, OutsideStep}
-use Rattle.iol_serve.specs.Service.{GoesOn}
+use Rattle.iol_serve.specs.Service.{Proceeds}
 use Rattle.iol_reactor.specs.Serving.{Continues}
 
-module _ {P : Type 0} (turns : Account P) where
-  -- From w, the choices are process turns and events of connections. On this connection these bytes are received and these are
-  -- sent; gone is whether its peer is reported as gone.
+module _ {P : Type 0} (turns : TransitionRelation P) where
+  -- From w, the choices are process turns and events of connections. On this connection these bytes are received and
+  -- these are sent; gone is whether its peer is reported as gone.
   pub record Carries (pool c : ℕ) (came sent : List ℕ) (gone : Bool) (w after : Stage State P) : Type 0 where
     pub continues : Continues turns pool w after
     pub comes : stream_over c continues.choices continues.replies ≡ came
     pub goes : sent_over c continues.choices continues.replies ≡ sent
-    pub tells : list_any (λ x. drops_with x c) continues.choices ≡ gone
+    pub reports : list_any (λ x. drops_with x c) continues.choices ≡ gone
 
   -- Since the world began, this connection was created, and these bytes were received and sent on it.
   pub record Visits (pool c : ℕ) (came sent : List ℕ) (gone : Bool) (begun after : Stage State P) : Type 0 where
@@ -32,7 +32,8 @@ module _ {P : Type 0} (turns : Account P) where
     pub made : OutsideStep copying turns before (event.ConnNew pool) (reply.Conn c) first
     pub since : Carries pool c came sent gone first after
 
-  -- The same for the connection of a client, in a world that began as one of those that may serve, if its store is honest.
+  -- The same for the connection of a client, in a world that began as one of those that may serve, if its store is
+  -- honest.
   pub record HasVisited (starts : Stage SystemState P → Type 0) (pool c : ℕ) (came sent : List ℕ) (gone : Bool)
       (w : Stage SystemState P) : Type 0 where
     pub begun : Stage SystemState P
@@ -48,7 +49,7 @@ module _ {P : Type 0} (turns : Account P) where
       ((r : Reply) × OutsideStep copying turns (copied w) (event.ConnNew pool) r (copied after))
 
   -- The history of d is continued by these bytes, and those of all other connections are unchanged.
-  pub record VisitsGoOn (starts : Stage SystemState P → Type 0) (pool d : ℕ) (more next : List ℕ) (last : Bool)
+  pub record VisitsAdvance (starts : Stage SystemState P → Type 0) (pool d : ℕ) (more next : List ℕ) (last : Bool)
       (w after : Stage SystemState P) : Type 0 where
     pub own : (came sent : List ℕ) (gone : Bool) → HasVisited starts pool d came sent gone w
         → HasVisited starts pool d (came ++ more) (sent ++ next) (gone || last) after
@@ -59,13 +60,13 @@ module _ {P : Type 0} (turns : Account P) where
   abbrev pub VisitsArrive : (starts : Stage SystemState P → Type 0) (pool d : ℕ) (bytes rest : List ℕ)
       (w after : Stage SystemState P) → Type 0
   VisitsArrive starts pool d bytes rest w after = (came : List ℕ) × (bytes ≡ came ++ rest)
-      × VisitsGoOn starts pool d came [] false w after
+      × VisitsAdvance starts pool d came [] false w after
 
   -- The same, where a writer with known bytes took bytes that d sent.
   abbrev pub VisitsSend : (starts : Stage SystemState P → Type 0) (pool d : ℕ) (held now : Option (List ℕ))
       (w after : Stage SystemState P) → Type 0
   VisitsSend starts pool d held now w after = (sent : List ℕ) × Appends held now sent
-      × VisitsGoOn starts pool d [] sent false w after
+      × VisitsAdvance starts pool d [] sent false w after
 
   -- The history of each connection is unchanged.
   abbrev pub VisitsStay : (starts : Stage SystemState P → Type 0) (pool : ℕ) (w after : Stage SystemState P) → Type 0
@@ -79,11 +80,11 @@ module _ {P : Type 0} (turns : Account P) where
         → OutsideStep copying turns w (event.ConnNew pool) (reply.Conn c) after → Visits pool c [] [] false begun after
     -- turns, and events of this connection
     pub own : (pool c : ℕ) (came sent more next : List ℕ) (gone last : Bool) (begun w after : Stage State P)
-        → Visits pool c came sent gone begun w → GoesOn turns c more next last w after
+        → Visits pool c came sent gone begun w → Proceeds turns c more next last w after
         → Visits pool c (came ++ more) (sent ++ next) (gone || last) begun after
     -- events of another connection
     pub other : (pool c d : ℕ) (came sent more next : List ℕ) (gone last : Bool) (begun w after : Stage State P) → d ≢ c
-        → Visits pool c came sent gone begun w → GoesOn turns d more next last w after → Visits pool c came sent gone begun after
+        → Visits pool c came sent gone begun w → Proceeds turns d more next last w after → Visits pool c came sent gone begun after
     -- another connection is created, or refused
     pub made : (pool c : ℕ) (came sent : List ℕ) (gone : Bool) (r : Reply) (begun w after : Stage State P)
         → Visits pool c came sent gone begun w → OutsideStep copying turns w (event.ConnNew pool) r after

@@ -96,7 +96,7 @@ impl<L> Acceptor<L> {
     }
 
     /// A new attempt to accept clients begins. A listener that had failed is tried again once that
-    /// is due.
+    /// is expected.
     pub fn reopen(&mut self, now: u64)
         ensures listener { self.new.listener ≡ self.old.listener }
         ensures left { self.new.left ≡ self.old.left }

@@ -2,14 +2,14 @@
 use std::alloc::{AllocError, Global};
 use std::collections::VecDeque;
 
-/// A time, in milliseconds, and the key that is due then.
+/// A time, in milliseconds, and the key that is expected then.
 #[derive(Clone, Copy)]
 struct Deadline<K> {
     at: u64,
     key: K,
 }
 
-/// Keys that become due after the same delay, in the order of their deadlines.
+/// Keys that become expected after the same delay, in the order of their deadlines.
 #[derive(Drop)]
 pub struct Deadlines<K> {
     delay: u64,
@@ -17,7 +17,7 @@ pub struct Deadlines<K> {
 }
 
 impl<K: Copy> Deadlines<K> {
-    /// No deadline yet, and memory for this number of them. Each will be due this number of
+    /// No deadline yet, and memory for this number of them. Each will be expected this number of
     /// milliseconds after it was set.
     pub fn new(alloc: Global, delay: u64, count: usize) -> Result<Deadlines<K>, AllocError> {
         Ok(Deadlines {
@@ -38,7 +38,7 @@ impl<K: Copy> Deadlines<K> {
         Ok(())
     }
 
-    /// Removes the first key that is due, if one is.
+    /// Removes the first key that is expected, if one is.
     pub fn take_due(&mut self, now: u64) -> Option<K> {
         let first = self.entries.front()?;
         if now < first.at {
@@ -48,7 +48,7 @@ impl<K: Copy> Deadlines<K> {
         Some(due.key)
     }
 
-    /// Removes the first key, due or not.
+    /// Removes the first key, expected or not.
     pub fn take_first(&mut self) -> Option<K> {
         let first = self.entries.pop_front()?;
         Some(first.key)

@@ -225,7 +225,7 @@ impl<S: Socket + Drop, B: Backing + Drop, P: Process, V: Service<B, P>> Engine<S
             || (!self.waiting.is_empty() && self.worlds.links() < self.limits.live)
     }
 
-    /// The first time at which something is due that no socket reports.
+    /// The first time at which something is expected that no socket reports.
     pub fn first_deadline(&self) -> Option<u64> {
         match (self.timers.first(), self.retry_at) {
             (Some(first), Some(at)) => Some(first.min(at)),

@@ -2,9 +2,9 @@
 ghost use Rattle.std.specs.Prelude.{◌≡◌, ℕ, [], true, false, IfSome, IsNone};
 ghost use Rattle.iol_core.specs.Prelude.{lacks_conn};
 ghost use Rattle.iol_proc.specs.Prelude.{copied};
-ghost use Rattle.iol_serve.specs.Service.{GoesOnIn, SendsIn};
+ghost use Rattle.iol_serve.specs.Service.{ProceedsIn, SendsIn};
 ghost use Rattle.iol_reactor.specs.Serving.{ArrivesIn, EndsIn, HasServed};
-ghost use Rattle.iol_reactor.specs.Visits.{ConnectsIn, HasVisited, VisitsArrive, VisitsGoOn};
+ghost use Rattle.iol_reactor.specs.Visits.{ConnectsIn, HasVisited, VisitsArrive, VisitsAdvance};
 ghost use Rattle.iol_reactor.specs.Visits.{VisitsSend, VisitsStay};
 
 use crate::service::Service;
@@ -68,7 +68,7 @@ impl<B: Backing + Drop, P: Process, V: Service<B, P>> Host<B, P, V> {
     /// Gives turns to the processes until all are idle, but at most this number, and returns
     /// whether all are.
     pub fn until_idle(&mut self, turns: usize) -> bool
-        ensures alone { (c : ℕ) → GoesOnIn P.turns c [] [] false self.old.world self.new.world }
+        ensures alone { (c : ℕ) → ProceedsIn P.turns c [] [] false self.old.world self.new.world }
         ensures visits { VisitsStay P.turns V.starts self.old.pool self.old.world self.new.world }
         ensures pool { self.new.pool ≡ self.old.pool }
     {
@@ -77,9 +77,9 @@ impl<B: Backing + Drop, P: Process, V: Service<B, P>> Host<B, P, V> {
 
     /// The peer of a connection sends no more.
     pub fn close(&mut self, conn: ConnId)
-        ensures told { EndsIn P.turns conn How.Done self.old.world self.new.world }
-        ensures alone { GoesOnIn P.turns conn [] [] false self.old.world self.new.world }
-        ensures visits { VisitsGoOn P.turns V.starts self.old.pool conn [] [] false self.old.world
+        ensures reported { EndsIn P.turns conn How.Done self.old.world self.new.world }
+        ensures alone { ProceedsIn P.turns conn [] [] false self.old.world self.new.world }
+        ensures visits { VisitsAdvance P.turns V.starts self.old.pool conn [] [] false self.old.world
             self.new.world }
         ensures pool { self.new.pool ≡ self.old.pool }
     {
@@ -88,9 +88,9 @@ impl<B: Backing + Drop, P: Process, V: Service<B, P>> Host<B, P, V> {
 
     /// The peer of a connection is gone.
     pub fn hang_up(&mut self, conn: ConnId)
-        ensures told { EndsIn P.turns conn How.Gone self.old.world self.new.world }
-        ensures alone { GoesOnIn P.turns conn [] [] true self.old.world self.new.world }
-        ensures visits { VisitsGoOn P.turns V.starts self.old.pool conn [] [] true self.old.world
+        ensures reported { EndsIn P.turns conn How.Gone self.old.world self.new.world }
+        ensures alone { ProceedsIn P.turns conn [] [] true self.old.world self.new.world }
+        ensures visits { VisitsAdvance P.turns V.starts self.old.pool conn [] [] true self.old.world
             self.new.world }
         ensures pool { self.new.pool ≡ self.old.pool }
     {

@@ -265,7 +265,7 @@ where
         }
     }
 
-    // Asks for a new world, once that is due.
+    // Asks for a new world, once that is expected.
     fn renew(&mut self, service: &mut V)
         ensures { self.new.acceptor ≡ self.old.acceptor }
     {

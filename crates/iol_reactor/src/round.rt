@@ -87,7 +87,7 @@ impl<S: Socket + Drop, B: Backing + Drop, P: Process, V: Service<B, P>> Engine<S
         }
     }
 
-    // Visits all clients once the retry for lack of room is due.
+    // Visits all clients once the retry for lack of room is expected.
     fn retry_all(&mut self) -> Result<(), AllocError> {
         let Some(at) = self.retry_at else {
             return Ok(());

@@ -2,7 +2,7 @@
 ghost use Rattle.std.specs.Prelude.{◌≡◌, [], true, false, IsNone};
 ghost use Rattle.iol_core.specs.Prelude.{lacks_conn};
 ghost use Rattle.iol_proc.specs.Prelude.{KeepsHonesty, copied};
-ghost use Rattle.iol_serve.specs.Service.{GoesOnIn, SendsIn};
+ghost use Rattle.iol_serve.specs.Service.{ProceedsIn, SendsIn};
 ghost use Rattle.iol_reactor.specs.Bytes.{IsRestOf};
 ghost use Rattle.iol_reactor.specs.Serving.{ArrivesIn, EndsIn};
 
@@ -28,8 +28,8 @@ pub const QUEUE: u32 = MAX_QUEUE_BYTES as u32;
 /// The peer of a connection sends no more.
 pub fn close<B: Backing + Drop, P: Process>(world: &mut World<B, P>, conn: ConnId)
     ensures honest { KeepsHonesty world.old.machine world.new.machine }
-    ensures told { EndsIn P.turns conn How.Done world.old world.new }
-    ensures alone { GoesOnIn P.turns conn [] [] false world.old world.new }
+    ensures reported { EndsIn P.turns conn How.Done world.old world.new }
+    ensures alone { ProceedsIn P.turns conn [] [] false world.old world.new }
 {
     let how = How::Done;
     let _ = world.step_outside(Event::PeerClosed { conn, how });
@@ -38,8 +38,8 @@ pub fn close<B: Backing + Drop, P: Process>(world: &mut World<B, P>, conn: ConnI
 /// The peer of a connection is gone.
 pub fn hang_up<B: Backing + Drop, P: Process>(world: &mut World<B, P>, conn: ConnId)
     ensures honest { KeepsHonesty world.old.machine world.new.machine }
-    ensures told { EndsIn P.turns conn How.Gone world.old world.new }
-    ensures alone { GoesOnIn P.turns conn [] [] true world.old world.new }
+    ensures reported { EndsIn P.turns conn How.Gone world.old world.new }
+    ensures alone { ProceedsIn P.turns conn [] [] true world.old world.new }
 {
     let how = How::Gone;
     let _ = world.step_outside(Event::PeerClosed { conn, how });

@@ -3,7 +3,7 @@ ghost use Rattle.std.specs.Prelude.{◌≡◌, Bool, ◌++◌, ◌∷◌, ◌+�
 ghost use Rattle.std.proofs.Props.{props};
 ghost use Rattle.iol_reactor.specs.Connections.{link_at};
 ghost use Rattle.iol_reactor.specs.Visits.{HasVisited};
-ghost use Rattle.iol_reactor.specs.LinkVisits.{HasLinkVisited, IsOver, LinksStay, SlotGoesOn, serving};
+ghost use Rattle.iol_reactor.specs.LinkVisits.{HasLinkVisited, IsOver, LinksStay, SlotProceeds, serving};
 
 use crate::host::Host;
 use crate::limits::WORN_CONNECTION;
@@ -206,7 +206,7 @@ impl<B: Backing + Drop, P: Process, V: Service<B, P>> Worlds<B, P, V> {
     pub fn close(&mut self, slot: usize)
         ensures links { self.new.links ≡ self.old.links }
         ensures pool { self.new.pool ≡ self.old.pool }
-        ensures visits { SlotGoesOn P.turns V.starts self.old.pool
+        ensures visits { SlotProceeds P.turns V.starts self.old.pool
             (link_at self.old.links.table.items slot) [] [] false
             (serving self.old.links.generation self.old.current.world (λ h. h.world) self.old.retiring)
             (serving self.new.links.generation self.new.current.world (λ h. h.world) self.new.retiring) }
@@ -229,7 +229,7 @@ impl<B: Backing + Drop, P: Process, V: Service<B, P>> Worlds<B, P, V> {
     pub fn hang_up(&mut self, slot: usize)
         ensures links { self.new.links ≡ self.old.links }
         ensures pool { self.new.pool ≡ self.old.pool }
-        ensures visits { (gone : Bool) × SlotGoesOn P.turns V.starts self.old.pool
+        ensures visits { (gone : Bool) × SlotProceeds P.turns V.starts self.old.pool
             (link_at self.old.links.table.items slot) [] [] gone
             (serving self.old.links.generation self.old.current.world (λ h. h.world) self.old.retiring)
             (serving self.new.links.generation self.new.current.world (λ h. h.world) self.new.retiring) }
@@ -280,7 +280,7 @@ impl<B: Backing + Drop, P: Process, V: Service<B, P>> Worlds<B, P, V> {
         ensures links { self.new.links ≡ self.old.links }
         ensures pool { self.new.pool ≡ self.old.pool }
         ensures visits { (came : List ℕ) × (bytes.now ≡ came ++ result.now)
-            × SlotGoesOn P.turns V.starts self.old.pool
+            × SlotProceeds P.turns V.starts self.old.pool
             (link_at self.old.links.table.items slot) came [] false
             (serving self.old.links.generation self.old.current.world (λ h. h.world) self.old.retiring)
             (serving self.new.links.generation self.new.current.world (λ h. h.world) self.new.retiring) }
@@ -307,7 +307,7 @@ impl<B: Backing + Drop, P: Process, V: Service<B, P>> Worlds<B, P, V> {
         ensures links { self.new.links ≡ self.old.links }
         ensures pool { self.new.pool ≡ self.old.pool }
         ensures visits { (sent : List ℕ) × (outbox.new.bytes.items ≡ outbox.old.bytes.items ++ sent)
-            × SlotGoesOn P.turns V.starts self.old.pool
+            × SlotProceeds P.turns V.starts self.old.pool
             (link_at self.old.links.table.items slot) [] sent false
             (serving self.old.links.generation self.old.current.world (λ h. h.world) self.old.retiring)
             (serving self.new.links.generation self.new.current.world (λ h. h.world) self.new.retiring) }

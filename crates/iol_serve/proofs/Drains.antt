@@ -5,14 +5,14 @@ use Rattle.std.specs.Io.KnownBytes.{Appends}
 use Rattle.iol_core.specs.State.{conn_at}
 use Rattle.iol_core.specs.Text.{bytes_of}
 use Rattle.iol_proc.specs.Streams.{SendsAs}
-use Rattle.iol_proc.specs.Turns.{Account}
+use Rattle.iol_proc.specs.Turns.{TransitionRelation}
 use Rattle.iol_proc.specs.World.{Stage, copied}
 use Rattle.iol_system.specs.Machine.{SystemState, tables_of}
 use Rattle.iol_system.specs.Prelude.{read_of, state_view}
 use Rattle.iol_serve.specs.Service.{Sends}
 use Rattle.iol_serve.proofs.Steps.{appends_none, goes_sent, sends_none}
 
-module _ {P : Type 0} (turns : Account P) where
+module _ {P : Type 0} (turns : TransitionRelation P) where
   pub sends_drained : (c n : ℕ) (held now : Option (List ℕ)) (w after : Stage SystemState P) → SendsAs turns c n (copied w) (copied after)
       → Appends held now (take n (bytes_of (conn_at (tables_of w.machine.kernel) c).outgoing)) → Sends turns c held now (copied w) (copied after)
   unfolding conn_at read_of state_view
@@ -21,7 +21,7 @@ module _ {P : Type 0} (turns : Account P) where
       record {
         sent = sent;
         taken = taken;
-        goes_on = goes_sent turns c n sent (copied w) (copied after) step (sym (take-map (λ b. b.0) n _)) (λ none. ap (λ (k : ℕ). take k (bytes_of (conn_at (tables_of w.machine.kernel) c).outgoing)) none);
+        proceeds = goes_sent turns c n sent (copied w) (copied after) step (sym (take-map (λ b. b.0) n _)) (λ none. ap (λ (k : ℕ). take k (bytes_of (conn_at (tables_of w.machine.kernel) c).outgoing)) none);
       }
 
   pub sends_refused : (c : ℕ) (held now : Option (List ℕ)) (w after : Stage SystemState P) → now ≡ held → after ≡ w → Sends turns c held now (copied w) (copied after)

@@ -9,7 +9,7 @@ use Rattle.iol_core.specs.declared.events.Event.TheVariants as event
 use Rattle.iol_core.specs.declared.events.Reply.{Reply}
 use Rattle.iol_system.specs.Machine.{SystemState}
 use Rattle.iol_proc.specs.Histories.{stream_over, sent_over, drops_with}
-use Rattle.iol_proc.specs.Turns.{Account}
+use Rattle.iol_proc.specs.Turns.{TransitionRelation}
 use Rattle.iol_proc.specs.World.{Stage, copied, copying, WorldRun}
 use Rattle.iol_proc.specs.declared.choice.Choice.{Choice}
 use Rattle.iol_proc.specs.declared.choice.Choice.TheVariants as choice
@@ -39,37 +39,38 @@ abbrev pub AreOn : (c : ℕ) → List Choice → Type 0
 AreOn c [] = Unit {0}
 AreOn c (x ∷ xs) = IsOn c x × AreOn c xs
 
-module _ {P : Type 0} (turns : Account P) where
-  -- From w, the choices are only process turns and events of this connection. These bytes are received and these are sent; gone
-  -- is whether the peer is reported as gone.
-  pub record GoesOn (c : ℕ) (came sent : List ℕ) (gone : Bool) (w after : Stage State P) : Type 0 where
+module _ {P : Type 0} (turns : TransitionRelation P) where
+  -- From w, the choices are only process turns and events of this connection. These bytes are received and these are
+  -- sent; gone is whether the peer is reported as gone.
+  pub record Proceeds (c : ℕ) (came sent : List ℕ) (gone : Bool) (w after : Stage State P) : Type 0 where
     pub choices : List Choice
     pub replies : List Reply
     pub run : WorldRun copying turns w choices replies after
     pub alone : AreOn c choices
     pub comes : stream_over c choices replies ≡ came
     pub goes : sent_over c choices replies ≡ sent
-    pub tells : list_any (λ x. drops_with x c) choices ≡ gone
+    pub reports : list_any (λ x. drops_with x c) choices ≡ gone
 
   -- The bytes sent are those that a writer took, in order, if its bytes are known.
   pub record Sends (c : ℕ) (held now : Option (List ℕ)) (w after : Stage State P) : Type 0 where
     pub sent : List ℕ
     pub taken : Appends held now sent
-    pub goes_on : GoesOn c [] sent false w after
+    pub proceeds : Proceeds c [] sent false w after
 
-  -- The bytes received are those that a reader gave, and the bytes sent those that a writer took, in order and if known.
+  -- The bytes received are those that a reader gave, and the bytes sent those that a writer took, in order and if
+  -- known.
   pub record Serves (c : ℕ) (gone : Bool) (left rest held now : Option (List ℕ)) (w after : Stage State P) : Type 0 where
     pub came : List ℕ
     pub sent : List ℕ
     pub given : Consumes left rest came
     pub taken : Appends held now sent
-    pub goes_on : GoesOn c came sent gone w after
+    pub proceeds : Proceeds c came sent gone w after
 
--- Advancing, sending and serving a connection of a world, in terms of the copying machine. All except `SendsIn` require an
--- honest store. The parameters give the remaining bytes of a reader and the contents of a writer, if known.
-module _ {P : Type 0} (turns : Account P) where
-  abbrev pub GoesOnIn : (c : ℕ) (came sent : List ℕ) (gone : Bool) (w after : Stage SystemState P) → Type 0
-  GoesOnIn c came sent gone w after = IfHonest w.machine.disk (GoesOn turns c came sent gone (copied w) (copied after))
+-- Advancing, sending and serving a connection of a world, in terms of the copying machine. All except `SendsIn` require
+-- an honest store. The parameters give the remaining bytes of a reader and the contents of a writer, if known.
+module _ {P : Type 0} (turns : TransitionRelation P) where
+  abbrev pub ProceedsIn : (c : ℕ) (came sent : List ℕ) (gone : Bool) (w after : Stage SystemState P) → Type 0
+  ProceedsIn c came sent gone w after = IfHonest w.machine.disk (Proceeds turns c came sent gone (copied w) (copied after))
 
   abbrev pub SendsIn : {W : Type 0} → (c : ℕ) (held : W → Option (List ℕ)) (writer written : W) (w after : Stage SystemState P)
       → Type 0

@@ -3,7 +3,7 @@ ghost use Rattle.std.specs.Prelude.{◌≡◌, ◌≢◌, ◌||◌, [], true, fa
 ghost use Rattle.std.specs.Io.KnownBytes.{Appends};
 ghost use Rattle.iol_core.specs.Prelude.{lacks_conn};
 ghost use Rattle.iol_proc.specs.Prelude.{KeepsHonesty, copied};
-ghost use Rattle.iol_serve.specs.Service.{HasEnded, GoesOnIn, SendsIn, ServesIn, ServesUntil, hung_up};
+ghost use Rattle.iol_serve.specs.Service.{HasEnded, ProceedsIn, SendsIn, ServesIn, ServesUntil, hung_up};
 ghost use Rattle.iol_serve.specs.Rounds as spec;
 ghost use Rattle.iol_system.specs.Prelude.{tables_of, IsSafe};
 
@@ -121,7 +121,7 @@ fn is_last(before: Ending, step: Step) -> bool
 // The ending when the limit of rounds is reached; `was_there` is whether the connection still
 // existed.
 fn long(before: Ending, was_there: bool) -> Ending
-    ensures told { hung_up result ≡ (hung_up before || was_there) }
+    ensures reported { hung_up result ≡ (hung_up before || was_there) }
     ensures over { result ≡ Ending.Over → was_there ≡ false }
 {
     if before.is_hung_up() {
@@ -197,7 +197,7 @@ fn tell<B: Backing + Drop, P: Process>(world: &mut World<B, P>, conn: ConnId, st
     ensures over { result ≡ Step.Over →
         lacks_conn (tables_of world.new.machine.kernel) conn ≡ true }
     ensures honest { KeepsHonesty world.old.machine world.new.machine }
-    ensures goes_on { GoesOnIn P.turns conn [] [] (spec.is_gone result) world.old world.new }
+    ensures proceeds { ProceedsIn P.turns conn [] [] (spec.is_gone result) world.old world.new }
 {
     if hang_up(world, conn) {
         step
@@ -219,7 +219,7 @@ fn exchange<B: Backing + Drop, P: Process, R: Read, W: Write>(
     ensures serves { ServesIn P.turns conn false R.remaining reader.old reader.new
         W.contents writer.old writer.new world.old world.new }
 {
-    let is_idle = settle(world, conn);
+    let is_idle = quiesce(world, conn);
     let step = send(world, conn, writer);
     if !is_idle {
         return step;
@@ -231,9 +231,9 @@ fn exchange<B: Backing + Drop, P: Process, R: Read, W: Write>(
 }
 
 // Runs process turns until all are idle, up to the limit.
-fn settle<B: Backing + Drop, P: Process>(world: &mut World<B, P>, conn: ConnId) -> bool
+fn quiesce<B: Backing + Drop, P: Process>(world: &mut World<B, P>, conn: ConnId) -> bool
     ensures honest { KeepsHonesty world.old.machine world.new.machine }
-    ensures goes_on { GoesOnIn P.turns conn [] [] false world.old world.new }
+    ensures proceeds { ProceedsIn P.turns conn [] [] false world.old world.new }
 {
     let _conn = conn;
     world.until_idle(TURNS)
@@ -328,7 +328,7 @@ fn receive<B: Backing + Drop, P: Process, R: Read, W: Write>(
 // Reports that the peer of a connection sends no more.
 fn close<B: Backing + Drop, P: Process>(world: &mut World<B, P>, conn: ConnId)
     ensures honest { KeepsHonesty world.old.machine world.new.machine }
-    ensures goes_on { GoesOnIn P.turns conn [] [] false world.old world.new }
+    ensures proceeds { ProceedsIn P.turns conn [] [] false world.old world.new }
 {
     let how = How::Done;
     let _ = world.step_outside(Event::PeerClosed { conn, how });
@@ -340,7 +340,7 @@ fn hang_up<B: Backing + Drop, P: Process>(world: &mut World<B, P>, conn: ConnId)
     ensures lacks { result ≡ false →
         lacks_conn (tables_of world.new.machine.kernel) conn ≡ true }
     ensures honest { KeepsHonesty world.old.machine world.new.machine }
-    ensures goes_on { GoesOnIn P.turns conn [] [] result world.old world.new }
+    ensures proceeds { ProceedsIn P.turns conn [] [] result world.old world.new }
 {
     if is_there(world, conn) {
         let how = How::Gone;

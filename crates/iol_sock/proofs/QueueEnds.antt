@@ -39,5 +39,5 @@ both_released xs ys covered first second = record {
   moves = moves_trans first.moves second.moves;
   lists = second.lists ∙ first.lists;
   frees = frees_trans first.frees second.frees second.moves.counts;
-  settles = λ readable all. let each = readable_after xs ys covered first.moves readable in second.settles each.1 (first.settles each.0 all);
+  reclaims = λ readable all. let each = readable_after xs ys covered first.moves readable in second.reclaims each.1 (first.reclaims each.0 all);
 }

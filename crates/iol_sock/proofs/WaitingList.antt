@@ -219,7 +219,7 @@ there-conn_in es n there = some-in (lookup es n) there
     some-in (Some x) there = refl
 
 pub waiting-rising : (es : Conns) (ws : List (ℕ × ℕ)) (to : ℕ) → ws ≡ waiting_in es → Rises 0 es to → IsRising ws
-waiting-rising es ws to is r = record { told = (to, rw is (rises-waiting es 0 to r)) }
+waiting-rising es ws to is r = record { reported = (to, rw is (rises-waiting es 0 to r)) }
 
 pub accepts : (es : Conns) (ws : List (ℕ × ℕ)) (to n m : ℕ) → ws ≡ waiting_in es → Rises 0 es to → m ≡ n → lookup es n ≢ None → (conn_in es n).accepted ≡ false → (lookup ws m ≢ None) × ((y : Conn (List Slice)) → y.accepted ≡ true → without ws m ≡ waiting_in (changed es m y))
 accepts es ws to n m is r same there waits =

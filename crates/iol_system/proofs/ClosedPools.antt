@@ -8,7 +8,7 @@ use Rattle.iol_arena.specs.Buffers.{IsLive, LiesOn, kind_len}
 use Rattle.iol_arena.specs.Chunks.{chunk_pages, is_unused}
 use Rattle.iol_arena.proofs.Members.{In, contains_in, range_in}
 use Rattle.iol_pool.specs.Pools.{pool_in}
-use Rattle.iol_hold.specs.StoreState.{Stored, IsInBuffer, IsPlaced, IsStill, IsTidy, IsSettled}
+use Rattle.iol_hold.specs.StoreState.{Stored, IsInBuffer, IsPlaced, IsStill, IsTidy, IsReclaimed}
 use Rattle.iol_system.specs.Laws.{ClosedPoolsGiveBack, HasGivenBack}
 
 -- one of which a test fails
@@ -38,14 +38,14 @@ page-in : (c q : ℕ) → In (chunk_pages c) q → q / 16 ≡ c
 unfolding chunk_pages
 page-in c q is = (let both = range_in (c * 16) 16 q is in omega (arith, both.0, both.1))
 
-pool_gives : (s : Stored) (p : ℕ) → IsTidy s → IsStill s.arena → IsSettled s p → (pool_in s.pools p).closed ≡ true → HasGivenBack s p
-pool_gives s p tidy still settled closed = by (list_all (is_unused s.arena) cs) refl
+pool_gives : (s : Stored) (p : ℕ) → IsTidy s → IsStill s.arena → IsReclaimed s p → (pool_in s.pools p).closed ≡ true → HasGivenBack s p
+pool_gives s p tidy still reclaimed closed = by (list_all (is_unused s.arena) cs) refl
   where
     cs : List ℕ
     cs = (pool_in s.pools p).chunks
 
     by : (b : Bool) → list_all (is_unused s.arena) cs ≡ b → HasGivenBack s p
-    by true all = inl (settled (ap (λ b. b && list_all (is_unused s.arena) cs) closed ∙ all))
+    by true all = inl (reclaimed (ap (λ b. b && list_all (is_unused s.arena) cs) closed ∙ all))
     by false some =
         let c = some-fails (is_unused s.arena) cs some in
         let q = some-fails (λ q. kind_free (entry_at s.arena q).kind) (chunk_pages c.0) c.2 in
@@ -54,4 +54,4 @@ pool_gives s p tidy still settled closed = by (list_all (is_unused s.arena) cs) 
         inr (there.0, there.1, subst (λ n. Contains cs n) at (contains_in cs c.0 c.1), tidy.held there.0 there.1)
 
 pub gives_back : ClosedPoolsGiveBack
-gives_back s safe p closed = pool_gives s.kernel.store p safe.sound.tidy safe.sound.still (safe.sound.settled.each p) closed
+gives_back s safe p closed = pool_gives s.kernel.store p safe.sound.tidy safe.sound.still (safe.sound.reclaimed.each p) closed

@@ -31,13 +31,13 @@ use Rattle.iol_kernel.proofs.State.CacheUntouched.{carried_serves, kept_serves, 
 use Rattle.iol_kernel.proofs.State.Stay.{pages_equal, stays_equal, stays_here}
 use Rattle.iol_system.specs.StoreCalls.{asks_store, makes_file, uses_cache, writes_store}
 use Rattle.iol_system.specs.Effects.{Does}
-use Rattle.iol_system.specs.FileLengths.{TellsEnd}
+use Rattle.iol_system.specs.FileLengths.{ReportsEnd}
 use Rattle.iol_system.specs.InPlace.{KeepsInPlace, SharesFile}
 use Rattle.iol_system.specs.Late.{LeavesLate}
 use Rattle.iol_system.specs.Machine.{SystemState, system_of, tables_of}
 use Rattle.iol_system.specs.PagesAndChunks.{Creates, Publishes, SamePages}
 use Rattle.iol_system.specs.Sums.{Remembers}
-use Rattle.iol_system.specs.Replies.{told}
+use Rattle.iol_system.specs.Replies.{reported}
 use Rattle.iol_system.specs.Room.{BytesFit, HasRoomFor, LacksRoomFor, IsDone, IsEarly, IsFault, IsMemory, IsNoRoom, IsRefused}
 use Rattle.iol_system.specs.Slices.{Divides}
 use Rattle.iol_system.specs.Still.{is_still, keeps_store, only_looks, takes_out}
@@ -46,7 +46,7 @@ use Rattle.iol_core.proofs.Values.{KeepsValues, nothing}
 use Rattle.iol_system.proofs.HeldPlaces.{Held, after_held, all_held, step_held, tables_hold}
 use Rattle.iol_system.proofs.InPlace.{cache_in_place, cover_in_place, shares_file, shares_none}
 use Rattle.iol_system.proofs.PagesAndChunks.{carried_pages}
-use Rattle.iol_system.proofs.ReplyAnswers.{Means, Tells, done, early_told, no_room_told, refused_told, told_beside}
+use Rattle.iol_system.proofs.ReplyAnswers.{Means, Reports, done, early_reported, no_room_reported, refused_reported, reported_beside}
 use Rattle.iol_system.proofs.WriteBack.{none_back, writes_back}
 
 -- a test that fails does not hold
@@ -99,7 +99,7 @@ pub record Lies (disk : Disk) (old : KernelState) (e : Event) (r : Reply) (after
   pub held : Held old new e
   pub store : keeps_store e ≡ true → new.store ≡ old.store
 
-pub does_of : {disk after : Disk} {old new : KernelState} {e : Event} {r : Reply} → TellsEnd (system_of old disk) e r → Goes disk old e r after new → Asks disk old e r after → Refuses disk old e r after new → Alters disk old e r after new → Lies disk old e r after new
+pub does_of : {disk after : Disk} {old new : KernelState} {e : Event} {r : Reply} → ReportsEnd (system_of old disk) e r → Goes disk old e r after new → Asks disk old e r after → Refuses disk old e r after new → Alters disk old e r after new → Lies disk old e r after new
     → Does disk old e r after new
 does_of ends goes asks refuses alters lies = record {
   step = goes.step;
@@ -137,11 +137,11 @@ does_of ends goes asks refuses alters lies = record {
 }
 
 -- by what the call means
-pub served : {A : Type 0} (f : A → Reply) {m : State → Meaning A} {e : Event} {disk after : Disk} {old new : KernelState} {r : Result A Refusal} → Means f m e → Serves m disk old r after new → Goes disk old e (told f r) after new
+pub served : {A : Type 0} (f : A → Reply) {m : State → Meaning A} {e : Event} {disk after : Disk} {old new : KernelState} {r : Result A Refusal} → Means f m e → Serves m disk old r after new → Goes disk old e (reported f r) after new
 served f {m} {e} {disk} {after} {old} {new} {r} means serves = record {
   step = λ backed placed. means (machine_of disk.slots old) (machine_of after.slots new) r (serves.step backed placed);
   backed = serves.backed;
-  beside = told_beside f m e old new r means serves.beside;
+  beside = reported_beside f m e old new r means serves.beside;
   honest = serves.honest;
   sound = serves.sound;
   stays = serves.stays;
@@ -177,7 +177,7 @@ done_after m s t x step is = step.2
 
 -- the bytes that an answer leaves lie where they lay
 pub answer_lies : {A : Type 0} (f : A → Reply) (m : State → Meaning A) (e : Event) (old new : KernelState) (r : Result A Refusal) → ((s : State) → (meaning s e).after ≡ (m s).after)
-    → OnOk r ((g : Reading) → KeepsPools g → read_of g new ≡ (m (read_of g old)).after) → IsDone (told f r) → layout_of new ≡ (meaning (layout_of old) e).after
+    → OnOk r ((g : Reading) → KeepsPools g → read_of g new ≡ (m (read_of g old)).after) → IsDone (reported f r) → layout_of new ≡ (meaning (layout_of old) e).after
 answer_lies f m e old new (Ok a) same places is = places (record { at = number_at; stored = [] }) keeps_numbers ∙ sym (same (layout_of old))
 answer_lies f m e old new (Err x) same places is = absurd is
 
@@ -223,34 +223,34 @@ plain_of event.DropClean is = never refl is
 plain_of e is = record { unwritten = refl; unlent = refl; asks = λ s. refl; has = λ s. tt; fits = λ s. tt; divides = λ o n. tt; publishes = λ o n k. k; late = λ o x n. tt }
 
 -- An event as the reply of a call that means it: which reply it is, and what it tells of a file's end and makes.
-module _ {A : Type 0} (f : A → Reply) (m : State → Meaning A) {e : Event} {disk : Disk} {old new : KernelState} {r : Result A Refusal} (tells : Tells f) (is : is_plain e ≡ true) (means : Means f m e) (ends : TellsEnd (system_of old disk) e (told f r)) (creates : Creates old e (told f r) new) where
-  pub plain_does : Goes disk old e (told f r) disk new → ((p : ℕ) → r ≡ Err (NoRoom p) → ⊥) → OnErr r (new ≡ old) → (makes_file e ≡ false → new.cache ≡ old.cache) → KeepsInPlace (system_of old disk) e new → KeepsPages old.store new.store [] → Remembers old e (told f r) new → Lies disk old e (told f r) disk new
-      → Does disk old e (told f r) disk new
+module _ {A : Type 0} (f : A → Reply) (m : State → Meaning A) {e : Event} {disk : Disk} {old new : KernelState} {r : Result A Refusal} (reports : Reports f) (is : is_plain e ≡ true) (means : Means f m e) (ends : ReportsEnd (system_of old disk) e (reported f r)) (creates : Creates old e (reported f r) new) where
+  pub plain_does : Goes disk old e (reported f r) disk new → ((p : ℕ) → r ≡ Err (NoRoom p) → ⊥) → OnErr r (new ≡ old) → (makes_file e ≡ false → new.cache ≡ old.cache) → KeepsInPlace (system_of old disk) e new → KeepsPages old.store new.store [] → Remembers old e (reported f r) new → Lies disk old e (reported f r) disk new
+      → Does disk old e (reported f r) disk new
   plain_does goes roomy kept uncached in_place pages sums lies =
       let plain = plain_of e is in
       let here : SystemState = system_of old disk in
       does_of ends goes (asks_none (plain.asks (tables_of old)))
       (record {
         room = λ done. plain.has here;
-        no_room = λ late. absurd (no_room_told f r tells roomy late);
+        no_room = λ late. absurd (no_room_reported f r reports roomy late);
         memory = λ late. plain.fits here;
-        early = λ early. (early_told f r (new ≡ old) tells kept early, refl);
-        refused = λ unused was. refused_told f r (new ≡ old) tells kept was;
-        late = plain.late here (told f r) (system_of new disk);
+        early = λ early. (early_reported f r (new ≡ old) reports kept early, refl);
+        refused = λ unused was. refused_reported f r (new ≡ old) reports kept was;
+        late = plain.late here (reported f r) (system_of new disk);
       })
       (record {
         uncached = λ unused other. uncached other;
         in_place = in_place;
-        shares_file = λ done. shares_none here (told f r) new e plain.unlent;
+        shares_file = λ done. shares_none here (reported f r) new e plain.unlent;
         slices = λ done. plain.divides old new;
         publishes = λ done. plain.publishes old new pages;
         creates = creates;
         sums = sums;
-        written_back = none_back disk old (told f r) disk new e plain.unwritten;
+        written_back = none_back disk old (reported f r) disk new e plain.unwritten;
       }) lies
 
   -- a call that carries out
-  pub carried_does : (new.sums ≡ old.sums → Remembers old e (told f r) new) → keeps_store e ≡ false → IsSound old → CarriesOut m old r new → Does disk old e (told f r) disk new
+  pub carried_does : (new.sums ≡ old.sums → Remembers old e (reported f r) new) → keeps_store e ≡ false → IsSound old → CarriesOut m old r new → Does disk old e (reported f r) disk new
   carried_does sums changes sound c =
       let step = means (layout_of old) (layout_of new) r (carried_layout m old new r c) in
       plain_does (served f means (carried_serves m old new r sound c disk)) c.roomy c.refused (λ other. c.cache) (cache_in_place disk old new e c.cache) (carried_pages m old new r c) (sums c.sums) (record {
@@ -258,13 +258,13 @@ module _ {A : Type 0} (f : A → Reply) (m : State → Meaning A) {e : Event} {d
         shares = λ shared. step;
         pages = λ shared. record { arena = c.arena; pools = c.pools };
         still = λ still. step;
-        places = λ out done. done_after (meaning (layout_of old) e) (layout_of old) (layout_of new) (told f r) step done;
-        held = step_held old new e (told f r) step;
+        places = λ out done. done_after (meaning (layout_of old) e) (layout_of old) (layout_of new) (reported f r) step done;
+        held = step_held old new e (reported f r) step;
         store = never changes;
       })
 
   -- one that keeps places
-  pub kept_does : (new.sums ≡ old.sums → Remembers old e (told f r) new) → ((s : State) → is_sharing s e ≡ false) → keeps_store e ≡ false → IsSound old → KeepsPlaces m old r new → ((p : ℕ) → r ≡ Err (NoRoom p) → ⊥) → Does disk old e (told f r) disk new
+  pub kept_does : (new.sums ≡ old.sums → Remembers old e (reported f r) new) → ((s : State) → is_sharing s e ≡ false) → keeps_store e ≡ false → IsSound old → KeepsPlaces m old r new → ((p : ℕ) → r ≡ Err (NoRoom p) → ⊥) → Does disk old e (reported f r) disk new
   kept_does sums unshared changes sound c roomy =
       let step = means (layout_of old) (layout_of new) r (kept_layout m old new r c) in
       plain_does (served f means (kept_serves m old new r sound c disk)) roomy c.refused (λ other. c.cache) (cache_in_place disk old new e c.cache) c.pages (sums c.sums) (record {
@@ -272,19 +272,19 @@ module _ {A : Type 0} (f : A → Reply) (m : State → Meaning A) {e : Event} {d
         shares = never (unshared (tables_of old));
         pages = never (unshared (tables_of old));
         still = λ still. step;
-        places = λ out done. done_after (meaning (layout_of old) e) (layout_of old) (layout_of new) (told f r) step done;
-        held = step_held old new e (told f r) step;
+        places = λ out done. done_after (meaning (layout_of old) e) (layout_of old) (layout_of new) (reported f r) step done;
+        held = step_held old new e (reported f r) step;
         store = never changes;
       })
 
   -- one that asks the store for a length
-  pub looks_does : (new.sums ≡ old.sums → Remembers old e (told f r) new) → ((s : State) → is_sharing s e ≡ false) → is_still e ≡ false → ((s : State) → (meaning s e).after ≡ (m s).after) → ((s : State) → KeepsValues s (m s).after nothing) → (only_looks e ≡ true → new ≡ old) → LooksUp m disk old r new → Does disk old e (told f r) disk new
+  pub looks_does : (new.sums ≡ old.sums → Remembers old e (reported f r) new) → ((s : State) → is_sharing s e ≡ false) → is_still e ≡ false → ((s : State) → (meaning s e).after ≡ (m s).after) → ((s : State) → KeepsValues s (m s).after nothing) → (only_looks e ≡ true → new ≡ old) → LooksUp m disk old r new → Does disk old e (reported f r) disk new
   looks_does sums unshared moving same keeps looks c =
       plain_does (served f means c.serves) c.roomy c.refused (λ other. c.cache) (cache_in_place disk old new e c.cache) (pages_equal old.store new.store c.store) (sums c.serves.sums)
       (lies_apart (unshared (tables_of old)) moving (λ only. (looks only, refl)) (λ out done. answer_lies f m e old new r same c.places done) (λ kept. c.store) (after_held m old new r e keeps c.places c.refused))
 
   -- one that makes a file
-  pub names_does : (new.sums ≡ old.sums → Remembers old e (told f r) new) → ((s : State) → is_sharing s e ≡ false) → ((s : State) → takes_out s e ≡ false) → is_still e ≡ false → only_looks e ≡ false → makes_file e ≡ true → Names disk m old r new → Does disk old e (told f r) disk new
+  pub names_does : (new.sums ≡ old.sums → Remembers old e (reported f r) new) → ((s : State) → is_sharing s e ≡ false) → ((s : State) → takes_out s e ≡ false) → is_still e ≡ false → only_looks e ≡ false → makes_file e ≡ true → Names disk m old r new → Does disk old e (reported f r) disk new
   names_does sums unshared inside moving unlooking made c =
       let serves : Serves m disk old r disk new = record { step = λ backed placed. c.step backed.honest; backed = c.backed; beside = c.beside; honest = refl; sums = c.sums; sound = c.sound; stays = stays_equal old.store new.store c.store } in
       plain_does (served f means serves) c.roomy c.refused (λ other. never other made) (cover_in_place disk old new e c.keeps) (pages_equal old.store new.store c.store) (sums c.sums)
@@ -304,17 +304,17 @@ shown by a disk h r sound steps roomy = record { serves = still_serves (λ s. ag
 
 -- the event that a reply was for, and the reply that was told
 pub as_event : {d e : Event} {disk after : Disk} {old new : KernelState} {x y : Reply} → d ≡ e → y ≡ x → Does disk old e x after new → Does disk old d y after new
-as_event {d} {e} {disk} {after} {old} {new} {x} {y} is tells does = subst (λ (k : Event). Does disk old k y after new) (sym is) (subst (λ (z : Reply). Does disk old e z after new) (sym tells) does)
+as_event {d} {e} {disk} {after} {old} {new} {x} {y} is reports does = subst (λ (k : Event). Does disk old k y after new) (sym is) (subst (λ (z : Reply). Does disk old e z after new) (sym reports) does)
 
 pub as_call : {by : ℕ} {j k : Call} {disk after : Disk} {old new : KernelState} {x y : Reply} → j ≡ k → y ≡ x → Does disk old (event.Call by k) x after new → Does disk old (event.Call by j) y after new
-as_call {by} is tells does = as_event (ap (λ k. event.Call by k) is) tells does
+as_call {by} is reports does = as_event (ap (λ k. event.Call by k) is) reports does
 
 -- the domain that a pool's list names now
-pub domain_admitted : (by p d : ℕ) (old new : KernelState) (r : Result (Unit {0}) Refusal) → OnOk r (new ≡ with_reader old p d) → Creates old (event.Call by (call.PoolAdmit p d)) (told done r) new
+pub domain_admitted : (by p d : ℕ) (old new : KernelState) (r : Result (Unit {0}) Refusal) → OnOk r (new ≡ with_reader old p d) → Creates old (event.Call by (call.PoolAdmit p d)) (reported done r) new
 domain_admitted by p d old new (Ok u) same = same
 domain_admitted by p d old new (Err x) same = tt
 
 -- the file that came
-pub file_created : (disk : Disk) (m : State → Meaning ℕ) (by p : ℕ) (name : List ℕ) (old new : KernelState) (r : Result ℕ Refusal) → Names disk m old r new → Creates old (event.Call by (call.FileNew name p)) (told reply.File r) new
+pub file_created : (disk : Disk) (m : State → Meaning ℕ) (by p : ℕ) (name : List ℕ) (old new : KernelState) (r : Result ℕ Refusal) → Names disk m old r new → Creates old (event.Call by (call.FileNew name p)) (reported reply.File r) new
 file_created disk m by p name old new (Ok n) c = record { same = c.same; added = c.added }
 file_created disk m by p name old new (Err x) c = tt

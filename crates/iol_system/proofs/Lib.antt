@@ -20,7 +20,7 @@ pub mod Effects
 pub mod BackEffects
 pub mod FileEffects
 pub mod FileLengths
-pub mod ResultTold
+pub mod ResultReported
 pub mod WriteBack
 pub mod InPlace
 pub mod BorrowedMemory

@@ -12,7 +12,7 @@ use Rattle.iol_core.specs.declared.events.Reply.TheVariants as reply
 use Rattle.iol_kernel.specs.FileCalls.{StepsBeside, with_slots}
 use Rattle.iol_kernel.specs.KernelState.{KernelState}
 use Rattle.iol_laws.specs.Aggregates.{is_refusal}
-use Rattle.iol_system.specs.Replies.{told}
+use Rattle.iol_system.specs.Replies.{reported}
 use Rattle.iol_system.specs.Room.{IsEarly, IsMemory, IsNoRoom, IsRefused}
 
 -- a call that answers nothing is done
@@ -24,8 +24,8 @@ abbrev pub sent : List ℕ × ℕ → Reply
 sent x = reply.Segment x.0 x.1
 
 -- the reply that says an answer is no refusal
-abbrev pub Tells : {A : Type 0} → (A → Reply) → Type 0
-Tells {A} f = (a : A) → is_refusal (f a) ≡ false
+abbrev pub Reports : {A : Type 0} → (A → Reply) → Type 0
+Reports {A} f = (a : A) → is_refusal (f a) ≡ false
 
 pub answered : (x : Reply) → is_refusal x ≡ false → outcome x ≡ Ok x
 answered (reply.Refused y) is = absurd (cc)
@@ -48,25 +48,25 @@ pub memory_refused : (x : Reply) → IsMemory x → IsRefused x
 memory_refused (reply.Refused y) is = tt
 memory_refused x is = is
 
-pub told_step : {A : Type 0} (f : A → Reply) → Tells f → (m : Meaning A) (s t : State) (r : Result A Refusal) → Step m s r t → Step (replied f m) s (outcome (told f r)) t
-told_step f tells m s t (Ok a) step = subst (λ (o : Result Reply Refusal). Step (replied f m) s o t) (sym (answered (f a) (tells a))) (step.0, ap f step.1, step.2)
-told_step f tells m s t (Err x) step = step
+pub reported_step : {A : Type 0} (f : A → Reply) → Reports f → (m : Meaning A) (s t : State) (r : Result A Refusal) → Step m s r t → Step (replied f m) s (outcome (reported f r)) t
+reported_step f reports m s t (Ok a) step = subst (λ (o : Result Reply Refusal). Step (replied f m) s o t) (sym (answered (f a) (reports a))) (step.0, ap f step.1, step.2)
+reported_step f reports m s t (Err x) step = step
 
 -- what the call means is what the event means
 abbrev pub Means : {A : Type 0} → (f : A → Reply) → (State → Meaning A) → Event → Type 0
-Means {A} f m e = (s t : State) (r : Result A Refusal) → Step (m s) s r t → Step (meaning s e) s (outcome (told f r)) t
+Means {A} f m e = (s t : State) (r : Result A Refusal) → Step (m s) s r t → Step (meaning s e) s (outcome (reported f r)) t
 
-pub told_beside : {A : Type 0} (f : A → Reply) (m : State → Meaning A) (e : Event) (old new : KernelState) (r : Result A Refusal) → Means f m e → StepsBeside m old r new → StepsBeside (λ s. meaning s e) old (outcome (told f r)) new
-told_beside f m e old new r means b = record { before = b.before; after = b.after; step = means (with_slots b.before old) (with_slots b.after new) r b.step }
+pub reported_beside : {A : Type 0} (f : A → Reply) (m : State → Meaning A) (e : Event) (old new : KernelState) (r : Result A Refusal) → Means f m e → StepsBeside m old r new → StepsBeside (λ s. meaning s e) old (outcome (reported f r)) new
+reported_beside f m e old new r means b = record { before = b.before; after = b.after; step = means (with_slots b.before old) (with_slots b.after new) r b.step }
 
-pub no_room_told : {A : Type 0} (f : A → Reply) (r : Result A Refusal) → Tells f → ((p : ℕ) → r ≡ Err (NoRoom p) → ⊥) → IsNoRoom (told f r) → ⊥
-no_room_told f (Ok a) tells roomy is = unrefused (f a) (tells a) (room_refused (f a) is)
-no_room_told f (Err (NoRoom p)) tells roomy is = roomy p refl
-no_room_told f (Err x) tells roomy is = is
+pub no_room_reported : {A : Type 0} (f : A → Reply) (r : Result A Refusal) → Reports f → ((p : ℕ) → r ≡ Err (NoRoom p) → ⊥) → IsNoRoom (reported f r) → ⊥
+no_room_reported f (Ok a) reports roomy is = unrefused (f a) (reports a) (room_refused (f a) is)
+no_room_reported f (Err (NoRoom p)) reports roomy is = roomy p refl
+no_room_reported f (Err x) reports roomy is = is
 
-pub refused_told : {A : Type 0} (f : A → Reply) (r : Result A Refusal) (X : Type 0) → Tells f → OnErr r X → IsRefused (told f r) → X
-refused_told f (Ok a) X tells err is = absurd (unrefused (f a) (tells a) is)
-refused_told f (Err x) X tells err is = err
+pub refused_reported : {A : Type 0} (f : A → Reply) (r : Result A Refusal) (X : Type 0) → Reports f → OnErr r X → IsRefused (reported f r) → X
+refused_reported f (Ok a) X reports err is = absurd (unrefused (f a) (reports a) is)
+refused_reported f (Err x) X reports err is = err
 
-pub early_told : {A : Type 0} (f : A → Reply) (r : Result A Refusal) (X : Type 0) → Tells f → OnErr r X → IsEarly (told f r) → X
-early_told f r X tells err is = refused_told f r X tells err (early_refused (told f r) is)
+pub early_reported : {A : Type 0} (f : A → Reply) (r : Result A Refusal) (X : Type 0) → Reports f → OnErr r X → IsEarly (reported f r) → X
+early_reported f r X reports err is = refused_reported f r X reports err (early_refused (reported f r) is)

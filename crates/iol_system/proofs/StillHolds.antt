@@ -17,7 +17,7 @@ use Rattle.iol_pool.specs.Pools.{Pool, no_pool, pool_in}
 use Rattle.iol_arena.specs.Firsts.{first_on}
 use Rattle.iol_hold.specs.Moves.{SameLists, Stays, pool_meant}
 use Rattle.iol_hold.specs.Releases.{buf_at}
-use Rattle.iol_hold.specs.StoreState.{Stored, AllSettled, IsHome, IsPlaced, IsStill, IsTidy, count_of}
+use Rattle.iol_hold.specs.StoreState.{Stored, AllReclaimed, IsInPool, IsPlaced, IsStill, IsTidy, count_of}
 use Rattle.iol_hold.proofs.Counts.{live_of}
 use Rattle.iol_kernel.specs.FileCalls.{with_slots}
 use Rattle.iol_kernel.specs.KernelState.{KernelState, read_of}
@@ -107,8 +107,8 @@ module _ (s t : Stored) (tidy : IsTidy s) (still : IsStill s.arena) (alike : Hel
     free_page q here (inr (inr (b, live, on))) =
         let run = tidy.runs.each b.page (kind_len (arena.entry_at s.arena b.page).kind) live.head in
         let at : q / 16 ≡ b.page / 16 = omega (arith, on.from, on.to, run.chunk) in
-        let home : IsHome s p b = subst (λ c. Contains (pool_in s.pools p).chunks c) at here in
-        let there : IsHome t p b = stays.homes p b live (live_of t b (held_still b live)) home in
+        let home : IsInPool s p b = subst (λ c. Contains (pool_in s.pools p).chunks c) at here in
+        let there : IsInPool t p b = stays.homes p b live (live_of t b (held_still b live)) home in
         absurd (no_chunk (pool_in t.pools p).chunks (b.page / 16) none there)
 
     unused : (c : ℕ) → In (pool_in s.pools p).chunks c → is_unused s.arena c ≡ true
@@ -118,21 +118,21 @@ module _ (s t : Stored) (tidy : IsTidy s) (still : IsStill s.arena) (alike : Hel
         let at : q / 16 ≡ c = omega (arith, r.0, r.1) in
         free_page q (subst (λ k. Contains (pool_in s.pools p).chunks k) (sym at) (contains_in (pool_in s.pools p).chunks c i)) (tidy.placed q)))
 
-    none_before : AllSettled s → (pool_in s.pools p).closed ≡ true → (pool_in s.pools p).chunks ≡ []
-    none_before settled closed = (let all = all_true (is_unused s.arena) (pool_in s.pools p).chunks unused in settled.each p (rw (closed, all) refl))
+    none_before : AllReclaimed s → (pool_in s.pools p).closed ≡ true → (pool_in s.pools p).chunks ≡ []
+    none_before reclaimed closed = (let all = all_true (is_unused s.arena) (pool_in s.pools p).chunks unused in reclaimed.each p (rw (closed, all) refl))
 
-  same_chunks : Stays s t → AllSettled s → (p : ℕ) → (pool_in t.pools p).chunks ≡ (pool_in s.pools p).chunks
-  same_chunks stays settled p = elim (alike.frees.chunks p) [
+  same_chunks : Stays s t → AllReclaimed s → (p : ℕ) → (pool_in t.pools p).chunks ≡ (pool_in s.pools p).chunks
+  same_chunks stays reclaimed p = elim (alike.frees.chunks p) [
     | inl same ↦ same
     | inr none ↦ elim (bool_cases (pool_in s.pools p).closed) [
-      | inl closed ↦ none ∙ sym (none_before stays p none settled closed)
+      | inl closed ↦ none ∙ sym (none_before stays p none reclaimed closed)
       | inr yet ↦ ap (λ (x : Pool). x.chunks) (alike.frees.pools p yet)
     ]
   ]
 
-  pub pools_stay : Stays s t → SameLists s t → AllSettled s → KeepsPools s t
-  pools_stay stays lists settled = record {
-    pools = λ p. pool_of (pool_in t.pools p) (pool_in s.pools p) (same_meant s t lists p) (same_chunks stays settled p);
+  pub pools_stay : Stays s t → SameLists s t → AllReclaimed s → KeepsPools s t
+  pools_stay stays lists reclaimed = record {
+    pools = λ p. pool_of (pool_in t.pools p) (pool_in s.pools p) (same_meant s t lists p) (same_chunks stays reclaimed p);
     pages = same_page;
     counts = alike.counts;
   }
@@ -146,4 +146,4 @@ pub no_room_pools : NoRoomKeepsPools
 no_room_pools old new e p safe x =
     let sound = safe.sound in
     pools_stay old.kernel.store new.kernel.store sound.tidy sound.still ((no_room_left old new e p x).1 sound x.safe.sound) x.stays
-    (lists_of x.beside.before x.beside.after old.kernel new.kernel x.beside.step.1) sound.settled
+    (lists_of x.beside.before x.beside.after old.kernel new.kernel x.beside.step.1) sound.reclaimed

@@ -38,7 +38,7 @@ use Rattle.iol_kernel.proofs.Queues.PipeEnds.{end_held}
 use Rattle.iol_kernel.proofs.State.Slots.{file_bytes-none}
 use Rattle.iol_kernel.proofs.FileCalls.WriteBack.{dirty_there}
 use Rattle.iol_system.specs.Machine.{system_of, tables_of}
-use Rattle.iol_system.specs.Replies.{told}
+use Rattle.iol_system.specs.Replies.{reported}
 use Rattle.iol_system.specs.Room.{IsDone}
 use Rattle.iol_system.specs.WriteBack.{CleansFirst, DropsClean, IsCleanFile, IsFlushed, IsStoredFile, SyncsOn, WritesBack}
 
@@ -108,18 +108,18 @@ module _ (by fd : ℕ) (disk after : Disk) (old new : KernelState) (r : Result (
   kept_file (Some (on.WriteEnd p)) is none sound now same backed = tt
   kept_file (Some (on.Connection c)) is none sound now same backed = tt
 
-  sync_clean : (s : Result (Unit {0}) Refusal) (X : Type 0) → OnOk s X → IsDone (told (λ u. reply.Done) s) → X
+  sync_clean : (s : Result (Unit {0}) Refusal) (X : Type 0) → OnOk s X → IsDone (reported (λ u. reply.Done) s) → X
   sync_clean (Ok u) X ok done = ok
   sync_clean (Err x) X ok done = absurd done
 
-  whole_file : (o : Option Descriptor) → SyncsFile (on_file o) disk old r after new → SyncsOn o disk old (told (λ u. reply.Done) r) after new
+  whole_file : (o : Option Descriptor) → SyncsFile (on_file o) disk old r after new → SyncsOn o disk old (reported (λ u. reply.Done) r) after new
   whole_file None syncs = tt
   whole_file (Some (on.File f at mode)) syncs = record { answer = r; is = refl; syncs = syncs }
   whole_file (Some (on.ReadEnd p)) syncs = tt
   whole_file (Some (on.WriteEnd p)) syncs = tt
   whole_file (Some (on.Connection c)) syncs = tt
 
-  pub syncs_back : IsSound old → IsSound new → SyncsFile (file_on (tables_of old) by fd) disk old r after new → WritesBack disk old (event.Call by (call.Fsync fd)) (told (λ u. reply.Done) r) after new
+  pub syncs_back : IsSound old → IsSound new → SyncsFile (file_on (tables_of old) by fd) disk old r after new → WritesBack disk old (event.Call by (call.Fsync fd)) (reported (λ u. reply.Done) r) after new
   syncs_back sound now syncs =
       let o : Option Descriptor = descriptor (tables_of old) by fd in record {
         synced = λ done. synced_file o (sync_clean r _ syncs.clean done);
@@ -153,16 +153,16 @@ cleans_first s f old new d e sound least w =
     }
 
 module _ (disk after : Disk) (old new : KernelState) where
-  flushed_back : (x : Result Flushed Refusal) → IsSound old → Flushes old.store old.cache new.cache disk after x → new ≡ record old { cache = new.cache } → IsDone (told (λ u. reply.Done) (done_of x)) → IsFlushed old event.Flush new
+  flushed_back : (x : Result Flushed Refusal) → IsSound old → Flushes old.store old.cache new.cache disk after x → new ≡ record old { cache = new.cache } → IsDone (reported (λ u. reply.Done) (done_of x)) → IsFlushed old event.Flush new
   flushed_back (Ok Nothing) sound m same done = inr (m.0, same ∙ ap (λ (c : Cached). let h : KernelState = record old { cache = c } in h) m.1)
   flushed_back (Ok (Wrote f)) sound m same done = inl (cleans_first old.store f old.cache new.cache disk after (cache_sound old sound) m.0 m.1)
   flushed_back (Err x) sound m same done = absurd done
 
-  pub flushes_back : (r : Result (Unit {0}) Refusal) → IsSound old → FlushesOne disk old r after new → WritesBack disk old event.Flush (told (λ u. reply.Done) r) after new
+  pub flushes_back : (r : Result (Unit {0}) Refusal) → IsSound old → FlushesOne disk old r after new → WritesBack disk old event.Flush (reported (λ u. reply.Done) r) after new
   flushes_back r sound m = record {
     synced = λ done. tt;
     kept = λ backed done. tt;
-    flushed = λ done. flushed_back m.flushed sound m.flushes m.same (subst (λ (x : Result (Unit {0}) Refusal). IsDone (told (λ u. reply.Done) x)) m.told done);
+    flushed = λ done. flushed_back m.flushed sound m.flushes m.same (subst (λ (x : Result (Unit {0}) Refusal). IsDone (reported (λ u. reply.Done) x)) m.reported done);
     dropped = tt;
     stores_back = record { answer = r; is = refl; flushes = m };
   }

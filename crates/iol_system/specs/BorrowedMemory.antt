@@ -10,18 +10,18 @@ use Rattle.iol_kernel.specs.FileReads.{first_of}
 use Rattle.iol_kernel.specs.ReadsByCopy.{ShowsInto}
 use Rattle.iol_system.specs.Machine.{SystemState, tables_of}
 use Rattle.iol_system.specs.Promises.{Promises}
-use Rattle.iol_system.specs.Replies.{told}
+use Rattle.iol_system.specs.Replies.{reported}
 use Rattle.iol_system.specs.StoreCalls.{asks_store}
 
 -- the event of a read into a memory of this length: at most so many bytes, and fewer than 2^32
 abbrev pub read_of_most : (by fd len : ℕ) → Event
 read_of_most by fd len = event.Call by (call.Read fd (min len (2 ^ 32 - 1)))
 
--- A read into memory: the step of `Read`, whose reply has the bytes at the front of the memory, as many as are returned. The
--- rest of the memory is unchanged, and after a refusal all of it is. A read that is not of a file is never refused for lack of
--- memory.
+-- A read into memory: the step of `Read`, whose reply has the bytes at the front of the memory, as many as are
+-- returned. The rest of the memory is unchanged, and after a refusal all of it is. A read that is not of a file is
+-- never refused for lack of memory.
 pub record ReadsTo (by fd : ℕ) (memory filled : List ℕ) (old : SystemState) (r : Result ℕ Refusal) (new : SystemState) : Type 0 where
-  pub step : Promises old (read_of_most by fd (length memory)) (told reply.Bytes (first_of filled r)) new
+  pub step : Promises old (read_of_most by fd (length memory)) (reported reply.Bytes (first_of filled r)) new
   pub count : IfOk r (λ n. n ≤ min (length memory) (2 ^ 32 - 1))
   pub len : length filled ≡ length memory
   pub rest : IfOk r (λ n. drop n filled ≡ drop n memory)
@@ -33,9 +33,9 @@ abbrev pub shown : List ℕ → Result ℕ Refusal → Result (List ℕ) Refusal
 shown bytes (Ok n) = Ok bytes
 shown bytes (Err x) = Err x
 
--- An aggregate that is shown in memory: the step of `Show`. Its bytes are at the front of the memory if it has room for all of
--- them (`ShowsInto`). It is never refused for lack of memory.
+-- An aggregate that is shown in memory: the step of `Show`. Its bytes are at the front of the memory if it has room for
+-- all of them (`ShowsInto`). It is never refused for lack of memory.
 pub record ShowsTo (by agg : ℕ) (memory filled : List ℕ) (s : SystemState) (r : Result ℕ Refusal) : Type 0 where
   pub shows : ShowsInto by agg memory filled s.kernel r
-  pub step : Promises s (event.Call by (call.Show agg)) (told reply.Bytes (shown shows.bytes r)) s
+  pub step : Promises s (event.Call by (call.Show agg)) (reported reply.Bytes (shown shows.bytes r)) s
   pub not_memory : r ≡ Err Memory → ⊥

@@ -15,7 +15,7 @@ use Rattle.iol_kernel.specs.FileCalls.{IsBackedBy, StepsBeside}
 use Rattle.iol_kernel.specs.Kernel.{state_of}
 use Rattle.iol_kernel.specs.KernelState.{KernelState, layout_of, machine_of, IsSound}
 use Rattle.iol_kernel.specs.declared.kernel.Kernel.{Kernel}
-use Rattle.iol_system.specs.FileLengths.{TellsEnd}
+use Rattle.iol_system.specs.FileLengths.{ReportsEnd}
 use Rattle.iol_system.specs.StoreCalls.{asks_store, makes_file, uses_cache, writes_store}
 use Rattle.iol_system.specs.InPlace.{KeepsInPlace, SharesFile}
 use Rattle.iol_system.specs.Late.{LeavesLate}
@@ -27,8 +27,8 @@ use Rattle.iol_system.specs.Still.{is_still, keeps_store, only_looks, takes_out}
 use Rattle.iol_system.specs.Room.{BytesFit, HasRoomFor, LacksRoomFor, IsDone, IsEarly, IsFault, IsMemory, IsNoRoom, IsRefused}
 use Rattle.iol_system.specs.WriteBack.{WritesBack}
 
--- The effect of an event. With a store that has the same bytes as the clean extents in memory, and positions within files, it
--- is the machine's step; and afterwards the store has them again. All other fields hold over any store.
+-- The effect of an event. With a store that has the same bytes as the clean extents in memory, and positions within
+-- files, it is the machine's step; and afterwards the store has them again. All other fields hold over any store.
 pub record Does (disk : Disk) (old : KernelState) (e : Event) (r : Reply) (after : Disk) (new : KernelState) : Type 0 where
   pub step : IsBackedBy disk old → ArePlaced (machine_of disk.slots old)
       → StepsTo (machine_of disk.slots old) e r (machine_of after.slots new)
@@ -58,7 +58,7 @@ pub record Does (disk : Disk) (old : KernelState) (e : Event) (r : Reply) (after
   pub slices : IsDone r → Divides old e new
   pub publishes : IsDone r → Publishes old e new
   pub creates : Creates old e r new
-  pub ends : TellsEnd (system_of old disk) e r
+  pub ends : ReportsEnd (system_of old disk) e r
   pub sums : Remembers old e r new
   pub written_back : WritesBack disk old e r after new
   pub sound : IsSound new

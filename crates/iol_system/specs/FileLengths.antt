@@ -10,15 +10,15 @@ use Rattle.iol_core.specs.declared.events.Reply.TheVariants as reply
 use Rattle.iol_kernel.specs.FileLengths.{EndsAt, FitsNext, SeeksAt}
 use Rattle.iol_system.specs.Machine.{SystemState}
 
--- `length` returns the end of a read of the file, `seek` goes at most to it, and `file_new` returns TooLong only if the store
--- reports more bytes for the slot than a file may have, and takes no such slot
-abbrev pub CallTellsEnd : SystemState → (by : ℕ) → Call → Reply → Type 0
-CallTellsEnd s by (call.Length fd) (reply.Count n) = EndsAt by fd n s.disk s.kernel
-CallTellsEnd s by (call.Seek fd at) x = SeeksAt by fd at s.disk s.kernel (outcome x)
-CallTellsEnd s by (call.FileNew name p) x = FitsNext s.disk s.kernel (outcome x)
-CallTellsEnd s by c x = ⊤
+-- `length` returns the end of a read of the file, `seek` goes at most to it, and `file_new` returns TooLong only if the
+-- store reports more bytes for the slot than a file may have, and takes no such slot
+abbrev pub CallReportsEnd : SystemState → (by : ℕ) → Call → Reply → Type 0
+CallReportsEnd s by (call.Length fd) (reply.Count n) = EndsAt by fd n s.disk s.kernel
+CallReportsEnd s by (call.Seek fd at) x = SeeksAt by fd at s.disk s.kernel (outcome x)
+CallReportsEnd s by (call.FileNew name p) x = FitsNext s.disk s.kernel (outcome x)
+CallReportsEnd s by c x = ⊤
 
--- what an event says of the end of a file: a call as `CallTellsEnd`, and no other event says anything
-abbrev pub TellsEnd : SystemState → Event → Reply → Type 0
-TellsEnd s (event.Call by c) x = CallTellsEnd s by c x
-TellsEnd s e x = ⊤
+-- what an event says of the end of a file: a call as `CallReportsEnd`, and no other event says anything
+abbrev pub ReportsEnd : SystemState → Event → Reply → Type 0
+ReportsEnd s (event.Call by c) x = CallReportsEnd s by c x
+ReportsEnd s e x = ⊤

@@ -1,4 +1,5 @@
--- Laws of runs: consequences of a chain of steps that keep their promises. Each is the contract of a function of `laws`.
+-- Laws of runs: consequences of a chain of steps that keep their promises. Each is the contract of a function of
+-- `laws`.
 use Rattle.std.specs.Prelude.{◌≡◌, ◌⊎◌, ◌+◌, ◌<◌, ℕ, true, false, List, [], ◌∷◌, ◌++◌, Option, Some, option_map}
 use Rattle.std.specs.List.{list_any}
 use Rattle.iol_core.specs.State.{State, aggregate}
@@ -20,7 +21,7 @@ use Rattle.iol_arena.specs.State as arena
 use Rattle.iol_pool.specs.Pools.{pool_in}
 use Rattle.iol_hold.specs.Moves.{Stays}
 use Rattle.iol_hold.specs.Releases.{HasAllOrNone}
-use Rattle.iol_hold.specs.StoreState.{Stored, IsHome, count_of}
+use Rattle.iol_hold.specs.StoreState.{Stored, IsInPool, count_of}
 use Rattle.iol_back.specs.Disk.{IfHonest}
 use Rattle.iol_evict.specs.Order.{entry_at, worth}
 use Rattle.iol_evict.specs.declared.entry.Entry.{Entry}
@@ -58,8 +59,8 @@ abbrev pub RunsInParts : Type 0
 RunsInParts = (old new : SystemState) (past future : List Event) (rs : List Reply) → Chain old (past ++ future) rs new
     → Between old past future rs new
 
--- an event of a run, and its reply: a step that keeps all promises, between a run of the events before and one of those after
--- it
+-- an event of a run, and its reply: a step that keeps all promises, between a run of the events before and one of those
+-- after it
 pub record Moment (old : SystemState) (past : List Event) (e : Event) (future : List Event) (rs : List Reply)
     (new : SystemState) : Type 0 where
   pub before : SystemState
@@ -99,8 +100,8 @@ pub record IsMet (Read : (f i : ℕ) → Type 0) (c : Cached) (f at : ℕ) : Typ
   pub over : extent_over (extents_in c.files f) byte ≡ Some extent
   pub begins : extent.at ≡ at
 
--- The extents of files in memory are unchanged, dirty or clean. L of each pool and each clean extent in the pool's order are
--- unchanged, except that hits are counted for extents that the range read meets.
+-- The extents of files in memory are unchanged, dirty or clean. L of each pool and each clean extent in the pool's
+-- order are unchanged, except that hits are counted for extents that the range read meets.
 pub record EvictsNothing (Read : (f i : ℕ) → Type 0) (old new : Cached) : Type 0 where
   pub extents : (f : ℕ) → extents_in new.files f ≡ extents_in old.files f
   pub low : (p : ℕ) → (order_in new.orders p).low ≡ (order_in old.orders p).low
@@ -177,8 +178,8 @@ abbrev pub RunsKeepValues : Type 0
 RunsKeepValues = (old new : SystemState) (es : List Event) (rs : List Reply) → Chain old es rs new
     → ValuesStayOver (machine_of old) es (machine_of new)
 
--- after a run of calls that share, each byte is at the place that the calls' own meaning names, and each page and pool is
--- unchanged
+-- after a run of calls that share, each byte is at the place that the calls' own meaning names, and each page and pool
+-- is unchanged
 pub record SharesOver (old : SystemState) (es : List Event) (rs : List Reply) (new : SystemState) : Type 0 where
   pub places : Run (layout_of old.kernel) es rs (layout_of new.kernel)
   pub arena : new.kernel.store.arena ≡ old.kernel.store.arena
@@ -206,7 +207,7 @@ EachChunkHasOnePool = (s : SystemState) → IsSafe s → (c : ℕ) → c < chunk
 
 -- The pool has returned its chunks, or a buffer in them is still held.
 abbrev pub HasGivenBack : Stored → (p : ℕ) → Type 0
-HasGivenBack s p = ((pool_in s.pools p).chunks ≡ []) ⊎ ((b : BufId) × IsLive s.arena b × IsHome s p b × (0 < count_of s b))
+HasGivenBack s p = ((pool_in s.pools p).chunks ≡ []) ⊎ ((b : BufId) × IsLive s.arena b × IsInPool s p b × (0 < count_of s b))
 
 -- Between any two events a closed pool has returned its chunks, as soon as no buffer in them is held.
 abbrev pub ClosedPoolsGiveBack : Type 0

@@ -16,13 +16,13 @@ pub record LendsParts (s : State) (by agg : ℕ) (r : Result (List (List ℕ)) R
   pub ok : IfOk r (λ parts. (first (show s by agg).refusals ≡ None) × (joined parts ≡ (show s by agg).answer))
   pub err : IfErr r (λ x. first (show s by agg).refusals ≡ Some x)
 
--- A domain's aggregate is given as its slices, in order, each at its address. Their bytes are those that the machine's `show`
--- returns. It is refused exactly as `show` is.
+-- A domain's aggregate is given as its slices, in order, each at its address. Their bytes are those that the machine's
+-- `show` returns. It is refused exactly as `show` is.
 pub record LocatesParts (h : KernelState) (by agg : ℕ) (r : Result (List Located) Refusal) : Type 0 where
   pub ok : IfOk r (λ parts. Locates by agg parts h)
   pub err : IfErr r (λ x. RefusesShow by agg x h)
 
 -- A domain's aggregate has as many bytes as the machine's `show` returns. It is refused exactly as `show` is.
-pub record TellsLength (s : State) (by agg : ℕ) (r : Result ℕ Refusal) : Type 0 where
+pub record ReportsLength (s : State) (by agg : ℕ) (r : Result ℕ Refusal) : Type 0 where
   pub ok : IfOk r (λ n. (first (show s by agg).refusals ≡ None) × (n ≡ length (show s by agg).answer))
   pub err : IfErr r (λ x. first (show s by agg).refusals ≡ Some x)

@@ -1,8 +1,8 @@
 -- The promises of one event, and of a run of events: a chain of such steps over the whole state of a system.
 --
--- The copying machine's own run (`iol_core`, `Run`) says which replies are returned, and leaves open when there is room and
--- at which places bytes are. A chain has all promises of `System::step` at each link, so every property of a step holds in a
--- run.
+-- The copying machine's own run (`iol_core`, `Run`) says which replies are returned, and leaves open when there is room
+-- and at which places bytes are. A chain has all promises of `System::step` at each link, so every property of a step
+-- holds in a run.
 use Rattle.std.specs.Prelude.{◌≡◌, ◌⊎◌, true, false, List, [], ◌∷◌}
 use Rattle.iol_back.specs.Disk.{IfHonest}
 use Rattle.iol_cache.specs.KeptCover.{SameExtents}
@@ -16,7 +16,7 @@ use Rattle.iol_hold.specs.Moves.{Stays}
 use Rattle.iol_kernel.specs.FileCalls.{StepsBeside}
 use Rattle.iol_kernel.specs.KernelState.{layout_of}
 use Rattle.iol_system.specs.StoreCalls.{asks_store, makes_file, uses_cache, writes_store}
-use Rattle.iol_system.specs.FileLengths.{TellsEnd}
+use Rattle.iol_system.specs.FileLengths.{ReportsEnd}
 use Rattle.iol_system.specs.InPlace.{KeepsInPlace, SharesFile}
 use Rattle.iol_system.specs.Late.{LeavesLate}
 use Rattle.iol_system.specs.Machine.{SystemState, machine_of, tables_of}
@@ -48,18 +48,21 @@ pub record Promises (old : SystemState) (e : Event) (r : Reply) (new : SystemSta
   pub room : IsDone r → HasRoomFor old e
   -- NoRoom is returned only if there is no room
   pub no_room : IsNoRoom r → LacksRoomFor old e
-  -- Memory is returned only if the new bytes of the event fit their pool: a full pool is found before memory is requested
+  -- Memory is returned only if the new bytes of the event fit their pool: a full pool is found before memory is
+  -- requested
   pub memory : IsMemory r → BytesFit old e
   -- if there is no room, every refusal leaves the extents of every file unchanged
   pub without_room : IsRefused r → HasRoomFor old e ⊎ SameExtents old.kernel.cache new.kernel.cache
   -- a refusal other than NoRoom, Memory and Fault changes nothing
   pub early : IsEarly r → new ≡ old
-  -- a refusal of an event that needs no pages and does not work on the extents of files in memory changes nothing either
+  -- a refusal of an event that needs no pages and does not work on the extents of files in memory changes nothing
+  -- either
   pub refused : uses_cache (tables_of old.kernel) e ≡ false → IsRefused r → new ≡ old
-  -- an event that does not work on the extents of files in memory leaves them unchanged, except that a new file has none
+  -- an event that does not work on the extents of files in memory leaves them unchanged, except that a new file has
+  -- none
   pub uncached : uses_cache (tables_of old.kernel) e ≡ false → makes_file e ≡ false → new.kernel.cache ≡ old.kernel.cache
-  -- what a late refusal may leave: clean parts of files evicted, in the order of eviction, hits counted, and pages with an
-  -- incremented generation that were filled and are free again
+  -- what a late refusal may leave: clean parts of files evicted, in the order of eviction, hits counted, and pages with
+  -- an incremented generation that were filled and are free again
   pub late : LeavesLate old e r new
   -- `show` and `length` change nothing
   pub looks : only_looks e ≡ true → new ≡ old
@@ -80,18 +83,18 @@ pub record Promises (old : SystemState) (e : Event) (r : Reply) (new : SystemSta
   pub store : keeps_store e ≡ true → new.kernel.store ≡ old.kernel.store
   -- calls on files share the bytes in memory, and the bytes read or written by copying are in memory afterwards, too
   pub shares_file : IsDone r → SharesFile old e r new.kernel
-  -- New bytes of an aggregate or a queue are in at most one slice per page. Reads of queues and writes of aggregates to them
-  -- keep slices whole, except for the last.
+  -- New bytes of an aggregate or a queue are in at most one slice per page. Reads of queues and writes of aggregates to
+  -- them keep slices whole, except for the last.
   pub slices : IsDone r → Divides old.kernel e new.kernel
-  -- Buffers are made on the lowest free pages, whose generation is incremented, and no more extents are evicted for new bytes
-  -- than needed. An open pool keeps its chunks, a closed one all of them or none.
+  -- Buffers are made on the lowest free pages, whose generation is incremented, and no more extents are evicted for new
+  -- bytes than needed. An open pool keeps its chunks, a closed one all of them or none.
   pub publishes : IsDone r → Publishes old.kernel e new.kernel
-  -- A new pool has the lowest free chunks. Admitting a domain changes only the pool's list, and a new file has no extent in
-  -- memory.
+  -- A new pool has the lowest free chunks. Admitting a domain changes only the pool's list, and a new file has no
+  -- extent in memory.
   pub creates : Creates old.kernel e r new.kernel
-  -- over any store `length` returns the end of a read, `seek` goes at most to it, and `file_new` takes no slot with too many
-  -- bytes
-  pub ends : TellsEnd old e r
+  -- over any store `length` returns the end of a read, `seek` goes at most to it, and `file_new` takes no slot with too
+  -- many bytes
+  pub ends : ReportsEnd old e r
   -- sending remembers the sums of the slices sent, and no other event changes the remembered sums
   pub sums : Remembers old.kernel e r new.kernel
   -- after `fsync` no extent of its file is dirty

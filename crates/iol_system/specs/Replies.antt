@@ -5,6 +5,6 @@ use Rattle.iol_core.specs.declared.events.Reply.{Reply}
 use Rattle.iol_core.specs.declared.events.Reply.TheVariants as reply
 
 -- the answer of a call as a reply, or its refusal
-abbrev pub told : {A : Type 0} → (A → Reply) → Result A Refusal → Reply
-told f (Ok a) = f a
-told f (Err x) = reply.Refused x
+abbrev pub reported : {A : Type 0} → (A → Reply) → Result A Refusal → Reply
+reported f (Ok a) = f a
+reported f (Err x) = reply.Refused x

@@ -20,7 +20,7 @@ use Rattle.iol_kernel.specs.FileCalls.{IsBackedBy, holding_of}
 use Rattle.iol_kernel.specs.KernelState.{KernelState}
 use Rattle.iol_kernel.specs.WriteBack.{FlushesOne, SyncsFile}
 use Rattle.iol_system.specs.Machine.{SystemState, machine_of, system_of, tables_of}
-use Rattle.iol_system.specs.Replies.{told}
+use Rattle.iol_system.specs.Replies.{reported}
 use Rattle.iol_system.specs.Room.{IsDone}
 
 -- no extent of the file that a descriptor is open on is dirty
@@ -70,11 +70,11 @@ abbrev pub IsDropped : KernelState → Event → KernelState → Type 0
 IsDropped old event.DropClean new = DropsClean old new
 IsDropped old e new = ⊤
 
--- The extents that an `fsync` wrote back, whatever the reply: the first dirty extents of its file, up to the one at which the
--- store failed.
+-- The extents that an `fsync` wrote back, whatever the reply: the first dirty extents of its file, up to the one at
+-- which the store failed.
 pub record SyncsAs (f : ℕ) (disk : Disk) (old : KernelState) (r : Reply) (after : Disk) (new : KernelState) : Type 0 where
   pub answer : Result (Unit {0}) Refusal
-  pub is : r ≡ told (λ u. reply.Done) answer
+  pub is : r ≡ reported (λ u. reply.Done) answer
   pub syncs : SyncsFile f disk old answer after new
 
 -- the extents that an `fsync` wrote back, if its descriptor is open on a file; for anything else this says nothing
@@ -85,7 +85,7 @@ SyncsOn o disk old r after new = ⊤
 -- The extent that a `flush` wrote back, or the file of the dirty extent at which the store failed.
 pub record FlushesAs (disk : Disk) (old : KernelState) (r : Reply) (after : Disk) (new : KernelState) : Type 0 where
   pub answer : Result (Unit {0}) Refusal
-  pub is : r ≡ told (λ u. reply.Done) answer
+  pub is : r ≡ reported (λ u. reply.Done) answer
   pub flushes : FlushesOne disk old answer after new
 
 -- The extents that an `fsync` or a `flush` wrote back, refused or not.
@@ -94,8 +94,8 @@ StoresBack disk old (event.Call by (call.Fsync fd)) r after new = SyncsOn (descr
 StoresBack disk old event.Flush r after new = FlushesAs disk old r after new
 StoresBack disk old e r after new = ⊤
 
--- What one event writes back or drops: the extents that are clean and stored if it succeeds, and those that were written
--- whatever the reply.
+-- What one event writes back or drops: the extents that are clean and stored if it succeeds, and those that were
+-- written whatever the reply.
 pub record WritesBack (disk : Disk) (old : KernelState) (e : Event) (r : Reply) (after : Disk) (new : KernelState) : Type 0 where
   pub synced : IsDone r → IsSynced old e new
   pub kept : IsBackedBy after new → IsDone r → IsKept old e (system_of new after)

@@ -1,7 +1,7 @@
 //! References to the aggregates of all domains.
 ghost use Rattle.std.specs.Prelude.{◌≡◌};
 ghost use Rattle.iol_kernel.specs.Prelude.{state_of, IsSound};
-ghost use Rattle.iol_system.specs.LentBytes.{LendsParts, TellsLength};
+ghost use Rattle.iol_system.specs.LentBytes.{LendsParts, ReportsLength};
 ghost use Rattle.iol_system.specs.Machine.{tables_of};
 
 use iol_agg::Parts;
@@ -47,7 +47,7 @@ impl<'a> Aggregates<'a> {
     /// The number of bytes of a domain's aggregate. Its slices are not walked, and no memory is
     /// requested.
     pub fn len(&self, by: DomainId, agg: AggId) -> Result<u32, Refusal>
-        ensures { TellsLength (tables_of self.now) by agg result }
+        ensures { ReportsLength (tables_of self.now) by agg result }
     {
         self.kernel.agg_len(by, agg)
     }

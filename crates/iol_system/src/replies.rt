@@ -2,7 +2,7 @@
 ghost use Rattle.std.specs.Prelude.{◌≡◌};
 ghost use Rattle.iol_core.specs.declared.events.Reply.TheVariants as reply;
 ghost use Rattle.iol_kernel.specs.Calls as calls;
-ghost use Rattle.iol_system.specs.Replies.{told};
+ghost use Rattle.iol_system.specs.Replies.{reported};
 
 use iol_core::events::Reply;
 use iol_core::lists::Bytes;
@@ -12,7 +12,7 @@ use iol_sock::Segment;
 
 /// The reply of a call without an answer.
 pub(crate) fn done(answer: Result<(), Refusal>) -> Reply
-    ensures { result ≡ told (λ u. reply.Done) answer }
+    ensures { result ≡ reported (λ u. reply.Done) answer }
 {
     match answer {
         Ok(()) => Reply::Done,
@@ -22,7 +22,7 @@ pub(crate) fn done(answer: Result<(), Refusal>) -> Reply
 
 /// The reply with a domain's number.
 pub(crate) fn domain(answer: Result<DomainId, Refusal>) -> Reply
-    ensures { result ≡ told reply.Domain answer }
+    ensures { result ≡ reported reply.Domain answer }
 {
     match answer {
         Ok(domain) => Reply::Domain(domain),
@@ -32,7 +32,7 @@ pub(crate) fn domain(answer: Result<DomainId, Refusal>) -> Reply
 
 /// The reply with a pool's number.
 pub(crate) fn pool(answer: Result<PoolId, Refusal>) -> Reply
-    ensures { result ≡ told reply.Pool answer }
+    ensures { result ≡ reported reply.Pool answer }
 {
     match answer {
         Ok(pool) => Reply::Pool(pool),
@@ -42,7 +42,7 @@ pub(crate) fn pool(answer: Result<PoolId, Refusal>) -> Reply
 
 /// The reply with a file's number.
 pub(crate) fn file(answer: Result<FileId, Refusal>) -> Reply
-    ensures { result ≡ told reply.File answer }
+    ensures { result ≡ reported reply.File answer }
 {
     match answer {
         Ok(file) => Reply::File(file),
@@ -52,7 +52,7 @@ pub(crate) fn file(answer: Result<FileId, Refusal>) -> Reply
 
 /// The reply with a new connection's number.
 pub(crate) fn conn(answer: Result<ConnId, Refusal>) -> Reply
-    ensures { result ≡ told reply.Conn answer }
+    ensures { result ≡ reported reply.Conn answer }
 {
     match answer {
         Ok(conn) => Reply::Conn(conn),
@@ -62,7 +62,7 @@ pub(crate) fn conn(answer: Result<ConnId, Refusal>) -> Reply
 
 /// The reply with an aggregate's number.
 pub(crate) fn agg(answer: Result<AggId, Refusal>) -> Reply
-    ensures { result ≡ told reply.Agg answer }
+    ensures { result ≡ reported reply.Agg answer }
 {
     match answer {
         Ok(agg) => Reply::Agg(agg),
@@ -72,7 +72,7 @@ pub(crate) fn agg(answer: Result<AggId, Refusal>) -> Reply
 
 /// The reply with a descriptor's number.
 pub(crate) fn fd(answer: Result<Fd, Refusal>) -> Reply
-    ensures { result ≡ told reply.Fd answer }
+    ensures { result ≡ reported reply.Fd answer }
 {
     match answer {
         Ok(fd) => Reply::Fd(fd),
@@ -82,7 +82,7 @@ pub(crate) fn fd(answer: Result<Fd, Refusal>) -> Reply
 
 /// The reply with a number of bytes.
 pub(crate) fn count(answer: Result<u32, Refusal>) -> Reply
-    ensures { result ≡ told reply.Count answer }
+    ensures { result ≡ reported reply.Count answer }
 {
     match answer {
         Ok(count) => Reply::Count(count),
@@ -92,7 +92,7 @@ pub(crate) fn count(answer: Result<u32, Refusal>) -> Reply
 
 /// The reply with bytes.
 pub(crate) fn bytes(answer: Result<Bytes, Refusal>) -> Reply
-    ensures { result ≡ told reply.Bytes answer }
+    ensures { result ≡ reported reply.Bytes answer }
 {
     match answer {
         Ok(bytes) => Reply::Bytes(bytes),
@@ -102,7 +102,7 @@ pub(crate) fn bytes(answer: Result<Bytes, Refusal>) -> Reply
 
 /// The reply with two aggregates.
 pub(crate) fn aggs(answer: Result<(AggId, AggId), Refusal>) -> Reply
-    ensures { result ≡ told (λ two. reply.Aggs two.0 two.1) answer }
+    ensures { result ≡ reported (λ two. reply.Aggs two.0 two.1) answer }
 {
     match answer {
         Ok((first, second)) => Reply::Aggs(first, second),
@@ -112,7 +112,7 @@ pub(crate) fn aggs(answer: Result<(AggId, AggId), Refusal>) -> Reply
 
 /// The reply with the ends of a pipe.
 pub(crate) fn fds(answer: Result<(Fd, Fd), Refusal>) -> Reply
-    ensures { result ≡ told (λ two. reply.Fds two.0 two.1) answer }
+    ensures { result ≡ reported (λ two. reply.Fds two.0 two.1) answer }
 {
     match answer {
         Ok((read, write)) => Reply::Fds(read, write),
@@ -122,7 +122,7 @@ pub(crate) fn fds(answer: Result<(Fd, Fd), Refusal>) -> Reply
 
 /// The reply with a segment sent.
 pub(crate) fn segment(answer: Result<Segment, Refusal>) -> Reply
-    ensures { result ≡ told (λ x. reply.Segment x.0 x.1) (calls.told answer) }
+    ensures { result ≡ reported (λ x. reply.Segment x.0 x.1) (calls.reported answer) }
 {
     match answer {
         Ok(Segment { bytes, checksum }) => Reply::Segment { bytes, checksum },

@@ -2,8 +2,8 @@
 use Rattle.std.specs.Prelude.{◌≡◌, ℕ, Bool, true, false, List, [], length, map}
 use Rattle.iol_back.specs.Disk.{Disk, content}
 
--- The names of the files, the lengths that they had when they were found, their bytes in memory, whether reads use these, and
--- the number of failed calls to the folder.
+-- The names of the files, the lengths that they had when they were found, their bytes in memory, whether reads use
+-- these, and the number of failed calls to the folder.
 pub record Store : Type 0 where
   pub names : List (List ℕ)
   pub lengths : List ℕ
@@ -13,7 +13,7 @@ pub record Store : Type 0 where
 
 -- the folder as a store: it is not honest, because others write the files
 abbrev pub folder_disk : Store → Disk
-folder_disk s = record { slots = []; failures = s.failures; honest = false; told = s.lengths }
+folder_disk s = record { slots = []; failures = s.failures; honest = false; reported = s.lengths }
 
 abbrev pub either_disk : Bool → (memory folder : Disk) → Disk
 either_disk true memory folder = memory

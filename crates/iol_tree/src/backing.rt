@@ -1,6 +1,6 @@
 //! A store of the files below a folder.
 ghost use Rattle.std.specs.Prelude.{◌≡◌, ◌+◌, ◌-◌, ◌<◌, ◌≤◌, ◌↔◌, length, true, false, Some, IsSome, IfSome, IfOk};
-ghost use Rattle.iol_back.specs.Disk.{IsSlot, ReadsAt, length_told, raised};
+ghost use Rattle.iol_back.specs.Disk.{IsSlot, ReadsAt, length_reported, raised};
 ghost use Rattle.iol_back.specs.Folder.{AreListed, AreNames};
 ghost use Rattle.iol_back.specs.Lists.{items_of};
 ghost use Rattle.iol_tree.specs.Store.{HaveLengths, HoldsBytes, disk_of};
@@ -17,11 +17,11 @@ use std::io::{Read, Seek, SeekFrom};
 use std::marker::Model;
 use std::rt::Files;
 
-/// The files of an index, as a store for reading: over a copy of their bytes in memory, which is honest, or over the folder,
-/// which promises nothing about their bytes.
+/// The files of an index, as a store for reading: over a copy of their bytes in memory, which is
+/// honest, or over the folder, which promises nothing about their bytes.
 ///
-/// Over the folder no file is held open. While a file differs from its stamp in the index, each read of it fails. Each write
-/// to the folder fails.
+/// Over the folder no file is held open. While a file differs from its stamp in the index, each
+/// read of it fails. Each write to the folder fails.
 #[derive(Drop)]
 pub struct TreeBacking<R: Files> {
     files: R,
@@ -130,7 +130,7 @@ impl<R: Files> TreeBacking<R> {
 
     // The length that a file of the folder had when it was found.
     fn folder_length(&self, file: FileId) -> u32
-        ensures { result ≡ length_told self.now.lengths file }
+        ensures { result ≡ length_reported self.now.lengths file }
     {
         match self.place(file) {
             Some(place) => self.index.stamp(place).length(),

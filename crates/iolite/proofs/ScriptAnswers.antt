@@ -46,13 +46,13 @@ module _ (ls : List (List ℕ)) (start mid end : SystemState) (old known : Optio
   pub Answering-line : (text : List ℕ) → Answering ls start mid old known pending → is_asking l ≡ true → AnswersLine l mid end text → Answering (ls ++ l ∷ []) start end old known (pending ++ text)
   Answering-line text so asks next =
       let e : asking (without_blank (ls ++ l ∷ [])) ≡ asking (without_blank ls) ++ l ∷ [] = commands-append ls (l ∷ []) ∙ ap (λ ys. asking (without_blank ls) ++ ys) (is_asking-yes l asks) in
-      let told = answer_text next.answer ++ newline in record {
+      let reported = answer_text next.answer ++ newline in record {
         asked = so.asked ++ next.line ∷ [];
         answers = so.answers ++ next.answer ∷ [];
         asks = subst (λ ys. AskInOrder ys (so.asked ++ next.line ∷ [])) (sym e) (AskInOrder-push (asking (without_blank ls)) so.asked l next.line so.asks next.asks);
         each = AreAnswers-push start mid end so.asked so.answers next.line next.answer so.each next.answered;
         printed = so.printed;
-        all = lines_of-push so.answers next.answer ∙ (ap (λ ys. ys ++ told) so.all ∙ (append_assoc so.printed pending told ∙ ap (λ ys. so.printed ++ (pending ++ ys)) (sym next.is)));
+        all = lines_of-push so.answers next.answer ∙ (ap (λ ys. ys ++ reported) so.all ∙ (append_assoc so.printed pending reported ∙ ap (λ ys. so.printed ++ (pending ++ ys)) (sym next.is)));
         appended = so.appended;
       }
 

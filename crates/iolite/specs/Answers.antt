@@ -19,11 +19,12 @@ use Rattle.iolite.specs.Failure.{status_of}
 use Rattle.iolite.specs.PrintedText.{answer_text, lines_of, newline}
 use Rattle.iolite.specs.Script.{Asks, AskInOrder, HasBadLine, IsBadScript, IsJudged, IsScriptText, Says, asking, commands, lines, without_blank}
 
--- A new system with the setup of a script: only domain 1 exists, no page was ever used, the parameters are the given or default
--- ones, and the store is in memory with the bytes that the script stored. No sum is remembered, and the cache is empty.
+-- A new system with the setup of a script: only domain 1 exists, no page was ever used, the parameters are the given or
+-- default ones, and the store is in memory with the bytes that the script stored. No sum is remembered, and the cache
+-- is empty.
 pub record IsNew (setup : Setup) (s : SystemState) : Type 0 where
   pub machine : machine_of s ≡ new_state (slots_of setup.slots)
-  pub store : s.disk ≡ record { slots = setup.slots; failures = 0; honest = true; told = lengths_of setup.slots }
+  pub store : s.disk ≡ record { slots = setup.slots; failures = 0; honest = true; reported = lengths_of setup.slots }
   pub entries : s.kernel.store.arena.entries ≡ replicate ((unwrap_or setup.config DEFAULT).chunks * CHUNK_PAGES) no_entry
   pub taken : s.kernel.store.arena.taken ≡ replicate (unwrap_or setup.config DEFAULT).chunks false
   pub limit : s.kernel.store.arena.limit ≡ (unwrap_or setup.config DEFAULT).gen_limit
@@ -61,7 +62,8 @@ pub record Replayed (given : List ℕ) (old new : Option (List ℕ)) : Type 0 wh
   pub answered : Answered setup asked answers
   pub printed : Appends old new (lines_of answers)
 
--- The same if it ended early: all lines are commands, a prefix of them was executed, and a prefix of the results was printed.
+-- The same if it ended early: all lines are commands, a prefix of them was executed, and a prefix of the results was
+-- printed.
 pub record Begun (given : List ℕ) (old new : Option (List ℕ)) : Type 0 where
   pub setup : Setup
   pub judged : IsJudged (commands given) setup
@@ -82,9 +84,9 @@ pub record BegunWhole (given : List ℕ) (old new : Option (List ℕ)) : Type 0 
   pub begun : Begun given old new
   pub whole : begun.left ≡ []
 
--- The result of running a script's text, by the status. If the script is invalid, a line is bad and the output is unchanged.
--- After another failure the output is unchanged or the script has begun; if memory ran out, with all results so far. Otherwise
--- all lines were executed and printed. The contents of the output are known before and after.
+-- The result of running a script's text, by the status. If the script is invalid, a line is bad and the output is
+-- unchanged. After another failure the output is unchanged or the script has begun; if memory ran out, with all results
+-- so far. Otherwise all lines were executed and printed. The contents of the output are known before and after.
 pub record ReplaysText {W : Type 0} (text : List ℕ) (held holds : Option (List ℕ)) (output printed : W)
     (r : Result (Unit {0}) Failure) : Type 0 where
   pub untouched : IfErr r (λ failure. status_of failure ≡ 2 → printed ≡ output)
@@ -93,10 +95,10 @@ pub record ReplaysText {W : Type 0} (text : List ℕ) (held holds : Option (List
   pub whole : r ≡ Err Memory → (printed ≡ output) ⊎ BegunWhole text held holds
   pub replayed : OnOk r (Replayed text held holds)
 
--- The result of running the script of an input, by the status. If the script is invalid, it is a bad script, if the bytes of
--- the input are known, and the output is unchanged. After another failure the output is unchanged or the script has begun; if
--- memory ran out, with all results so far. Otherwise the input is the text of a script, and all lines were executed and
--- printed.
+-- The result of running the script of an input, by the status. If the script is invalid, it is a bad script, if the
+-- bytes of the input are known, and the output is unchanged. After another failure the output is unchanged or the
+-- script has begun; if memory ran out, with all results so far. Otherwise the input is the text of a script, and all
+-- lines were executed and printed.
 pub record Replays {W : Type 0} (input held holds : Option (List ℕ)) (output printed : W) (r : Result (Unit {0}) Failure)
     : Type 0 where
   pub untouched : IfErr r (λ failure. status_of failure ≡ 2 → printed ≡ output)
@@ -106,7 +108,8 @@ pub record Replays {W : Type 0} (input held holds : Option (List ℕ)) (output p
   pub whole : r ≡ Err Memory → (printed ≡ output) ⊎ IfSome input (λ given. BegunWhole given held holds)
   pub replayed : OnOk r (IfSome input (λ given. Replayed given held holds))
 
--- Of these lines, those with an action were executed, from start to end, and each result was printed or is still buffered.
+-- Of these lines, those with an action were executed, from start to end, and each result was printed or is still
+-- buffered.
 pub record Answering (ls : List (List ℕ)) (start end : SystemState) (old new : Option (List ℕ)) (left : List ℕ) : Type 0 where
   pub asked : List Line
   pub answers : List Answer
@@ -142,8 +145,8 @@ abbrev pub LosesFirst : List (List ℕ) → (old new : SystemState) → Type 0
 LosesFirst [] old new = new ≡ old
 LosesFirst (l ∷ ls) old new = LosesLine l old new
 
--- The lines were executed up to a point, and each result was printed; then the next ran out of memory, or memory ran out before
--- the first.
+-- The lines were executed up to a point, and each result was printed; then the next ran out of memory, or memory ran
+-- out before the first.
 pub record EndsWanting (ls : List (List ℕ)) (start end : SystemState) (old new : Option (List ℕ)) : Type 0 where
   pub front : List (List ℕ)
   pub rest : List (List ℕ)

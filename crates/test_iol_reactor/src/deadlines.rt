@@ -1,10 +1,10 @@
-//! The times and the order in which keys become due.
+//! The times and the order in which keys become expected.
 use iol_reactor::deadlines::Deadlines;
 use std::alloc::{AllocError, Global};
 use std::test::Fail;
 use test_parts::checks::{lend, pass, pass_each};
 
-// The keys 1, 2 and 3, set at 100, 103 and, by a clock that went back, 90, and due 10 later.
+// The keys 1, 2 and 3, set at 100, 103 and, by a clock that went back, 90, and expected 10 later.
 fn three(alloc: Global) -> Result<Deadlines<u32>, AllocError> {
     let mut queue = Deadlines::new(alloc, 10, 3)?;
     queue.set(100, 1)?;
@@ -13,7 +13,7 @@ fn three(alloc: Global) -> Result<Deadlines<u32>, AllocError> {
     Ok(queue)
 }
 
-// A time, the first key that is due by then, and the deadlines that are left.
+// A time, the first key that is expected by then, and the deadlines that are left.
 const TIMES: [(u64, Option<u32>, usize); 4] = [
     (0, None, 3),
     (109, None, 3),
@@ -35,7 +35,7 @@ fn each_time(rt: HostRuntime) -> Result<(), Fail> {
     pass_each(&TIMES, |row| is_due(alloc, row))
 }
 
-// The third is due with the second.
+// The third is expected with the second.
 fn take_in_order(queue: &mut Deadlines<u32>) -> bool {
     queue.take_due(112) == Some(1)
         && queue.take_due(112) == None

@@ -8,13 +8,13 @@ use Rattle.iol_core.specs.declared.events.Reply.TheVariants as reply
 use Rattle.iol_core.specs.declared.refusals.Refusal.TheVariants.{WouldBlock}
 use Rattle.iol_back.specs.Prelude.{IfHonest}
 use Rattle.iol_system.specs.Prelude.{SystemState, machine_of}
-use Rattle.iol_proc.specs.Prelude.{AllSettled}
+use Rattle.iol_proc.specs.Prelude.{AllQuiescent}
 use Rattle.iol_proc.specs.World.{Stage}
 use Rattle.iol_proc.specs.declared.process.Turn.{Turn}
 use Rattle.iol_proc.specs.declared.process.Turn.TheVariants as turn
 
--- a watcher calls `accept`, and yields each time after it: asked is whether it had called before a turn, next whether it has
--- after it
+-- a watcher calls `accept`, and yields each time after it: asked is whether it had called before a turn, next whether
+-- it has after it
 abbrev pub Watches : (asked : Bool) → Turn → (next : Bool) → Type 0
 Watches asked turn.Yield next = (asked ≡ true) × (next ≡ false)
 Watches asked (turn.Make c) next = (asked ≡ false) × (c ≡ call.Accept) × (next ≡ true)
@@ -33,4 +33,4 @@ HasWatched (suc (suc n)) by asked m = NoneWaits m by
 -- connection is waiting that its domain may accept.
 abbrev pub AllHaveWatched : {P : Type 0} → (world after : Stage SystemState P) → (asked : P → Bool) → (idle : Bool) → Type 0
 AllHaveWatched world after asked idle = IfHonest world.machine.disk
-    (idle ≡ true → AllSettled (λ n by p last m. HasWatched n by (asked p) m) after.seats (machine_of after.machine))
+    (idle ≡ true → AllQuiescent (λ n by p last m. HasWatched n by (asked p) m) after.process_slots (machine_of after.machine))

@@ -1,13 +1,13 @@
 //! Rows of the file server, of scripts and of borrowed paths, over a site in memory:
 //! `scripts/hostile_rows` runs each with one resource failure after another.
 //!
-//! `test_worked_rows served CHUNKS FAULT FILE ..` serves one connection from standard input to standard
-//! output, and prints its ending. A FILE is `all` or `guest` (the domains that may read it), a
-//! name, a count and a text, which is repeated as often. CHUNKS are those of the pool `site`.
-//! Device call number FAULT fails, if it is not 0.
+//! `test_worked_rows served CHUNKS FAULT FILE ..` serves one connection from standard input to
+//! standard output, and prints its ending. A FILE is `all` or `guest` (the domains that may read
+//! it), a name, a count and a text, which is repeated as often. CHUNKS are those of the pool
+//! `site`. Device call number FAULT fails, if it is not 0.
 //!
-//! `test_worked_rows turns CHUNKS FAULT FILE ..` requests the script `s.cgi` and the file `f` at once,
-//! and the guest writes `f` before the script reads it.
+//! `test_worked_rows turns CHUNKS FAULT FILE ..` requests the script `s.cgi` and the file `f` at
+//! once, and the guest writes `f` before the script reads it.
 //!
 //! `test_worked_rows borrowed COUNT TEXT MOST FAILS MOST FAILS STEP ..` takes a connection through
 //! steps, each a word and a number, on a site without files. Its reader gives the text COUNT
@@ -123,7 +123,11 @@ fn word_of(ending: Option<Ending>) -> &'static str {
 
 // Prints the ending, and whether a turn ran out of memory, or met a fault.
 fn tell<W: Write>(host: &Host, how: &str, output: &mut W) -> io::Result<()> {
-    let rough = if host.is_rough() { ", rough" } else { "" };
+    let resource_failure = if host.is_resource_failure() {
+        ", rough"
+    } else {
+        ""
+    };
     writeln!(output, "{how}{rough}")
 }
 
@@ -150,7 +154,7 @@ fn served<R: Read, W: Write>(
     output: &mut W,
 ) -> Result<(), Refusal> {
     let mut host = begun(alloc, beginning, output)?;
-    let _told = serve(&mut host, input, output);
+    let _after_reply = serve(&mut host, input, output);
     drop(host);
     Ok(())
 }
@@ -167,7 +171,7 @@ fn by_turns<W: Write>(
     output: &mut W,
 ) -> Result<(), Refusal> {
     let mut host = begun(alloc, beginning, output)?;
-    let _told = serve_by_turns(&mut host, course, output);
+    let _after_reply = serve_by_turns(&mut host, course, output);
     drop(host);
     Ok(())
 }
@@ -190,7 +194,7 @@ fn stepped<W: Write>(
     output: &mut W,
 ) -> Result<(), Refusal> {
     let mut host = begun(alloc, beginning, output)?;
-    let _told = take_steps(&mut host, steps, streams, output);
+    let _after_reply = take_steps(&mut host, steps, streams, output);
     drop(host);
     Ok(())
 }

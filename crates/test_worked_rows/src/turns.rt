@@ -103,7 +103,7 @@ fn send<W: Write>(host: &mut Host, conn: ConnId, output: &mut W) -> u32 {
 fn send_all<W: Write>(host: &mut Host, number: u32, output: &mut W) -> bool {
     let conn = ConnId::new(number);
     for _ in 0..1000 {
-        if !host.settle() {
+        if !host.quiesce() {
             return false;
         }
         if send(host, conn, output) == 0 {

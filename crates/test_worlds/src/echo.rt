@@ -1,17 +1,17 @@
 //! A process that sends back the input of a connection, and closes it at the end.
 ghost use Rattle.std.specs.Prelude.{⊤};
-ghost use Rattle.iol_proc.specs.Prelude.{IsQuiet};
+ghost use Rattle.iol_proc.specs.Prelude.{IsCopyFree};
 
 use iol_core::events::{Call, Reply};
 use iol_core::numbers::{AggId, Fd};
 use iol_core::refusals::Refusal;
-use iol_proc::look::Look;
+use iol_proc::byte_view::ByteView;
 use iol_proc::process::{Process, Turn};
 use std::alloc::AllocError;
 
 /// Drops the aggregate, if there is one.
 pub fn let_go(held: &mut Option<AggId>) -> Turn
-    ensures { IsQuiet result }
+    ensures { IsCopyFree result }
 {
     match held.take() {
         Some(agg) => Turn::Make(Call::AggDrop { agg }),
@@ -28,10 +28,10 @@ pub struct Echo {
 
 impl Process for Echo {
     // Any turn: its behavior is tested. It needs no memory.
-    ghost turns = { record { goes = λ worker last lent turn next. ⊤; may_want = λ worker last lent. ⊥ } };
+    ghost turns = { record { goes = λ worker last readable turn next. ⊤; may_want = λ worker last readable. ⊥ } };
 
-    fn next(&mut self, last: &Reply, look: &Look<'_>) -> Result<Turn, AllocError> {
-        Ok(self.turn(last, look))
+    fn next(&mut self, last: &Reply, byte_view: &ByteView<'_>) -> Result<Turn, AllocError> {
+        Ok(self.turn(last, byte_view))
     }
 }
 
@@ -44,15 +44,15 @@ impl Echo {
     }
 
     /// Reads, writes the bytes read, and drops them. If there are none it yields, and retries.
-    pub fn turn(&mut self, last: &Reply, look: &Look<'_>) -> Turn
-        ensures { IsQuiet result }
+    pub fn turn(&mut self, last: &Reply, byte_view: &ByteView<'_>) -> Turn
+        ensures { IsCopyFree result }
     {
         match last {
             Reply::Fd(fd) => {
                 self.fd = Some(*fd);
                 self.ask()
             }
-            Reply::Agg(agg) => self.heard(*agg, look),
+            Reply::Agg(agg) => self.heard(*agg, byte_view),
             Reply::Count(_) => let_go(&mut self.held),
             Reply::Refused(Refusal::WouldBlock) => Turn::Yield,
             Reply::Refused(_) => self.close(),
@@ -62,7 +62,7 @@ impl Echo {
 
     // The next call: accept a connection, or read from it.
     fn ask(&self) -> Turn
-        ensures { IsQuiet result }
+        ensures { IsCopyFree result }
     {
         match self.fd {
             Some(fd) => Turn::Make(Call::IolRead { fd, count: 4096 }),
@@ -71,10 +71,10 @@ impl Echo {
     }
 
     // Sends back the bytes read. If there are none, this is the end.
-    fn heard(&mut self, agg: AggId, look: &Look<'_>) -> Turn
-        ensures { IsQuiet result }
+    fn heard(&mut self, agg: AggId, byte_view: &ByteView<'_>) -> Turn
+        ensures { IsCopyFree result }
     {
-        if is_empty(look, agg) {
+        if is_empty(byte_view, agg) {
             return self.close();
         }
         self.held = Some(agg);
@@ -85,7 +85,7 @@ impl Echo {
     }
 
     fn close(&mut self) -> Turn
-        ensures { IsQuiet result }
+        ensures { IsCopyFree result }
     {
         match self.fd.take() {
             Some(fd) => Turn::Make(Call::Close { fd }),
@@ -94,8 +94,8 @@ impl Echo {
     }
 }
 
-fn is_empty(look: &Look<'_>, agg: AggId) -> bool {
-    let Some(parts) = look.bytes(agg) else {
+fn is_empty(byte_view: &ByteView<'_>, agg: AggId) -> bool {
+    let Some(parts) = byte_view.bytes(agg) else {
         return true;
     };
     for _ in parts {

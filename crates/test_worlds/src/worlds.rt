@@ -16,7 +16,11 @@ use std::io::{Read, Write};
 use std::marker::Model;
 
 // A process in its domain.
-fn seated<P: Process>(alloc: Global, by: u32, process: P) -> Result<Vec<(DomainId, P)>, AllocError>
+fn in_slots<P: Process>(
+    alloc: Global,
+    by: u32,
+    process: P,
+) -> Result<Vec<(DomainId, P)>, AllocError>
     ensures { IfOk result (λ ps. map (λ p. p.0) ps.items ≡ by ∷ []) }
 {
     let mut processes = Vec::new(alloc);
@@ -56,7 +60,7 @@ impl<B: Backing + Drop, P: Process> TestWorld<B, P> {
         by: u32,
         process: P,
     ) -> Result<TestWorld<B, P>, AllocError> {
-        let processes = seated(alloc, by, process)?;
+        let processes = in_slots(alloc, by, process)?;
         TestWorld::new(alloc, system, processes)
     }
 
@@ -91,13 +95,13 @@ impl<B: Backing + Drop, P: Process> TestWorld<B, P> {
     }
 
     /// Turns until all are idle.
-    pub fn settle(&mut self) -> bool {
+    pub fn quiesce(&mut self) -> bool {
         self.until_idle(65_536)
     }
 
     /// Returns whether a turn got a resource refusal: out of pages, numbers or memory, or a fault.
-    pub fn is_rough(&self) -> bool {
-        self.world.rough()
+    pub fn is_resource_failure(&self) -> bool {
+        self.world.resource_failure()
     }
 
     /// The process of a domain.

@@ -11,21 +11,21 @@ use Rattle.iol_core.specs.declared.events.Event.TheVariants as event
 use Rattle.iol_core.specs.declared.events.Reply.{Reply}
 use Rattle.iol_core.specs.declared.events.Reply.TheVariants as reply
 use Rattle.iol_laws.specs.Caller as caller
-use Rattle.iol_laws.specs.Caller.{CallsServeTheirDomain, lent_at}
+use Rattle.iol_laws.specs.Caller.{CallsServeTheirDomain, readable_at}
 use Rattle.iol_laws.specs.CallerFiles as of
 use Rattle.iol_laws.specs.CallerFiles.{FileCallsServeTheirDomain}
 use Rattle.iol_laws.specs.Frame.{EachStepLeavesTheRest}
 use Rattle.iol_laws.specs.Order.{IsOrderly}
 use Rattle.flash_http.specs.Request.{Answer, serve, refuse, Wanted}
 use Rattle.flash_laws.specs.Answers.{Outcome, Failed, script_text}
-use Rattle.flash_laws.specs.Client.{Client, is_for_script, conn_wants, can_run, kept_if, told_spares, conn_told, file_told}
+use Rattle.flash_laws.specs.Client.{Client, is_for_script, conn_wants, can_run, kept_if, after_drop_whole, conn_after_reply, file_after_reply}
 use Rattle.flash_laws.specs.Client.OfferedBytes.{ConnLearns}
 use Rattle.flash_laws.specs.Conn as conn
 use Rattle.flash_laws.specs.Conn.{Conn, most_read, status_of}
-use Rattle.flash_laws.specs.declared.phase.Learnt.TheVariants.{Text as TextOf}
-use Rattle.flash_laws.specs.declared.phase.Content.TheVariants.{Script}
-use Rattle.flash_laws.specs.declared.phase.Doing.{Doing}
-use Rattle.flash_laws.specs.declared.phase.Doing.TheVariants.{Rests, Got, Opens, Reads as Reading, Shuts, Spares, Heads, Breaks, Drops, Closes}
+use Rattle.flash_laws.specs.declared.phase.FileResult.TheVariants.{Text as TextOf}
+use Rattle.flash_laws.specs.declared.phase.Payload.TheVariants.{Script}
+use Rattle.flash_laws.specs.declared.phase.Phase.{Phase}
+use Rattle.flash_laws.specs.declared.phase.Phase.TheVariants.{Rests, Got, Opens, Reads as Reading, Shuts, Spares, Heads, Breaks, Drops, Closes}
 use Rattle.flash_laws.specs.Conn.Fits.{IsFile, Has, is_closing, Names}
 use Rattle.flash_laws.specs.Client.ResponseState as known
 use Rattle.flash_laws.specs.Client.ResponseState.{Known, OfFile, OfScript, is_read, is_silent, IsAfter, ReadsOn, HasNoRun, HasFile, HasKnown}
@@ -34,7 +34,7 @@ use Rattle.flash_laws.specs.Run.Fits.{Progress, nothing_yet}
 use Rattle.flash_laws.specs.Site.{server}
 use Rattle.flash_laws.proofs.Forms.{at, of as client}
 use Rattle.flash_laws.proofs.Client.Phases as phases
-use Rattle.flash_laws.proofs.Client.Phases.{asks-told, unread-told, read-told}
+use Rattle.flash_laws.proofs.Client.Phases.{asks-after_reply, unread-after_reply, read-after_reply}
 use Rattle.flash_laws.proofs.Lists.{clash}
 use Rattle.flash_laws.proofs.Conn.OfferedBytes as offering
 use Rattle.flash_laws.proofs.Run.Ends.{all-taken}
@@ -44,181 +44,181 @@ untrue true never = absurd (never refl)
 untrue false never = refl
 
 -- with nothing being sent, nothing begins to be sent
-silent-told : (kept : List ℕ) (q : Answer) (d : Doing) (r : Reply) (heard : List ℕ) → is_silent d ≡ true → is_read d ≡ false → is_closing d ≡ false
-    → is_silent (conn.told (at kept q d) r heard).doing ≡ true
-silent-told kept q Rests (reply.Agg n) [] silent unread busy = refl
-silent-told kept q Rests (reply.Agg n) (b ∷ heard) silent unread busy = refl
-silent-told kept q Rests r heard silent unread busy = refl
-silent-told kept q (Got a) reply.Done heard silent unread busy = refl
-silent-told kept q (Got a) r heard silent unread busy = refl
-silent-told kept q (Breaks piece a more) reply.Done heard silent unread busy = refl
-silent-told kept q (Breaks piece a more) r heard silent unread busy = refl
-silent-told kept q (Drops a None) reply.Done heard silent unread busy = refl
-silent-told kept q (Drops a (Some x)) reply.Done heard silent unread busy = refl
-silent-told kept q (Drops a more) r heard silent unread busy = refl
-silent-told kept q (Shuts f (TextOf a true)) r heard silent unread busy = absurd (cc (unread))
-silent-told kept q (Spares a Script) r heard silent unread busy = absurd (cc (unread))
-silent-told kept q Closes r heard silent unread busy = absurd (cc (busy))
-silent-told kept q d r heard silent unread busy = absurd (cc (silent))
+silent-after_reply : (kept : List ℕ) (q : Answer) (d : Phase) (r : Reply) (received : List ℕ) → is_silent d ≡ true → is_read d ≡ false → is_closing d ≡ false
+    → is_silent (conn.after_reply (at kept q d) r received).phase ≡ true
+silent-after_reply kept q Rests (reply.Agg n) [] silent unread busy = refl
+silent-after_reply kept q Rests (reply.Agg n) (b ∷ received) silent unread busy = refl
+silent-after_reply kept q Rests r received silent unread busy = refl
+silent-after_reply kept q (Got a) reply.Done received silent unread busy = refl
+silent-after_reply kept q (Got a) r received silent unread busy = refl
+silent-after_reply kept q (Breaks piece a more) reply.Done received silent unread busy = refl
+silent-after_reply kept q (Breaks piece a more) r received silent unread busy = refl
+silent-after_reply kept q (Drops a None) reply.Done received silent unread busy = refl
+silent-after_reply kept q (Drops a (Some x)) reply.Done received silent unread busy = refl
+silent-after_reply kept q (Drops a more) r received silent unread busy = refl
+silent-after_reply kept q (Shuts f (TextOf a true)) r received silent unread busy = absurd (cc (unread))
+silent-after_reply kept q (Spares a Script) r received silent unread busy = absurd (cc (unread))
+silent-after_reply kept q Closes r received silent unread busy = absurd (cc (busy))
+silent-after_reply kept q d r received silent unread busy = absurd (cc (silent))
 
 -- after a run nothing more is taken of its response
-after-told : (w : Wanted) (o : Progress) (kept : List ℕ) (d : Doing) (r : Reply) (heard : List ℕ) → is_silent d ≡ true → is_read d ≡ false → is_closing d ≡ false
-    → IsAfter w o d → IsAfter w o (conn.told (at kept (serve w) d) r heard).doing
-after-told w o kept Rests (reply.Agg n) [] silent unread busy after = all-taken w o after.0
-after-told w o kept Rests (reply.Agg n) (b ∷ heard) silent unread busy after = after
-after-told w o kept Rests r heard silent unread busy after = after
-after-told w o kept (Got a) reply.Done heard silent unread busy after = after
-after-told w o kept (Got a) r heard silent unread busy after = after
-after-told w o kept (Breaks piece a more) reply.Done heard silent unread busy after = after
-after-told w o kept (Breaks piece a more) r heard silent unread busy after = after
-after-told w o kept (Drops a None) reply.Done heard silent unread busy after = after
-after-told w o kept (Drops a (Some x)) reply.Done heard silent unread busy after = after
-after-told w o kept (Drops a more) r heard silent unread busy after = after
-after-told w o kept (Shuts f (TextOf a true)) r heard silent unread busy after = absurd (cc (unread))
-after-told w o kept (Spares a Script) r heard silent unread busy after = absurd (cc (unread))
-after-told w o kept Closes r heard silent unread busy after = absurd (cc (busy))
-after-told w o kept d r heard silent unread busy after = absurd (cc (silent))
+after-after_reply : (w : Wanted) (o : Progress) (kept : List ℕ) (d : Phase) (r : Reply) (received : List ℕ) → is_silent d ≡ true → is_read d ≡ false → is_closing d ≡ false
+    → IsAfter w o d → IsAfter w o (conn.after_reply (at kept (serve w) d) r received).phase
+after-after_reply w o kept Rests (reply.Agg n) [] silent unread busy after = all-taken w o after.0
+after-after_reply w o kept Rests (reply.Agg n) (b ∷ received) silent unread busy after = after
+after-after_reply w o kept Rests r received silent unread busy after = after
+after-after_reply w o kept (Got a) reply.Done received silent unread busy after = after
+after-after_reply w o kept (Got a) r received silent unread busy after = after
+after-after_reply w o kept (Breaks piece a more) reply.Done received silent unread busy after = after
+after-after_reply w o kept (Breaks piece a more) r received silent unread busy after = after
+after-after_reply w o kept (Drops a None) reply.Done received silent unread busy after = after
+after-after_reply w o kept (Drops a (Some x)) reply.Done received silent unread busy after = after
+after-after_reply w o kept (Drops a more) r received silent unread busy after = after
+after-after_reply w o kept (Shuts f (TextOf a true)) r received silent unread busy after = absurd (cc (unread))
+after-after_reply w o kept (Spares a Script) r received silent unread busy after = absurd (cc (unread))
+after-after_reply w o kept Closes r received silent unread busy after = absurd (cc (busy))
+after-after_reply w o kept d r received silent unread busy after = absurd (cc (silent))
 
 -- the text of a script has run
-pub no-text : (b : Bool) (w : Wanted) (x : Client) (text : List ℕ) (o : Progress) → b ≡ false → IsAfter w o x.conn.doing → ReadsOn b w x text o
+pub no-text : (b : Bool) (w : Wanted) (x : Client) (text : List ℕ) (o : Progress) → b ≡ false → IsAfter w o x.conn.phase → ReadsOn b w x text o
 no-text true w x text o is after = absurd (cc (is))
 no-text false w x text o is after = after
 
-run-is-over : (b : Bool) (w : Wanted) (x : Client) (text : List ℕ) (o : Progress) → b ≡ false → ReadsOn b w x text o → IsAfter w o x.conn.doing
+run-is-over : (b : Bool) (w : Wanted) (x : Client) (text : List ℕ) (o : Progress) → b ≡ false → ReadsOn b w x text o → IsAfter w o x.conn.phase
 run-is-over true w x text o is reads = absurd (cc (is))
 run-is-over false w x text o is reads = reads
 
 module _ (steps : EachStepLeavesTheRest) (own : CallsServeTheirDomain) (files : FileCallsServeTheirDomain) (scripts : Bool)
     (m n : State) (order : IsOrderly m) (access : HasAccess m) (lives : is_live m server ≡ true) (fd c : ℕ)
     (open_on : descriptor m server fd ≡ Some (on.Connection c)) (kept script : List ℕ) where
-  abbrev of_doing : Answer → Doing → Client
-  of_doing q d = client (at kept q d) None script
+  abbrev of_phase : Answer → Phase → Client
+  of_phase q d = client (at kept q d) None script
 
   -- what is known after a reply, with which the machine has what is needed
-  abbrev Told : (b : Bool) → Answer → Doing → Reply → (heard : List ℕ) → Known → Type 0
-  Told b q d r heard before = (after : Known) × ConnLearns b d r heard before after × HasKnown scripts n (file_told b (of_doing q d) r heard) after
+  abbrev AfterReply : (b : Bool) → Answer → Phase → Reply → (received : List ℕ) → Known → Type 0
+  AfterReply b q d r received before = (after : Known) × ConnLearns b d r received before after × HasKnown scripts n (file_after_reply b (of_phase q d) r received) after
 
   -- ---- of a file
 
-  abbrev FileTold : Answer → Doing → Reply → (heard : List ℕ) → Outcome → Type 0
-  FileTold q d r heard before = (after : Outcome) × single.Learns d r heard before after × HasFile n (conn_told (of_doing q d) r heard) after
+  abbrev AfterReplyOfFile : Answer → Phase → Reply → (received : List ℕ) → Outcome → Type 0
+  AfterReplyOfFile q d r received before = (after : Outcome) × single.Learns d r received before after × HasFile n (conn_after_reply (of_phase q d) r received) after
 
-  file-on : (q : Answer) (d : Doing) (r : Reply) (heard : List ℕ) (before : Outcome) → is_closing d ≡ false → HasFile m (of_doing q d) before
-      → StepsTo m (event.Call server (conn.wants fd (at kept q d))) r n → Names n r heard → FileTold q d r heard before
-  file-on q d r heard before busy has step names =
-      let got = offering.replied steps own files m n order lives kept fd c q d r heard before access open_on busy has.has step names in
-      (got.0, got.1, record { none = refl; unread = unread-told kept q d r heard has.unread; has = got.2 })
+  file-on : (q : Answer) (d : Phase) (r : Reply) (received : List ℕ) (before : Outcome) → is_closing d ≡ false → HasFile m (of_phase q d) before
+      → StepsTo m (event.Call server (conn.wants fd (at kept q d))) r n → Names n r received → AfterReplyOfFile q d r received before
+  file-on q d r received before busy has step names =
+      let got = offering.replied steps own files m n order lives kept fd c q d r received before access open_on busy has.has step names in
+      (got.0, got.1, record { none = refl; unread = unread-after_reply kept q d r received has.unread; has = got.2 })
 
   -- the text of a script is read
-  text-read : (w : Wanted) (g i pos : ℕ) (r : Reply) (heard : List ℕ) (before : Outcome) → is_for_script scripts (serve w) ≡ true
+  text-read : (w : Wanted) (g i pos : ℕ) (r : Reply) (received : List ℕ) (before : Outcome) → is_for_script scripts (serve w) ≡ true
       → descriptor m server g ≡ Some (on.File i pos modes.Read) → may_read m server (file m i).pool ≡ true
-      → StepsTo m (event.Call server (call.IolRead g most_read)) r n → Names n r heard → Told true (serve w) (Reading g) r heard (OfFile before)
-  text-read w g i pos r heard before for_script opened may step names = by r (files.reads_file m n server g i pos most_read modes.Read r order lives may refl opened step) names
+      → StepsTo m (event.Call server (call.IolRead g most_read)) r n → Names n r received → AfterReply true (serve w) (Reading g) r received (OfFile before)
+  text-read w g i pos r received before for_script opened may step names = by r (files.reads_file m n server g i pos most_read modes.Read r order lives may refl opened step) names
     where
       still : n ≡ m → IsFile n g
       still same = (i, pos, subst (λ (s : State). descriptor s server g ≡ Some (on.File i pos modes.Read)) (sym same) opened)
 
-      sends : (a : ℕ) (h : Bool) → known.Sends h w (record { conn = at kept (serve w) (Shuts g (TextOf a true)); run = None; script = kept_if h true heard }) heard nothing_yet
+      sends : (a : ℕ) (h : Bool) → known.Sends h w (record { conn = at kept (serve w) (Shuts g (TextOf a true)); run = None; script = kept_if h true received }) received nothing_yet
       sends a true = refl
       sends a false = (refl, record { kept = refl; fresh = refl })
 
-      text : (a : ℕ) → IsFile n g → lent_at n server a ≡ Some heard → (b : Bool)
-          → (after : Known) × (after ≡ (if b then OfScript heard nothing_yet else OfFile (Failed 500))) × HasKnown scripts n (record { conn = at kept (serve w) (Shuts g (TextOf a b)); run = None; script = kept_if w.head_only b heard }) after
-      text a is lends true = (OfScript heard nothing_yet, refl, record { script = λ read. for_script; read = refl; has = (is, ((heard, lends), refl)); sends = sends a w.head_only })
-      text a is lends false = (OfFile (Failed 500), refl, record { none = refl; unread = refl; has = (is, ((heard, lends), refl)) })
+      text : (a : ℕ) → IsFile n g → readable_at n server a ≡ Some received → (b : Bool)
+          → (after : Known) × (after ≡ (if b then OfScript received nothing_yet else OfFile (Failed 500))) × HasKnown scripts n (record { conn = at kept (serve w) (Shuts g (TextOf a b)); run = None; script = kept_if w.head_only b received }) after
+      text a is is_readable true = (OfScript received nothing_yet, refl, record { script = λ read. for_script; read = refl; has = (is, ((received, is_readable), refl)); sends = sends a w.head_only })
+      text a is is_readable false = (OfFile (Failed 500), refl, record { none = refl; unread = refl; has = (is, ((received, is_readable), refl)) })
 
-      by : (r : Reply) → of.ReadsFile m server g i pos modes.Read (take most_read (drop pos (content m i))) r n → Names n r heard
-          → Told true (serve w) (Reading g) r heard (OfFile before)
-      by (reply.Agg a) did names = text a (i, pos + length (take most_read (drop pos (content m i))), did.moves) names (can_run heard)
+      by : (r : Reply) → of.ReadsFile m server g i pos modes.Read (take most_read (drop pos (content m i))) r n → Names n r received
+          → AfterReply true (serve w) (Reading g) r received (OfFile before)
+      by (reply.Agg a) did names = text a (i, pos + length (take most_read (drop pos (content m i))), did.moves) names (can_run received)
       by (reply.Refused no.WouldBlock) did names = (OfFile (Failed 503), (Failed 503, refl, refl), record { none = refl; unread = refl; has = (tt, still did.1) })
       by (reply.Refused y) did names = (OfFile (Failed (status_of y)), (Failed (status_of y), refl, refl), record { none = refl; unread = refl; has = (still did.1, refl) })
       by r did names = absurd did
 
   -- a request for a script, of which no text that runs is read
-  script-on : (q : Answer) (d : Doing) (r : Reply) (heard : List ℕ) (before : Outcome) → is_for_script scripts q ≡ true → is_closing d ≡ false
-      → HasFile m (of_doing q d) before → StepsTo m (event.Call server (conn_wants true fd (at kept q d))) r n → Names n r heard
-      → Told true q d r heard (OfFile before)
-  script-on (refuse status head_only close) d r heard before for_script busy has step names = absurd (cc (for_script))
-  script-on (serve w) (Reading g) r heard before for_script busy has step names =
-      text-read w g has.has.1.0 has.has.1.1 r heard before for_script has.has.1.2 (access.fds server g has.has.1.0 has.has.1.1 modes.Read has.has.1.2) step names
-  script-on (serve w) (Spares a Script) r heard before for_script busy has step names = absurd (let read = has.unread in cc (read))
-  script-on (serve w) d r heard before for_script busy has step names = (let got = file-on (serve w) d r heard before busy has step names in (OfFile got.0, (got.0, got.1, refl), got.2))
+  script-on : (q : Answer) (d : Phase) (r : Reply) (received : List ℕ) (before : Outcome) → is_for_script scripts q ≡ true → is_closing d ≡ false
+      → HasFile m (of_phase q d) before → StepsTo m (event.Call server (conn_wants true fd (at kept q d))) r n → Names n r received
+      → AfterReply true q d r received (OfFile before)
+  script-on (refuse status head_only close) d r received before for_script busy has step names = absurd (cc (for_script))
+  script-on (serve w) (Reading g) r received before for_script busy has step names =
+      text-read w g has.has.1.0 has.has.1.1 r received before for_script has.has.1.2 (access.fds server g has.has.1.0 has.has.1.1 modes.Read has.has.1.2) step names
+  script-on (serve w) (Spares a Script) r received before for_script busy has step names = absurd (let read = has.unread in cc (read))
+  script-on (serve w) d r received before for_script busy has step names = (let got = file-on (serve w) d r received before busy has step names in (OfFile got.0, (got.0, got.1, refl), got.2))
 
-  pub of-file : (q : Answer) (d : Doing) (r : Reply) (heard : List ℕ) (before : Outcome) (b : Bool) → is_for_script scripts q ≡ b → is_closing d ≡ false
-      → HasFile m (of_doing q d) before → StepsTo m (event.Call server (conn_wants b fd (at kept q d))) r n → Names n r heard
-      → Told b q d r heard (OfFile before)
-  of-file q d r heard before true for_script busy has step names = script-on q d r heard before for_script busy has step names
-  of-file q d r heard before false for_script busy has step names = (let got = file-on q d r heard before busy has step names in (OfFile got.0, (got.0, got.1, refl), got.2))
+  pub of-file : (q : Answer) (d : Phase) (r : Reply) (received : List ℕ) (before : Outcome) (b : Bool) → is_for_script scripts q ≡ b → is_closing d ≡ false
+      → HasFile m (of_phase q d) before → StepsTo m (event.Call server (conn_wants b fd (at kept q d))) r n → Names n r received
+      → AfterReply b q d r received (OfFile before)
+  of-file q d r received before true for_script busy has step names = script-on q d r received before for_script busy has step names
+  of-file q d r received before false for_script busy has step names = (let got = file-on q d r received before busy has step names in (OfFile got.0, (got.0, got.1, refl), got.2))
 
   -- ---- of a script that can run
 
-  module _ (w : Wanted) (text : List ℕ) (o : Progress) (r : Reply) (heard : List ℕ) where
-    abbrev Was : Doing → Type 0
-    Was d = HasNoRun scripts m w (of_doing (serve w) d) text o
+  module _ (w : Wanted) (text : List ℕ) (o : Progress) (r : Reply) (received : List ℕ) where
+    abbrev Was : Phase → Type 0
+    Was d = HasNoRun scripts m w (of_phase (serve w) d) text o
 
-    abbrev Goes : Doing → Type 0
-    Goes d = HasNoRun scripts n w (conn_told (of_doing (serve w) d) r heard) text o
+    abbrev Goes : Phase → Type 0
+    Goes d = HasNoRun scripts n w (conn_after_reply (of_phase (serve w) d) r received) text o
 
-    phase : (d : Doing) → Was d → is_closing d ≡ false → StepsTo m (event.Call server (conn.wants fd (at kept (serve w) d))) r n → Names n r heard
-        → Has n (serve w) (script_text w) (conn.told (at kept (serve w) d) r heard).doing
-    phase d has busy step names = phases.phase steps own m n order kept fd c (serve w) d (script_text w) r heard open_on has.read busy has.has step names
+    phase : (d : Phase) → Was d → is_closing d ≡ false → StepsTo m (event.Call server (conn.wants fd (at kept (serve w) d))) r n → Names n r received
+        → Has n (serve w) (script_text w) (conn.after_reply (at kept (serve w) d) r received).phase
+    phase d has busy step names = phases.phase steps own m n order kept fd c (serve w) d (script_text w) r received open_on has.read busy has.has step names
 
     -- with no text that is still to run
-    plain-on : (d : Doing) → Was d → is_read d ≡ false → is_closing d ≡ false → StepsTo m (event.Call server (conn.wants fd (at kept (serve w) d))) r n
-        → Names n r heard → Goes d
+    plain-on : (d : Phase) → Was d → is_read d ≡ false → is_closing d ≡ false → StepsTo m (event.Call server (conn.wants fd (at kept (serve w) d))) r n
+        → Names n r received → Goes d
     plain-on d has unread busy step names = record {
-      script = λ read. absurd (clash (is_read (conn.told (at kept (serve w) d) r heard).doing) read (unread-told kept (serve w) d r heard unread));
-      read = read-told kept (serve w) d r heard has.read;
+      script = λ read. absurd (clash (is_read (conn.after_reply (at kept (serve w) d) r received).phase) read (unread-after_reply kept (serve w) d r received unread));
+      read = read-after_reply kept (serve w) d r received has.read;
       has = phase d has busy step names;
       sends = sends w.head_only has.sends;
     }
       where
-        sends : (h : Bool) → known.Sends h w (of_doing (serve w) d) text o → known.Sends h w (conn_told (of_doing (serve w) d) r heard) text o
+        sends : (h : Bool) → known.Sends h w (of_phase (serve w) d) text o → known.Sends h w (conn_after_reply (of_phase (serve w) d) r received) text o
         sends true fresh = fresh
         sends false was = (
-          silent-told kept (serve w) d r heard was.0 unread busy,
-          no-text (is_read (conn.told (at kept (serve w) d) r heard).doing) w (conn_told (of_doing (serve w) d) r heard) text o (unread-told kept (serve w) d r heard unread)
-              (after-told w o kept d r heard was.0 unread busy (run-is-over (is_read d) w (of_doing (serve w) d) text o unread was.1)),
+          silent-after_reply kept (serve w) d r received was.0 unread busy,
+          no-text (is_read (conn.after_reply (at kept (serve w) d) r received).phase) w (conn_after_reply (of_phase (serve w) d) r received) text o (unread-after_reply kept (serve w) d r received unread)
+              (after-after_reply w o kept d r received was.0 unread busy (run-is-over (is_read d) w (of_phase (serve w) d) text o unread was.1)),
         )
 
     -- the descriptor of a script that was read is closed
     shut-on : (g a : ℕ) → is_for_script scripts (serve w) ≡ true → Was (Shuts g (TextOf a true))
-        → StepsTo m (event.Call server (call.Close g)) r n → Names n r heard → Goes (Shuts g (TextOf a true))
+        → StepsTo m (event.Call server (call.Close g)) r n → Names n r received → Goes (Shuts g (TextOf a true))
     shut-on g a for_script has step names = record {
       script = λ read. for_script;
-      read = read-told kept (serve w) (Shuts g (TextOf a true)) r heard refl;
+      read = read-after_reply kept (serve w) (Shuts g (TextOf a true)) r received refl;
       has = phase (Shuts g (TextOf a true)) has refl step names;
       sends = sends w.head_only r has.sends;
     }
       where
-        sends : (h : Bool) (r : Reply) → known.Sends h w (of_doing (serve w) (Shuts g (TextOf a true))) text o
-            → known.Sends h w (conn_told (of_doing (serve w) (Shuts g (TextOf a true))) r heard) text o
+        sends : (h : Bool) (r : Reply) → known.Sends h w (of_phase (serve w) (Shuts g (TextOf a true))) text o
+            → known.Sends h w (conn_after_reply (of_phase (serve w) (Shuts g (TextOf a true))) r received) text o
         sends true r fresh = fresh
         sends false reply.Done was = (refl, record { kept = was.1.kept; fresh = was.1.fresh })
         sends false r was = (refl, record { kept = was.1.kept; fresh = was.1.fresh })
 
     -- its aggregate is dropped: for GET the run begins
     spared-on : (a : ℕ) → is_for_script scripts (serve w) ≡ true → Was (Spares a Script) → StepsTo m (event.Call server (call.AggDrop a)) r n
-        → HasKnown scripts n (record { conn = conn.told (at kept (serve w) (Spares a Script)) r heard; run = told_spares w.head_only r; script = script }) (OfScript text o)
+        → HasKnown scripts n (record { conn = conn.after_reply (at kept (serve w) (Spares a Script)) r received; run = after_drop_whole w.head_only r; script = script }) (OfScript text o)
     spared-on a for_script has step = by r (own.drops m n server a r order step) w.head_only refl has.sends
       where
-        by : (r : Reply) → caller.Drops m server a r n → (h : Bool) → w.head_only ≡ h → known.Sends h w (of_doing (serve w) (Spares a Script)) text o
-            → HasKnown scripts n (record { conn = conn.told (at kept (serve w) (Spares a Script)) r heard; run = told_spares h r; script = script }) (OfScript text o)
+        by : (r : Reply) → caller.Drops m server a r n → (h : Bool) → w.head_only ≡ h → known.Sends h w (of_phase (serve w) (Spares a Script)) text o
+            → HasKnown scripts n (record { conn = conn.after_reply (at kept (serve w) (Spares a Script)) r received; run = after_drop_whole h r; script = script }) (OfScript text o)
         by reply.Done did true is sends = record { script = λ read. for_script; read = refl; has = refl; sends = subst (λ h. known.Sends h w (client (at kept (serve w) (Heads Script)) None script) text o) (sym is) sends }
         by reply.Done did false is sends = record { answers = is; has = sends.1.fresh; kept = λ keeps. sends.1.kept }
-        by (reply.Refused y) did true is sends = subst (λ (s : State). HasNoRun scripts s w (of_doing (serve w) (Spares a Script)) text o) (sym did) has
-        by (reply.Refused y) did false is sends = subst (λ (s : State). HasNoRun scripts s w (of_doing (serve w) (Spares a Script)) text o) (sym did) has
+        by (reply.Refused y) did true is sends = subst (λ (s : State). HasNoRun scripts s w (of_phase (serve w) (Spares a Script)) text o) (sym did) has
+        by (reply.Refused y) did false is sends = subst (λ (s : State). HasNoRun scripts s w (of_phase (serve w) (Spares a Script)) text o) (sym did) has
         by r did h is sends = absurd did
 
-    known-on : (d : Doing) → Goes d → HasKnown scripts n (conn_told (of_doing (serve w) d) r heard) (OfScript text o)
-    known-on d goes = subst (λ (q : Answer). known.HasScript scripts n (conn_told (of_doing (serve w) d) r heard) q text o) (sym (asks-told kept (serve w) d r heard)) goes
+    known-on : (d : Phase) → Goes d → HasKnown scripts n (conn_after_reply (of_phase (serve w) d) r received) (OfScript text o)
+    known-on d goes = subst (λ (q : Answer). known.HasScript scripts n (conn_after_reply (of_phase (serve w) d) r received) q text o) (sym (asks-after_reply kept (serve w) d r received)) goes
 
-    unread-or : (d : Doing) → Was d → is_for_script scripts (serve w) ≡ false → is_read d ≡ false
+    unread-or : (d : Phase) → Was d → is_for_script scripts (serve w) ≡ false → is_read d ≡ false
     unread-or d has none = untrue (is_read d) (λ read. clash (is_for_script scripts (serve w)) (has.script read) none)
 
-    pub of-script : (d : Doing) (b : Bool) → is_for_script scripts (serve w) ≡ b → is_closing d ≡ false → Was d
-        → StepsTo m (event.Call server (conn_wants b fd (at kept (serve w) d))) r n → Names n r heard
-        → Told b (serve w) d r heard (OfScript text o)
+    pub of-script : (d : Phase) (b : Bool) → is_for_script scripts (serve w) ≡ b → is_closing d ≡ false → Was d
+        → StepsTo m (event.Call server (conn_wants b fd (at kept (serve w) d))) r n → Names n r received
+        → AfterReply b (serve w) d r received (OfScript text o)
     of-script d false for_script busy has step names = (OfScript text o, refl, known-on d (plain-on d has (unread-or d has for_script) busy step names))
     of-script Opens true for_script busy has step names = absurd (let read = has.read in cc (read))
     of-script (Reading f) true for_script busy has step names = absurd (let read = has.read in cc (read))

@@ -1,5 +1,5 @@
--- The phases of a client, for every due response: the data in the machine, the offered bytes, and the text of a script that was
--- read.
+-- The phases of a client, for every expected response: the data in the machine, the offered bytes, and the text of a
+-- script that was read.
 use Rattle.std.proofs.Common.{◌≡◌, ℕ, ◌+◌, ◌-◌, List, [], ◌∷◌, ◌++◌, drop, ap, ◌∙◌, refl, sym, subst, Some, None, true, false, Bool, append_assoc, if◌then◌else◌}
 use Rattle.std.specs.Prelude.{◌||◌, nat_lt, nat_le, slice_range}
 use Rattle.std.proofs.lemmas.List.{take-append-drop}
@@ -16,18 +16,18 @@ use Rattle.iol_core.specs.declared.events.Reply.TheVariants as reply
 use Rattle.iol_laws.specs.Frame.{EachStepLeavesTheRest}
 use Rattle.iol_laws.specs.Order.{IsOrderly}
 use Rattle.iol_laws.specs.Caller as o
-use Rattle.iol_laws.specs.Caller.{CallsServeTheirDomain, lent_at}
+use Rattle.iol_laws.specs.Caller.{CallsServeTheirDomain, readable_at}
 use Rattle.flash_http.specs.declared.ranges.Selection.{Selection}
 use Rattle.flash_http.specs.declared.ranges.Selection.TheVariants.{Bytes}
 use Rattle.flash_http.specs.Range.{selected}
 use Rattle.flash_http.specs.Request.{Answer, serve, refuse}
 use Rattle.flash_laws.specs.Answers.{keeps}
 use Rattle.flash_laws.specs.Client.{conn_wants}
-use Rattle.flash_laws.specs.Conn.{Following, is_head_only, most_read, piece_end, count_of, wants, sends_of, settled, following, headed, told_rests, told}
-use Rattle.flash_laws.specs.declared.phase.Learnt.{Learnt}
-use Rattle.flash_laws.specs.declared.phase.Learnt.TheVariants.{File, Text as TextOf}
-use Rattle.flash_laws.specs.declared.phase.Doing.{Doing}
-use Rattle.flash_laws.specs.declared.phase.Doing.TheVariants.{Rests, Got, Opens, Reads as Reading, Shuts, Picks, Spares, Heads, Joins, Sends, Cuts, Offers, Swaps, Sent, Breaks, Drops, Closes, Over}
+use Rattle.flash_laws.specs.Conn.{Following, is_head_only, most_read, piece_end, count_of, wants, sends_of, resolved, following, headed, after_receive, after_reply}
+use Rattle.flash_laws.specs.declared.phase.FileResult.{FileResult}
+use Rattle.flash_laws.specs.declared.phase.FileResult.TheVariants.{File, Text as TextOf}
+use Rattle.flash_laws.specs.declared.phase.Phase.{Phase}
+use Rattle.flash_laws.specs.declared.phase.Phase.TheVariants.{Rests, Got, Opens, Reads as Reading, Shuts, Picks, Spares, Heads, Joins, Sends, Cuts, Offers, Swaps, Sent, Breaks, Drops, Closes, Over}
 use Rattle.flash_laws.specs.Conn.Fits.{Has, is_closing, Names}
 use Rattle.flash_laws.specs.Client.ResponseState.{is_read, is_opening}
 use Rattle.flash_laws.specs.Conn.OfferedBytes.{taken_of}
@@ -38,45 +38,45 @@ use Rattle.flash_laws.proofs.Conn.AnswerParts as having
 -- ---- what the machine has after a call, but for those that open and read
 
 module _ (steps : EachStepLeavesTheRest) (own : CallsServeTheirDomain) (m n : State) (order : IsOrderly m) (kept : List ℕ) where
-  rests : (q : Answer) (due : List ℕ) (r : Reply) (heard : List ℕ) → Names n r heard → Has n q due (told_rests kept q r heard).doing
-  rests q due (reply.Agg a) [] names = record { after = []; lent = ([], names); follows = refl; apart = refl }
-  rests q due (reply.Agg a) (b ∷ l) names = (b ∷ l, names)
-  rests q due r heard names = tt
+  rests : (q : Answer) (expected : List ℕ) (r : Reply) (received : List ℕ) → Names n r received → Has n q expected (after_receive kept q r received).phase
+  rests q expected (reply.Agg a) [] names = record { after = []; readable = ([], names); follows = refl; apart = refl }
+  rests q expected (reply.Agg a) (b ∷ l) names = (b ∷ l, names)
+  rests q expected r received names = tt
 
-  got : (q : Answer) (due : List ℕ) (a : ℕ) (r : Reply) (heard : List ℕ) → Has m q due (Got a) → StepsTo m (event.Call server (call.AggDrop a)) r n
-      → Has n q due (told (at kept q (Got a)) r heard).doing
-  got q due a r heard has step = by r (own.drops m n server a r order step)
+  got : (q : Answer) (expected : List ℕ) (a : ℕ) (r : Reply) (received : List ℕ) → Has m q expected (Got a) → StepsTo m (event.Call server (call.AggDrop a)) r n
+      → Has n q expected (after_reply (at kept q (Got a)) r received).phase
+  got q expected a r received has step = by r (own.drops m n server a r order step)
     where
-      by : (r : Reply) → o.Drops m server a r n → Has n q due (told (at kept q (Got a)) r heard).doing
+      by : (r : Reply) → o.Drops m server a r n → Has n q expected (after_reply (at kept q (Got a)) r received).phase
       by reply.Done did = tt
-      by (reply.Refused y) did = subst (λ (s : State). Has s q due (Got a)) (sym did) has
+      by (reply.Refused y) did = subst (λ (s : State). Has s q expected (Got a)) (sym did) has
       by r did = absurd did
 
-  pub phase : (fd c : ℕ) (q : Answer) (d : Doing) (due : List ℕ) (r : Reply) (heard : List ℕ) → descriptor m server fd ≡ Some (on.Connection c)
-      → is_opening d ≡ false → is_closing d ≡ false → Has m q due d → StepsTo m (event.Call server (wants fd (at kept q d))) r n
-      → Names n r heard → Has n q due (told (at kept q d) r heard).doing
-  phase fd c q Rests due r heard open_on read busy has step names = rests q due r heard names
-  phase fd c q (Got a) due r heard open_on read busy has step names = got q due a r heard has step
-  phase fd c q (Shuts f k) due r heard open_on read busy has step names = having.shuts steps own m n order q f k due r has step
-  phase fd c q (Picks a first last len) due r heard open_on read busy has step names = having.picks steps own m n order q a first last len due r has step
-  phase fd c q (Spares a k) due r heard open_on read busy has step names = having.spares steps own m n order q a k due r has step
-  phase fd c q (Heads k) due r heard open_on read busy has step names = having.heads steps own m n order q k due r heard has step names
-  phase fd c q (Joins a size body len) due r heard open_on read busy has step names = having.joins steps own m n order q a size body len due r has step
-  phase fd c q (Sends a len taken more) due r heard open_on read busy has step names = having.sends steps own m n order q fd c a len taken more due r open_on has step
-  phase fd c q (Cuts a from len taken more) due r heard open_on read busy has step names = having.cuts steps own m n order q a from len taken more due r has step
-  phase fd c q (Offers a from len piece taken more) due r heard open_on read busy has step names = having.offers_piece steps own m n order q fd c a from len piece taken more due r open_on has step
-  phase fd c q (Swaps a from len piece taken more) due r heard open_on read busy has step names = having.swaps steps own m n order q a from len piece taken more due r has step
-  phase fd c q (Sent a taken more) due r heard open_on read busy has step names = having.sent_all steps own m n order q a taken more due r has step
-  phase fd c q (Breaks piece a more) due r heard open_on read busy has step names = having.breaks steps own m n order q piece a more due r has step
-  phase fd c q (Drops a more) due r heard open_on read busy has step names = having.drops steps own m n order q a more due r has step
-  phase fd c q Closes due r heard open_on read busy has step names = absurd (cc (busy))
-  phase fd c q Over due r heard open_on read busy has step names = absurd (cc (busy))
-  phase fd c q x due r heard open_on read busy has step names = absurd (cc (read))
+  pub phase : (fd c : ℕ) (q : Answer) (d : Phase) (expected : List ℕ) (r : Reply) (received : List ℕ) → descriptor m server fd ≡ Some (on.Connection c)
+      → is_opening d ≡ false → is_closing d ≡ false → Has m q expected d → StepsTo m (event.Call server (wants fd (at kept q d))) r n
+      → Names n r received → Has n q expected (after_reply (at kept q d) r received).phase
+  phase fd c q Rests expected r received open_on read busy has step names = rests q expected r received names
+  phase fd c q (Got a) expected r received open_on read busy has step names = got q expected a r received has step
+  phase fd c q (Shuts f k) expected r received open_on read busy has step names = having.shuts steps own m n order q f k expected r has step
+  phase fd c q (Picks a first last len) expected r received open_on read busy has step names = having.picks steps own m n order q a first last len expected r has step
+  phase fd c q (Spares a k) expected r received open_on read busy has step names = having.spares steps own m n order q a k expected r has step
+  phase fd c q (Heads k) expected r received open_on read busy has step names = having.heads steps own m n order q k expected r received has step names
+  phase fd c q (Joins a size body len) expected r received open_on read busy has step names = having.joins steps own m n order q a size body len expected r has step
+  phase fd c q (Sends a len taken more) expected r received open_on read busy has step names = having.sends steps own m n order q fd c a len taken more expected r open_on has step
+  phase fd c q (Cuts a from len taken more) expected r received open_on read busy has step names = having.cuts steps own m n order q a from len taken more expected r has step
+  phase fd c q (Offers a from len piece taken more) expected r received open_on read busy has step names = having.offers_piece steps own m n order q fd c a from len piece taken more expected r open_on has step
+  phase fd c q (Swaps a from len piece taken more) expected r received open_on read busy has step names = having.swaps steps own m n order q a from len piece taken more expected r has step
+  phase fd c q (Sent a taken more) expected r received open_on read busy has step names = having.sent_all steps own m n order q a taken more expected r has step
+  phase fd c q (Breaks piece a more) expected r received open_on read busy has step names = having.breaks steps own m n order q piece a more expected r has step
+  phase fd c q (Drops a more) expected r received open_on read busy has step names = having.drops steps own m n order q a more expected r has step
+  phase fd c q Closes expected r received open_on read busy has step names = absurd (cc (busy))
+  phase fd c q Over expected r received open_on read busy has step names = absurd (cc (busy))
+  phase fd c q x expected r received open_on read busy has step names = absurd (cc (read))
 
 -- ---- what is offered
 
-abbrev pub Next : State → (due : List ℕ) → (a taken : ℕ) → Type 0
-Next m due a taken = (bytes : List ℕ) × (after : List ℕ) × (lent_at m server a ≡ Some bytes) × (bytes ++ after ≡ drop taken due)
+abbrev pub Next : State → (expected : List ℕ) → (a taken : ℕ) → Type 0
+Next m expected a taken = (bytes : List ℕ) × (after : List ℕ) × (readable_at m server a ≡ Some bytes) × (bytes ++ after ≡ drop taken expected)
 
 -- the descriptor, and the aggregate, that a call writes
 abbrev pub written_fd : Call → (other : ℕ) → ℕ
@@ -91,13 +91,13 @@ reads-none : (b : Bool) (f g a : ℕ) → (if b then call.Length f else call.Iol
 reads-none true f g a e = cc (e)
 reads-none false f g a e = cc (e)
 
-pub next-due : (m : State) (fd g a : ℕ) (kept : List ℕ) (q : Answer) (d : Doing) (due : List ℕ) → Has m q due d
-    → wants fd (at kept q d) ≡ call.IolWrite g a → (g ≡ fd) × Next m due a (taken_of d)
-next-due m fd g a kept q (Sends b len taken more) due has is =
+pub next-expected : (m : State) (fd g a : ℕ) (kept : List ℕ) (q : Answer) (d : Phase) (expected : List ℕ) → Has m q expected d
+    → wants fd (at kept q d) ≡ call.IolWrite g a → (g ≡ fd) × Next m expected a (taken_of d)
+next-expected m fd g a kept q (Sends b len taken more) expected has is =
     let same : b ≡ a = ap (λ k. written k b) is in
     let own : fd ≡ g = ap (λ k. written_fd k fd) is in
-    (sym own, (has.bytes, has.after, ap (λ z. lent_at m server z) (sym same) ∙ has.lends, has.next))
-next-due m fd g a kept q (Offers b from len piece taken more) due has is =
+    (sym own, (has.bytes, has.after, ap (λ z. readable_at m server z) (sym same) ∙ has.is_readable, has.next))
+next-expected m fd g a kept q (Offers b from len piece taken more) expected has is =
     let same : piece ≡ a = ap (λ k. written k piece) is in
     let own : fd ≡ g = ap (λ k. written_fd k fd) is in
     let bytes = has.whole.bytes in
@@ -106,16 +106,16 @@ next-due m fd g a kept q (Offers b from len piece taken more) due has is =
       (
         slice_range bytes from (piece_end from len),
         rest ++ has.whole.after,
-        ap (λ z. lent_at m server z) (sym same) ∙ has.lends,
+        ap (λ z. readable_at m server z) (sym same) ∙ has.is_readable,
         sym (append_assoc (slice_range bytes from (piece_end from len)) rest has.whole.after)
             ∙ (ap (λ (l : List ℕ). l ++ has.whole.after) (take-append-drop (piece_end from len - from) (drop from bytes)) ∙ has.whole.next),
       ),
     )
-next-due m fd g a kept q (Reading f) due has is = absurd (reads-none (is_head_only q) f g a is)
-next-due m fd g a kept q d due has is = absurd (cc (is))
+next-expected m fd g a kept q (Reading f) expected has is = absurd (reads-none (is_head_only q) f g a is)
+next-expected m fd g a kept q d expected has is = absurd (cc (is))
 
 -- what is written for a script's request is what would be written for a file's
-pub script-writes : (fd g a : ℕ) (kept : List ℕ) (q : Answer) (d : Doing) (b : Bool) → conn_wants b fd (at kept q d) ≡ call.IolWrite g a → wants fd (at kept q d) ≡ call.IolWrite g a
+pub script-writes : (fd g a : ℕ) (kept : List ℕ) (q : Answer) (d : Phase) (b : Bool) → conn_wants b fd (at kept q d) ≡ call.IolWrite g a → wants fd (at kept q d) ≡ call.IolWrite g a
 script-writes fd g a kept q d false is = is
 script-writes fd g a kept q (Reading f) true is = absurd (cc (is))
 script-writes fd g a kept q d true is = is
@@ -123,7 +123,7 @@ script-writes fd g a kept q d true is = is
 -- ---- once all is read nothing is opened or read any more
 
 -- whether nothing of a file, or of a script, is opened, read, told or dropped
-abbrev is_apart : Doing → Bool
+abbrev is_apart : Phase → Bool
 is_apart Opens = false
 is_apart (Reading f) = false
 is_apart (Shuts f k) = false
@@ -131,10 +131,10 @@ is_apart (Spares a k) = false
 is_apart d = true
 
 -- whether a file, or a script, is still to be opened or read, or its text is there
-abbrev is_reading : Doing → Bool
+abbrev is_reading : Phase → Bool
 is_reading d = is_read d || is_opening d
 
-either-unread : (t : Bool) (x y : Doing) → is_reading x ≡ false → is_reading y ≡ false → is_reading (if t then x else y) ≡ false
+either-unread : (t : Bool) (x y : Phase) → is_reading x ≡ false → is_reading y ≡ false → is_reading (if t then x else y) ≡ false
 either-unread true x y one two = one
 either-unread false x y one two = two
 
@@ -142,92 +142,92 @@ headed-unread : (n size : ℕ) (more : Following) → is_reading (headed n size 
 headed-unread n size None = refl
 headed-unread n size (Some x) = either-unread (nat_le (size + x.1) MAX_AGGREGATE_BYTES) _ _ refl refl
 
-apart-unread : (kept : List ℕ) (q : Answer) (d : Doing) (r : Reply) (heard : List ℕ) → is_apart d ≡ true → is_reading (told (at kept q d) r heard).doing ≡ false
+apart-unread : (kept : List ℕ) (q : Answer) (d : Phase) (r : Reply) (received : List ℕ) → is_apart d ≡ true → is_reading (after_reply (at kept q d) r received).phase ≡ false
 apart-unread kept q Rests (reply.Agg n) [] left = refl
-apart-unread kept q Rests (reply.Agg n) (b ∷ heard) left = refl
-apart-unread kept q Rests r heard left = refl
-apart-unread kept q (Got a) reply.Done heard left = refl
-apart-unread kept q (Got a) r heard left = refl
-apart-unread kept q (Picks a from to len) (reply.Agg n) heard left = refl
-apart-unread kept q (Picks a from to len) r heard left = refl
-apart-unread kept q Closes reply.Done heard left = refl
-apart-unread kept q Closes r heard left = refl
-apart-unread kept q Over r heard left = refl
-apart-unread kept q (Heads k) (reply.Agg n) heard left = headed-unread n (count_of heard) (following k)
-apart-unread kept q (Heads k) r heard left = refl
-apart-unread kept q (Joins a size body len) (reply.Agg n) heard left = refl
-apart-unread kept q (Joins a size body len) r heard left = refl
-apart-unread kept q (Sends a len taken more) (reply.Count n) heard left = either-unread (nat_lt n len) _ _ refl refl
-apart-unread kept q (Sends a len taken more) (reply.Refused no.BrokenPipe) heard left = refl
-apart-unread kept q (Sends a len taken more) r heard left = refl
-apart-unread kept q (Cuts a from len taken more) (reply.Agg n) heard left = refl
-apart-unread kept q (Cuts a from len taken more) r heard left = refl
-apart-unread kept q (Offers a from len piece taken more) (reply.Count n) heard left = refl
-apart-unread kept q (Offers a from len piece taken more) (reply.Refused no.BrokenPipe) heard left = refl
-apart-unread kept q (Offers a from len piece taken more) r heard left = refl
-apart-unread kept q (Swaps a from len piece taken more) reply.Done heard left = either-unread (nat_lt from len) _ _ refl refl
-apart-unread kept q (Swaps a from len piece taken more) r heard left = refl
-apart-unread kept q (Sent a taken (Some x)) reply.Done heard left = refl
-apart-unread kept q (Sent a taken None) reply.Done heard left = either-unread (keeps q) _ _ refl refl
-apart-unread kept q (Sent a taken more) r heard left = refl
-apart-unread kept q (Breaks piece a more) reply.Done heard left = refl
-apart-unread kept q (Breaks piece a more) r heard left = refl
-apart-unread kept q (Drops a (Some x)) reply.Done heard left = refl
-apart-unread kept q (Drops a None) reply.Done heard left = refl
-apart-unread kept q (Drops a more) r heard left = refl
-apart-unread kept q d r heard left = absurd (cc (left))
+apart-unread kept q Rests (reply.Agg n) (b ∷ received) left = refl
+apart-unread kept q Rests r received left = refl
+apart-unread kept q (Got a) reply.Done received left = refl
+apart-unread kept q (Got a) r received left = refl
+apart-unread kept q (Picks a from to len) (reply.Agg n) received left = refl
+apart-unread kept q (Picks a from to len) r received left = refl
+apart-unread kept q Closes reply.Done received left = refl
+apart-unread kept q Closes r received left = refl
+apart-unread kept q Over r received left = refl
+apart-unread kept q (Heads k) (reply.Agg n) received left = headed-unread n (count_of received) (following k)
+apart-unread kept q (Heads k) r received left = refl
+apart-unread kept q (Joins a size body len) (reply.Agg n) received left = refl
+apart-unread kept q (Joins a size body len) r received left = refl
+apart-unread kept q (Sends a len taken more) (reply.Count n) received left = either-unread (nat_lt n len) _ _ refl refl
+apart-unread kept q (Sends a len taken more) (reply.Refused no.BrokenPipe) received left = refl
+apart-unread kept q (Sends a len taken more) r received left = refl
+apart-unread kept q (Cuts a from len taken more) (reply.Agg n) received left = refl
+apart-unread kept q (Cuts a from len taken more) r received left = refl
+apart-unread kept q (Offers a from len piece taken more) (reply.Count n) received left = refl
+apart-unread kept q (Offers a from len piece taken more) (reply.Refused no.BrokenPipe) received left = refl
+apart-unread kept q (Offers a from len piece taken more) r received left = refl
+apart-unread kept q (Swaps a from len piece taken more) reply.Done received left = either-unread (nat_lt from len) _ _ refl refl
+apart-unread kept q (Swaps a from len piece taken more) r received left = refl
+apart-unread kept q (Sent a taken (Some x)) reply.Done received left = refl
+apart-unread kept q (Sent a taken None) reply.Done received left = either-unread (keeps q) _ _ refl refl
+apart-unread kept q (Sent a taken more) r received left = refl
+apart-unread kept q (Breaks piece a more) reply.Done received left = refl
+apart-unread kept q (Breaks piece a more) r received left = refl
+apart-unread kept q (Drops a (Some x)) reply.Done received left = refl
+apart-unread kept q (Drops a None) reply.Done received left = refl
+apart-unread kept q (Drops a more) r received left = refl
+apart-unread kept q d r received left = absurd (cc (left))
 
 neither-true : (b c : Bool) → (b || c) ≡ false → (b ≡ false) × (c ≡ false)
 neither-true true c is = absurd (cc (is))
 neither-true false c is = (refl, is)
 
-settled-unread : (f : ℕ) (q : Answer) (k : Learnt) → is_read (Shuts f k) ≡ false → is_read (settled q k) ≡ false
-settled-unread f (serve w) (File a len) was = by (selected w.range len)
+resolved-unread : (f : ℕ) (q : Answer) (k : FileResult) → is_read (Shuts f k) ≡ false → is_read (resolved q k) ≡ false
+resolved-unread f (serve w) (File a len) was = by (selected w.range len)
   where
     by : (sel : Selection) → is_read (sends_of sel a len) ≡ false
     by (Bytes first last) = refl
     by x = refl
-settled-unread f x (TextOf a true) was = absurd (cc (was))
-settled-unread f q k was = refl
+resolved-unread f x (TextOf a true) was = absurd (cc (was))
+resolved-unread f q k was = refl
 
-settled-read : (q : Answer) (k : Learnt) → is_opening (settled q k) ≡ false
-settled-read (serve w) (File a len) = by (selected w.range len)
+resolved-read : (q : Answer) (k : FileResult) → is_opening (resolved q k) ≡ false
+resolved-read (serve w) (File a len) = by (selected w.range len)
   where
     by : (sel : Selection) → is_opening (sends_of sel a len) ≡ false
     by (Bytes first last) = refl
     by x = refl
-settled-read (refuse status head_only close) (File a len) = refl
-settled-read q k = refl
+resolved-read (refuse status head_only close) (File a len) = refl
+resolved-read q k = refl
 
 -- no script's text is read by a call for a file
-pub unread-told : (kept : List ℕ) (q : Answer) (d : Doing) (r : Reply) (heard : List ℕ) → is_read d ≡ false → is_read (told (at kept q d) r heard).doing ≡ false
-unread-told kept q Opens (reply.Fd f) heard was = refl
-unread-told kept q Opens (reply.Refused no.WouldBlock) heard was = refl
-unread-told kept q Opens (reply.Refused x) heard was = refl
-unread-told kept q Opens r heard was = refl
-unread-told kept q (Reading f) (reply.Agg n) heard was = refl
-unread-told kept q (Reading f) (reply.Count n) heard was = refl
-unread-told kept q (Reading f) (reply.Refused no.WouldBlock) heard was = refl
-unread-told kept q (Reading f) (reply.Refused x) heard was = refl
-unread-told kept q (Reading f) r heard was = refl
-unread-told kept q (Shuts f k) reply.Done heard was = settled-unread f q k was
-unread-told kept q (Shuts f k) r heard was = was
-unread-told kept q (Spares a k) reply.Done heard was = refl
-unread-told kept q (Spares a k) r heard was = was
-unread-told kept q d r heard was = (neither-true (is_read (told (at kept q d) r heard).doing) (is_opening (told (at kept q d) r heard).doing) (apart-unread kept q d r heard refl)).0
+pub unread-after_reply : (kept : List ℕ) (q : Answer) (d : Phase) (r : Reply) (received : List ℕ) → is_read d ≡ false → is_read (after_reply (at kept q d) r received).phase ≡ false
+unread-after_reply kept q Opens (reply.Fd f) received was = refl
+unread-after_reply kept q Opens (reply.Refused no.WouldBlock) received was = refl
+unread-after_reply kept q Opens (reply.Refused x) received was = refl
+unread-after_reply kept q Opens r received was = refl
+unread-after_reply kept q (Reading f) (reply.Agg n) received was = refl
+unread-after_reply kept q (Reading f) (reply.Count n) received was = refl
+unread-after_reply kept q (Reading f) (reply.Refused no.WouldBlock) received was = refl
+unread-after_reply kept q (Reading f) (reply.Refused x) received was = refl
+unread-after_reply kept q (Reading f) r received was = refl
+unread-after_reply kept q (Shuts f k) reply.Done received was = resolved-unread f q k was
+unread-after_reply kept q (Shuts f k) r received was = was
+unread-after_reply kept q (Spares a k) reply.Done received was = refl
+unread-after_reply kept q (Spares a k) r received was = was
+unread-after_reply kept q d r received was = (neither-true (is_read (after_reply (at kept q d) r received).phase) (is_opening (after_reply (at kept q d) r received).phase) (apart-unread kept q d r received refl)).0
 
 -- and what is read is not read again
-pub read-told : (kept : List ℕ) (q : Answer) (d : Doing) (r : Reply) (heard : List ℕ) → is_opening d ≡ false → is_opening (told (at kept q d) r heard).doing ≡ false
-read-told kept q Opens r heard was = absurd (cc (was))
-read-told kept q (Reading f) r heard was = absurd (cc (was))
-read-told kept q (Shuts f k) reply.Done heard was = settled-read q k
-read-told kept q (Shuts f k) r heard was = refl
-read-told kept q (Spares a k) reply.Done heard was = refl
-read-told kept q (Spares a k) r heard was = refl
-read-told kept q d r heard was = (neither-true (is_read (told (at kept q d) r heard).doing) (is_opening (told (at kept q d) r heard).doing) (apart-unread kept q d r heard refl)).1
+pub read-after_reply : (kept : List ℕ) (q : Answer) (d : Phase) (r : Reply) (received : List ℕ) → is_opening d ≡ false → is_opening (after_reply (at kept q d) r received).phase ≡ false
+read-after_reply kept q Opens r received was = absurd (cc (was))
+read-after_reply kept q (Reading f) r received was = absurd (cc (was))
+read-after_reply kept q (Shuts f k) reply.Done received was = resolved-read q k
+read-after_reply kept q (Shuts f k) r received was = refl
+read-after_reply kept q (Spares a k) reply.Done received was = refl
+read-after_reply kept q (Spares a k) r received was = refl
+read-after_reply kept q d r received was = (neither-true (is_read (after_reply (at kept q d) r received).phase) (is_opening (after_reply (at kept q d) r received).phase) (apart-unread kept q d r received refl)).1
 
 -- the request stays the same
-pub asks-told : (kept : List ℕ) (q : Answer) (d : Doing) (r : Reply) (heard : List ℕ) → (told (at kept q d) r heard).q ≡ q
-asks-told kept q Rests (reply.Agg n) [] = refl
-asks-told kept q Rests (reply.Agg n) (b ∷ heard) = refl
-asks-told kept q d r heard = refl
+pub asks-after_reply : (kept : List ℕ) (q : Answer) (d : Phase) (r : Reply) (received : List ℕ) → (after_reply (at kept q d) r received).q ≡ q
+asks-after_reply kept q Rests (reply.Agg n) [] = refl
+asks-after_reply kept q Rests (reply.Agg n) (b ∷ received) = refl
+asks-after_reply kept q d r received = refl

@@ -10,32 +10,32 @@ use Rattle.iol_core.specs.declared.events.Call.TheVariants as call
 use Rattle.iol_core.specs.declared.events.Event.TheVariants as event
 use Rattle.iol_core.specs.declared.events.Reply.{Reply}
 use Rattle.iol_core.specs.declared.events.Reply.TheVariants as reply
-use Rattle.iol_laws.specs.Caller.{CallsServeTheirDomain, lent_at}
+use Rattle.iol_laws.specs.Caller.{CallsServeTheirDomain, readable_at}
 use Rattle.iol_laws.specs.Frame.{EachStepLeavesTheRest}
 use Rattle.iol_laws.specs.Order.{IsOrderly}
 use Rattle.iol_laws.specs.RefusalsLeft.{RefusalsThatAreLeft}
 use Rattle.flash_http.specs.Request.{Answer, serve, refuse, Wanted}
 use Rattle.flash_laws.specs.Answers.{response, script_text}
-use Rattle.flash_laws.specs.Client.{Client, is_for_script, conn_wants, job_of, wants, told_spares, conn_told, file_told, keeps_text, text_on, after_run, goes_on, run_told, told}
-use Rattle.flash_laws.specs.Client.OfferedBytes.{is_working, HearsMore}
+use Rattle.flash_laws.specs.Client.{Client, is_for_script, conn_wants, job_of, wants, after_drop_whole, conn_after_reply, file_after_reply, keeps_text, text_on, after_run, proceeds, run_after_reply, after_reply}
+use Rattle.flash_laws.specs.Client.OfferedBytes.{is_working, ReceivesMore}
 use Rattle.flash_laws.specs.Conn as conn
-use Rattle.flash_laws.specs.Conn.{Conn, most_read, told_shuts}
+use Rattle.flash_laws.specs.Conn.{Conn, most_read, after_close_file}
 use Rattle.flash_laws.specs.Conn.Fits.{Has, Names}
 use Rattle.flash_laws.specs.Client.ResponseState.{Known, OfFile, OfScript, is_read, HasNoRun, IsRun, HasKnown}
 use Rattle.flash_laws.specs.Conn.Progress.{Rank, IsBelow, Nears, CanMake, is_busy}
 use Rattle.flash_laws.specs.Run.Fits.{Progress, HasRun}
-use Rattle.flash_laws.specs.Run.OfferedBytes.{HearsMore as RunHears}
+use Rattle.flash_laws.specs.Run.OfferedBytes.{ReceivesMore as RunReceives}
 use Rattle.flash_laws.specs.Run as running
 use Rattle.flash_laws.specs.Run.{is_over}
 use Rattle.flash_laws.specs.Site.{server}
-use Rattle.flash_laws.specs.declared.phase.Learnt.TheVariants.{Text as TextOf}
-use Rattle.flash_laws.specs.declared.phase.Content.TheVariants.{Script}
-use Rattle.flash_laws.specs.declared.phase.Doing.{Doing}
-use Rattle.flash_laws.specs.declared.phase.Doing.TheVariants.{Rests, Reads as Reading, Shuts, Spares, Heads}
+use Rattle.flash_laws.specs.declared.phase.FileResult.TheVariants.{Text as TextOf}
+use Rattle.flash_laws.specs.declared.phase.Payload.TheVariants.{Script}
+use Rattle.flash_laws.specs.declared.phase.Phase.{Phase}
+use Rattle.flash_laws.specs.declared.phase.Phase.TheVariants.{Rests, Reads as Reading, Shuts, Spares, Heads}
 use Rattle.flash_laws.specs.declared.script_run.Running.{Running}
 use Rattle.flash_laws.specs.declared.script_run.Running.TheVariants.{Awaits, Runs, Leaves, Closes as Ends}
 use Rattle.flash_laws.proofs.Forms.{at, of as client}
-use Rattle.flash_laws.proofs.Client.Phases.{unread-told}
+use Rattle.flash_laws.proofs.Client.Phases.{unread-after_reply}
 use Rattle.flash_laws.proofs.Lists.{clash, not-true}
 use Rattle.flash_laws.proofs.Conn.Progress as file
 use Rattle.flash_laws.proofs.Conn.Progress.{stage, calls_left, near, drops, closes}
@@ -54,21 +54,21 @@ abbrev run_left : Answer → Running → ℕ
 run_left (serve w) y = run_calls w y
 run_left (refuse status head_only close) y = 0
 
-abbrev more_left : Answer → Doing → ℕ
+abbrev more_left : Answer → Phase → ℕ
 more_left q d = if is_read d then to_run q else 0
 
 abbrev pub rank : Client → Rank
 rank x = by x.run
   where
     by : Option Running → Rank
-    by None = (stage x.conn.doing, calls_left x.conn.q x.conn.doing + more_left x.conn.q x.conn.doing)
+    by None = (stage x.conn.phase, calls_left x.conn.q x.conn.phase + more_left x.conn.q x.conn.phase)
     by (Some y) = (0, run_left x.conn.q y)
 
-none-more : (q : Answer) (d : Doing) → is_read d ≡ false → more_left q d ≡ 0
+none-more : (q : Answer) (d : Phase) → is_read d ≡ false → more_left q d ≡ 0
 none-more q d is = ap (λ b. if b then to_run q else 0) is
 
 -- what is said of a file's phase is so of the client
-lift : (kept : List ℕ) (q : Answer) (script : List ℕ) (d e : Doing) (r : Reply) → is_read d ≡ false → is_read e ≡ false → Nears (file.rank q) d r e
+lift : (kept : List ℕ) (q : Answer) (script : List ℕ) (d e : Phase) (r : Reply) → is_read d ≡ false → is_read e ≡ false → Nears (file.rank q) d r e
     → Nears rank (client (at kept q d) None script) r (client (at kept q e) None script)
 lift kept q script d e r was now (inl (inl less)) = inl (inl less)
 lift kept q script d e r was now (inl (inr fewer)) =
@@ -80,104 +80,104 @@ lift kept q script d e r was now (inr same) = inr (ap (λ z. client (at kept q z
 
 -- ---- phases in which a request for a script goes as one for a file
 
-abbrev pub is_scripts : Doing → Bool
+abbrev pub is_scripts : Phase → Bool
 is_scripts (Reading f) = true
 is_scripts (Spares a Script) = true
 is_scripts d = false
 
-pub wants-plain : (fd : ℕ) (kept : List ℕ) (q : Answer) (d : Doing) → is_scripts d ≡ false → conn_wants true fd (at kept q d) ≡ conn.wants fd (at kept q d)
+pub wants-plain : (fd : ℕ) (kept : List ℕ) (q : Answer) (d : Phase) → is_scripts d ≡ false → conn_wants true fd (at kept q d) ≡ conn.wants fd (at kept q d)
 wants-plain fd kept q (Reading f) plain = absurd (cc (plain))
 wants-plain fd kept q d plain = refl
 
-pub told-plain : (kept : List ℕ) (q : Answer) (script : List ℕ) (d : Doing) (r : Reply) (heard : List ℕ) → is_scripts d ≡ false
-    → file_told true (client (at kept q d) None script) r heard ≡ conn_told (client (at kept q d) None script) r heard
-told-plain kept q script (Reading f) r heard plain = absurd (cc (plain))
-told-plain kept q script (Spares a Script) r heard plain = absurd (cc (plain))
-told-plain kept q script d r heard plain = refl
+pub after_reply-plain : (kept : List ℕ) (q : Answer) (script : List ℕ) (d : Phase) (r : Reply) (received : List ℕ) → is_scripts d ≡ false
+    → file_after_reply true (client (at kept q d) None script) r received ≡ conn_after_reply (client (at kept q d) None script) r received
+after_reply-plain kept q script (Reading f) r received plain = absurd (cc (plain))
+after_reply-plain kept q script (Spares a Script) r received plain = absurd (cc (plain))
+after_reply-plain kept q script d r received plain = refl
 
 -- a busy connection keeps what it has kept, and its request
-conn-at : (kept : List ℕ) (q : Answer) (d : Doing) (r : Reply) (heard : List ℕ) → is_busy d ≡ true → conn.told (at kept q d) r heard ≡ at kept q (conn.told (at kept q d) r heard).doing
-conn-at kept q Rests r heard busy = absurd (cc (busy))
-conn-at kept q d r heard busy = refl
+conn-at : (kept : List ℕ) (q : Answer) (d : Phase) (r : Reply) (received : List ℕ) → is_busy d ≡ true → conn.after_reply (at kept q d) r received ≡ at kept q (conn.after_reply (at kept q d) r received).phase
+conn-at kept q Rests r received busy = absurd (cc (busy))
+conn-at kept q d r received busy = refl
 
 module _ (own : CallsServeTheirDomain) (may : RefusalsThatAreLeft) (m n : State) (order : IsOrderly m) (lives : is_live m server ≡ true)
     (fd c : ℕ) (open_on : descriptor m server fd ≡ Some (on.Connection c)) (kept script : List ℕ) where
   -- a phase of a file
-  file-near : (q : Answer) (d : Doing) (due : List ℕ) (r : Reply) (heard : List ℕ) → is_busy d ≡ true → is_read d ≡ false → Has m q due d
-      → CanMake m (conn.wants fd (at kept q d)) → StepsTo m (event.Call server (conn.wants fd (at kept q d))) r n → Names n r heard
-      → Nears rank (client (at kept q d) None script) r (conn_told (client (at kept q d) None script) r heard)
-  file-near q d due r heard busy unread has can step names =
-      subst (λ (z : Conn). Nears rank (client (at kept q d) None script) r (client z None script)) (sym (conn-at kept q d r heard busy))
-      (lift kept q script d (conn.told (at kept q d) r heard).doing r unread (unread-told kept q d r heard unread)
-      (near own may m n order lives fd c kept q d due r heard open_on busy has can step names))
+  file-near : (q : Answer) (d : Phase) (expected : List ℕ) (r : Reply) (received : List ℕ) → is_busy d ≡ true → is_read d ≡ false → Has m q expected d
+      → CanMake m (conn.wants fd (at kept q d)) → StepsTo m (event.Call server (conn.wants fd (at kept q d))) r n → Names n r received
+      → Nears rank (client (at kept q d) None script) r (conn_after_reply (client (at kept q d) None script) r received)
+  file-near q d expected r received busy unread has can step names =
+      subst (λ (z : Conn). Nears rank (client (at kept q d) None script) r (client z None script)) (sym (conn-at kept q d r received busy))
+      (lift kept q script d (conn.after_reply (at kept q d) r received).phase r unread (unread-after_reply kept q d r received unread)
+      (near own may m n order lives fd c kept q d expected r received open_on busy has can step names))
 
   -- the text of a script is read
-  text-near : (q : Answer) (f : ℕ) (r : Reply) (heard : List ℕ) → StepsTo m (event.Call server (call.IolRead f most_read)) r n
-      → Nears rank (client (at kept q (Reading f)) None script) r (file_told true (client (at kept q (Reading f)) None script) r heard)
-  text-near q f (reply.Agg k) heard step = inl (inl (omega arith))
-  text-near q f (reply.Count k) heard step = let e = step.1 in absurd (cc (e))
-  text-near q f (reply.Refused no.WouldBlock) heard step = inr (refl, refl)
-  text-near q f (reply.Refused z) heard step = inl (inl (omega arith))
-  text-near q f r heard step = let e = step.1 in absurd (cc (e))
+  text-near : (q : Answer) (f : ℕ) (r : Reply) (received : List ℕ) → StepsTo m (event.Call server (call.IolRead f most_read)) r n
+      → Nears rank (client (at kept q (Reading f)) None script) r (file_after_reply true (client (at kept q (Reading f)) None script) r received)
+  text-near q f (reply.Agg k) received step = inl (inl (omega arith))
+  text-near q f (reply.Count k) received step = let e = step.1 in absurd (cc (e))
+  text-near q f (reply.Refused no.WouldBlock) received step = inr (refl, refl)
+  text-near q f (reply.Refused z) received step = inl (inl (omega arith))
+  text-near q f r received step = let e = step.1 in absurd (cc (e))
 
   -- a request for a file, or for a script of which no text that runs is read
-  of-file : (b : Bool) (q : Answer) (d : Doing) (due : List ℕ) (r : Reply) (heard : List ℕ) → is_busy d ≡ true → is_read d ≡ false → Has m q due d
-      → CanMake m (conn_wants b fd (at kept q d)) → StepsTo m (event.Call server (conn_wants b fd (at kept q d))) r n → Names n r heard
-      → Nears rank (client (at kept q d) None script) r (file_told b (client (at kept q d) None script) r heard)
-  of-file false q d due r heard busy unread has can step names = file-near q d due r heard busy unread has can step names
-  of-file true q d due r heard busy unread has can step names = by (is_scripts d) refl
+  of-file : (b : Bool) (q : Answer) (d : Phase) (expected : List ℕ) (r : Reply) (received : List ℕ) → is_busy d ≡ true → is_read d ≡ false → Has m q expected d
+      → CanMake m (conn_wants b fd (at kept q d)) → StepsTo m (event.Call server (conn_wants b fd (at kept q d))) r n → Names n r received
+      → Nears rank (client (at kept q d) None script) r (file_after_reply b (client (at kept q d) None script) r received)
+  of-file false q d expected r received busy unread has can step names = file-near q d expected r received busy unread has can step names
+  of-file true q d expected r received busy unread has can step names = by (is_scripts d) refl
     where
-      reading : (e : Doing) → d ≡ e → is_scripts e ≡ true → Nears rank (client (at kept q d) None script) r (file_told true (client (at kept q d) None script) r heard)
+      reading : (e : Phase) → d ≡ e → is_scripts e ≡ true → Nears rank (client (at kept q d) None script) r (file_after_reply true (client (at kept q d) None script) r received)
       reading (Reading f) is scripts =
-          let read : StepsTo m (event.Call server (call.IolRead f most_read)) r n = subst (λ (e : Doing). StepsTo m (event.Call server (conn_wants true fd (at kept q e))) r n) is step in
-          subst (λ (e : Doing). Nears rank (client (at kept q e) None script) r (file_told true (client (at kept q e) None script) r heard)) (sym is) (text-near q f r heard read)
+          let read : StepsTo m (event.Call server (call.IolRead f most_read)) r n = subst (λ (e : Phase). StepsTo m (event.Call server (conn_wants true fd (at kept q e))) r n) is step in
+          subst (λ (e : Phase). Nears rank (client (at kept q e) None script) r (file_after_reply true (client (at kept q e) None script) r received)) (sym is) (text-near q f r received read)
       reading (Spares a Script) is scripts = absurd (let e = ap (λ z. is_read z) is in cc (e, unread))
       reading e is scripts = absurd (cc (scripts))
 
-      by : (b : Bool) → is_scripts d ≡ b → Nears rank (client (at kept q d) None script) r (file_told true (client (at kept q d) None script) r heard)
+      by : (b : Bool) → is_scripts d ≡ b → Nears rank (client (at kept q d) None script) r (file_after_reply true (client (at kept q d) None script) r received)
       by true is = reading d refl is
       by false plain =
           let same = wants-plain fd kept q d plain in
-          subst (λ (z : Client). Nears rank (client (at kept q d) None script) r z) (sym (told-plain kept q script d r heard plain))
-          (file-near q d due r heard busy unread has (subst (λ (k : Call). CanMake m k) same can) (subst (λ (k : Call). StepsTo m (event.Call server k) r n) same step) names)
+          subst (λ (z : Client). Nears rank (client (at kept q d) None script) r z) (sym (after_reply-plain kept q script d r received plain))
+          (file-near q d expected r received busy unread has (subst (λ (k : Call). CanMake m k) same can) (subst (λ (k : Call). StepsTo m (event.Call server k) r n) same step) names)
 
   -- ---- a script that can run
 
   -- its text is let go, and then it runs, but for HEAD
-  spared-near : (w : Wanted) (a : ℕ) (bytes : List ℕ) (r : Reply) (heard : List ℕ) → StepsTo m (event.Call server (call.AggDrop a)) r n
-      → lent_at m server a ≡ Some bytes
-      → Nears rank (client (at kept (serve w) (Spares a Script)) None script) r (file_told true (client (at kept (serve w) (Spares a Script)) None script) r heard)
-  spared-near w a bytes r heard step lent =
-      drops own may m n order lives rank (client (at kept (serve w) (Spares a Script)) None script) (λ z. file_told true (client (at kept (serve w) (Spares a Script)) None script) z heard) a bytes r lent step
+  spared-near : (w : Wanted) (a : ℕ) (bytes : List ℕ) (r : Reply) (received : List ℕ) → StepsTo m (event.Call server (call.AggDrop a)) r n
+      → readable_at m server a ≡ Some bytes
+      → Nears rank (client (at kept (serve w) (Spares a Script)) None script) r (file_after_reply true (client (at kept (serve w) (Spares a Script)) None script) r received)
+  spared-near w a bytes r received step readable =
+      drops own may m n order lives rank (client (at kept (serve w) (Spares a Script)) None script) (λ z. file_after_reply true (client (at kept (serve w) (Spares a Script)) None script) z received) a bytes r readable step
       (by w.head_only)
     where
-      by : (h : Bool) → IsBelow (rank (client (at kept (serve w) (Heads Script)) (told_spares h reply.Done) script)) (rank (client (at kept (serve w) (Spares a Script)) None script))
+      by : (h : Bool) → IsBelow (rank (client (at kept (serve w) (Heads Script)) (after_drop_whole h reply.Done) script)) (rank (client (at kept (serve w) (Spares a Script)) None script))
       by true = inr (refl, omega arith)
       by false = inr (refl, omega arith)
 
-  read-near : (w : Wanted) (d : Doing) (r : Reply) (heard : List ℕ) → is_read d ≡ true → Has m (serve w) (script_text w) d
+  read-near : (w : Wanted) (d : Phase) (r : Reply) (received : List ℕ) → is_read d ≡ true → Has m (serve w) (script_text w) d
       → StepsTo m (event.Call server (conn_wants true fd (at kept (serve w) d))) r n
-      → Nears rank (client (at kept (serve w) d) None script) r (file_told true (client (at kept (serve w) d) None script) r heard)
-  read-near w (Shuts f (TextOf a true)) r heard read has step =
+      → Nears rank (client (at kept (serve w) d) None script) r (file_after_reply true (client (at kept (serve w) d) None script) r received)
+  read-near w (Shuts f (TextOf a true)) r received read has step =
       closes own may m n order lives rank (client (at kept (serve w) (Shuts f (TextOf a true))) None script)
-      (λ z. client (at kept (serve w) (told_shuts (serve w) f (TextOf a true) z)) None script) f (on.File has.0.0 has.0.1 modes.Read) r has.0.2 step (inr (refl, omega arith))
-  read-near w (Spares a Script) r heard read has step = spared-near w a has.0.0 r heard step has.0.1
-  read-near w d r heard read has step = absurd (cc (read))
+      (λ z. client (at kept (serve w) (after_close_file (serve w) f (TextOf a true) z)) None script) f (on.File has.0.0 has.0.1 modes.Read) r has.0.2 step (inr (refl, omega arith))
+  read-near w (Spares a Script) r received read has step = spared-near w a has.0.0 r received step has.0.1
+  read-near w d r received read has step = absurd (cc (read))
 
-  of-script : (scripts : Bool) (w : Wanted) (d : Doing) (text : List ℕ) (o : Progress) (r : Reply) (heard : List ℕ) → is_busy d ≡ true
+  of-script : (scripts : Bool) (w : Wanted) (d : Phase) (text : List ℕ) (o : Progress) (r : Reply) (received : List ℕ) → is_busy d ≡ true
       → HasNoRun scripts m w (client (at kept (serve w) d) None script) text o → (b : Bool) → is_for_script scripts (serve w) ≡ b
-      → CanMake m (conn_wants b fd (at kept (serve w) d)) → StepsTo m (event.Call server (conn_wants b fd (at kept (serve w) d))) r n → Names n r heard
-      → Nears rank (client (at kept (serve w) d) None script) r (file_told b (client (at kept (serve w) d) None script) r heard)
-  of-script scripts w d text o r heard busy has b for_script can step names = by (is_read d) refl
+      → CanMake m (conn_wants b fd (at kept (serve w) d)) → StepsTo m (event.Call server (conn_wants b fd (at kept (serve w) d))) r n → Names n r received
+      → Nears rank (client (at kept (serve w) d) None script) r (file_after_reply b (client (at kept (serve w) d) None script) r received)
+  of-script scripts w d text o r received busy has b for_script can step names = by (is_read d) refl
     where
-      runs : (c : Bool) → b ≡ c → is_read d ≡ true → Nears rank (client (at kept (serve w) d) None script) r (file_told b (client (at kept (serve w) d) None script) r heard)
-      runs true is read = subst (λ z. Nears rank (client (at kept (serve w) d) None script) r (file_told z (client (at kept (serve w) d) None script) r heard)) (sym is)
-          (read-near w d r heard read has.has (subst (λ z. StepsTo m (event.Call server (conn_wants z fd (at kept (serve w) d))) r n) is step))
+      runs : (c : Bool) → b ≡ c → is_read d ≡ true → Nears rank (client (at kept (serve w) d) None script) r (file_after_reply b (client (at kept (serve w) d) None script) r received)
+      runs true is read = subst (λ z. Nears rank (client (at kept (serve w) d) None script) r (file_after_reply z (client (at kept (serve w) d) None script) r received)) (sym is)
+          (read-near w d r received read has.has (subst (λ z. StepsTo m (event.Call server (conn_wants z fd (at kept (serve w) d))) r n) is step))
       runs false is read = absurd (clash (is_for_script scripts (serve w)) (has.script read) (for_script ∙ is))
 
-      by : (z : Bool) → is_read d ≡ z → Nears rank (client (at kept (serve w) d) None script) r (file_told b (client (at kept (serve w) d) None script) r heard)
+      by : (z : Bool) → is_read d ≡ z → Nears rank (client (at kept (serve w) d) None script) r (file_after_reply b (client (at kept (serve w) d) None script) r received)
       by true read = runs b refl read
-      by false unread = of-file b (serve w) d (script_text w) r heard busy unread has.has can step names
+      by false unread = of-file b (serve w) d (script_text w) r received busy unread has.has can step names
 
 -- ---- a run
 
@@ -186,72 +186,72 @@ text-same true script = refl
 text-same false script = refl
 
 -- a run that is as it was leaves the client so
-stands : (c : Conn) (script : List ℕ) (y z : Running) → z ≡ y → goes_on false false (client c (Some y) script) y z ≡ client c (Some y) script
-stands c script y z same = subst (λ (k : Running). goes_on false false (client c (Some y) script) y k ≡ client c (Some y) script) (sym same)
+stands : (c : Conn) (script : List ℕ) (y z : Running) → z ≡ y → proceeds false false (client c (Some y) script) y z ≡ client c (Some y) script
+stands c script y z same = subst (λ (k : Running). proceeds false false (client c (Some y) script) y k ≡ client c (Some y) script) (sym same)
     (ap (λ (t : List ℕ). client c (Some y) t) (text-same (keeps_text y) script))
 
-end-below : (kept : List ℕ) (w : Wanted) (e : Doing) (k : ℕ) → IsEnd e → 0 < k → IsBelow (rank (client (at kept (serve w) e) None [])) (0, k)
+end-below : (kept : List ℕ) (w : Wanted) (e : Phase) (k : ℕ) → IsEnd e → 0 < k → IsBelow (rank (client (at kept (serve w) e) None [])) (0, k)
 end-below kept w e k ends some = elim ends [
-  | inl rests ↦ subst (λ (d : Doing). IsBelow (rank (client (at kept (serve w) d) None [])) (0, k)) (sym rests) (inr (refl, some))
-  | inr closes ↦ subst (λ (d : Doing). IsBelow (rank (client (at kept (serve w) d) None [])) (0, k)) (sym closes) (inr (refl, some))
+  | inl rests ↦ subst (λ (d : Phase). IsBelow (rank (client (at kept (serve w) d) None [])) (0, k)) (sym rests) (inr (refl, some))
+  | inr closes ↦ subst (λ (d : Phase). IsBelow (rank (client (at kept (serve w) d) None [])) (0, k)) (sym closes) (inr (refl, some))
 ]
 
 -- the client with its run gone on from y to z
-abbrev Goes : (kept : List ℕ) → Doing → (script : List ℕ) → Wanted → (y z : Running) → Reply → (was over : Bool) → Type 0
-Goes kept d script w y z r was over = Nears rank (client (at kept (serve w) d) (Some y) script) r (goes_on was over (client (at kept (serve w) d) (Some y) script) y z)
+abbrev Goes : (kept : List ℕ) → Phase → (script : List ℕ) → Wanted → (y z : Running) → Reply → (was over : Bool) → Type 0
+Goes kept d script w y z r was over = Nears rank (client (at kept (serve w) d) (Some y) script) r (proceeds was over (client (at kept (serve w) d) (Some y) script) y z)
 
 module _ (steps : EachStepLeavesTheRest) (own : CallsServeTheirDomain) (may : RefusalsThatAreLeft) (m n : State) (order : IsOrderly m) (lives : is_live m server ≡ true)
     (fd c : ℕ) (open_on : descriptor m server fd ≡ Some (on.Connection c)) where
   -- one that is over leaves the connection at rest, or to be closed
-  over-ends : (job : ℕ → List ℕ) (worker : ℕ) (w : Wanted) (y : Running) (r : Reply) (heard : List ℕ) (o : Progress) → is_over y ≡ false → HasRun job m w o y
-      → StepsTo m (event.Call server (running.wants job fd w y)) r n → Names n r heard → is_over (running.told worker w y r heard) ≡ true → IsEnd (after_run (running.told worker w y r heard))
-  over-ends job worker w Awaits (reply.Fds from write) heard o going has step names over = absurd (cc (over))
-  over-ends job worker w Awaits r heard o going has step names over = absurd (cc (over))
-  over-ends job worker w (Runs run s) r heard o going has step names over =
-      let got = running_on.replied steps own m n order job w fd c worker (Runs run s) r heard o open_on (λ e. absurd (cc (e))) going has step names in
-      run-ends job n w got.0 (running.told worker w (Runs run s) r heard) got.2 over
-  over-ends job worker w (Leaves d) r heard o going has step names over =
-      let got = running_on.replied steps own m n order job w fd c worker (Leaves d) r heard o open_on (λ e. absurd (cc (e))) going has step names in
-      run-ends job n w got.0 (running.told worker w (Leaves d) r heard) got.2 over
-  over-ends job worker w Ends r heard o going has step names over = absurd (cc (going))
+  over-ends : (job : ℕ → List ℕ) (worker : ℕ) (w : Wanted) (y : Running) (r : Reply) (received : List ℕ) (o : Progress) → is_over y ≡ false → HasRun job m w o y
+      → StepsTo m (event.Call server (running.wants job fd w y)) r n → Names n r received → is_over (running.after_reply worker w y r received) ≡ true → IsEnd (after_run (running.after_reply worker w y r received))
+  over-ends job worker w Awaits (reply.Fds from write) received o going has step names over = absurd (cc (over))
+  over-ends job worker w Awaits r received o going has step names over = absurd (cc (over))
+  over-ends job worker w (Runs run s) r received o going has step names over =
+      let got = running_on.replied steps own m n order job w fd c worker (Runs run s) r received o open_on (λ e. absurd (cc (e))) going has step names in
+      run-ends job n w got.0 (running.after_reply worker w (Runs run s) r received) got.2 over
+  over-ends job worker w (Leaves d) r received o going has step names over =
+      let got = running_on.replied steps own m n order job w fd c worker (Leaves d) r received o open_on (λ e. absurd (cc (e))) going has step names in
+      run-ends job n w got.0 (running.after_reply worker w (Leaves d) r received) got.2 over
+  over-ends job worker w Ends r received o going has step names over = absurd (cc (going))
 
-  run-near : (kept : List ℕ) (d : Doing) (script : List ℕ) (worker : ℕ) (w : Wanted) (y : Running) (r : Reply) (heard text : List ℕ) (o : Progress) → is_over y ≡ false
-      → IsRun m w y script text o → CanMake m (running.wants (job_of w script) fd w y) → StepsTo m (event.Call server (running.wants (job_of w script) fd w y)) r n → Names n r heard
-      → Nears rank (client (at kept (serve w) d) (Some y) script) r (run_told worker (serve w) (client (at kept (serve w) d) (Some y) script) y r heard) ⊎ RunHears y r heard
-  run-near kept d script worker w y r heard text o going has can step names = by (run_nears own may (job_of w text) m n fd c worker w y r heard o order lives open_on going has.has
+  run-near : (kept : List ℕ) (d : Phase) (script : List ℕ) (worker : ℕ) (w : Wanted) (y : Running) (r : Reply) (received text : List ℕ) (o : Progress) → is_over y ≡ false
+      → IsRun m w y script text o → CanMake m (running.wants (job_of w script) fd w y) → StepsTo m (event.Call server (running.wants (job_of w script) fd w y)) r n → Names n r received
+      → Nears rank (client (at kept (serve w) d) (Some y) script) r (run_after_reply worker (serve w) (client (at kept (serve w) d) (Some y) script) y r received) ⊎ RunReceives y r received
+  run-near kept d script worker w y r received text o going has can step names = by (run_nears own may (job_of w text) m n fd c worker w y r received o order lives open_on going has.has
       (subst (λ (k : Call). CanMake m k) same can) (subst (λ (k : Call). StepsTo m (event.Call server k) r n) same step) names)
     where
       same : running.wants (job_of w script) fd w y ≡ running.wants (job_of w text) fd w y
       same = wants-text fd w y script text has.kept
 
-      less : (over : Bool) → is_over (running.told worker w y r heard) ≡ over → run_calls w (running.told worker w y r heard) < run_calls w y → Goes kept d script w y (running.told worker w y r heard) r false over
-      less true over fewer = inl (end-below kept w (after_run (running.told worker w y r heard)) (run_calls w y)
-          (over-ends (job_of w text) worker w y r heard o going has.has (subst (λ (k : Call). StepsTo m (event.Call server k) r n) same step) names over) (omega (arith, fewer)))
+      less : (over : Bool) → is_over (running.after_reply worker w y r received) ≡ over → run_calls w (running.after_reply worker w y r received) < run_calls w y → Goes kept d script w y (running.after_reply worker w y r received) r false over
+      less true over fewer = inl (end-below kept w (after_run (running.after_reply worker w y r received)) (run_calls w y)
+          (over-ends (job_of w text) worker w y r received o going has.has (subst (λ (k : Call). StepsTo m (event.Call server k) r n) same step) names over) (omega (arith, fewer)))
       less false over fewer = inl (inr (refl, fewer))
 
-      unmoved : (over : Bool) → is_over (running.told worker w y r heard) ≡ over → Nears (run_rank w) y r (running.told worker w y r heard) → Goes kept d script w y (running.told worker w y r heard) r false over
+      unmoved : (over : Bool) → is_over (running.after_reply worker w y r received) ≡ over → Nears (run_rank w) y r (running.after_reply worker w y r received) → Goes kept d script w y (running.after_reply worker w y r received) r false over
       unmoved over is (inl (inl falls)) = absurd (omega (arith, falls))
       unmoved over is (inl (inr fewer)) = less over is fewer.1
-      unmoved true is (inr still) = absurd (clash (is_over (running.told worker w y r heard)) is (ap (λ k. is_over k) still.0 ∙ going))
-      unmoved false is (inr still) = inr (stands (at kept (serve w) d) script y (running.told worker w y r heard) still.0, still.1)
+      unmoved true is (inr still) = absurd (clash (is_over (running.after_reply worker w y r received)) is (ap (λ k. is_over k) still.0 ∙ going))
+      unmoved false is (inr still) = inr (stands (at kept (serve w) d) script y (running.after_reply worker w y r received) still.0, still.1)
 
-      by : Nears (run_rank w) y r (running.told worker w y r heard) ⊎ RunHears y r heard
-          → Goes kept d script w y (running.told worker w y r heard) r (is_over y) (is_over (running.told worker w y r heard)) ⊎ RunHears y r heard
-      by (inl nearer) = inl (subst (λ b. Goes kept d script w y (running.told worker w y r heard) r b (is_over (running.told worker w y r heard))) (sym going) (unmoved (is_over (running.told worker w y r heard)) refl nearer))
+      by : Nears (run_rank w) y r (running.after_reply worker w y r received) ⊎ RunReceives y r received
+          → Goes kept d script w y (running.after_reply worker w y r received) r (is_over y) (is_over (running.after_reply worker w y r received)) ⊎ RunReceives y r received
+      by (inl nearer) = inl (subst (λ b. Goes kept d script w y (running.after_reply worker w y r received) r b (is_over (running.after_reply worker w y r received))) (sym going) (unmoved (is_over (running.after_reply worker w y r received)) refl nearer))
       by (inr more) = inr more
 
 -- ---- any client
 
-pub client-nears : EachStepLeavesTheRest → CallsServeTheirDomain → RefusalsThatAreLeft → (scripts : Bool) (m n : State) (fd c worker : ℕ) (kept : List ℕ) (q : Answer) (d : Doing)
-    (run : Option Running) (script : List ℕ) (r : Reply) (heard : List ℕ) (known : Known) → IsOrderly m → is_live m server ≡ true → descriptor m server fd ≡ Some (on.Connection c)
+pub client-nears : EachStepLeavesTheRest → CallsServeTheirDomain → RefusalsThatAreLeft → (scripts : Bool) (m n : State) (fd c worker : ℕ) (kept : List ℕ) (q : Answer) (d : Phase)
+    (run : Option Running) (script : List ℕ) (r : Reply) (received : List ℕ) (known : Known) → IsOrderly m → is_live m server ≡ true → descriptor m server fd ≡ Some (on.Connection c)
     → is_working (client (at kept q d) run script) ≡ true → HasKnown scripts m (client (at kept q d) run script) known → CanMake m (wants scripts fd (client (at kept q d) run script))
-    → StepsTo m (event.Call server (wants scripts fd (client (at kept q d) run script))) r n → Names n r heard
-    → Nears rank (client (at kept q d) run script) r (told scripts worker (client (at kept q d) run script) r heard) ⊎ HearsMore (client (at kept q d) run script) r heard
-client-nears steps own may scripts m n fd c worker kept q d None script r heard (OfFile o) order lives open_on busy has can step names =
-    inl (of-file own may m n order lives fd c open_on kept script (is_for_script scripts q) q d (response q o) r heard busy has.unread has.has can step names)
-client-nears steps own may scripts m n fd c worker kept q d (Some y) script r heard (OfFile o) order lives open_on busy has can step names = absurd (let none = has.none in cc (none))
-client-nears steps own may scripts m n fd c worker kept (refuse status head_only close) d run script r heard (OfScript text o) order lives open_on busy has can step names = absurd has
-client-nears steps own may scripts m n fd c worker kept (serve w) d None script r heard (OfScript text o) order lives open_on busy has can step names =
-    inl (of-script own may m n order lives fd c open_on kept script scripts w d text o r heard busy has (is_for_script scripts (serve w)) refl can step names)
-client-nears steps own may scripts m n fd c worker kept (serve w) d (Some y) script r heard (OfScript text o) order lives open_on busy has can step names =
-    run-near steps own may m n order lives fd c open_on kept d script worker w y r heard text o (not-true (is_over y) busy) has can step names
+    → StepsTo m (event.Call server (wants scripts fd (client (at kept q d) run script))) r n → Names n r received
+    → Nears rank (client (at kept q d) run script) r (after_reply scripts worker (client (at kept q d) run script) r received) ⊎ ReceivesMore (client (at kept q d) run script) r received
+client-nears steps own may scripts m n fd c worker kept q d None script r received (OfFile o) order lives open_on busy has can step names =
+    inl (of-file own may m n order lives fd c open_on kept script (is_for_script scripts q) q d (response q o) r received busy has.unread has.has can step names)
+client-nears steps own may scripts m n fd c worker kept q d (Some y) script r received (OfFile o) order lives open_on busy has can step names = absurd (let none = has.none in cc (none))
+client-nears steps own may scripts m n fd c worker kept (refuse status head_only close) d run script r received (OfScript text o) order lives open_on busy has can step names = absurd has
+client-nears steps own may scripts m n fd c worker kept (serve w) d None script r received (OfScript text o) order lives open_on busy has can step names =
+    inl (of-script own may m n order lives fd c open_on kept script scripts w d text o r received busy has (is_for_script scripts (serve w)) refl can step names)
+client-nears steps own may scripts m n fd c worker kept (serve w) d (Some y) script r received (OfScript text o) order lives open_on busy has can step names =
+    run-near steps own may m n order lives fd c open_on kept d script worker w y r received text o (not-true (is_over y) busy) has can step names

@@ -14,9 +14,9 @@ use Rattle.iol_laws.specs.Frame.{EachStepLeavesTheRest}
 use Rattle.iol_laws.specs.Order.{IsOrderly}
 use Rattle.flash_http.specs.Request.{Answer, serve, refuse, Wanted}
 use Rattle.flash_laws.specs.Answers.{Outcome, Failed, response, script_text}
-use Rattle.flash_laws.specs.Client.{Client, is_for_script, conn_wants, job_of, wants, can_run, told_text, told_spares, file_told, after_run, goes_on, run_told, told}
+use Rattle.flash_laws.specs.Client.{Client, is_for_script, conn_wants, job_of, wants, can_run, after_text, after_drop_whole, file_after_reply, after_run, proceeds, run_after_reply, after_reply}
 use Rattle.flash_laws.specs.Client.OfferedBytes.{is_ending, is_working, drops_rest, ConnLearns, Learns, taken_by}
-use Rattle.flash_laws.specs.Conn.{is_head_only, told_spares as told_spares_conn}
+use Rattle.flash_laws.specs.Conn.{is_head_only, after_drop_whole as after_drop_whole_conn}
 use Rattle.flash_laws.specs.Conn.Fits.{Has}
 use Rattle.flash_laws.specs.Client.ResponseState.{Known, OfFile, OfScript, of_text, taken_before, is_opening, IsRun, HasKnown}
 use Rattle.flash_laws.specs.Conn.OfferedBytes.{taken_of, newly_taken, is_dropping}
@@ -25,13 +25,13 @@ use Rattle.flash_laws.specs.Run.OfferedBytes.{past_of, breaks_off, taken_by as r
 use Rattle.flash_laws.specs.Run as running
 use Rattle.flash_laws.specs.Run.{is_over}
 use Rattle.flash_laws.specs.Site.{server}
-use Rattle.flash_laws.specs.declared.phase.Content.TheVariants.{Script}
-use Rattle.flash_laws.specs.declared.phase.Doing.{Doing}
-use Rattle.flash_laws.specs.declared.phase.Doing.TheVariants.{Reads as Reading, Spares}
+use Rattle.flash_laws.specs.declared.phase.Payload.TheVariants.{Script}
+use Rattle.flash_laws.specs.declared.phase.Phase.{Phase}
+use Rattle.flash_laws.specs.declared.phase.Phase.TheVariants.{Reads as Reading, Spares}
 use Rattle.flash_laws.specs.declared.script_run.Running.{Running}
 use Rattle.flash_laws.specs.declared.script_run.Running.TheVariants.{Leaves, Closes as Ends}
 use Rattle.flash_laws.proofs.Forms.{at, of as client}
-use Rattle.flash_laws.proofs.Client.Progress.{is_scripts, wants-plain, told-plain}
+use Rattle.flash_laws.proofs.Client.Progress.{is_scripts, wants-plain, after_reply-plain}
 use Rattle.flash_laws.proofs.Run.Ends.{wants-text}
 use Rattle.flash_laws.proofs.Run.Takes as run_takes
 use Rattle.flash_laws.proofs.Conn.TakenBytes as file
@@ -45,56 +45,56 @@ text-none text = by (can_run text)
     by true = refl
     by false = refl
 
-file-learns : (b : Bool) (d : Doing) (r : Reply) (heard : List ℕ) (o : Outcome) (after : Known) → ConnLearns b d r heard (OfFile o) after → taken_before after ≡ 0
-file-learns true (Reading f) (reply.Agg n) heard o after l = ap (λ (k : Known). taken_before k) l ∙ text-none heard
-file-learns b d r heard o after l = ap (λ (k : Known). taken_before k) l.2
+file-learns : (b : Bool) (d : Phase) (r : Reply) (received : List ℕ) (o : Outcome) (after : Known) → ConnLearns b d r received (OfFile o) after → taken_before after ≡ 0
+file-learns true (Reading f) (reply.Agg n) received o after l = ap (λ (k : Known). taken_before k) l ∙ text-none received
+file-learns b d r received o after l = ap (λ (k : Known). taken_before k) l.2
 
-script-learns : (b : Bool) (d : Doing) (r : Reply) (heard text : List ℕ) (o : Progress) (after : Known) → is_opening d ≡ false → ConnLearns b d r heard (OfScript text o) after
+script-learns : (b : Bool) (d : Phase) (r : Reply) (received text : List ℕ) (o : Progress) (after : Known) → is_opening d ≡ false → ConnLearns b d r received (OfScript text o) after
     → taken_before after ≡ past_of o
-script-learns true (Reading f) (reply.Agg n) heard text o after read l = absurd (cc (read))
-script-learns b d r heard text o after read l = ap (λ (k : Known). taken_before k) l
+script-learns true (Reading f) (reply.Agg n) received text o after read l = absurd (cc (read))
+script-learns b d r received text o after read l = ap (λ (k : Known). taken_before k) l
 
 -- ---- where no script runs
 
-reading-none : (f : ℕ) (r : Reply) (heard : List ℕ) → taken_of (told_text f r heard) ≡ 0
-reading-none f (reply.Agg n) heard = refl
-reading-none f (reply.Count n) heard = refl
-reading-none f (reply.Refused no.WouldBlock) heard = refl
-reading-none f (reply.Refused z) heard = refl
-reading-none f r heard = refl
+reading-none : (f : ℕ) (r : Reply) (received : List ℕ) → taken_of (after_text f r received) ≡ 0
+reading-none f (reply.Agg n) received = refl
+reading-none f (reply.Count n) received = refl
+reading-none f (reply.Refused no.WouldBlock) received = refl
+reading-none f (reply.Refused z) received = refl
+reading-none f r received = refl
 
-spares-none : (fd : ℕ) (kept : List ℕ) (q : Answer) (a : ℕ) (script : List ℕ) (r : Reply) (heard : List ℕ)
-    → taken_by (file_told true (client (at kept q (Spares a Script)) None script) r heard) ≡ newly_taken fd (call.AggDrop a) r
-spares-none fd kept q a script r heard = by (is_head_only q) r
+spares-none : (fd : ℕ) (kept : List ℕ) (q : Answer) (a : ℕ) (script : List ℕ) (r : Reply) (received : List ℕ)
+    → taken_by (file_after_reply true (client (at kept q (Spares a Script)) None script) r received) ≡ newly_taken fd (call.AggDrop a) r
+spares-none fd kept q a script r received = by (is_head_only q) r
   where
-    by : (h : Bool) (r : Reply) → taken_by (record { conn = record (at kept q (Spares a Script)) { doing = told_spares_conn a Script r }; run = told_spares h r; script = script }) ≡ newly_taken fd (call.AggDrop a) r
+    by : (h : Bool) (r : Reply) → taken_by (record { conn = record (at kept q (Spares a Script)) { phase = after_drop_whole_conn a Script r }; run = after_drop_whole h r; script = script }) ≡ newly_taken fd (call.AggDrop a) r
     by true reply.Done = refl
     by false reply.Done = refl
     by true r = refl
     by false r = refl
 
 module _ (own : CallsServeTheirDomain) (m n : State) (order : IsOrderly m) (fd c : ℕ) (open_on : descriptor m server fd ≡ Some (on.Connection c))
-    (kept script : List ℕ) (q : Answer) (due : List ℕ) (r : Reply) (heard : List ℕ) where
-  abbrev Takes : (b : Bool) → Doing → Type 0
-  Takes b d = taken_by (file_told b (client (at kept q d) None script) r heard) ≡ taken_of d + newly_taken fd (conn_wants b fd (at kept q d)) r
+    (kept script : List ℕ) (q : Answer) (expected : List ℕ) (r : Reply) (received : List ℕ) where
+  abbrev Takes : (b : Bool) → Phase → Type 0
+  Takes b d = taken_by (file_after_reply b (client (at kept q d) None script) r received) ≡ taken_of d + newly_taken fd (conn_wants b fd (at kept q d)) r
 
-  conn-takes : (b : Bool) (d : Doing) → Has m q due d → StepsTo m (event.Call server (conn_wants b fd (at kept q d))) r n → is_dropping d ≡ false
-      → drops_rest (file_told b (client (at kept q d) None script) r heard) ≡ false → is_working (file_told b (client (at kept q d) None script) r heard) ≡ true → Takes b d
-  conn-takes false d has step at_is on busy = file.takes own m n order fd c open_on q due kept d r heard has step at_is on busy
+  conn-takes : (b : Bool) (d : Phase) → Has m q expected d → StepsTo m (event.Call server (conn_wants b fd (at kept q d))) r n → is_dropping d ≡ false
+      → drops_rest (file_after_reply b (client (at kept q d) None script) r received) ≡ false → is_working (file_after_reply b (client (at kept q d) None script) r received) ≡ true → Takes b d
+  conn-takes false d has step at_is on busy = file.takes own m n order fd c open_on q expected kept d r received has step at_is on busy
   conn-takes true d has step at_is on busy = by (is_scripts d) refl
     where
-      scripts : (e : Doing) → d ≡ e → is_scripts e ≡ true → Takes true d
-      scripts (Reading f) is own_way = subst (λ (e : Doing). Takes true e) (sym is) (reading-none f r heard)
-      scripts (Spares a Script) is own_way = subst (λ (e : Doing). Takes true e) (sym is) (let e = spares-none fd kept q a script r heard in omega (arith, e))
+      scripts : (e : Phase) → d ≡ e → is_scripts e ≡ true → Takes true d
+      scripts (Reading f) is own_way = subst (λ (e : Phase). Takes true e) (sym is) (reading-none f r received)
+      scripts (Spares a Script) is own_way = subst (λ (e : Phase). Takes true e) (sym is) (let e = spares-none fd kept q a script r received in omega (arith, e))
       scripts e is own_way = absurd (cc (own_way))
 
       by : (b : Bool) → is_scripts d ≡ b → Takes true d
       by true is = scripts d refl is
       by false plain =
           let asks = wants-plain fd kept q d plain in
-          let same = told-plain kept q script d r heard plain in
+          let same = after_reply-plain kept q script d r received plain in
           ap (λ (z : Client). taken_by z) same
-          ∙ (file.takes own m n order fd c open_on q due kept d r heard has (subst (λ (k : Call). StepsTo m (event.Call server k) r n) asks step) at_is
+          ∙ (file.takes own m n order fd c open_on q expected kept d r received has (subst (λ (k : Call). StepsTo m (event.Call server k) r n) asks step) at_is
           (ap (λ (z : Client). drops_rest z) (sym same) ∙ on) (ap (λ (z : Client). is_working z) (sym same) ∙ busy)
           ∙ ap (λ (k : Call). taken_of d + newly_taken fd k r) (sym asks))
 
@@ -110,51 +110,51 @@ end-breaks (Leaves d) over = refl
 end-breaks Ends over = refl
 end-breaks x over = absurd (cc (over))
 
-gone-taken : (x : Client) (y z : Running) (over : Bool) → is_over z ≡ over → taken_by (goes_on false over x y z) ≡ run_taken z
+gone-taken : (x : Client) (y z : Running) (over : Bool) → is_over z ≡ over → taken_by (proceeds false over x y z) ≡ run_taken z
 gone-taken x y z true is = end-taken z is
 gone-taken x y z false is = refl
 
-gone-breaks : (x : Client) (y z : Running) (over : Bool) → is_over z ≡ over → breaks_off z ≡ drops_rest (goes_on false over x y z)
+gone-breaks : (x : Client) (y z : Running) (over : Bool) → is_over z ≡ over → breaks_off z ≡ drops_rest (proceeds false over x y z)
 gone-breaks x y z true is = end-breaks z is
 gone-breaks x y z false is = refl
 
-run-takes : EachStepLeavesTheRest → CallsServeTheirDomain → (m n : State) (fd c worker : ℕ) (kept : List ℕ) (d : Doing) (script : List ℕ) (w : Wanted) (y : Running) (r : Reply) (heard text : List ℕ)
+run-takes : EachStepLeavesTheRest → CallsServeTheirDomain → (m n : State) (fd c worker : ℕ) (kept : List ℕ) (d : Phase) (script : List ℕ) (w : Wanted) (y : Running) (r : Reply) (received text : List ℕ)
     (o : Progress) (after : Known) → IsOrderly m → descriptor m server fd ≡ Some (on.Connection c) → is_over y ≡ false → IsRun m w y script text o
-    → StepsTo m (event.Call server (running.wants (job_of w script) fd w y)) r n → Learns true m (client (at kept (serve w) d) (Some y) script) r heard (OfScript text o) after
-    → breaks_off y ≡ false → drops_rest (run_told worker (serve w) (client (at kept (serve w) d) (Some y) script) y r heard) ≡ false
-    → taken_before after + taken_by (run_told worker (serve w) (client (at kept (serve w) d) (Some y) script) y r heard)
+    → StepsTo m (event.Call server (running.wants (job_of w script) fd w y)) r n → Learns true m (client (at kept (serve w) d) (Some y) script) r received (OfScript text o) after
+    → breaks_off y ≡ false → drops_rest (run_after_reply worker (serve w) (client (at kept (serve w) d) (Some y) script) y r received) ≡ false
+    → taken_before after + taken_by (run_after_reply worker (serve w) (client (at kept (serve w) d) (Some y) script) y r received)
     ≡ past_of o + run_taken y + newly_taken fd (running.wants (job_of w script) fd w y) r
-run-takes steps own m n fd c worker kept d script w y r heard text o after order open_on going has step learns at_is on =
+run-takes steps own m n fd c worker kept d script w y r received text o after order open_on going has step learns at_is on =
     let same = wants-text fd w y script text has.kept in
-    let takes = run_takes.takes steps own (job_of w text) m n fd c worker w y r heard o learns.0 order open_on going has.has
+    let takes = run_takes.takes steps own (job_of w text) m n fd c worker w y r received o learns.0 order open_on going has.has
     (subst (λ (k : Call). StepsTo m (event.Call server k) r n) same step) learns.1 at_is
-    (gone-breaks (client (at kept (serve w) d) (Some y) script) y (running.told worker w y r heard) (is_over (running.told worker w y r heard)) refl
-    ∙ (ap (λ b. drops_rest (goes_on b (is_over (running.told worker w y r heard)) (client (at kept (serve w) d) (Some y) script) y (running.told worker w y r heard))) (sym going) ∙ on)) in
+    (gone-breaks (client (at kept (serve w) d) (Some y) script) y (running.after_reply worker w y r received) (is_over (running.after_reply worker w y r received)) refl
+    ∙ (ap (λ b. drops_rest (proceeds b (is_over (running.after_reply worker w y r received)) (client (at kept (serve w) d) (Some y) script) y (running.after_reply worker w y r received))) (sym going) ∙ on)) in
     let before : taken_before after ≡ past_of learns.0 = ap (λ (k : Known). taken_before k) learns.2 in
-    let now : taken_by (run_told worker (serve w) (client (at kept (serve w) d) (Some y) script) y r heard) ≡ run_taken (running.told worker w y r heard) =
-    ap (λ b. taken_by (goes_on b (is_over (running.told worker w y r heard)) (client (at kept (serve w) d) (Some y) script) y (running.told worker w y r heard))) going
-    ∙ gone-taken (client (at kept (serve w) d) (Some y) script) y (running.told worker w y r heard) (is_over (running.told worker w y r heard)) refl in
+    let now : taken_by (run_after_reply worker (serve w) (client (at kept (serve w) d) (Some y) script) y r received) ≡ run_taken (running.after_reply worker w y r received) =
+    ap (λ b. taken_by (proceeds b (is_over (running.after_reply worker w y r received)) (client (at kept (serve w) d) (Some y) script) y (running.after_reply worker w y r received))) going
+    ∙ gone-taken (client (at kept (serve w) d) (Some y) script) y (running.after_reply worker w y r received) (is_over (running.after_reply worker w y r received)) refl in
     let asked : newly_taken fd (running.wants (job_of w script) fd w y) r ≡ newly_taken fd (running.wants (job_of w text) fd w y) r = ap (λ (k : Call). newly_taken fd k r) same in
     omega (arith, takes, before, now, asked)
 
 -- ---- any client
 
-pub client-takes : EachStepLeavesTheRest → CallsServeTheirDomain → (scripts : Bool) (m n : State) (fd c worker : ℕ) (kept : List ℕ) (q : Answer) (d : Doing) (run : Option Running) (script : List ℕ)
-    (r : Reply) (heard : List ℕ) (before after : Known) → IsOrderly m → descriptor m server fd ≡ Some (on.Connection c) → is_ending (client (at kept q d) run script) ≡ false
+pub client-takes : EachStepLeavesTheRest → CallsServeTheirDomain → (scripts : Bool) (m n : State) (fd c worker : ℕ) (kept : List ℕ) (q : Answer) (d : Phase) (run : Option Running) (script : List ℕ)
+    (r : Reply) (received : List ℕ) (before after : Known) → IsOrderly m → descriptor m server fd ≡ Some (on.Connection c) → is_ending (client (at kept q d) run script) ≡ false
     → HasKnown scripts m (client (at kept q d) run script) before → StepsTo m (event.Call server (wants scripts fd (client (at kept q d) run script))) r n
-    → Learns scripts m (client (at kept q d) run script) r heard before after → drops_rest (client (at kept q d) run script) ≡ false
-    → drops_rest (told scripts worker (client (at kept q d) run script) r heard) ≡ false → is_working (told scripts worker (client (at kept q d) run script) r heard) ≡ true
-    → taken_before after + taken_by (told scripts worker (client (at kept q d) run script) r heard)
+    → Learns scripts m (client (at kept q d) run script) r received before after → drops_rest (client (at kept q d) run script) ≡ false
+    → drops_rest (after_reply scripts worker (client (at kept q d) run script) r received) ≡ false → is_working (after_reply scripts worker (client (at kept q d) run script) r received) ≡ true
+    → taken_before after + taken_by (after_reply scripts worker (client (at kept q d) run script) r received)
     ≡ taken_before before + taken_by (client (at kept q d) run script) + newly_taken fd (wants scripts fd (client (at kept q d) run script)) r
-client-takes steps own scripts m n fd c worker kept q d None script r heard (OfFile o) after order open_on going has step learns at_is on busy =
-    let none = file-learns (is_for_script scripts q) d r heard o after learns in
-    let takes = conn-takes own m n order fd c open_on kept script q (response q o) r heard (is_for_script scripts q) d has.has step at_is on busy in
+client-takes steps own scripts m n fd c worker kept q d None script r received (OfFile o) after order open_on going has step learns at_is on busy =
+    let none = file-learns (is_for_script scripts q) d r received o after learns in
+    let takes = conn-takes own m n order fd c open_on kept script q (response q o) r received (is_for_script scripts q) d has.has step at_is on busy in
     omega (arith, none, takes)
-client-takes steps own scripts m n fd c worker kept q d (Some y) script r heard (OfFile o) after order open_on going has step learns at_is on busy = absurd (let none = has.none in cc (none))
-client-takes steps own scripts m n fd c worker kept (refuse status head_only close) d run script r heard (OfScript text o) after order open_on going has step learns at_is on busy = absurd has
-client-takes steps own scripts m n fd c worker kept (serve w) d None script r heard (OfScript text o) after order open_on going has step learns at_is on busy =
-    let same = script-learns (is_for_script scripts (serve w)) d r heard text o after has.read learns in
-    let takes = conn-takes own m n order fd c open_on kept script (serve w) (script_text w) r heard (is_for_script scripts (serve w)) d has.has step at_is on busy in
+client-takes steps own scripts m n fd c worker kept q d (Some y) script r received (OfFile o) after order open_on going has step learns at_is on busy = absurd (let none = has.none in cc (none))
+client-takes steps own scripts m n fd c worker kept (refuse status head_only close) d run script r received (OfScript text o) after order open_on going has step learns at_is on busy = absurd has
+client-takes steps own scripts m n fd c worker kept (serve w) d None script r received (OfScript text o) after order open_on going has step learns at_is on busy =
+    let same = script-learns (is_for_script scripts (serve w)) d r received text o after has.read learns in
+    let takes = conn-takes own m n order fd c open_on kept script (serve w) (script_text w) r received (is_for_script scripts (serve w)) d has.has step at_is on busy in
     omega (arith, same, takes)
-client-takes steps own scripts m n fd c worker kept (serve w) d (Some y) script r heard (OfScript text o) after order open_on going has step learns at_is on busy =
-    run-takes steps own m n fd c worker kept d script w y r heard text o after order open_on going has step learns at_is on
+client-takes steps own scripts m n fd c worker kept (serve w) d (Some y) script r received (OfScript text o) after order open_on going has step learns at_is on busy =
+    run-takes steps own m n fd c worker kept d script w y r received text o after order open_on going has step learns at_is on

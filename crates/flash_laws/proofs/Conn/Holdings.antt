@@ -17,7 +17,7 @@ use Rattle.iol_core.specs.declared.events.Event.TheVariants as event
 use Rattle.iol_core.specs.declared.events.Reply.{Reply}
 use Rattle.iol_core.specs.declared.events.Reply.TheVariants as reply
 use Rattle.iol_laws.specs.Aggregates.{AggregatesComeAndGo, brings, is_refusal}
-use Rattle.iol_laws.specs.Caller.{CallsServeTheirDomain, lent_at}
+use Rattle.iol_laws.specs.Caller.{CallsServeTheirDomain, readable_at}
 use Rattle.iol_laws.specs.Caller as o
 use Rattle.iol_laws.specs.CallerFiles.{FileCallsServeTheirDomain}
 use Rattle.iol_laws.specs.CallerFiles as of
@@ -27,13 +27,13 @@ use Rattle.flash_http.specs.declared.ranges.Selection.TheVariants.{Unsatisfiable
 use Rattle.flash_http.specs.Range.{selected}
 use Rattle.flash_http.specs.Request.{Answer, serve, refuse}
 use Rattle.flash_laws.specs.Answers.{response}
-use Rattle.flash_laws.specs.Conn.{Following, Conn, has_followed, learnt_agg, content_agg, uses_agg, uses_fd, name_of, text_of, is_head_only, most_kept, most_read, piece_end, count_of, wants, sends_of, put_out, settled, following, headed, goes_on, drops_next, told_rests, told}
-use Rattle.flash_laws.specs.declared.phase.Learnt.{Learnt}
-use Rattle.flash_laws.specs.declared.phase.Learnt.TheVariants.{File, Length, Fails, Text as TextOf}
-use Rattle.flash_laws.specs.declared.phase.Content.{Content}
-use Rattle.flash_laws.specs.declared.phase.Content.TheVariants.{Body}
-use Rattle.flash_laws.specs.declared.phase.Doing.{Doing}
-use Rattle.flash_laws.specs.declared.phase.Doing.TheVariants.{Rests, Got, Opens, Reads as Reading, Shuts, Picks, Spares, Heads, Joins, Sends, Cuts, Offers, Swaps, Sent, Breaks, Drops, Closes, Over}
+use Rattle.flash_laws.specs.Conn.{Following, Conn, has_followed, file_result_agg, content_agg, uses_agg, uses_fd, name_of, text_of, is_head_only, most_kept, most_read, piece_end, count_of, wants, sends_of, put_out, resolved, following, headed, proceeds, drops_next, after_receive, after_reply}
+use Rattle.flash_laws.specs.declared.phase.FileResult.{FileResult}
+use Rattle.flash_laws.specs.declared.phase.FileResult.TheVariants.{File, Length, Fails, Text as TextOf}
+use Rattle.flash_laws.specs.declared.phase.Payload.{Payload}
+use Rattle.flash_laws.specs.declared.phase.Payload.TheVariants.{Body}
+use Rattle.flash_laws.specs.declared.phase.Phase.{Phase}
+use Rattle.flash_laws.specs.declared.phase.Phase.TheVariants.{Rests, Got, Opens, Reads as Reading, Shuts, Picks, Spares, Heads, Joins, Sends, Cuts, Offers, Swaps, Sent, Breaks, Drops, Closes, Over}
 use Rattle.flash_laws.specs.Conn.Fits.{Has}
 use Rattle.flash_laws.specs.Conn.Holdings.{KeepsNothing}
 use Rattle.flash_laws.specs.Site.{server}
@@ -45,22 +45,22 @@ use Rattle.flash_laws.proofs.Conn.Uses.{same-number, gives-wants}
 
 -- ---- what is used no more is given up
 
-abbrev Leaves : (fd : ℕ) → Conn → Reply → Doing → (a : ℕ) → Type 0
-Leaves fd x r after a = uses_agg x.doing a ≡ true → uses_agg after a ≡ false
+abbrev Leaves : (fd : ℕ) → Conn → Reply → Phase → (a : ℕ) → Type 0
+Leaves fd x r after a = uses_agg x.phase a ≡ true → uses_agg after a ≡ false
     → (gives_up (event.Call server (wants fd x)) server a ≡ true) × (is_refusal r ≡ false)
 
-settled-uses : (q : Answer) (k : Learnt) (a : ℕ) → learnt_agg k a ≡ true → uses_agg (settled q k) a ≡ true
-settled-uses (serve w) (File b len) a u = by (selected w.range len)
+resolved-uses : (q : Answer) (k : FileResult) (a : ℕ) → file_result_agg k a ≡ true → uses_agg (resolved q k) a ≡ true
+resolved-uses (serve w) (File b len) a u = by (selected w.range len)
   where
     by : (sel : Selection) → uses_agg (sends_of sel b len) a ≡ true
     by Unsatisfiable = former_of (b == a) false u
     by x = u
-settled-uses (refuse status head_only close) (File b len) a u = u
-settled-uses q (Length len) a u = absurd (cc (u))
-settled-uses q (Fails status) a u = absurd (cc (u))
-settled-uses x (TextOf b runs) a u = former_of (b == a) (content_agg (put_out runs) a) u
+resolved-uses (refuse status head_only close) (File b len) a u = u
+resolved-uses q (Length len) a u = absurd (cc (u))
+resolved-uses q (Fails status) a u = absurd (cc (u))
+resolved-uses x (TextOf b runs) a u = former_of (b == a) (content_agg (put_out runs) a) u
 
-following-uses : (k : Content) (a : ℕ) → content_agg k a ≡ true → has_followed (following k) a ≡ true
+following-uses : (k : Payload) (a : ℕ) → content_agg k a ≡ true → has_followed (following k) a ≡ true
 following-uses (Body b size len) a u = u
 following-uses k a u = absurd (cc (u))
 
@@ -72,14 +72,14 @@ headed-more n size (Some x) a u = by (nat_le (size + x.1) MAX_AGGREGATE_BYTES)
     by true = later_of (n == a) (x.0 == a) u
     by false = later_of (n == a) (x.0 == a) u
 
-goes_on-more : (q : Answer) (taken : ℕ) (more : Following) (a : ℕ) → uses_agg (goes_on q taken more) a ≡ false
+proceeds-more : (q : Answer) (taken : ℕ) (more : Following) (a : ℕ) → uses_agg (proceeds q taken more) a ≡ false
     → has_followed more a ≡ false
-goes_on-more q taken (Some x) a unused = by (x.0 == a) unused
+proceeds-more q taken (Some x) a unused = by (x.0 == a) unused
   where
     by : (t : Bool) → (t || false) ≡ false → t ≡ false
     by true unused = absurd (cc (unused))
     by false unused = refl
-goes_on-more q taken None a unused = refl
+proceeds-more q taken None a unused = refl
 
 drops-more : (more : Following) (a : ℕ) → uses_agg (drops_next more) a ≡ false → has_followed more a ≡ false
 drops-more (Some x) a unused = by (x.0 == a) unused
@@ -101,59 +101,59 @@ swaps-more : (b from len taken : ℕ) (more : Following) (a : ℕ) (t : Bool)
 swaps-more b from len taken more a true unused = unused
 swaps-more b from len taken more a false unused = unused
 
-pub leaves-told : (fd : ℕ) (kept : List ℕ) (q : Answer) (d : Doing) (r : Reply) (heard : List ℕ) (a : ℕ)
-    → Leaves fd (at kept q d) r (told (at kept q d) r heard).doing a
-leaves-told fd kept q (Got b) reply.Done heard a u unused = (u, refl)
-leaves-told fd kept q (Got b) r heard a u unused = absurd (clash (b == a) u unused)
-leaves-told fd kept q (Shuts f k) reply.Done heard a u unused = absurd (clash (uses_agg (settled q k) a) (settled-uses q k a u) unused)
-leaves-told fd kept q (Shuts f k) r heard a u unused = absurd (clash (learnt_agg k a) u unused)
-leaves-told fd kept q (Picks b first last len) (reply.Agg n) heard a u unused = absurd (clash ((b == a) || (n == a)) (former_of (b == a) (n == a) u) unused)
-leaves-told fd kept q (Picks b first last len) r heard a u unused = absurd (clash (b == a) u unused)
-leaves-told fd kept q (Spares b k) reply.Done heard a u unused = (former_by (b == a) (content_agg k a) u unused, refl)
-leaves-told fd kept q (Spares b k) r heard a u unused = absurd (clash ((b == a) || content_agg k a) u unused)
-leaves-told fd kept q (Heads k) (reply.Agg n) heard a u unused = absurd (clash (uses_agg (headed n (count_of heard) (following k)) a) (headed-more n (count_of heard) (following k) a (following-uses k a u)) unused)
-leaves-told fd kept q (Heads k) r heard a u unused = absurd (clash (content_agg k a) u unused)
-leaves-told fd kept q (Joins b size body len) (reply.Agg n) heard a u unused = (u, refl)
-leaves-told fd kept q (Joins b size body len) r heard a u unused = absurd (clash ((b == a) || (body == a)) u unused)
-leaves-told fd kept q (Sends b len taken more) (reply.Count k) heard a u unused = absurd (leaves-sends fd kept q b len taken k more a (nat_lt k len) u unused)
-leaves-told fd kept q (Sends b len taken more) (reply.Refused no.BrokenPipe) heard a u unused = absurd (clash ((b == a) || has_followed more a) u unused)
-leaves-told fd kept q (Sends b len taken more) r heard a u unused = absurd (clash ((b == a) || has_followed more a) u unused)
-leaves-told fd kept q (Cuts b from len taken more) (reply.Agg n) heard a u unused = absurd (clash ((n == a) || ((b == a) || has_followed more a)) (later_of (n == a) ((b == a) || has_followed more a) u) unused)
-leaves-told fd kept q (Cuts b from len taken more) r heard a u unused = absurd (clash ((b == a) || has_followed more a) u unused)
-leaves-told fd kept q (Offers b from len piece taken more) (reply.Count k) heard a u unused = absurd (clash ((piece == a) || ((b == a) || has_followed more a)) u unused)
-leaves-told fd kept q (Offers b from len piece taken more) (reply.Refused no.BrokenPipe) heard a u unused = absurd (clash ((piece == a) || ((b == a) || has_followed more a)) u unused)
-leaves-told fd kept q (Offers b from len piece taken more) r heard a u unused = absurd (clash ((piece == a) || ((b == a) || has_followed more a)) u unused)
-leaves-told fd kept q (Swaps b from len piece taken more) reply.Done heard a u unused = (former_by (piece == a) ((b == a) || has_followed more a) u (swaps-more b from len taken more a (nat_lt from len) unused), refl)
-leaves-told fd kept q (Swaps b from len piece taken more) r heard a u unused = absurd (clash ((piece == a) || ((b == a) || has_followed more a)) u unused)
-leaves-told fd kept q (Sent b taken more) reply.Done heard a u unused = (former_by (b == a) (has_followed more a) u (goes_on-more q taken more a unused), refl)
-leaves-told fd kept q (Sent b taken more) r heard a u unused = absurd (clash ((b == a) || has_followed more a) u unused)
-leaves-told fd kept q (Breaks piece b more) reply.Done heard a u unused = (former_by (piece == a) ((b == a) || has_followed more a) u unused, refl)
-leaves-told fd kept q (Breaks piece b more) r heard a u unused = absurd (clash ((piece == a) || ((b == a) || has_followed more a)) u unused)
-leaves-told fd kept q (Drops b more) reply.Done heard a u unused = (former_by (b == a) (has_followed more a) u (drops-more more a unused), refl)
-leaves-told fd kept q (Drops b more) r heard a u unused = absurd (clash ((b == a) || has_followed more a) u unused)
-leaves-told fd kept q d r heard a u unused = absurd (cc (u))
+pub leaves-after_reply : (fd : ℕ) (kept : List ℕ) (q : Answer) (d : Phase) (r : Reply) (received : List ℕ) (a : ℕ)
+    → Leaves fd (at kept q d) r (after_reply (at kept q d) r received).phase a
+leaves-after_reply fd kept q (Got b) reply.Done received a u unused = (u, refl)
+leaves-after_reply fd kept q (Got b) r received a u unused = absurd (clash (b == a) u unused)
+leaves-after_reply fd kept q (Shuts f k) reply.Done received a u unused = absurd (clash (uses_agg (resolved q k) a) (resolved-uses q k a u) unused)
+leaves-after_reply fd kept q (Shuts f k) r received a u unused = absurd (clash (file_result_agg k a) u unused)
+leaves-after_reply fd kept q (Picks b first last len) (reply.Agg n) received a u unused = absurd (clash ((b == a) || (n == a)) (former_of (b == a) (n == a) u) unused)
+leaves-after_reply fd kept q (Picks b first last len) r received a u unused = absurd (clash (b == a) u unused)
+leaves-after_reply fd kept q (Spares b k) reply.Done received a u unused = (former_by (b == a) (content_agg k a) u unused, refl)
+leaves-after_reply fd kept q (Spares b k) r received a u unused = absurd (clash ((b == a) || content_agg k a) u unused)
+leaves-after_reply fd kept q (Heads k) (reply.Agg n) received a u unused = absurd (clash (uses_agg (headed n (count_of received) (following k)) a) (headed-more n (count_of received) (following k) a (following-uses k a u)) unused)
+leaves-after_reply fd kept q (Heads k) r received a u unused = absurd (clash (content_agg k a) u unused)
+leaves-after_reply fd kept q (Joins b size body len) (reply.Agg n) received a u unused = (u, refl)
+leaves-after_reply fd kept q (Joins b size body len) r received a u unused = absurd (clash ((b == a) || (body == a)) u unused)
+leaves-after_reply fd kept q (Sends b len taken more) (reply.Count k) received a u unused = absurd (leaves-sends fd kept q b len taken k more a (nat_lt k len) u unused)
+leaves-after_reply fd kept q (Sends b len taken more) (reply.Refused no.BrokenPipe) received a u unused = absurd (clash ((b == a) || has_followed more a) u unused)
+leaves-after_reply fd kept q (Sends b len taken more) r received a u unused = absurd (clash ((b == a) || has_followed more a) u unused)
+leaves-after_reply fd kept q (Cuts b from len taken more) (reply.Agg n) received a u unused = absurd (clash ((n == a) || ((b == a) || has_followed more a)) (later_of (n == a) ((b == a) || has_followed more a) u) unused)
+leaves-after_reply fd kept q (Cuts b from len taken more) r received a u unused = absurd (clash ((b == a) || has_followed more a) u unused)
+leaves-after_reply fd kept q (Offers b from len piece taken more) (reply.Count k) received a u unused = absurd (clash ((piece == a) || ((b == a) || has_followed more a)) u unused)
+leaves-after_reply fd kept q (Offers b from len piece taken more) (reply.Refused no.BrokenPipe) received a u unused = absurd (clash ((piece == a) || ((b == a) || has_followed more a)) u unused)
+leaves-after_reply fd kept q (Offers b from len piece taken more) r received a u unused = absurd (clash ((piece == a) || ((b == a) || has_followed more a)) u unused)
+leaves-after_reply fd kept q (Swaps b from len piece taken more) reply.Done received a u unused = (former_by (piece == a) ((b == a) || has_followed more a) u (swaps-more b from len taken more a (nat_lt from len) unused), refl)
+leaves-after_reply fd kept q (Swaps b from len piece taken more) r received a u unused = absurd (clash ((piece == a) || ((b == a) || has_followed more a)) u unused)
+leaves-after_reply fd kept q (Sent b taken more) reply.Done received a u unused = (former_by (b == a) (has_followed more a) u (proceeds-more q taken more a unused), refl)
+leaves-after_reply fd kept q (Sent b taken more) r received a u unused = absurd (clash ((b == a) || has_followed more a) u unused)
+leaves-after_reply fd kept q (Breaks piece b more) reply.Done received a u unused = (former_by (piece == a) ((b == a) || has_followed more a) u unused, refl)
+leaves-after_reply fd kept q (Breaks piece b more) r received a u unused = absurd (clash ((piece == a) || ((b == a) || has_followed more a)) u unused)
+leaves-after_reply fd kept q (Drops b more) reply.Done received a u unused = (former_by (b == a) (has_followed more a) u (drops-more more a unused), refl)
+leaves-after_reply fd kept q (Drops b more) r received a u unused = absurd (clash ((b == a) || has_followed more a) u unused)
+leaves-after_reply fd kept q d r received a u unused = absurd (cc (u))
 
 -- ---- the descriptor of a file that is used no more is closed
 
-pub shuts : (own : CallsServeTheirDomain) (m n : State) (fd : ℕ) (kept : List ℕ) (q : Answer) (d : Doing) (r : Reply) (heard : List ℕ) (g : ℕ)
+pub shuts : (own : CallsServeTheirDomain) (m n : State) (fd : ℕ) (kept : List ℕ) (q : Answer) (d : Phase) (r : Reply) (received : List ℕ) (g : ℕ)
     → StepsTo m (event.Call server (wants fd (at kept q d))) r n
-    → uses_fd d g ≡ true → uses_fd (told (at kept q d) r heard).doing g ≡ false → descriptor n server g ≡ None
-shuts own m n fd kept q (Reading f) r heard g step u unused = absurd (by r u unused)
+    → uses_fd d g ≡ true → uses_fd (after_reply (at kept q d) r received).phase g ≡ false → descriptor n server g ≡ None
+shuts own m n fd kept q (Reading f) r received g step u unused = absurd (by r u unused)
   where
-    by : (r : Reply) → (f == g) ≡ true → uses_fd (told (at kept q (Reading f)) r heard).doing g ≡ false → ⊥
+    by : (r : Reply) → (f == g) ≡ true → uses_fd (after_reply (at kept q (Reading f)) r received).phase g ≡ false → ⊥
     by (reply.Agg k) u unused = clash (f == g) u unused
     by (reply.Count k) u unused = clash (f == g) u unused
     by (reply.Refused no.WouldBlock) u unused = clash (f == g) u unused
     by (reply.Refused x) u unused = clash (f == g) u unused
     by r u unused = clash (f == g) u unused
-shuts own m n fd kept q (Shuts f k) r heard g step u unused = by r (own.closes m n server f r step) unused
+shuts own m n fd kept q (Shuts f k) r received g step u unused = by r (own.closes m n server f r step) unused
   where
-    by : (r : Reply) → o.Closes m server f r n → uses_fd (told (at kept q (Shuts f k)) r heard).doing g ≡ false
+    by : (r : Reply) → o.Closes m server f r n → uses_fd (after_reply (at kept q (Shuts f k)) r received).phase g ≡ false
         → descriptor n server g ≡ None
     by reply.Done did unused = ap (λ z. descriptor n server z) (sym (same-number f g u)) ∙ did
     by (reply.Refused x) did unused = absurd (clash (f == g) u unused)
     by r did unused = absurd did
-shuts own m n fd kept q d r heard g step u unused = absurd (cc (u))
+shuts own m n fd kept q d r received g step u unused = absurd (cc (u))
 
 -- ---- what comes is used
 
@@ -172,7 +172,7 @@ names_some (reply.Aggs x y) = true
 names_some r = false
 
 module _ (come : AggregatesComeAndGo) (own : CallsServeTheirDomain) (m n : State) (order : IsOrderly m)
-    (a : ℕ) (bytes : List ℕ) (before : lent_at m server a ≡ None) (after : lent_at n server a ≡ Some bytes) where
+    (a : ℕ) (bytes : List ℕ) (before : readable_at m server a ≡ None) (after : readable_at n server a ≡ Some bytes) where
   -- the reply names what comes
   pub named : (e : Event) (r : Reply) → StepsTo m e r n → brings e r server a ≡ true
   named e r step = by (brings e r server a) refl
@@ -205,9 +205,9 @@ module _ (come : AggregatesComeAndGo) (own : CallsServeTheirDomain) (m n : State
   closed g r step = unnamed (call.Close g) (λ x. o.Closes m server g x n) r step (own.closes m n server g r step) (λ x bad. bad) (λ x y bad. bad)
 
   pub written : (fd c b : ℕ) (sent : List ℕ) (r : Reply) → descriptor m server fd ≡ Some (on.Connection c)
-      → lent_at m server b ≡ Some sent → StepsTo m (event.Call server (call.IolWrite fd b)) r n → ⊥
-  written fd c b sent r open_on lends step =
-      unnamed (call.IolWrite fd b) (λ x. o.WritesConn m c sent x n) r step (own.write_conn m n server fd c b sent r order open_on lends step) (λ x bad. bad) (λ x y bad. bad)
+      → readable_at m server b ≡ Some sent → StepsTo m (event.Call server (call.IolWrite fd b)) r n → ⊥
+  written fd c b sent r open_on is_readable step =
+      unnamed (call.IolWrite fd b) (λ x. o.WritesConn m c sent x n) r step (own.write_conn m n server fd c b sent r order open_on is_readable step) (λ x bad. bad) (λ x y bad. bad)
 
   -- what is made is named by the reply
   pub made : (k : Call) (it : List ℕ) (uses : Reply → Bool) (r : Reply) → StepsTo m (event.Call server k) r n → o.Makes m server it r n
@@ -232,101 +232,101 @@ module _ (come : AggregatesComeAndGo) (own : CallsServeTheirDomain) (m n : State
         by (reply.Refused x) did is = cc (is)
         by r did is = did
 
-    rests : (fd c count : ℕ) (q : Answer) (r : Reply) (heard : List ℕ) → descriptor m server fd ≡ Some (on.Connection c)
-        → StepsTo m (event.Call server (call.IolRead fd count)) r n → uses_agg (told_rests kept q r heard).doing a ≡ true
-    rests fd c count q r heard open_on step = by r heard (own.read_conn m n server fd c count r order open_on step) (named (event.Call server (call.IolRead fd count)) r step)
+    rests : (fd c count : ℕ) (q : Answer) (r : Reply) (received : List ℕ) → descriptor m server fd ≡ Some (on.Connection c)
+        → StepsTo m (event.Call server (call.IolRead fd count)) r n → uses_agg (after_receive kept q r received).phase a ≡ true
+    rests fd c count q r received open_on step = by r received (own.read_conn m n server fd c count r order open_on step) (named (event.Call server (call.IolRead fd count)) r step)
       where
-        by : (r : Reply) (heard : List ℕ) → o.ReadsConn m server c count r n
+        by : (r : Reply) (received : List ℕ) → o.ReadsConn m server c count r n
             → brings (event.Call server (call.IolRead fd count)) r server a ≡ true
-            → uses_agg (told_rests kept q r heard).doing a ≡ true
+            → uses_agg (after_receive kept q r received).phase a ≡ true
         by (reply.Agg k) [] did is = former_of (k == a) false is
-        by (reply.Agg k) (b ∷ heard) did is = is
-        by (reply.Refused x) heard did is = absurd (cc (is))
-        by r heard did is = absurd did
+        by (reply.Agg k) (b ∷ received) did is = is
+        by (reply.Refused x) received did is = absurd (cc (is))
+        by r received did is = absurd did
 
-    pub reads : (q : Answer) (g i pos : ℕ) (r : Reply) (heard : List ℕ) → HasAccess m → is_live m server ≡ true
+    pub reads : (q : Answer) (g i pos : ℕ) (r : Reply) (received : List ℕ) → HasAccess m → is_live m server ≡ true
         → descriptor m server g ≡ Some (on.File i pos modes.Read) → (b : Bool)
         → StepsTo m (event.Call server (if b then call.Length g else call.IolRead g most_read)) r n
-        → uses_agg (told (at kept q (Reading g)) r heard).doing a ≡ true
-    reads q g i pos r heard access lives opened true step = absurd (by r (files.measures m n server g i pos modes.Read r lives opened step) (named (event.Call server (call.Length g)) r step))
+        → uses_agg (after_reply (at kept q (Reading g)) r received).phase a ≡ true
+    reads q g i pos r received access lives opened true step = absurd (by r (files.measures m n server g i pos modes.Read r lives opened step) (named (event.Call server (call.Length g)) r step))
       where
-        by : (r : Reply) → of.Tells m (length (content m i)) r n → brings (event.Call server (call.Length g)) r server a ≡ true → ⊥
+        by : (r : Reply) → of.Reports m (length (content m i)) r n → brings (event.Call server (call.Length g)) r server a ≡ true → ⊥
         by (reply.Count k) did is = cc (is)
         by r did is = did
-    reads q g i pos r heard access lives opened false step = by r (files.reads_file m n server g i pos most_read modes.Read r order lives (access.fds server g i pos modes.Read opened) refl opened step) (named (event.Call server (call.IolRead g most_read)) r step)
+    reads q g i pos r received access lives opened false step = by r (files.reads_file m n server g i pos most_read modes.Read r order lives (access.fds server g i pos modes.Read opened) refl opened step) (named (event.Call server (call.IolRead g most_read)) r step)
       where
         by : (r : Reply) → of.ReadsFile m server g i pos modes.Read (take most_read (drop pos (content m i))) r n
             → brings (event.Call server (call.IolRead g most_read)) r server a ≡ true
-            → uses_agg (told (at kept q (Reading g)) r heard).doing a ≡ true
+            → uses_agg (after_reply (at kept q (Reading g)) r received).phase a ≡ true
         by (reply.Agg k) did is = is
         by (reply.Refused x) did is = absurd (cc (is))
         by r did is = absurd did
 
-    picks : (b first last len : ℕ) (q : Answer) (part : List ℕ) (r : Reply) (heard : List ℕ) → lent_at m server b ≡ Some part
+    picks : (b first last len : ℕ) (q : Answer) (part : List ℕ) (r : Reply) (received : List ℕ) → readable_at m server b ≡ Some part
         → StepsTo m (event.Call server (call.AggCut b first last)) r n
-        → uses_agg (told (at kept q (Picks b first last len)) r heard).doing a ≡ true
-    picks b first last len q part r heard lends step =
-        made (call.AggCut b first last) (slice_range part first last) (λ z. uses_agg (told (at kept q (Picks b first last len)) z heard).doing a) r step
-        (own.cut m n server b first last part r order lends step) (λ x is. is) (λ x is. cc (is)) (λ x is. later_of (b == a) (x == a) is)
+        → uses_agg (after_reply (at kept q (Picks b first last len)) r received).phase a ≡ true
+    picks b first last len q part r received is_readable step =
+        made (call.AggCut b first last) (slice_range part first last) (λ z. uses_agg (after_reply (at kept q (Picks b first last len)) z received).phase a) r step
+        (own.cut m n server b first last part r order is_readable step) (λ x is. is) (λ x is. cc (is)) (λ x is. later_of (b == a) (x == a) is)
 
-    heads : (fd : ℕ) (q : Answer) (k : Content) (r : Reply) (heard : List ℕ)
+    heads : (fd : ℕ) (q : Answer) (k : Payload) (r : Reply) (received : List ℕ)
         → StepsTo m (event.Call server (call.AggMake (text_of q k))) r n
-        → uses_agg (told (at kept q (Heads k)) r heard).doing a ≡ true
-    heads fd q k r heard step =
-        made (call.AggMake (text_of q k)) (text_of q k) (λ z. uses_agg (told (at kept q (Heads k)) z heard).doing a) r step
-        (own.make m n server (text_of q k) r order step) (λ x is. is) (λ x is. cc (is)) (λ x is. headed-first x (count_of heard) (following k) a is)
+        → uses_agg (after_reply (at kept q (Heads k)) r received).phase a ≡ true
+    heads fd q k r received step =
+        made (call.AggMake (text_of q k)) (text_of q k) (λ z. uses_agg (after_reply (at kept q (Heads k)) z received).phase a) r step
+        (own.make m n server (text_of q k) r order step) (λ x is. is) (λ x is. cc (is)) (λ x is. headed-first x (count_of received) (following k) a is)
 
-    joins : (b size body len : ℕ) (q : Answer) (xs ys : List ℕ) (r : Reply) (heard : List ℕ) → lent_at m server b ≡ Some xs
-        → lent_at m server body ≡ Some ys → StepsTo m (event.Call server (call.AggJoin b body)) r n
-        → uses_agg (told (at kept q (Joins b size body len)) r heard).doing a ≡ true
-    joins b size body len q xs ys r heard lends more step =
-        made (call.AggJoin b body) (xs ++ ys) (λ z. uses_agg (told (at kept q (Joins b size body len)) z heard).doing a) r step
-        (own.join m n server b body xs ys r order lends more step) (λ x is. is) (λ x is. cc (is)) (λ x is. former_of (x == a) false is)
+    joins : (b size body len : ℕ) (q : Answer) (xs ys : List ℕ) (r : Reply) (received : List ℕ) → readable_at m server b ≡ Some xs
+        → readable_at m server body ≡ Some ys → StepsTo m (event.Call server (call.AggJoin b body)) r n
+        → uses_agg (after_reply (at kept q (Joins b size body len)) r received).phase a ≡ true
+    joins b size body len q xs ys r received is_readable more step =
+        made (call.AggJoin b body) (xs ++ ys) (λ z. uses_agg (after_reply (at kept q (Joins b size body len)) z received).phase a) r step
+        (own.join m n server b body xs ys r order is_readable more step) (λ x is. is) (λ x is. cc (is)) (λ x is. former_of (x == a) false is)
 
-    cuts : (b from len taken : ℕ) (more : Following) (q : Answer) (whole : List ℕ) (r : Reply) (heard : List ℕ)
-        → lent_at m server b ≡ Some whole
+    cuts : (b from len taken : ℕ) (more : Following) (q : Answer) (whole : List ℕ) (r : Reply) (received : List ℕ)
+        → readable_at m server b ≡ Some whole
         → StepsTo m (event.Call server (call.AggCut b from (piece_end from len))) r n
-        → uses_agg (told (at kept q (Cuts b from len taken more)) r heard).doing a ≡ true
-    cuts b from len taken more q whole r heard lends step =
-        made (call.AggCut b from (piece_end from len)) (slice_range whole from (piece_end from len)) (λ z. uses_agg (told (at kept q (Cuts b from len taken more)) z heard).doing a) r step
-        (own.cut m n server b from (piece_end from len) whole r order lends step) (λ x is. is) (λ x is. cc (is)) (λ x is. former_of (x == a) ((b == a) || has_followed more a) is)
+        → uses_agg (after_reply (at kept q (Cuts b from len taken more)) r received).phase a ≡ true
+    cuts b from len taken more q whole r received is_readable step =
+        made (call.AggCut b from (piece_end from len)) (slice_range whole from (piece_end from len)) (λ z. uses_agg (after_reply (at kept q (Cuts b from len taken more)) z received).phase a) r step
+        (own.cut m n server b from (piece_end from len) whole r order is_readable step) (λ x is. is) (λ x is. cc (is)) (λ x is. former_of (x == a) ((b == a) || has_followed more a) is)
 
-    pub brought : (fd c : ℕ) (q : Answer) (d : Doing) (due : List ℕ) (r : Reply) (heard : List ℕ) → HasAccess m → is_live m server ≡ true
-        → descriptor m server fd ≡ Some (on.Connection c) → Has m q due d
-        → StepsTo m (event.Call server (wants fd (at kept q d))) r n → uses_agg (told (at kept q d) r heard).doing a ≡ true
-    brought fd c q Rests due r heard access lives open_on has step = rests fd c (most_kept - length kept) q r heard open_on step
-    brought fd c q (Got b) due r heard access lives open_on has step = absurd (dropped b r step)
-    brought fd c q Opens due r heard access lives open_on has step = absurd (opened-nothing (name_of q) r lives step)
-    brought fd c q (Reading g) due r heard access lives open_on has step = reads q g has.1.0 has.1.1 r heard access lives has.1.2 (is_head_only q) step
-    brought fd c q (Shuts g k) due r heard access lives open_on has step = absurd (closed g r step)
-    brought fd c q (Picks b first last len) due r heard access lives open_on has step = picks b first last len q has.bytes r heard has.lends step
-    brought fd c q (Spares b k) due r heard access lives open_on has step = absurd (dropped b r step)
-    brought fd c q (Heads k) due r heard access lives open_on has step = heads fd q k r heard step
-    brought fd c q (Joins b size body len) due r heard access lives open_on has step = joins b size body len q has.0.bytes has.0.after r heard has.0.lends has.0.follows.0 step
-    brought fd c q (Sends b len taken more) due r heard access lives open_on has step = absurd (written fd c b has.bytes r open_on has.lends step)
-    brought fd c q (Cuts b from len taken more) due r heard access lives open_on has step = cuts b from len taken more q has.0.bytes r heard has.0.lends step
-    brought fd c q (Offers b from len piece taken more) due r heard access lives open_on has step = absurd (written fd c piece (slice_range has.whole.bytes from (piece_end from len)) r open_on has.lends step)
-    brought fd c q (Swaps b from len piece taken more) due r heard access lives open_on has step = absurd (dropped piece r step)
-    brought fd c q (Sent b taken more) due r heard access lives open_on has step = absurd (dropped b r step)
-    brought fd c q (Breaks piece b more) due r heard access lives open_on has step = absurd (dropped piece r step)
-    brought fd c q (Drops b more) due r heard access lives open_on has step = absurd (dropped b r step)
-    brought fd c q Closes due r heard access lives open_on has step = absurd (closed fd r step)
-    brought fd c q Over due r heard access lives open_on has step = absurd has
+    pub brought : (fd c : ℕ) (q : Answer) (d : Phase) (expected : List ℕ) (r : Reply) (received : List ℕ) → HasAccess m → is_live m server ≡ true
+        → descriptor m server fd ≡ Some (on.Connection c) → Has m q expected d
+        → StepsTo m (event.Call server (wants fd (at kept q d))) r n → uses_agg (after_reply (at kept q d) r received).phase a ≡ true
+    brought fd c q Rests expected r received access lives open_on has step = rests fd c (most_kept - length kept) q r received open_on step
+    brought fd c q (Got b) expected r received access lives open_on has step = absurd (dropped b r step)
+    brought fd c q Opens expected r received access lives open_on has step = absurd (opened-nothing (name_of q) r lives step)
+    brought fd c q (Reading g) expected r received access lives open_on has step = reads q g has.1.0 has.1.1 r received access lives has.1.2 (is_head_only q) step
+    brought fd c q (Shuts g k) expected r received access lives open_on has step = absurd (closed g r step)
+    brought fd c q (Picks b first last len) expected r received access lives open_on has step = picks b first last len q has.bytes r received has.is_readable step
+    brought fd c q (Spares b k) expected r received access lives open_on has step = absurd (dropped b r step)
+    brought fd c q (Heads k) expected r received access lives open_on has step = heads fd q k r received step
+    brought fd c q (Joins b size body len) expected r received access lives open_on has step = joins b size body len q has.0.bytes has.0.after r received has.0.is_readable has.0.follows.0 step
+    brought fd c q (Sends b len taken more) expected r received access lives open_on has step = absurd (written fd c b has.bytes r open_on has.is_readable step)
+    brought fd c q (Cuts b from len taken more) expected r received access lives open_on has step = cuts b from len taken more q has.0.bytes r received has.0.is_readable step
+    brought fd c q (Offers b from len piece taken more) expected r received access lives open_on has step = absurd (written fd c piece (slice_range has.whole.bytes from (piece_end from len)) r open_on has.is_readable step)
+    brought fd c q (Swaps b from len piece taken more) expected r received access lives open_on has step = absurd (dropped piece r step)
+    brought fd c q (Sent b taken more) expected r received access lives open_on has step = absurd (dropped b r step)
+    brought fd c q (Breaks piece b more) expected r received access lives open_on has step = absurd (dropped piece r step)
+    brought fd c q (Drops b more) expected r received access lives open_on has step = absurd (dropped b r step)
+    brought fd c q Closes expected r received access lives open_on has step = absurd (closed fd r step)
+    brought fd c q Over expected r received access lives open_on has step = absurd has
 
 pub keeps_nothing : AggregatesComeAndGo → CallsServeTheirDomain → FileCallsServeTheirDomain → KeepsNothing
 keeps_nothing come own files = record {
-  brought = λ m n fd c x o r heard bytes a order access lives open_on has step before after. brought come own m n order a bytes before after files x.kept fd c x.q x.doing (response x.q o) r heard access lives open_on has step;
+  brought = λ m n fd c x o r received bytes a order access lives open_on has step before after. brought come own m n order a bytes before after files x.kept fd c x.q x.phase (response x.q o) r received access lives open_on has step;
   opened = conn-opened;
-  left = λ m n fd x r heard a order step u unused.
-      let gives = leaves-told fd x.kept x.q x.doing r heard a u unused in
+  left = λ m n fd x r received a order step u unused.
+      let gives = leaves-after_reply fd x.kept x.q x.phase r received a u unused in
       come.gone m n (event.Call server (wants fd x)) r server a order step gives.0 gives.1;
-  shut = λ m n fd x r heard g step u unused. shuts own m n fd x.kept x.q x.doing r heard g step u unused;
+  shut = λ m n fd x r received g step u unused. shuts own m n fd x.kept x.q x.phase r received g step u unused;
   alone = λ m fd c x o is has. record {
-    aggs = λ a u. gives-wants fd x.kept x.q x.doing a u;
-    fds = λ g t. fds-wants m fd c x.kept x.q x.doing g is t;
-    conns = λ e t. conns-wants m fd c x.kept x.q (response x.q o) x.doing e is has t;
-    pipes = λ p. pipes-wants m fd c x.kept x.q (response x.q o) x.doing p is has;
-    files = files-wants m fd c x.kept x.q x.doing is;
-    pools = λ p. admits-wants fd x.kept x.q x.doing p;
+    aggs = λ a u. gives-wants fd x.kept x.q x.phase a u;
+    fds = λ g t. fds-wants m fd c x.kept x.q x.phase g is t;
+    conns = λ e t. conns-wants m fd c x.kept x.q (response x.q o) x.phase e is has t;
+    pipes = λ p. pipes-wants m fd c x.kept x.q (response x.q o) x.phase p is has;
+    files = files-wants m fd c x.kept x.q x.phase is;
+    pools = λ p. admits-wants fd x.kept x.q x.phase p;
   };
 }

@@ -10,10 +10,10 @@ use Rattle.iol_core.specs.declared.events.Reply.{Reply}
 use Rattle.iol_core.specs.declared.events.Reply.TheVariants as reply
 use Rattle.flash_laws.specs.Conn.OfferedBytes.{may_repeat}
 use Rattle.flash_laws.specs.Site.{server}
-use Rattle.flash_laws.specs.declared.phase.Doing.{Doing}
+use Rattle.flash_laws.specs.declared.phase.Phase.{Phase}
 
 -- one of two, and neither is this
-pub either : (b : Bool) (d e f : Doing) → (d ≡ f → ⊥) → (e ≡ f → ⊥) → (if b then d else e) ≡ f → ⊥
+pub either : (b : Bool) (d e f : Phase) → (d ≡ f → ⊥) → (e ≡ f → ⊥) → (if b then d else e) ≡ f → ⊥
 either true d e f one two same = one same
 either false d e f one two same = two same
 

@@ -16,14 +16,14 @@ use Rattle.flash_http.specs.Request.{Answer, serve, refuse, Reading, IsAnswerTo,
 use Rattle.flash_laws.specs.Answers.{keeps}
 use Rattle.flash_laws.specs.Client.Fits.{Finds}
 use Rattle.flash_laws.specs.Client.ResponseState.{is_read, is_opening}
-use Rattle.flash_laws.specs.Conn.{Following, following, headed, count_of, status_of, sends_of, settled, goes_on, drops_next, told}
-use Rattle.flash_laws.specs.Conn.ShortHeads.{is_error_status, LearntIsShort}
-use Rattle.flash_laws.specs.Shelf.{Shelf}
-use Rattle.flash_laws.specs.declared.phase.Learnt.{Learnt}
-use Rattle.flash_laws.specs.declared.phase.Learnt.TheVariants.{File, Length, Fails, Text as TextOf}
-use Rattle.flash_laws.specs.declared.phase.Content.TheVariants.{Script}
-use Rattle.flash_laws.specs.declared.phase.Doing.{Doing}
-use Rattle.flash_laws.specs.declared.phase.Doing.TheVariants.{Rests, Got, Opens, Reads as ReadsFile, Shuts, Picks, Spares, Heads, Joins, Sends, Cuts, Offers, Swaps, Sent, Breaks, Drops, Closes, Over}
+use Rattle.flash_laws.specs.Conn.{Following, following, headed, count_of, status_of, sends_of, resolved, proceeds, drops_next, after_reply}
+use Rattle.flash_laws.specs.Conn.ShortHeads.{is_error_status, FileResultIsShort}
+use Rattle.flash_laws.specs.SiteContents.{SiteContents}
+use Rattle.flash_laws.specs.declared.phase.FileResult.{FileResult}
+use Rattle.flash_laws.specs.declared.phase.FileResult.TheVariants.{File, Length, Fails, Text as TextOf}
+use Rattle.flash_laws.specs.declared.phase.Payload.TheVariants.{Script}
+use Rattle.flash_laws.specs.declared.phase.Phase.{Phase}
+use Rattle.flash_laws.specs.declared.phase.Phase.TheVariants.{Rests, Got, Opens, Reads as ReadsFile, Shuts, Picks, Spares, Heads, Joins, Sends, Cuts, Offers, Swaps, Sent, Breaks, Drops, Closes, Over}
 use Rattle.flash_laws.proofs.Forms.{at}
 
 -- ---- statuses
@@ -74,86 +74,86 @@ refused-status head status head_only close is = asks-listed is.0 (refuse status 
 
 -- ---- phases
 
-settled-short : (shelf : Shelf) (n : State) (q : Answer) (script : List ℕ) (f : ℕ) (k : Learnt) → is_read (Shuts f k) ≡ false → LearntIsShort k
-    → Finds shelf n q script (settled q k)
-settled-short shelf n (serve w) script f (File a len) unread short = by (selected w.range len)
+resolved-short : (site_contents : SiteContents) (n : State) (q : Answer) (script : List ℕ) (f : ℕ) (k : FileResult) → is_read (Shuts f k) ≡ false → FileResultIsShort k
+    → Finds site_contents n q script (resolved q k)
+resolved-short site_contents n (serve w) script f (File a len) unread short = by (selected w.range len)
   where
-    by : (sel : Selection) → Finds shelf n (serve w) script (sends_of sel a len)
+    by : (sel : Selection) → Finds site_contents n (serve w) script (sends_of sel a len)
     by Whole = short
     by (Bytes first last) = short
     by Unsatisfiable = short
-settled-short shelf n (refuse status head_only close) script f (File a len) unread short = short
-settled-short shelf n q script f (Length len) unread short = short
-settled-short shelf n q script f (Fails status) unread short = short
-settled-short shelf n q script f (TextOf a true) unread short = absurd (cc (unread))
-settled-short shelf n q script f (TextOf a false) unread short = refl
+resolved-short site_contents n (refuse status head_only close) script f (File a len) unread short = short
+resolved-short site_contents n q script f (Length len) unread short = short
+resolved-short site_contents n q script f (Fails status) unread short = short
+resolved-short site_contents n q script f (TextOf a true) unread short = absurd (cc (unread))
+resolved-short site_contents n q script f (TextOf a false) unread short = refl
 
-headed-finds : (shelf : Shelf) (n : State) (q : Answer) (script : List ℕ) (a size : ℕ) (more : Following) → Finds shelf n q script (headed a size more)
-headed-finds shelf n q script a size None = tt
-headed-finds shelf n q script a size (Some x) = by (nat_le (size + x.1) MAX_AGGREGATE_BYTES)
+headed-finds : (site_contents : SiteContents) (n : State) (q : Answer) (script : List ℕ) (a size : ℕ) (more : Following) → Finds site_contents n q script (headed a size more)
+headed-finds site_contents n q script a size None = tt
+headed-finds site_contents n q script a size (Some x) = by (nat_le (size + x.1) MAX_AGGREGATE_BYTES)
   where
-    by : (b : Bool) → Finds shelf n q script (if b then Joins a size x.0 x.1 else Sends a size 0 (Some x))
+    by : (b : Bool) → Finds site_contents n q script (if b then Joins a size x.0 x.1 else Sends a size 0 (Some x))
     by true = tt
     by false = tt
 
-goes-finds : (shelf : Shelf) (n : State) (q : Answer) (script : List ℕ) (taken : ℕ) (more : Following) → Finds shelf n q script (goes_on q taken more)
-goes-finds shelf n q script taken (Some x) = tt
-goes-finds shelf n q script taken None = by (keeps q)
+goes-finds : (site_contents : SiteContents) (n : State) (q : Answer) (script : List ℕ) (taken : ℕ) (more : Following) → Finds site_contents n q script (proceeds q taken more)
+goes-finds site_contents n q script taken (Some x) = tt
+goes-finds site_contents n q script taken None = by (keeps q)
   where
-    by : (b : Bool) → Finds shelf n q script (if b then Rests else Closes)
+    by : (b : Bool) → Finds site_contents n q script (if b then Rests else Closes)
     by true = tt
     by false = tt
 
-drops-finds : (shelf : Shelf) (n : State) (q : Answer) (script : List ℕ) (more : Following) → Finds shelf n q script (drops_next more)
-drops-finds shelf n q script None = tt
-drops-finds shelf n q script (Some x) = tt
+drops-finds : (site_contents : SiteContents) (n : State) (q : Answer) (script : List ℕ) (more : Following) → Finds site_contents n q script (drops_next more)
+drops-finds site_contents n q script None = tt
+drops-finds site_contents n q script (Some x) = tt
 
 -- After a call that opens and reads nothing what is still to be named is as short.
-pub finds-told : (shelf : Shelf) (m n : State) (kept : List ℕ) (q : Answer) (script : List ℕ) (d : Doing) (r : Reply) (heard : List ℕ)
-    → is_opening d ≡ false → is_read d ≡ false → Finds shelf m q script d → Finds shelf n q script (told (at kept q d) r heard).doing
-finds-told shelf m n kept q script Rests (reply.Agg a) [] un unread h = tt
-finds-told shelf m n kept q script Rests (reply.Agg a) (b ∷ heard) un unread h = tt
-finds-told shelf m n kept q script Rests r heard un unread h = tt
-finds-told shelf m n kept q script (Got a) reply.Done heard un unread h = tt
-finds-told shelf m n kept q script (Got a) r heard un unread h = tt
-finds-told shelf m n kept q script Opens r heard un unread h = absurd (cc (un))
-finds-told shelf m n kept q script (ReadsFile f) r heard un unread h = absurd (cc (un))
-finds-told shelf m n kept q script (Shuts f (TextOf a true)) r heard un unread h = absurd (cc (unread))
-finds-told shelf m n kept q script (Shuts f k) reply.Done heard un unread h = settled-short shelf n q script f k refl h
-finds-told shelf m n kept q script (Shuts f k) r heard un unread h = h
-finds-told shelf m n kept q script (Picks a from to len) (reply.Agg x) heard un unread h = h
-finds-told shelf m n kept q script (Picks a from to len) r heard un unread h = h
-finds-told shelf m n kept q script (Spares a Script) r heard un unread h = absurd (cc (unread))
-finds-told shelf m n kept q script (Spares a k) reply.Done heard un unread h = h
-finds-told shelf m n kept q script (Spares a k) r heard un unread h = h
-finds-told shelf m n kept q script (Heads k) (reply.Agg x) heard un unread h = headed-finds shelf n q script x (count_of heard) (following k)
-finds-told shelf m n kept q script (Heads k) r heard un unread h = h
-finds-told shelf m n kept q script (Joins a size body len) (reply.Agg x) heard un unread h = tt
-finds-told shelf m n kept q script (Joins a size body len) r heard un unread h = tt
-finds-told shelf m n kept q script (Sends a len taken more) (reply.Count k) heard un unread h = by (nat_lt k len)
+pub finds-after_reply : (site_contents : SiteContents) (m n : State) (kept : List ℕ) (q : Answer) (script : List ℕ) (d : Phase) (r : Reply) (received : List ℕ)
+    → is_opening d ≡ false → is_read d ≡ false → Finds site_contents m q script d → Finds site_contents n q script (after_reply (at kept q d) r received).phase
+finds-after_reply site_contents m n kept q script Rests (reply.Agg a) [] un unread h = tt
+finds-after_reply site_contents m n kept q script Rests (reply.Agg a) (b ∷ received) un unread h = tt
+finds-after_reply site_contents m n kept q script Rests r received un unread h = tt
+finds-after_reply site_contents m n kept q script (Got a) reply.Done received un unread h = tt
+finds-after_reply site_contents m n kept q script (Got a) r received un unread h = tt
+finds-after_reply site_contents m n kept q script Opens r received un unread h = absurd (cc (un))
+finds-after_reply site_contents m n kept q script (ReadsFile f) r received un unread h = absurd (cc (un))
+finds-after_reply site_contents m n kept q script (Shuts f (TextOf a true)) r received un unread h = absurd (cc (unread))
+finds-after_reply site_contents m n kept q script (Shuts f k) reply.Done received un unread h = resolved-short site_contents n q script f k refl h
+finds-after_reply site_contents m n kept q script (Shuts f k) r received un unread h = h
+finds-after_reply site_contents m n kept q script (Picks a from to len) (reply.Agg x) received un unread h = h
+finds-after_reply site_contents m n kept q script (Picks a from to len) r received un unread h = h
+finds-after_reply site_contents m n kept q script (Spares a Script) r received un unread h = absurd (cc (unread))
+finds-after_reply site_contents m n kept q script (Spares a k) reply.Done received un unread h = h
+finds-after_reply site_contents m n kept q script (Spares a k) r received un unread h = h
+finds-after_reply site_contents m n kept q script (Heads k) (reply.Agg x) received un unread h = headed-finds site_contents n q script x (count_of received) (following k)
+finds-after_reply site_contents m n kept q script (Heads k) r received un unread h = h
+finds-after_reply site_contents m n kept q script (Joins a size body len) (reply.Agg x) received un unread h = tt
+finds-after_reply site_contents m n kept q script (Joins a size body len) r received un unread h = tt
+finds-after_reply site_contents m n kept q script (Sends a len taken more) (reply.Count k) received un unread h = by (nat_lt k len)
   where
-    by : (b : Bool) → Finds shelf n q script (if b then Cuts a k len (taken + k) more else Sent a (taken + len) more)
+    by : (b : Bool) → Finds site_contents n q script (if b then Cuts a k len (taken + k) more else Sent a (taken + len) more)
     by true = tt
     by false = tt
-finds-told shelf m n kept q script (Sends a len taken more) (reply.Refused no.BrokenPipe) heard un unread h = tt
-finds-told shelf m n kept q script (Sends a len taken more) r heard un unread h = tt
-finds-told shelf m n kept q script (Cuts a from len taken more) (reply.Agg x) heard un unread h = tt
-finds-told shelf m n kept q script (Cuts a from len taken more) r heard un unread h = tt
-finds-told shelf m n kept q script (Offers a from len piece taken more) (reply.Count k) heard un unread h = tt
-finds-told shelf m n kept q script (Offers a from len piece taken more) (reply.Refused no.BrokenPipe) heard un unread h = tt
-finds-told shelf m n kept q script (Offers a from len piece taken more) r heard un unread h = tt
-finds-told shelf m n kept q script (Swaps a from len piece taken more) reply.Done heard un unread h = by (nat_lt from len)
+finds-after_reply site_contents m n kept q script (Sends a len taken more) (reply.Refused no.BrokenPipe) received un unread h = tt
+finds-after_reply site_contents m n kept q script (Sends a len taken more) r received un unread h = tt
+finds-after_reply site_contents m n kept q script (Cuts a from len taken more) (reply.Agg x) received un unread h = tt
+finds-after_reply site_contents m n kept q script (Cuts a from len taken more) r received un unread h = tt
+finds-after_reply site_contents m n kept q script (Offers a from len piece taken more) (reply.Count k) received un unread h = tt
+finds-after_reply site_contents m n kept q script (Offers a from len piece taken more) (reply.Refused no.BrokenPipe) received un unread h = tt
+finds-after_reply site_contents m n kept q script (Offers a from len piece taken more) r received un unread h = tt
+finds-after_reply site_contents m n kept q script (Swaps a from len piece taken more) reply.Done received un unread h = by (nat_lt from len)
   where
-    by : (b : Bool) → Finds shelf n q script (if b then Cuts a from len taken more else Sent a taken more)
+    by : (b : Bool) → Finds site_contents n q script (if b then Cuts a from len taken more else Sent a taken more)
     by true = tt
     by false = tt
-finds-told shelf m n kept q script (Swaps a from len piece taken more) r heard un unread h = tt
-finds-told shelf m n kept q script (Sent a taken more) reply.Done heard un unread h = goes-finds shelf n q script taken more
-finds-told shelf m n kept q script (Sent a taken more) r heard un unread h = tt
-finds-told shelf m n kept q script (Breaks piece a more) reply.Done heard un unread h = tt
-finds-told shelf m n kept q script (Breaks piece a more) r heard un unread h = tt
-finds-told shelf m n kept q script (Drops a more) reply.Done heard un unread h = drops-finds shelf n q script more
-finds-told shelf m n kept q script (Drops a more) r heard un unread h = tt
-finds-told shelf m n kept q script Closes reply.Done heard un unread h = tt
-finds-told shelf m n kept q script Closes r heard un unread h = tt
-finds-told shelf m n kept q script Over r heard un unread h = tt
+finds-after_reply site_contents m n kept q script (Swaps a from len piece taken more) r received un unread h = tt
+finds-after_reply site_contents m n kept q script (Sent a taken more) reply.Done received un unread h = goes-finds site_contents n q script taken more
+finds-after_reply site_contents m n kept q script (Sent a taken more) r received un unread h = tt
+finds-after_reply site_contents m n kept q script (Breaks piece a more) reply.Done received un unread h = tt
+finds-after_reply site_contents m n kept q script (Breaks piece a more) r received un unread h = tt
+finds-after_reply site_contents m n kept q script (Drops a more) reply.Done received un unread h = drops-finds site_contents n q script more
+finds-after_reply site_contents m n kept q script (Drops a more) r received un unread h = tt
+finds-after_reply site_contents m n kept q script Closes reply.Done received un unread h = tt
+finds-after_reply site_contents m n kept q script Closes r received un unread h = tt
+finds-after_reply site_contents m n kept q script Over r received un unread h = tt

@@ -14,8 +14,8 @@ use Rattle.iol_core.specs.declared.events.Call.TheVariants as call
 use Rattle.iol_core.specs.declared.events.Event.TheVariants as event
 use Rattle.flash_http.specs.Request.{Answer}
 use Rattle.flash_laws.specs.Conn.{uses_fd, is_head_only, most_read, wants}
-use Rattle.flash_laws.specs.declared.phase.Doing.{Doing}
-use Rattle.flash_laws.specs.declared.phase.Doing.TheVariants.{Rests, Reads as Reading, Shuts, Sends, Offers, Closes, Over}
+use Rattle.flash_laws.specs.declared.phase.Phase.{Phase}
+use Rattle.flash_laws.specs.declared.phase.Phase.TheVariants.{Rests, Reads as Reading, Shuts, Sends, Offers, Closes, Over}
 use Rattle.flash_laws.specs.Conn.Fits.{Has}
 use Rattle.flash_laws.specs.Site.{server}
 use Rattle.flash_laws.proofs.Forms.{at}
@@ -31,7 +31,7 @@ left-of true b u = refl
 left-of false b u = absurd (cc)
 
 -- a descriptor that the call closes or moves is a file's of the connection, or the connection itself
-pub fds-wants : (m : State) (fd c : ℕ) (kept : List ℕ) (q : Answer) (d : Doing) (g : ℕ)
+pub fds-wants : (m : State) (fd c : ℕ) (kept : List ℕ) (q : Answer) (d : Phase) (g : ℕ)
     → descriptor m server fd ≡ Some (on.Connection c)
     → touches_fd m (event.Call server (wants fd (at kept q d))) server g ≡ true
     → (uses_fd d g ≡ true) ⊎ (fd ≡ g)
@@ -58,22 +58,22 @@ uses-no_conn : (m : State) (g f pos k : ℕ) → descriptor m server g ≡ Some 
 uses-no_conn m g f pos k is t = (let e = sym (ap (λ (d : Option Descriptor). list_any (is_conn k) (d ∷ []) || false) is) ∙ t in cc)
 
 -- the only connection that it touches is its own
-pub conns-wants : (m : State) (fd c : ℕ) (kept : List ℕ) (q : Answer) (due : List ℕ) (d : Doing) (k : ℕ)
-    → descriptor m server fd ≡ Some (on.Connection c) → Has m q due d
+pub conns-wants : (m : State) (fd c : ℕ) (kept : List ℕ) (q : Answer) (expected : List ℕ) (d : Phase) (k : ℕ)
+    → descriptor m server fd ≡ Some (on.Connection c) → Has m q expected d
     → touches_conn m (event.Call server (wants fd (at kept q d))) k ≡ true → c ≡ k
-conns-wants m fd c kept q due Rests k is has t = uses-conn m fd c k is t
-conns-wants m fd c kept q due (Reading f) k is has t = absurd (by (is_head_only q) t)
+conns-wants m fd c kept q expected Rests k is has t = uses-conn m fd c k is t
+conns-wants m fd c kept q expected (Reading f) k is has t = absurd (by (is_head_only q) t)
   where
     by : (b : Bool) → touches_conn m (event.Call server (if b then call.Length f else call.IolRead f most_read)) k ≡ true
         → ⊥
     by true t = cc
     by false t = uses-no_conn m f has.1.0 has.1.1 k has.1.2 t
-conns-wants m fd c kept q due (Shuts f x) k is has t = absurd (uses-no_conn m f has.0.0 has.0.1 k has.0.2 t)
-conns-wants m fd c kept q due (Sends b len taken more) k is has t = uses-conn m fd c k is t
-conns-wants m fd c kept q due (Offers b from len piece taken more) k is has t = uses-conn m fd c k is t
-conns-wants m fd c kept q due Closes k is has t = uses-conn m fd c k is t
-conns-wants m fd c kept q due Over k is has t = uses-conn m fd c k is t
-conns-wants m fd c kept q due d k is has t = absurd (cc)
+conns-wants m fd c kept q expected (Shuts f x) k is has t = absurd (uses-no_conn m f has.0.0 has.0.1 k has.0.2 t)
+conns-wants m fd c kept q expected (Sends b len taken more) k is has t = uses-conn m fd c k is t
+conns-wants m fd c kept q expected (Offers b from len piece taken more) k is has t = uses-conn m fd c k is t
+conns-wants m fd c kept q expected Closes k is has t = uses-conn m fd c k is t
+conns-wants m fd c kept q expected Over k is has t = uses-conn m fd c k is t
+conns-wants m fd c kept q expected d k is has t = absurd (cc)
 
 -- and no pipe
 no-end : (m : State) (fd c p : ℕ) → descriptor m server fd ≡ Some (on.Connection c) → (list_any (is_end p) (descriptor m server fd ∷ []) || false) ≡ false
@@ -82,23 +82,23 @@ no-end m fd c p is = ap (λ (d : Option Descriptor). list_any (is_end p) (d ∷ 
 no-file-end : (m : State) (g f pos p : ℕ) → descriptor m server g ≡ Some (on.File f pos modes.Read) → (list_any (is_end p) (descriptor m server g ∷ []) || false) ≡ false
 no-file-end m g f pos p is = ap (λ (d : Option Descriptor). list_any (is_end p) (d ∷ []) || false) is
 
-pub pipes-wants : (m : State) (fd c : ℕ) (kept : List ℕ) (q : Answer) (due : List ℕ) (d : Doing) (p : ℕ) → descriptor m server fd ≡ Some (on.Connection c) → Has m q due d
+pub pipes-wants : (m : State) (fd c : ℕ) (kept : List ℕ) (q : Answer) (expected : List ℕ) (d : Phase) (p : ℕ) → descriptor m server fd ≡ Some (on.Connection c) → Has m q expected d
     → touches_pipe m (event.Call server (wants fd (at kept q d))) p ≡ false
-pipes-wants m fd c kept q due Rests p is has = no-end m fd c p is
-pipes-wants m fd c kept q due (Reading f) p is has = by (is_head_only q)
+pipes-wants m fd c kept q expected Rests p is has = no-end m fd c p is
+pipes-wants m fd c kept q expected (Reading f) p is has = by (is_head_only q)
   where
     by : (b : Bool) → touches_pipe m (event.Call server (if b then call.Length f else call.IolRead f most_read)) p ≡ false
     by true = refl
     by false = no-file-end m f has.1.0 has.1.1 p has.1.2
-pipes-wants m fd c kept q due (Shuts f x) p is has = no-file-end m f has.0.0 has.0.1 p has.0.2
-pipes-wants m fd c kept q due (Sends b len taken more) p is has = no-end m fd c p is
-pipes-wants m fd c kept q due (Offers b from len piece taken more) p is has = no-end m fd c p is
-pipes-wants m fd c kept q due Closes p is has = no-end m fd c p is
-pipes-wants m fd c kept q due Over p is has = no-end m fd c p is
-pipes-wants m fd c kept q due d p is has = refl
+pipes-wants m fd c kept q expected (Shuts f x) p is has = no-file-end m f has.0.0 has.0.1 p has.0.2
+pipes-wants m fd c kept q expected (Sends b len taken more) p is has = no-end m fd c p is
+pipes-wants m fd c kept q expected (Offers b from len piece taken more) p is has = no-end m fd c p is
+pipes-wants m fd c kept q expected Closes p is has = no-end m fd c p is
+pipes-wants m fd c kept q expected Over p is has = no-end m fd c p is
+pipes-wants m fd c kept q expected d p is has = refl
 
 -- it writes no file
-pub files-wants : (m : State) (fd c : ℕ) (kept : List ℕ) (q : Answer) (d : Doing)
+pub files-wants : (m : State) (fd c : ℕ) (kept : List ℕ) (q : Answer) (d : Phase)
     → descriptor m server fd ≡ Some (on.Connection c)
     → changes_files m (event.Call server (wants fd (at kept q d))) ≡ false
 files-wants m fd c kept q (Reading f) is = by (is_head_only q)
@@ -111,7 +111,7 @@ files-wants m fd c kept q (Offers b from len piece taken more) is = ap is_file i
 files-wants m fd c kept q d is = refl
 
 -- it admits nobody to a pool
-pub admits-wants : (fd : ℕ) (kept : List ℕ) (q : Answer) (d : Doing) (p : ℕ)
+pub admits-wants : (fd : ℕ) (kept : List ℕ) (q : Answer) (d : Phase) (p : ℕ)
     → admits_to (event.Call server (wants fd (at kept q d))) p ≡ false
 admits-wants fd kept q (Reading f) p = by (is_head_only q)
   where

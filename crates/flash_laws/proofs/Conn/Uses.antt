@@ -4,7 +4,7 @@ use Rattle.std.specs.Prelude.{nat_lt, nat_le, ◌||◌, slice_range}
 use Rattle.std.proofs.lemmas.Bool.Decides.{nat_tests}
 use Rattle.iol_core.specs.State.{State, descriptor}
 use Rattle.iol_core.specs.Values.{gives_up}
-use Rattle.iol_laws.specs.Caller.{lent_at, is_agg, is_fd, gives_away}
+use Rattle.iol_laws.specs.Caller.{readable_at, is_agg, is_fd, gives_away}
 use Rattle.iol_core.specs.declared.limits.TheConstants.{MAX_AGGREGATE_BYTES}
 use Rattle.iol_core.specs.declared.descriptors.Descriptor.TheVariants as on
 use Rattle.iol_core.specs.declared.descriptors.Mode.TheVariants as modes
@@ -18,14 +18,14 @@ use Rattle.flash_http.specs.declared.ranges.Selection.TheVariants.{Bytes, Unsati
 use Rattle.flash_http.specs.Range.{selected}
 use Rattle.flash_http.specs.Request.{Answer, serve, refuse}
 use Rattle.flash_laws.specs.Answers.{keeps}
-use Rattle.flash_laws.specs.Conn.{Following, has_followed, learnt_agg, content_agg, uses_agg, uses_fd, is_head_only, most_read, piece_end, count_of, wants, sends_of, settled, following, headed, goes_on, drops_next, told, told_rests, begins}
-use Rattle.flash_laws.specs.declared.phase.Learnt.{Learnt}
-use Rattle.flash_laws.specs.declared.phase.Learnt.TheVariants.{File, Length, Fails, Text as TextOf}
-use Rattle.flash_laws.specs.declared.phase.Content.{Content}
-use Rattle.flash_laws.specs.declared.phase.Content.TheVariants.{Body}
-use Rattle.flash_laws.specs.declared.phase.Doing.{Doing}
-use Rattle.flash_laws.specs.declared.phase.Doing.TheVariants.{Rests, Got, Opens, Reads as Reading, Shuts, Picks, Spares, Heads, Joins, Sends, Cuts, Offers, Swaps, Sent, Breaks, Drops, Closes, Over}
-use Rattle.flash_laws.specs.Conn.Fits.{IsLent, LendsMore, HasContent, HasLearnt, Has}
+use Rattle.flash_laws.specs.Conn.{Following, has_followed, file_result_agg, content_agg, uses_agg, uses_fd, is_head_only, most_read, piece_end, count_of, wants, sends_of, resolved, following, headed, proceeds, drops_next, after_reply, after_receive, begins}
+use Rattle.flash_laws.specs.declared.phase.FileResult.{FileResult}
+use Rattle.flash_laws.specs.declared.phase.FileResult.TheVariants.{File, Length, Fails, Text as TextOf}
+use Rattle.flash_laws.specs.declared.phase.Payload.{Payload}
+use Rattle.flash_laws.specs.declared.phase.Payload.TheVariants.{Body}
+use Rattle.flash_laws.specs.declared.phase.Phase.{Phase}
+use Rattle.flash_laws.specs.declared.phase.Phase.TheVariants.{Rests, Got, Opens, Reads as Reading, Shuts, Picks, Spares, Heads, Joins, Sends, Cuts, Offers, Swaps, Sent, Breaks, Drops, Closes, Over}
+use Rattle.flash_laws.specs.Conn.Fits.{IsReadable, MoreIsReadable, HasContent, HasFileResult, Has}
 use Rattle.flash_laws.specs.Site.{server}
 use Rattle.flash_laws.proofs.Forms.{at}
 use Rattle.flash_laws.proofs.Lists.{clash, later_of, bare}
@@ -38,7 +38,7 @@ pub same-number : (a b : ℕ) → (a == b) ≡ true → a ≡ b
 same-number a b is = grind (arith, nat_tests, is)
 
 -- a call gives up what is the connection's
-pub gives-wants : (fd : ℕ) (kept : List ℕ) (q : Answer) (d : Doing) (a : ℕ)
+pub gives-wants : (fd : ℕ) (kept : List ℕ) (q : Answer) (d : Phase) (a : ℕ)
     → gives_up (event.Call server (wants fd (at kept q d))) server a ≡ true → uses_agg d a ≡ true
 gives-wants fd kept q (Got b) a is = is
 gives-wants fd kept q (Reading f) a is = absurd (by (is_head_only q) is)
@@ -56,7 +56,7 @@ gives-wants fd kept q (Drops b more) a is = grind (arith, is)
 gives-wants fd kept q d a is = absurd (cc)
 
 -- its reply names nothing of another domain
-pub no-more : (fd : ℕ) (kept : List ℕ) (q : Answer) (d : Doing) → gives_away (wants fd (at kept q d)) ≡ false
+pub no-more : (fd : ℕ) (kept : List ℕ) (q : Answer) (d : Phase) → gives_away (wants fd (at kept q d)) ≡ false
 no-more fd kept q (Reading f) = by (is_head_only q)
   where
     by : (b : Bool) → gives_away (if b then call.Length f else call.IolRead f most_read) ≡ false
@@ -66,32 +66,32 @@ no-more fd kept q d = refl
 
 -- What it uses afterwards is what it used, or new.
 
-abbrev Uses : Doing → Reply → Doing → (a : ℕ) → Type 0
+abbrev Uses : Phase → Reply → Phase → (a : ℕ) → Type 0
 Uses d r after a = uses_agg after a ≡ true → (uses_agg d a ≡ true) ⊎ (is_agg r a ≡ true)
 
-uses-rests : (kept : List ℕ) (q : Answer) (r : Reply) (heard : List ℕ) (a : ℕ)
-    → Uses Rests r (told_rests kept q r heard).doing a
+uses-rests : (kept : List ℕ) (q : Answer) (r : Reply) (received : List ℕ) (a : ℕ)
+    → Uses Rests r (after_receive kept q r received).phase a
 uses-rests kept q (reply.Agg n) [] a u = inr (bare (n == a) u)
-uses-rests kept q (reply.Agg n) (b ∷ heard) a u = inr u
-uses-rests kept q r heard a u = absurd (cc)
+uses-rests kept q (reply.Agg n) (b ∷ received) a u = inr u
+uses-rests kept q r received a u = absurd (cc)
 
-uses-settled : (q : Answer) (g : ℕ) (k : Learnt) (a : ℕ) → uses_agg (settled q k) a ≡ true → learnt_agg k a ≡ true
-uses-settled (serve w) g (File b len) a u = by (selected w.range len) u
+uses-resolved : (q : Answer) (g : ℕ) (k : FileResult) (a : ℕ) → uses_agg (resolved q k) a ≡ true → file_result_agg k a ≡ true
+uses-resolved (serve w) g (File b len) a u = by (selected w.range len) u
   where
     by : (sel : Selection) → uses_agg (sends_of sel b len) a ≡ true → (b == a) ≡ true
     by Unsatisfiable u = bare (b == a) u
     by x u = u
-uses-settled (refuse status head_only close) g (File b len) a u = u
-uses-settled (serve w) g (Length len) a u = absurd (cc)
-uses-settled (refuse status head_only close) g (Length len) a u = absurd (cc)
-uses-settled (serve w) g (Fails status) a u = absurd (cc)
-uses-settled (refuse status head_only close) g (Fails was) a u = absurd (cc)
-uses-settled (serve w) g (TextOf b true) a u = bare (b == a) u
-uses-settled (serve w) g (TextOf b false) a u = bare (b == a) u
-uses-settled (refuse status head_only close) g (TextOf b true) a u = bare (b == a) u
-uses-settled (refuse status head_only close) g (TextOf b false) a u = bare (b == a) u
+uses-resolved (refuse status head_only close) g (File b len) a u = u
+uses-resolved (serve w) g (Length len) a u = absurd (cc)
+uses-resolved (refuse status head_only close) g (Length len) a u = absurd (cc)
+uses-resolved (serve w) g (Fails status) a u = absurd (cc)
+uses-resolved (refuse status head_only close) g (Fails was) a u = absurd (cc)
+uses-resolved (serve w) g (TextOf b true) a u = bare (b == a) u
+uses-resolved (serve w) g (TextOf b false) a u = bare (b == a) u
+uses-resolved (refuse status head_only close) g (TextOf b true) a u = bare (b == a) u
+uses-resolved (refuse status head_only close) g (TextOf b false) a u = bare (b == a) u
 
-uses-following : (k : Content) (a : ℕ) → has_followed (following k) a ≡ true → content_agg k a ≡ true
+uses-following : (k : Payload) (a : ℕ) → has_followed (following k) a ≡ true → content_agg k a ≡ true
 uses-following (Body b size len) a u = u
 uses-following k a u = absurd (cc)
 
@@ -105,10 +105,10 @@ uses-headed n size (Some x) a u = by (nat_le (size + x.1) MAX_AGGREGATE_BYTES) u
     by true u = u
     by false u = u
 
-uses-goes_on : (q : Answer) (b taken : ℕ) (more : Following) (a : ℕ)
-    → uses_agg (goes_on q taken more) a ≡ true → ((b == a) || has_followed more a) ≡ true
-uses-goes_on q b taken (Some x) a u = later_of (b == a) (x.0 == a) (bare (x.0 == a) u)
-uses-goes_on q b taken None a u = by (keeps q) u
+uses-proceeds : (q : Answer) (b taken : ℕ) (more : Following) (a : ℕ)
+    → uses_agg (proceeds q taken more) a ≡ true → ((b == a) || has_followed more a) ≡ true
+uses-proceeds q b taken (Some x) a u = later_of (b == a) (x.0 == a) (bare (x.0 == a) u)
+uses-proceeds q b taken None a u = by (keeps q) u
   where
     by : (t : Bool) → uses_agg (if t then Rests else Closes) a ≡ true → ((b == a) || false) ≡ true
     by true u = absurd (cc)
@@ -119,63 +119,63 @@ uses-drops : (b : ℕ) (more : Following) (a : ℕ) → uses_agg (drops_next mor
 uses-drops b (Some x) a u = later_of (b == a) (x.0 == a) (bare (x.0 == a) u)
 uses-drops b None a u = absurd (cc)
 
-pub uses-told : (kept : List ℕ) (q : Answer) (d : Doing) (r : Reply) (heard : List ℕ) (a : ℕ)
-    → Uses d r (told (at kept q d) r heard).doing a
-uses-told kept q Rests r heard a u = uses-rests kept q r heard a u
-uses-told kept q (Got b) reply.Done heard a u = absurd (cc)
-uses-told kept q Opens (reply.Fd f) heard a u = absurd (cc)
-uses-told kept q Opens (reply.Refused no.WouldBlock) heard a u = absurd (cc)
-uses-told kept q Opens (reply.Refused x) heard a u = absurd (cc)
-uses-told kept q Opens r heard a u = absurd (cc)
-uses-told kept q (Reading f) (reply.Agg n) heard a u = inr u
-uses-told kept q (Reading f) (reply.Count n) heard a u = absurd (cc)
-uses-told kept q (Reading f) (reply.Refused no.WouldBlock) heard a u = absurd (cc)
-uses-told kept q (Reading f) (reply.Refused x) heard a u = absurd (cc)
-uses-told kept q (Reading f) r heard a u = absurd (cc)
-uses-told kept q (Shuts f k) reply.Done heard a u = inl (uses-settled q f k a u)
-uses-told kept q (Picks b first last len) (reply.Agg n) heard a u = elim (one-of (b == a) (n == a) u) [ inl is ↦ inl is | inr is ↦ inr is ]
-uses-told kept q (Spares b k) reply.Done heard a u = inl (later_of (b == a) (content_agg k a) u)
-uses-told kept q (Heads k) (reply.Agg n) heard a u = elim (one-of (n == a) (has_followed (following k) a) (uses-headed n (count_of heard) (following k) a u)) [ inl is ↦ inr is | inr is ↦ inl (uses-following k a is) ]
-uses-told kept q (Joins b size body len) (reply.Agg n) heard a u = inr (bare (n == a) u)
-uses-told kept q (Sends b len taken more) (reply.Count k) heard a u = inl (by (nat_lt k len) u)
+pub uses-after_reply : (kept : List ℕ) (q : Answer) (d : Phase) (r : Reply) (received : List ℕ) (a : ℕ)
+    → Uses d r (after_reply (at kept q d) r received).phase a
+uses-after_reply kept q Rests r received a u = uses-rests kept q r received a u
+uses-after_reply kept q (Got b) reply.Done received a u = absurd (cc)
+uses-after_reply kept q Opens (reply.Fd f) received a u = absurd (cc)
+uses-after_reply kept q Opens (reply.Refused no.WouldBlock) received a u = absurd (cc)
+uses-after_reply kept q Opens (reply.Refused x) received a u = absurd (cc)
+uses-after_reply kept q Opens r received a u = absurd (cc)
+uses-after_reply kept q (Reading f) (reply.Agg n) received a u = inr u
+uses-after_reply kept q (Reading f) (reply.Count n) received a u = absurd (cc)
+uses-after_reply kept q (Reading f) (reply.Refused no.WouldBlock) received a u = absurd (cc)
+uses-after_reply kept q (Reading f) (reply.Refused x) received a u = absurd (cc)
+uses-after_reply kept q (Reading f) r received a u = absurd (cc)
+uses-after_reply kept q (Shuts f k) reply.Done received a u = inl (uses-resolved q f k a u)
+uses-after_reply kept q (Picks b first last len) (reply.Agg n) received a u = elim (one-of (b == a) (n == a) u) [ inl is ↦ inl is | inr is ↦ inr is ]
+uses-after_reply kept q (Spares b k) reply.Done received a u = inl (later_of (b == a) (content_agg k a) u)
+uses-after_reply kept q (Heads k) (reply.Agg n) received a u = elim (one-of (n == a) (has_followed (following k) a) (uses-headed n (count_of received) (following k) a u)) [ inl is ↦ inr is | inr is ↦ inl (uses-following k a is) ]
+uses-after_reply kept q (Joins b size body len) (reply.Agg n) received a u = inr (bare (n == a) u)
+uses-after_reply kept q (Sends b len taken more) (reply.Count k) received a u = inl (by (nat_lt k len) u)
   where
     by : (t : Bool) → uses_agg (if t then Cuts b k len (taken + k) more else Sent b (taken + len) more) a ≡ true
         → ((b == a) || has_followed more a) ≡ true
     by true u = u
     by false u = u
-uses-told kept q (Sends b len taken more) (reply.Refused no.BrokenPipe) heard a u = inl u
-uses-told kept q (Cuts b from len taken more) (reply.Agg n) heard a u = elim (one-of (n == a) ((b == a) || has_followed more a) u) [ inl new ↦ inr new | inr old ↦ inl old ]
-uses-told kept q (Offers b from len piece taken more) (reply.Count k) heard a u = inl u
-uses-told kept q (Offers b from len piece taken more) (reply.Refused no.BrokenPipe) heard a u = inl u
-uses-told kept q (Swaps b from len piece taken more) reply.Done heard a u = inl (later_of (piece == a) ((b == a) || has_followed more a) (by (nat_lt from len) u))
+uses-after_reply kept q (Sends b len taken more) (reply.Refused no.BrokenPipe) received a u = inl u
+uses-after_reply kept q (Cuts b from len taken more) (reply.Agg n) received a u = elim (one-of (n == a) ((b == a) || has_followed more a) u) [ inl new ↦ inr new | inr old ↦ inl old ]
+uses-after_reply kept q (Offers b from len piece taken more) (reply.Count k) received a u = inl u
+uses-after_reply kept q (Offers b from len piece taken more) (reply.Refused no.BrokenPipe) received a u = inl u
+uses-after_reply kept q (Swaps b from len piece taken more) reply.Done received a u = inl (later_of (piece == a) ((b == a) || has_followed more a) (by (nat_lt from len) u))
   where
     by : (t : Bool) → uses_agg (if t then Cuts b from len taken more else Sent b taken more) a ≡ true
         → ((b == a) || has_followed more a) ≡ true
     by true u = u
     by false u = u
-uses-told kept q (Sent b taken more) reply.Done heard a u = inl (uses-goes_on q b taken more a u)
-uses-told kept q (Breaks piece b more) reply.Done heard a u = inl (later_of (piece == a) ((b == a) || has_followed more a) u)
-uses-told kept q (Drops b more) reply.Done heard a u = inl (uses-drops b more a u)
-uses-told kept q Closes reply.Done heard a u = absurd (cc)
-uses-told kept q d r heard a u = inl u
+uses-after_reply kept q (Sent b taken more) reply.Done received a u = inl (uses-proceeds q b taken more a u)
+uses-after_reply kept q (Breaks piece b more) reply.Done received a u = inl (later_of (piece == a) ((b == a) || has_followed more a) u)
+uses-after_reply kept q (Drops b more) reply.Done received a u = inl (uses-drops b more a u)
+uses-after_reply kept q Closes reply.Done received a u = absurd (cc)
+uses-after_reply kept q d r received a u = inl u
 
-abbrev UsesFd : Doing → Reply → Doing → (g : ℕ) → Type 0
+abbrev UsesFd : Phase → Reply → Phase → (g : ℕ) → Type 0
 UsesFd d r after g = uses_fd after g ≡ true → (uses_fd d g ≡ true) ⊎ (is_fd r g ≡ true)
 
-uses_fd-rests : (kept : List ℕ) (q : Answer) (r : Reply) (heard : List ℕ) (g : ℕ)
-    → UsesFd Rests r (told_rests kept q r heard).doing g
+uses_fd-rests : (kept : List ℕ) (q : Answer) (r : Reply) (received : List ℕ) (g : ℕ)
+    → UsesFd Rests r (after_receive kept q r received).phase g
 uses_fd-rests kept q (reply.Agg n) [] g u = absurd (cc)
-uses_fd-rests kept q (reply.Agg n) (b ∷ heard) g u = absurd (cc)
-uses_fd-rests kept q r heard g u = absurd (cc)
+uses_fd-rests kept q (reply.Agg n) (b ∷ received) g u = absurd (cc)
+uses_fd-rests kept q r received g u = absurd (cc)
 
-no_fd-settled : (q : Answer) (k : Learnt) (g : ℕ) → uses_fd (settled q k) g ≡ false
-no_fd-settled (serve w) (File b len) g = by (selected w.range len)
+no_fd-resolved : (q : Answer) (k : FileResult) (g : ℕ) → uses_fd (resolved q k) g ≡ false
+no_fd-resolved (serve w) (File b len) g = by (selected w.range len)
   where
     by : (sel : Selection) → uses_fd (sends_of sel b len) g ≡ false
     by (Bytes first last) = refl
     by x = refl
-no_fd-settled (refuse status head_only close) (File b len) g = refl
-no_fd-settled q k g = refl
+no_fd-resolved (refuse status head_only close) (File b len) g = refl
+no_fd-resolved q k g = refl
 
 no_fd-headed : (n size : ℕ) (more : Following) (g : ℕ) → uses_fd (headed n size more) g ≡ false
 no_fd-headed n size None g = refl
@@ -185,9 +185,9 @@ no_fd-headed n size (Some x) g = by (nat_le (size + x.1) MAX_AGGREGATE_BYTES)
     by true = refl
     by false = refl
 
-no_fd-goes_on : (q : Answer) (taken : ℕ) (more : Following) (g : ℕ) → uses_fd (goes_on q taken more) g ≡ false
-no_fd-goes_on q taken (Some x) g = refl
-no_fd-goes_on q taken None g = by (keeps q)
+no_fd-proceeds : (q : Answer) (taken : ℕ) (more : Following) (g : ℕ) → uses_fd (proceeds q taken more) g ≡ false
+no_fd-proceeds q taken (Some x) g = refl
+no_fd-proceeds q taken None g = by (keeps q)
   where
     by : (t : Bool) → uses_fd (if t then Rests else Closes) g ≡ false
     by true = refl
@@ -197,42 +197,42 @@ no_fd-drops : (more : Following) (g : ℕ) → uses_fd (drops_next more) g ≡ f
 no_fd-drops (Some x) g = refl
 no_fd-drops None g = refl
 
-pub uses_fd-told : (kept : List ℕ) (q : Answer) (d : Doing) (r : Reply) (heard : List ℕ) (g : ℕ)
-    → UsesFd d r (told (at kept q d) r heard).doing g
-uses_fd-told kept q Rests r heard g u = uses_fd-rests kept q r heard g u
-uses_fd-told kept q (Got b) reply.Done heard g u = absurd (cc)
-uses_fd-told kept q Opens (reply.Fd f) heard g u = inr u
-uses_fd-told kept q Opens (reply.Refused no.WouldBlock) heard g u = absurd (cc)
-uses_fd-told kept q Opens (reply.Refused x) heard g u = absurd (cc)
-uses_fd-told kept q Opens r heard g u = absurd (cc)
-uses_fd-told kept q (Reading f) (reply.Agg n) heard g u = inl u
-uses_fd-told kept q (Reading f) (reply.Count n) heard g u = inl u
-uses_fd-told kept q (Reading f) (reply.Refused no.WouldBlock) heard g u = inl u
-uses_fd-told kept q (Reading f) (reply.Refused x) heard g u = inl u
-uses_fd-told kept q (Shuts f k) reply.Done heard g u = absurd (clash (uses_fd (settled q k) g) u (no_fd-settled q k g))
-uses_fd-told kept q (Picks b first last len) (reply.Agg n) heard g u = absurd (cc)
-uses_fd-told kept q (Spares b k) reply.Done heard g u = absurd (cc)
-uses_fd-told kept q (Heads k) (reply.Agg n) heard g u = absurd (clash (uses_fd (headed n (count_of heard) (following k)) g) u (no_fd-headed n (count_of heard) (following k) g))
-uses_fd-told kept q (Joins b size body len) (reply.Agg n) heard g u = absurd (cc)
-uses_fd-told kept q (Sends b len taken more) (reply.Count k) heard g u = absurd (by (nat_lt k len) u)
+pub uses_fd-after_reply : (kept : List ℕ) (q : Answer) (d : Phase) (r : Reply) (received : List ℕ) (g : ℕ)
+    → UsesFd d r (after_reply (at kept q d) r received).phase g
+uses_fd-after_reply kept q Rests r received g u = uses_fd-rests kept q r received g u
+uses_fd-after_reply kept q (Got b) reply.Done received g u = absurd (cc)
+uses_fd-after_reply kept q Opens (reply.Fd f) received g u = inr u
+uses_fd-after_reply kept q Opens (reply.Refused no.WouldBlock) received g u = absurd (cc)
+uses_fd-after_reply kept q Opens (reply.Refused x) received g u = absurd (cc)
+uses_fd-after_reply kept q Opens r received g u = absurd (cc)
+uses_fd-after_reply kept q (Reading f) (reply.Agg n) received g u = inl u
+uses_fd-after_reply kept q (Reading f) (reply.Count n) received g u = inl u
+uses_fd-after_reply kept q (Reading f) (reply.Refused no.WouldBlock) received g u = inl u
+uses_fd-after_reply kept q (Reading f) (reply.Refused x) received g u = inl u
+uses_fd-after_reply kept q (Shuts f k) reply.Done received g u = absurd (clash (uses_fd (resolved q k) g) u (no_fd-resolved q k g))
+uses_fd-after_reply kept q (Picks b first last len) (reply.Agg n) received g u = absurd (cc)
+uses_fd-after_reply kept q (Spares b k) reply.Done received g u = absurd (cc)
+uses_fd-after_reply kept q (Heads k) (reply.Agg n) received g u = absurd (clash (uses_fd (headed n (count_of received) (following k)) g) u (no_fd-headed n (count_of received) (following k) g))
+uses_fd-after_reply kept q (Joins b size body len) (reply.Agg n) received g u = absurd (cc)
+uses_fd-after_reply kept q (Sends b len taken more) (reply.Count k) received g u = absurd (by (nat_lt k len) u)
   where
     by : (t : Bool) → uses_fd (if t then Cuts b k len (taken + k) more else Sent b (taken + len) more) g ≡ true → ⊥
     by true u = cc
     by false u = cc
-uses_fd-told kept q (Sends b len taken more) (reply.Refused no.BrokenPipe) heard g u = absurd (cc)
-uses_fd-told kept q (Cuts b from len taken more) (reply.Agg n) heard g u = absurd (cc)
-uses_fd-told kept q (Offers b from len piece taken more) (reply.Count k) heard g u = absurd (cc)
-uses_fd-told kept q (Offers b from len piece taken more) (reply.Refused no.BrokenPipe) heard g u = absurd (cc)
-uses_fd-told kept q (Swaps b from len piece taken more) reply.Done heard g u = absurd (by (nat_lt from len) u)
+uses_fd-after_reply kept q (Sends b len taken more) (reply.Refused no.BrokenPipe) received g u = absurd (cc)
+uses_fd-after_reply kept q (Cuts b from len taken more) (reply.Agg n) received g u = absurd (cc)
+uses_fd-after_reply kept q (Offers b from len piece taken more) (reply.Count k) received g u = absurd (cc)
+uses_fd-after_reply kept q (Offers b from len piece taken more) (reply.Refused no.BrokenPipe) received g u = absurd (cc)
+uses_fd-after_reply kept q (Swaps b from len piece taken more) reply.Done received g u = absurd (by (nat_lt from len) u)
   where
     by : (t : Bool) → uses_fd (if t then Cuts b from len taken more else Sent b taken more) g ≡ true → ⊥
     by true u = cc
     by false u = cc
-uses_fd-told kept q (Sent b taken more) reply.Done heard g u = absurd (clash (uses_fd (goes_on q taken more) g) u (no_fd-goes_on q taken more g))
-uses_fd-told kept q (Breaks piece b more) reply.Done heard g u = absurd (cc)
-uses_fd-told kept q (Drops b more) reply.Done heard g u = absurd (clash (uses_fd (drops_next more) g) u (no_fd-drops more g))
-uses_fd-told kept q Closes reply.Done heard g u = absurd (cc)
-uses_fd-told kept q d r heard g u = inl u
+uses_fd-after_reply kept q (Sent b taken more) reply.Done received g u = absurd (clash (uses_fd (proceeds q taken more) g) u (no_fd-proceeds q taken more g))
+uses_fd-after_reply kept q (Breaks piece b more) reply.Done received g u = absurd (cc)
+uses_fd-after_reply kept q (Drops b more) reply.Done received g u = absurd (clash (uses_fd (drops_next more) g) u (no_fd-drops more g))
+uses_fd-after_reply kept q Closes reply.Done received g u = absurd (cc)
+uses_fd-after_reply kept q d r received g u = inl u
 
 pub begins-none : (q : Answer) (a : ℕ) → uses_agg (begins q) a ≡ false
 begins-none (serve w) a = refl
@@ -244,53 +244,53 @@ begins-no_fd (refuse status head_only close) g = refl
 
 -- What a connection uses is there.
 
-at-number : (m : State) (b a : ℕ) → (b == a) ≡ true → (bytes : List ℕ) → lent_at m server b ≡ Some bytes → IsLent m a
-at-number m b a is bytes lent = (bytes, ap (λ n. lent_at m server n) (sym (same-number b a is)) ∙ lent)
+at-number : (m : State) (b a : ℕ) → (b == a) ≡ true → (bytes : List ℕ) → readable_at m server b ≡ Some bytes → IsReadable m a
+at-number m b a is bytes readable = (bytes, ap (λ n. readable_at m server n) (sym (same-number b a is)) ∙ readable)
 
 at-following : (m : State) (more : Following) (bytes : List ℕ) (a : ℕ) → has_followed more a ≡ true
-    → LendsMore m more bytes → IsLent m a
+    → MoreIsReadable m more bytes → IsReadable m a
 at-following m None bytes a u is = absurd (cc)
 at-following m (Some x) bytes a u is = at-number m x.0 a u bytes is.0
 
-at-content : (m : State) (q : Answer) (due : List ℕ) (k : Content) (a : ℕ) → content_agg k a ≡ true
-    → HasContent m q due k → IsLent m a
-at-content m q due (Body b size len) a u h = at-number m b a u h.bytes h.lends
-at-content m q due k a u h = absurd (cc)
+at-content : (m : State) (q : Answer) (expected : List ℕ) (k : Payload) (a : ℕ) → content_agg k a ≡ true
+    → HasContent m q expected k → IsReadable m a
+at-content m q expected (Body b size len) a u h = at-number m b a u h.bytes h.is_readable
+at-content m q expected k a u h = absurd (cc)
 
-at-learnt : (m : State) (q : Answer) (due : List ℕ) (k : Learnt) (a : ℕ) → learnt_agg k a ≡ true
-    → HasLearnt m q due k → IsLent m a
-at-learnt m (serve w) due (File b len) a u h = at-number m b a u h.bytes h.lends
-at-learnt m (refuse status head_only close) due (File b len) a u h = absurd h
-at-learnt m q due (TextOf b runs) a u h = at-number m b a u h.0.0 h.0.1
-at-learnt m q due x a u h = absurd (cc)
+at-file_result : (m : State) (q : Answer) (expected : List ℕ) (k : FileResult) (a : ℕ) → file_result_agg k a ≡ true
+    → HasFileResult m q expected k → IsReadable m a
+at-file_result m (serve w) expected (File b len) a u h = at-number m b a u h.bytes h.is_readable
+at-file_result m (refuse status head_only close) expected (File b len) a u h = absurd h
+at-file_result m q expected (TextOf b runs) a u h = at-number m b a u h.0.0 h.0.1
+at-file_result m q expected x a u h = absurd (cc)
 
 two : (m : State) (b : ℕ) (rest : Bool) (a : ℕ) → ((b == a) || rest) ≡ true → (bytes : List ℕ)
-    → lent_at m server b ≡ Some bytes → (rest ≡ true → IsLent m a) → IsLent m a
-two m b rest a u bytes lent other = elim (one-of (b == a) rest u) [ inl is ↦ at-number m b a is bytes lent | inr is ↦ other is ]
+    → readable_at m server b ≡ Some bytes → (rest ≡ true → IsReadable m a) → IsReadable m a
+two m b rest a u bytes readable other = elim (one-of (b == a) rest u) [ inl is ↦ at-number m b a is bytes readable | inr is ↦ other is ]
 
-pub has-agg : (m : State) (q : Answer) (due : List ℕ) (d : Doing) (a : ℕ) → uses_agg d a ≡ true
-    → Has m q due d → IsLent m a
-has-agg m q due (Got b) a u has = at-number m b a u has.0 has.1
-has-agg m q due (Shuts f k) a u has = at-learnt m q due k a u has.1
-has-agg m q due (Picks b first last len) a u has = at-number m b a u has.bytes has.lends
-has-agg m q due (Spares b k) a u has = two m b (content_agg k a) a u has.0.0 has.0.1 (λ is. at-content m q due k a is has.2)
-has-agg m q due (Heads k) a u has = at-content m q due k a u has
-has-agg m q due (Joins b size body len) a u has = two m b (body == a) a u has.0.bytes has.0.lends (λ is. at-number m body a is has.0.after has.0.follows.0)
-has-agg m q due (Sends b len taken more) a u has = two m b (has_followed more a) a u has.bytes has.lends (λ is. at-following m more has.after a is has.follows)
-has-agg m q due (Cuts b from len taken more) a u has = two m b (has_followed more a) a u has.0.bytes has.0.lends (λ is. at-following m more has.0.after a is has.0.follows)
-has-agg m q due (Offers b from len piece taken more) a u has =
-    two m piece ((b == a) || has_followed more a) a u (slice_range has.whole.bytes from (piece_end from len)) has.lends
-    (λ v. two m b (has_followed more a) a v has.whole.bytes has.whole.lends (λ is. at-following m more has.whole.after a is has.whole.follows))
-has-agg m q due (Swaps b from len piece taken more) a u has = two m piece ((b == a) || has_followed more a) a u has.0.0 has.0.1 (λ v. two m b (has_followed more a) a v has.2.bytes has.2.lends (λ is. at-following m more has.2.after a is has.2.follows))
-has-agg m q due (Sent b taken more) a u has = two m b (has_followed more a) a u has.bytes has.lends (λ is. at-following m more has.after a is has.follows)
-has-agg m q due (Breaks piece b more) a u has = two m piece ((b == a) || has_followed more a) a u has.0.0 has.0.1 (λ v. two m b (has_followed more a) a v has.2.lent.0 has.2.lent.1 (λ is. at-following m more has.2.after a is has.2.follows))
-has-agg m q due (Drops b more) a u has = two m b (has_followed more a) a u has.lent.0 has.lent.1 (λ is. at-following m more has.after a is has.follows)
-has-agg m q due Over a u has = absurd has
-has-agg m q due d a u has = absurd (cc)
+pub has-agg : (m : State) (q : Answer) (expected : List ℕ) (d : Phase) (a : ℕ) → uses_agg d a ≡ true
+    → Has m q expected d → IsReadable m a
+has-agg m q expected (Got b) a u has = at-number m b a u has.0 has.1
+has-agg m q expected (Shuts f k) a u has = at-file_result m q expected k a u has.1
+has-agg m q expected (Picks b first last len) a u has = at-number m b a u has.bytes has.is_readable
+has-agg m q expected (Spares b k) a u has = two m b (content_agg k a) a u has.0.0 has.0.1 (λ is. at-content m q expected k a is has.2)
+has-agg m q expected (Heads k) a u has = at-content m q expected k a u has
+has-agg m q expected (Joins b size body len) a u has = two m b (body == a) a u has.0.bytes has.0.is_readable (λ is. at-number m body a is has.0.after has.0.follows.0)
+has-agg m q expected (Sends b len taken more) a u has = two m b (has_followed more a) a u has.bytes has.is_readable (λ is. at-following m more has.after a is has.follows)
+has-agg m q expected (Cuts b from len taken more) a u has = two m b (has_followed more a) a u has.0.bytes has.0.is_readable (λ is. at-following m more has.0.after a is has.0.follows)
+has-agg m q expected (Offers b from len piece taken more) a u has =
+    two m piece ((b == a) || has_followed more a) a u (slice_range has.whole.bytes from (piece_end from len)) has.is_readable
+    (λ v. two m b (has_followed more a) a v has.whole.bytes has.whole.is_readable (λ is. at-following m more has.whole.after a is has.whole.follows))
+has-agg m q expected (Swaps b from len piece taken more) a u has = two m piece ((b == a) || has_followed more a) a u has.0.0 has.0.1 (λ v. two m b (has_followed more a) a v has.2.bytes has.2.is_readable (λ is. at-following m more has.2.after a is has.2.follows))
+has-agg m q expected (Sent b taken more) a u has = two m b (has_followed more a) a u has.bytes has.is_readable (λ is. at-following m more has.after a is has.follows)
+has-agg m q expected (Breaks piece b more) a u has = two m piece ((b == a) || has_followed more a) a u has.0.0 has.0.1 (λ v. two m b (has_followed more a) a v has.2.readable.0 has.2.readable.1 (λ is. at-following m more has.2.after a is has.2.follows))
+has-agg m q expected (Drops b more) a u has = two m b (has_followed more a) a u has.readable.0 has.readable.1 (λ is. at-following m more has.after a is has.follows)
+has-agg m q expected Over a u has = absurd has
+has-agg m q expected d a u has = absurd (cc)
 
-pub has-fd : (m : State) (q : Answer) (due : List ℕ) (d : Doing) (g : ℕ) → uses_fd d g ≡ true
-    → Has m q due d → (f pos : ℕ) × (descriptor m server g ≡ Some (on.File f pos modes.Read))
-has-fd m q due (Reading f) g u has = (has.1.0, has.1.1, ap (λ n. descriptor m server n) (sym (same-number f g u)) ∙ has.1.2)
-has-fd m q due (Shuts f k) g u has = (has.0.0, has.0.1, ap (λ n. descriptor m server n) (sym (same-number f g u)) ∙ has.0.2)
-has-fd m q due Over g u has = absurd has
-has-fd m q due d g u has = absurd (cc)
+pub has-fd : (m : State) (q : Answer) (expected : List ℕ) (d : Phase) (g : ℕ) → uses_fd d g ≡ true
+    → Has m q expected d → (f pos : ℕ) × (descriptor m server g ≡ Some (on.File f pos modes.Read))
+has-fd m q expected (Reading f) g u has = (has.1.0, has.1.1, ap (λ n. descriptor m server n) (sym (same-number f g u)) ∙ has.1.2)
+has-fd m q expected (Shuts f k) g u has = (has.0.0, has.0.1, ap (λ n. descriptor m server n) (sym (same-number f g u)) ∙ has.0.2)
+has-fd m q expected Over g u has = absurd has
+has-fd m q expected d g u has = absurd (cc)

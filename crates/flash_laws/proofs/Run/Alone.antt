@@ -19,16 +19,16 @@ use Rattle.flash_laws.specs.Conn as conn
 use Rattle.flash_laws.specs.Conn.{has_followed, piece_end}
 use Rattle.flash_laws.specs.Run.Fits.{Progress, IsSending, HasRun}
 use Rattle.flash_laws.specs.Run.Holdings.{has_end, may_make, MayTouch, KeepsToItself}
-use Rattle.flash_laws.specs.Run.{worker_domain, job_pipe, has_frame, uses_agg, held_size, in_phase, step_wants, wants, told, is_left, is_over}
+use Rattle.flash_laws.specs.Run.{worker_domain, job_pipe, has_frame, uses_agg, held_size, in_phase, step_wants, wants, after_reply, is_left, is_over}
 use Rattle.flash_laws.specs.Answers.Scripts.{script_text, frame_of, place_in_frame, end_around}
 use Rattle.flash_laws.specs.Site.{server}
-use Rattle.flash_laws.specs.declared.phase.Content.TheVariants.{Error}
-use Rattle.flash_laws.specs.declared.phase.Doing.{Doing}
-use Rattle.flash_laws.specs.declared.phase.Doing.TheVariants as doing
+use Rattle.flash_laws.specs.declared.phase.Payload.TheVariants.{Error}
+use Rattle.flash_laws.specs.declared.phase.Phase.{Phase}
+use Rattle.flash_laws.specs.declared.phase.Phase.TheVariants as phase
 use Rattle.flash_laws.specs.declared.script_run.TheConstants.{CHUNK_BYTES}
 use Rattle.flash_laws.specs.declared.script_run.Run.{Run}
 use Rattle.flash_laws.specs.declared.script_run.Step.{Step}
-use Rattle.flash_laws.specs.declared.script_run.Step.TheVariants.{Gives, Makes, Hands, Lets, Heads, Sending, Hears, Spills, Gathers, Frames, Wraps, Trims, Ended, Unholds, Stops, Unframes, Lasts, WrapsLast, TrimsLast, Unwraps, Returns, Lapses, Fails}
+use Rattle.flash_laws.specs.declared.script_run.Step.TheVariants.{Gives, Makes, Hands, Lets, Heads, Sending, Receives, Spills, Gathers, Frames, Wraps, Trims, Ended, Unholds, Stops, Unframes, Lasts, WrapsLast, TrimsLast, Unwraps, Returns, Lapses, Fails}
 use Rattle.flash_laws.specs.declared.script_run.Running.{Running}
 use Rattle.flash_laws.specs.declared.script_run.Running.TheVariants.{Awaits, Runs, Leaves, Closes}
 use Rattle.flash_laws.proofs.Lists.{clash, later_of, bare, former_of, not-false}
@@ -112,17 +112,17 @@ module _ (m : State) (fd c : ℕ) (x : Running) where
   closes f p y open_on no_conn its_end has = on-end (call.Close f) f p y open_on no_conn its_end refl (λ b. refl) (λ d. refl) (λ q. refl) has refl
 
   -- a phase that sends
-  sends : (w : Wanted) (due : List ℕ) (d : Doing) → descriptor m server fd ≡ Some (on.Connection c) → ((a : ℕ) → conn.uses_agg d a ≡ true → uses_agg x a ≡ true)
-      → IsSending m due d → Keeps (conn.wants fd (in_phase w d))
-  sends w due (doing.Heads (Error status)) open_on uses is = makes (conn.text_of (serve w) (Error status))
-  sends w due (doing.Sends a len taken None) open_on uses is = offers a open_on
-  sends w due (doing.Cuts a from len taken None) open_on uses is = cuts a from (piece_end from len)
-  sends w due (doing.Offers a from len piece taken None) open_on uses is = offers piece open_on
-  sends w due (doing.Swaps a from len piece taken None) open_on uses is = drops piece (λ b u. uses b (former_of (piece == b) ((a == b) || false) u))
-  sends w due (doing.Sent a taken None) open_on uses is = drops a (λ b u. uses b (former_of (a == b) false u))
-  sends w due (doing.Breaks piece a None) open_on uses is = drops piece (λ b u. uses b (former_of (piece == b) ((a == b) || false) u))
-  sends w due (doing.Drops a None) open_on uses is = drops a (λ b u. uses b (former_of (a == b) false u))
-  sends w due d open_on uses is = absurd is.0
+  sends : (w : Wanted) (expected : List ℕ) (d : Phase) → descriptor m server fd ≡ Some (on.Connection c) → ((a : ℕ) → conn.uses_agg d a ≡ true → uses_agg x a ≡ true)
+      → IsSending m expected d → Keeps (conn.wants fd (in_phase w d))
+  sends w expected (phase.Heads (Error status)) open_on uses is = makes (conn.text_of (serve w) (Error status))
+  sends w expected (phase.Sends a len taken None) open_on uses is = offers a open_on
+  sends w expected (phase.Cuts a from len taken None) open_on uses is = cuts a from (piece_end from len)
+  sends w expected (phase.Offers a from len piece taken None) open_on uses is = offers piece open_on
+  sends w expected (phase.Swaps a from len piece taken None) open_on uses is = drops piece (λ b u. uses b (former_of (piece == b) ((a == b) || false) u))
+  sends w expected (phase.Sent a taken None) open_on uses is = drops a (λ b u. uses b (former_of (a == b) false u))
+  sends w expected (phase.Breaks piece a None) open_on uses is = drops piece (λ b u. uses b (former_of (piece == b) ((a == b) || false) u))
+  sends w expected (phase.Drops a None) open_on uses is = drops a (λ b u. uses b (former_of (a == b) false u))
+  sends w expected d open_on uses is = absurd is.0
 
 to-end : (m : State) (f p q : ℕ) → descriptor m server f ≡ Some (on.ReadEnd p) → p ≡ q → descriptor m server f ≡ Some (on.ReadEnd q)
 to-end m f p q open_on same = subst (λ z. descriptor m server f ≡ Some (on.ReadEnd z)) same open_on
@@ -142,7 +142,7 @@ module _ (job : ℕ → List ℕ) (m : State) (fd c : ℕ) (w : Wanted) (o : Pro
   step-alone (Lets j) has = drops m fd c (Runs run (Lets j)) j (λ a u. u)
   step-alone Heads has = makes m fd c (Runs run Heads) (script_text w)
   step-alone (Sending d frame) has = sends m fd c (Runs run (Sending d frame)) w has.1.part d open_on (λ a u. former_of (conn.uses_agg d a) (has_frame frame a) u) (part-sends m has.1.part d has.1.is_part has.1.within)
-  step-alone (Hears held frame) has = reads m fd c (Runs run (Hears held frame)) run.from has.1.reads.0 (CHUNK_BYTES - held_size held) has.1.reads.1 (λ q same. to-end m run.from has.1.reads.0 q has.1.reads.1 same)
+  step-alone (Receives held frame) has = reads m fd c (Runs run (Receives held frame)) run.from has.1.reads.0 (CHUNK_BYTES - held_size held) has.1.reads.1 (λ q same. to-end m run.from has.1.reads.0 q has.1.reads.1 same)
   step-alone (Spills a frame) has = drops m fd c (Runs run (Spills a frame)) a (λ b u. former_of (a == b) (has_frame frame b) u)
   step-alone (Gathers held size piece len frame) has = joins m fd c (Runs run (Gathers held size piece len frame)) held piece (λ a u. around (held == a) (piece == a) (has_frame frame a) u)
     where
@@ -178,7 +178,7 @@ keeps-alone job m fd c w Awaits o open_on going has = record {
 keeps-alone job m fd c w (Runs run s) o open_on going has = step-alone job m fd c w o run open_on s has
 keeps-alone job m fd c w (Leaves d) o open_on going has =
     let h = is-rest m w o d (not-false (is_left d) going) has in
-    sends m fd c (Leaves d) w h.due d open_on (λ a u. u) h.sends
+    sends m fd c (Leaves d) w h.expected d open_on (λ a u. u) h.sends
 keeps-alone job m fd c w Closes o open_on going has = absurd (cc (going))
 
 -- ---- a pipe that comes is had
@@ -188,17 +188,17 @@ only-pipe : (m n : State) (d from write : ℕ) (k : Call) → StepsTo m (event.C
 only-pipe m n d from write call.Pipe step = refl
 only-pipe m n d from write k step = let e = step.1 in absurd (cc (e))
 
-no-pipe : (m : State) (fd : ℕ) (w : Wanted) (due : List ℕ) (d : Doing) → IsSending m due d → conn.wants fd (in_phase w d) ≡ call.Pipe → ⊥
-no-pipe m fd w due (doing.Reads f) sends is = sends.0
-no-pipe m fd w due d sends is = cc (is)
+no-pipe : (m : State) (fd : ℕ) (w : Wanted) (expected : List ℕ) (d : Phase) → IsSending m expected d → conn.wants fd (in_phase w d) ≡ call.Pipe → ⊥
+no-pipe m fd w expected (phase.Reads f) sends is = sends.0
+no-pipe m fd w expected d sends is = cc (is)
 
-pub opened : (job : ℕ → List ℕ) (m n : State) (fd worker : ℕ) (w : Wanted) (x : Running) (o : Progress) (from write : ℕ) (heard : List ℕ) (g : ℕ)
+pub opened : (job : ℕ → List ℕ) (m n : State) (fd worker : ℕ) (w : Wanted) (x : Running) (o : Progress) (from write : ℕ) (received : List ℕ) (g : ℕ)
     → is_over x ≡ false → HasRun job m w o x → StepsTo m (event.Call server (wants job fd w x)) (reply.Fds from write) n
-    → ((from == g) || (write == g)) ≡ true → has_end (told worker w x (reply.Fds from write) heard) g ≡ true
-opened job m n fd worker w x o from write heard g going has step u = by x going has (only-pipe m n server from write (wants job fd w x) step)
+    → ((from == g) || (write == g)) ≡ true → has_end (after_reply worker w x (reply.Fds from write) received) g ≡ true
+opened job m n fd worker w x o from write received g going has step u = by x going has (only-pipe m n server from write (wants job fd w x) step)
   where
-    by : (x : Running) → is_over x ≡ false → HasRun job m w o x → wants job fd w x ≡ call.Pipe → has_end (told worker w x (reply.Fds from write) heard) g ≡ true
+    by : (x : Running) → is_over x ≡ false → HasRun job m w o x → wants job fd w x ≡ call.Pipe → has_end (after_reply worker w x (reply.Fds from write) received) g ≡ true
     by Awaits going has is = u
-    by (Leaves d) going has is = let h = is-rest m w o d (not-false (is_left d) going) has in absurd (no-pipe m fd w h.due d h.sends is)
+    by (Leaves d) going has is = let h = is-rest m w o d (not-false (is_left d) going) has in absurd (no-pipe m fd w h.expected d h.sends is)
     by (Runs run (Sending d frame)) going has is = absurd (no-pipe m fd w has.1.part d (part-sends m has.1.part d has.1.is_part has.1.within) is)
     by x going has is = absurd (cc (is))

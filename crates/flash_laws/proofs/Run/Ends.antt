@@ -10,34 +10,34 @@ use Rattle.flash_laws.specs.Conn.{Following, count_of}
 use Rattle.iol_core.specs.State.{State}
 use Rattle.flash_laws.specs.Client.ResponseState.{IsTaken, IsAfter}
 use Rattle.flash_laws.specs.Run.Fits.{Progress, Broken, IsLeft, HasNone, HasLeft, HasRun}
-use Rattle.flash_laws.specs.Run.{is_again, is_left, is_over, wants, told, told_step, holding, hearing, filled, finishing, both}
-use Rattle.flash_laws.specs.declared.phase.Doing.{Doing}
-use Rattle.flash_laws.specs.declared.phase.Doing.TheVariants as doing
+use Rattle.flash_laws.specs.Run.{is_again, is_left, is_over, wants, after_reply, after_step, holding, hearing, filled, finishing, both}
+use Rattle.flash_laws.specs.declared.phase.Phase.{Phase}
+use Rattle.flash_laws.specs.declared.phase.Phase.TheVariants as phase
 use Rattle.flash_laws.specs.declared.script_run.TheConstants.{CHUNK_BYTES}
 use Rattle.flash_laws.specs.declared.script_run.Run.{Run}
 use Rattle.flash_laws.specs.declared.script_run.Step.{Step}
-use Rattle.flash_laws.specs.declared.script_run.Step.TheVariants.{Gives, Makes, Hands, Lets, Heads, Sending, Hears, Spills, Gathers, Frames, Wraps, Trims, Ended, Unholds, Stops, Unframes, Lasts, WrapsLast, TrimsLast, Unwraps, Returns, Lapses, Fails}
+use Rattle.flash_laws.specs.declared.script_run.Step.TheVariants.{Gives, Makes, Hands, Lets, Heads, Sending, Receives, Spills, Gathers, Frames, Wraps, Trims, Ended, Unholds, Stops, Unframes, Lasts, WrapsLast, TrimsLast, Unwraps, Returns, Lapses, Fails}
 use Rattle.flash_laws.specs.declared.script_run.Running.{Running}
 use Rattle.flash_laws.specs.declared.script_run.Running.TheVariants.{Awaits, Runs, Leaves, Closes}
 use Rattle.flash_laws.proofs.Lists.{clash, not-true}
 
 -- ---- it ends where the connection rests, or is to be closed
 
-abbrev pub IsEnd : Doing → Type 0
-IsEnd d = (d ≡ doing.Rests) ⊎ (d ≡ doing.Closes)
+abbrev pub IsEnd : Phase → Type 0
+IsEnd d = (d ≡ phase.Rests) ⊎ (d ≡ phase.Closes)
 
 -- what is left is sent, until nothing of it is
-left-ends : (m : State) (w : Wanted) (o : Progress) (d : Doing) → HasLeft m w o d → is_left d ≡ false → IsEnd d
-left-ends m w o doing.Rests has over = inl refl
-left-ends m w o doing.Closes has over = inr refl
-left-ends m w o (doing.Heads k) has over = absurd (cc (over))
-left-ends m w o (doing.Sends a len taken more) has over = absurd (cc (over))
-left-ends m w o (doing.Cuts a from len taken more) has over = absurd (cc (over))
-left-ends m w o (doing.Offers a from len piece taken more) has over = absurd (cc (over))
-left-ends m w o (doing.Swaps a from len piece taken more) has over = absurd (cc (over))
-left-ends m w o (doing.Sent a taken more) has over = absurd (cc (over))
-left-ends m w o (doing.Breaks piece a more) has over = absurd (cc (over))
-left-ends m w o (doing.Drops a more) has over = absurd (cc (over))
+left-ends : (m : State) (w : Wanted) (o : Progress) (d : Phase) → HasLeft m w o d → is_left d ≡ false → IsEnd d
+left-ends m w o phase.Rests has over = inl refl
+left-ends m w o phase.Closes has over = inr refl
+left-ends m w o (phase.Heads k) has over = absurd (cc (over))
+left-ends m w o (phase.Sends a len taken more) has over = absurd (cc (over))
+left-ends m w o (phase.Cuts a from len taken more) has over = absurd (cc (over))
+left-ends m w o (phase.Offers a from len piece taken more) has over = absurd (cc (over))
+left-ends m w o (phase.Swaps a from len piece taken more) has over = absurd (cc (over))
+left-ends m w o (phase.Sent a taken more) has over = absurd (cc (over))
+left-ends m w o (phase.Breaks piece a more) has over = absurd (cc (over))
+left-ends m w o (phase.Drops a more) has over = absurd (cc (over))
 left-ends m w o d has over = absurd has.sends.0
 
 pub run-ends : (job : ℕ → List ℕ) (m : State) (w : Wanted) (o : Progress) (z : Running) → HasRun job m w o z → is_over z ≡ true → IsEnd (after_run z)
@@ -55,10 +55,10 @@ none-taken : (w : Wanted) (o : Progress) → HasNone w o → IsTaken w o
 none-taken w Broken none = tt
 none-taken w x none = none.0
 
-left-after : (m : State) (w : Wanted) (o : Progress) (d : Doing) → HasLeft m w o d → IsEnd d → IsAfter w o d
+left-after : (m : State) (w : Wanted) (o : Progress) (d : Phase) → HasLeft m w o d → IsEnd d → IsAfter w o d
 left-after m w o d has ends = elim ends [
-  | inl rests ↦ subst (λ (e : Doing). IsAfter w o e) (sym rests) (subst (λ (e : Doing). HasLeft m w o e) rests has)
-  | inr closes ↦ subst (λ (e : Doing). IsAfter w o e) (sym closes) (none-taken w o (subst (λ (e : Doing). HasLeft m w o e) closes has))
+  | inl rests ↦ subst (λ (e : Phase). IsAfter w o e) (sym rests) (subst (λ (e : Phase). HasLeft m w o e) rests has)
+  | inr closes ↦ subst (λ (e : Phase). IsAfter w o e) (sym closes) (none-taken w o (subst (λ (e : Phase). HasLeft m w o e) closes has))
 ]
 
 pub run-after : (job : ℕ → List ℕ) (m : State) (w : Wanted) (o : Progress) (z : Running) → HasRun job m w o z → is_over z ≡ true → IsAfter w o (after_run z)
@@ -74,7 +74,7 @@ Forgets z = keeps_text z ≡ false
 holding-forgets : (run : Run) (held size : ℕ) (frame : Option ℕ) → Forgets (Runs run (holding held size frame))
 holding-forgets run held size frame = by (nat_lt size CHUNK_BYTES) frame
   where
-    by : (t : Bool) (frame : Option ℕ) → Forgets (Runs run (if t then Hears (Some (held, size)) frame else filled held frame))
+    by : (t : Bool) (frame : Option ℕ) → Forgets (Runs run (if t then Receives (Some (held, size)) frame else filled held frame))
     by true frame = refl
     by false None = refl
     by false (Some f) = refl
@@ -90,52 +90,52 @@ finishing-forgets false true run held = refl
 finishing-forgets false false run held = refl
 finishing-forgets true c run held = refl
 
-step-forgets : (w : Wanted) (run : Run) (s : Step) (r : Reply) (heard : List ℕ) → keeps_text (Runs run s) ≡ false → Forgets (told_step w run s r heard)
-step-forgets w run (Gives write) r heard was = absurd (cc (was))
-step-forgets w run (Makes f) r heard was = absurd (cc (was))
-step-forgets w run (Hands j f) (reply.Count n) heard was = refl
-step-forgets w run (Hands j f) (reply.Refused x) heard was = by (is_again x)
+step-forgets : (w : Wanted) (run : Run) (s : Step) (r : Reply) (received : List ℕ) → keeps_text (Runs run s) ≡ false → Forgets (after_step w run s r received)
+step-forgets w run (Gives write) r received was = absurd (cc (was))
+step-forgets w run (Makes f) r received was = absurd (cc (was))
+step-forgets w run (Hands j f) (reply.Count n) received was = refl
+step-forgets w run (Hands j f) (reply.Refused x) received was = by (is_again x)
   where
     by : (t : Bool) → Forgets (Runs run (if t then Hands j f else Lapses j))
     by true = refl
     by false = refl
-step-forgets w run (Lets j) reply.Done heard was = refl
-step-forgets w run Heads (reply.Agg n) heard was = refl
-step-forgets w run (Sending (doing.Sent a taken None) frame) reply.Done heard was = refl
-step-forgets w run (Sending (doing.Drops a None) frame) reply.Done heard was = refl
-step-forgets w run (Hears held frame) (reply.Agg n) [] was = refl
-step-forgets w run (Hears held frame) (reply.Agg n) (b ∷ heard) was = hearing-forgets run run.broken w.chunked held frame n (count_of (b ∷ heard))
-step-forgets w run (Hears None frame) (reply.Refused (no.Denied p)) heard was = refl
-step-forgets w run (Hears (Some x) frame) (reply.Refused (no.Denied p)) heard was = refl
-step-forgets w run (Spills a frame) reply.Done heard was = refl
-step-forgets w run (Gathers held size piece len frame) (reply.Agg n) heard was = holding-forgets run n (both size len) frame
-step-forgets w run (Frames held) (reply.Agg n) heard was = refl
-step-forgets w run (Wraps held frame) (reply.Agg n) heard was = refl
-step-forgets w run (Trims held chunk len frame) reply.Done heard was = refl
-step-forgets w run (Ended a held frame) reply.Done heard was = refl
-step-forgets w run (Unholds held frame) reply.Done heard was = refl
-step-forgets w run (Stops held None) reply.Done heard was = finishing-forgets run.broken w.chunked run held
-step-forgets w run (Stops held (Some f)) reply.Done heard was = refl
-step-forgets w run (Unframes f held) reply.Done heard was = finishing-forgets run.broken w.chunked run held
-step-forgets w run (Lasts None) (reply.Agg n) heard was = refl
-step-forgets w run (Lasts (Some x)) (reply.Agg n) heard was = refl
-step-forgets w run (WrapsLast held size frame) (reply.Agg n) heard was = refl
-step-forgets w run (TrimsLast held chunk len frame) reply.Done heard was = refl
-step-forgets w run (Unwraps frame chunk len) reply.Done heard was = refl
-step-forgets w run (Returns write) reply.Done heard was = refl
-step-forgets w run (Lapses j) reply.Done heard was = refl
-step-forgets w run Fails reply.Done heard was = refl
-step-forgets w run s r heard was = refl
+step-forgets w run (Lets j) reply.Done received was = refl
+step-forgets w run Heads (reply.Agg n) received was = refl
+step-forgets w run (Sending (phase.Sent a taken None) frame) reply.Done received was = refl
+step-forgets w run (Sending (phase.Drops a None) frame) reply.Done received was = refl
+step-forgets w run (Receives held frame) (reply.Agg n) [] was = refl
+step-forgets w run (Receives held frame) (reply.Agg n) (b ∷ received) was = hearing-forgets run run.broken w.chunked held frame n (count_of (b ∷ received))
+step-forgets w run (Receives None frame) (reply.Refused (no.Denied p)) received was = refl
+step-forgets w run (Receives (Some x) frame) (reply.Refused (no.Denied p)) received was = refl
+step-forgets w run (Spills a frame) reply.Done received was = refl
+step-forgets w run (Gathers held size piece len frame) (reply.Agg n) received was = holding-forgets run n (both size len) frame
+step-forgets w run (Frames held) (reply.Agg n) received was = refl
+step-forgets w run (Wraps held frame) (reply.Agg n) received was = refl
+step-forgets w run (Trims held chunk len frame) reply.Done received was = refl
+step-forgets w run (Ended a held frame) reply.Done received was = refl
+step-forgets w run (Unholds held frame) reply.Done received was = refl
+step-forgets w run (Stops held None) reply.Done received was = finishing-forgets run.broken w.chunked run held
+step-forgets w run (Stops held (Some f)) reply.Done received was = refl
+step-forgets w run (Unframes f held) reply.Done received was = finishing-forgets run.broken w.chunked run held
+step-forgets w run (Lasts None) (reply.Agg n) received was = refl
+step-forgets w run (Lasts (Some x)) (reply.Agg n) received was = refl
+step-forgets w run (WrapsLast held size frame) (reply.Agg n) received was = refl
+step-forgets w run (TrimsLast held chunk len frame) reply.Done received was = refl
+step-forgets w run (Unwraps frame chunk len) reply.Done received was = refl
+step-forgets w run (Returns write) reply.Done received was = refl
+step-forgets w run (Lapses j) reply.Done received was = refl
+step-forgets w run Fails reply.Done received was = refl
+step-forgets w run s r received was = refl
 
 -- what keeps it kept it before
-pub keeps-back : (worker : ℕ) (w : Wanted) (y : Running) (r : Reply) (heard : List ℕ) → keeps_text (told worker w y r heard) ≡ true → keeps_text y ≡ true
-keeps-back worker w Awaits r heard kept = refl
-keeps-back worker w (Runs run s) r heard kept = by (keeps_text (Runs run s)) refl
+pub keeps-back : (worker : ℕ) (w : Wanted) (y : Running) (r : Reply) (received : List ℕ) → keeps_text (after_reply worker w y r received) ≡ true → keeps_text y ≡ true
+keeps-back worker w Awaits r received kept = refl
+keeps-back worker w (Runs run s) r received kept = by (keeps_text (Runs run s)) refl
   where
     by : (b : Bool) → keeps_text (Runs run s) ≡ b → keeps_text (Runs run s) ≡ true
     by true is = is
-    by false is = absurd (clash (keeps_text (told_step w run s r heard)) kept (step-forgets w run s r heard is))
-keeps-back worker w x r heard kept = absurd (cc (kept))
+    by false is = absurd (clash (keeps_text (after_step w run s r received)) kept (step-forgets w run s r received is))
+keeps-back worker w x r received kept = absurd (cc (kept))
 
 -- no call but that for the job tells its text
 pub wants-text : (fd : ℕ) (w : Wanted) (y : Running) (script text : List ℕ) → (keeps_text y ≡ true → script ≡ text)

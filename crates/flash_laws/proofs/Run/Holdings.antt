@@ -14,24 +14,24 @@ use Rattle.iol_core.specs.declared.events.Reply.{Reply}
 use Rattle.iol_core.specs.declared.events.Reply.TheVariants as reply
 use Rattle.iol_laws.specs.Aggregates.{AggregatesComeAndGo, is_refusal}
 use Rattle.iol_laws.specs.Caller as caller
-use Rattle.iol_laws.specs.Caller.{CallsServeTheirDomain, lent_at}
+use Rattle.iol_laws.specs.Caller.{CallsServeTheirDomain, readable_at}
 use Rattle.iol_laws.specs.Order.{IsOrderly}
 use Rattle.flash_http.specs.Request.{serve, Wanted}
 use Rattle.flash_laws.specs.Conn as conn
 use Rattle.flash_laws.specs.Conn.{Following, has_followed, count_of}
-use Rattle.flash_laws.specs.Run.Fits.{Progress, Goes, Ends, IsHeld, HasHeard, HasAll, HasPart, HasStep, HasRun}
+use Rattle.flash_laws.specs.Run.Fits.{Progress, Goes, Ends, IsHeld, HasReceived, HasAll, HasPart, HasStep, HasRun}
 use Rattle.flash_laws.specs.Run.Holdings.{has_end}
-use Rattle.flash_laws.specs.Run.{both, worker_domain, has_frame, step_agg, ends_of, uses_agg, step_wants, wants, is_again, told_gives, told_sending, told_hears, filled, holding, hearing, unread, finishing, told_step, told}
+use Rattle.flash_laws.specs.Run.{both, worker_domain, has_frame, step_agg, ends_of, uses_agg, step_wants, wants, is_again, after_give, after_sending, after_output, filled, holding, hearing, unread, finishing, after_step, after_reply}
 use Rattle.flash_laws.specs.Site.{server}
-use Rattle.flash_laws.specs.declared.phase.Doing.{Doing}
-use Rattle.flash_laws.specs.declared.phase.Doing.TheVariants as doing
+use Rattle.flash_laws.specs.declared.phase.Phase.{Phase}
+use Rattle.flash_laws.specs.declared.phase.Phase.TheVariants as phase
 use Rattle.flash_laws.specs.declared.script_run.TheConstants.{CHUNK_BYTES}
 use Rattle.flash_laws.specs.declared.script_run.Run.{Run}
 use Rattle.flash_laws.specs.declared.script_run.Step.{Step}
-use Rattle.flash_laws.specs.declared.script_run.Step.TheVariants.{Gives, Makes, Hands, Lets, Heads, Sending, Hears, Spills, Gathers, Frames, Wraps, Trims, Ended, Unholds, Stops, Unframes, Lasts, WrapsLast, TrimsLast, Unwraps, Returns, Lapses, Fails}
+use Rattle.flash_laws.specs.declared.script_run.Step.TheVariants.{Gives, Makes, Hands, Lets, Heads, Sending, Receives, Spills, Gathers, Frames, Wraps, Trims, Ended, Unholds, Stops, Unframes, Lasts, WrapsLast, TrimsLast, Unwraps, Returns, Lapses, Fails}
 use Rattle.flash_laws.specs.declared.script_run.Running.{Running}
 use Rattle.flash_laws.specs.declared.script_run.Running.TheVariants.{Runs, Leaves}
-use Rattle.flash_laws.proofs.Conn.Holdings.{leaves-told}
+use Rattle.flash_laws.proofs.Conn.Holdings.{leaves-after_reply}
 use Rattle.flash_laws.proofs.Lists.{clash, later_of, amid, bare, bare-none, former_by, former_of, swapped}
 use Rattle.flash_laws.proofs.Conn.Uses.{same-number}
 
@@ -72,7 +72,7 @@ holding-frame n size frame a u = by (nat_lt size CHUNK_BYTES)
     set None u = absurd (cc (u))
     set (Some f) u = later_of (n == a) (f == a) u
 
-    by : (b : Bool) → step_agg (if b then Hears (Some (n, size)) frame else filled n frame) a ≡ true
+    by : (b : Bool) → step_agg (if b then Receives (Some (n, size)) frame else filled n frame) a ≡ true
     by true = later_of (n == a) (has_frame frame a) u
     by false = set frame u
 
@@ -83,7 +83,7 @@ holding-new n size frame a u = by (nat_lt size CHUNK_BYTES)
     set None = u
     set (Some f) = former_of (n == a) (f == a) u
 
-    by : (b : Bool) → step_agg (if b then Hears (Some (n, size)) frame else filled n frame) a ≡ true
+    by : (b : Bool) → step_agg (if b then Receives (Some (n, size)) frame else filled n frame) a ≡ true
     by true = former_of (n == a) (has_frame frame a) u
     by false = set frame
 
@@ -129,107 +129,107 @@ module _ (job : ℕ → List ℕ) (m : State) (fd : ℕ) (w : Wanted) (o : Progr
   abbrev LeavesAt : Step → Reply → Running → Type 0
   LeavesAt s r y = step_agg s a ≡ true → uses_agg y a ≡ false → Gone (step_wants job fd w run s) r a
 
-  sending : (d : Doing) (frame : Option ℕ) (r : Reply) → HasPart m w o run d frame → LeavesAt (Sending d frame) r (told_sending run d frame r)
-  sending (doing.Sent b taken None) frame reply.Done h u unused = apart ((b == a) || false) false (has_frame frame a) u unused (λ x y. (bare (b == a) x, refl))
-  sending (doing.Sent b taken None) frame r h u unused = absurd (clash (step_agg (Sending (doing.Sent b taken None) frame) a) u unused)
-  sending (doing.Drops b None) frame reply.Done h u unused = apart ((b == a) || false) false (has_frame frame a) u unused (λ x y. (bare (b == a) x, refl))
-  sending (doing.Drops b None) frame r h u unused = absurd (clash (step_agg (Sending (doing.Drops b None) frame) a) u unused)
-  sending (doing.Sends b len taken None) frame r h u unused = apart (conn.uses_agg (doing.Sends b len taken None) a) (conn.uses_agg (conn.told_sends b len taken None r) a) (has_frame frame a) u unused
-      (leaves-told fd [] (serve w) (doing.Sends b len taken None) r [] a)
-  sending (doing.Cuts b from len taken None) frame r h u unused = apart (conn.uses_agg (doing.Cuts b from len taken None) a) (conn.uses_agg (conn.told_cuts b from len taken None r) a) (has_frame frame a) u unused
-      (leaves-told fd [] (serve w) (doing.Cuts b from len taken None) r [] a)
-  sending (doing.Offers b from len piece taken None) frame r h u unused = apart (conn.uses_agg (doing.Offers b from len piece taken None) a) (conn.uses_agg (conn.told_offers b from len piece taken None r) a) (has_frame frame a) u unused
-      (leaves-told fd [] (serve w) (doing.Offers b from len piece taken None) r [] a)
-  sending (doing.Swaps b from len piece taken None) frame r h u unused = apart (conn.uses_agg (doing.Swaps b from len piece taken None) a) (conn.uses_agg (conn.told_swaps b from len piece taken None r) a) (has_frame frame a) u unused
-      (leaves-told fd [] (serve w) (doing.Swaps b from len piece taken None) r [] a)
-  sending (doing.Breaks piece b None) frame r h u unused = apart (conn.uses_agg (doing.Breaks piece b None) a) (conn.uses_agg (conn.told_breaks piece b None r) a) (has_frame frame a) u unused
-      (leaves-told fd [] (serve w) (doing.Breaks piece b None) r [] a)
+  sending : (d : Phase) (frame : Option ℕ) (r : Reply) → HasPart m w o run d frame → LeavesAt (Sending d frame) r (after_sending run d frame r)
+  sending (phase.Sent b taken None) frame reply.Done h u unused = apart ((b == a) || false) false (has_frame frame a) u unused (λ x y. (bare (b == a) x, refl))
+  sending (phase.Sent b taken None) frame r h u unused = absurd (clash (step_agg (Sending (phase.Sent b taken None) frame) a) u unused)
+  sending (phase.Drops b None) frame reply.Done h u unused = apart ((b == a) || false) false (has_frame frame a) u unused (λ x y. (bare (b == a) x, refl))
+  sending (phase.Drops b None) frame r h u unused = absurd (clash (step_agg (Sending (phase.Drops b None) frame) a) u unused)
+  sending (phase.Sends b len taken None) frame r h u unused = apart (conn.uses_agg (phase.Sends b len taken None) a) (conn.uses_agg (conn.after_send b len taken None r) a) (has_frame frame a) u unused
+      (leaves-after_reply fd [] (serve w) (phase.Sends b len taken None) r [] a)
+  sending (phase.Cuts b from len taken None) frame r h u unused = apart (conn.uses_agg (phase.Cuts b from len taken None) a) (conn.uses_agg (conn.after_cut b from len taken None r) a) (has_frame frame a) u unused
+      (leaves-after_reply fd [] (serve w) (phase.Cuts b from len taken None) r [] a)
+  sending (phase.Offers b from len piece taken None) frame r h u unused = apart (conn.uses_agg (phase.Offers b from len piece taken None) a) (conn.uses_agg (conn.after_offer b from len piece taken None r) a) (has_frame frame a) u unused
+      (leaves-after_reply fd [] (serve w) (phase.Offers b from len piece taken None) r [] a)
+  sending (phase.Swaps b from len piece taken None) frame r h u unused = apart (conn.uses_agg (phase.Swaps b from len piece taken None) a) (conn.uses_agg (conn.after_swap b from len piece taken None r) a) (has_frame frame a) u unused
+      (leaves-after_reply fd [] (serve w) (phase.Swaps b from len piece taken None) r [] a)
+  sending (phase.Breaks piece b None) frame r h u unused = apart (conn.uses_agg (phase.Breaks piece b None) a) (conn.uses_agg (conn.after_break piece b None r) a) (has_frame frame a) u unused
+      (leaves-after_reply fd [] (serve w) (phase.Breaks piece b None) r [] a)
   sending d frame r h u unused = absurd h.is_part
 
-  hears : (held : Following) (frame : Option ℕ) (r : Reply) (heard : List ℕ) → HasHeard m w o run held frame
-      → LeavesAt (Hears held frame) r (told_hears w run held frame r heard)
-  hears held frame (reply.Agg n) [] h u unused = absurd (clash (step_agg (Ended n held frame) a) (later_of (n == a) (has_followed held a || has_frame frame a) u) unused)
-  hears held frame (reply.Agg n) (b ∷ heard) h u unused = absurd (clash (step_agg (hearing run.broken w.chunked held frame n (count_of (b ∷ heard))) a)
-      (hearing-uses m w o run.broken w.chunked held frame n (count_of (b ∷ heard)) h.bytes a h.has.holds h.goes refl u) unused)
-  hears held frame (reply.Refused (no.Denied p)) heard h u unused = absurd (clash (step_agg (unread held frame) a) (unread-uses held frame a u) unused)
-  hears held frame r heard h u unused = absurd (clash (step_agg (Hears held frame) a) u unused)
+  receives : (held : Following) (frame : Option ℕ) (r : Reply) (received : List ℕ) → HasReceived m w o run held frame
+      → LeavesAt (Receives held frame) r (after_output w run held frame r received)
+  receives held frame (reply.Agg n) [] h u unused = absurd (clash (step_agg (Ended n held frame) a) (later_of (n == a) (has_followed held a || has_frame frame a) u) unused)
+  receives held frame (reply.Agg n) (b ∷ received) h u unused = absurd (clash (step_agg (hearing run.broken w.chunked held frame n (count_of (b ∷ received))) a)
+      (hearing-uses m w o run.broken w.chunked held frame n (count_of (b ∷ received)) h.bytes a h.has.holds h.goes refl u) unused)
+  receives held frame (reply.Refused (no.Denied p)) received h u unused = absurd (clash (step_agg (unread held frame) a) (unread-uses held frame a u) unused)
+  receives held frame r received h u unused = absurd (clash (step_agg (Receives held frame) a) u unused)
 
-  stops : (held : Following) (frame : Option ℕ) (r : Reply) (heard : List ℕ) → HasAll m w o run held frame
-      → LeavesAt (Stops held frame) r (told_step w run (Stops held frame) r heard)
-  stops held None reply.Done heard h u unused = absurd (clash (has_followed held a) (bare (has_followed held a) u) (finishing-uses m w o run run.broken w.chunked held h.bytes a h.has.holds h.ends refl unused))
-  stops held (Some f) reply.Done heard h u unused = absurd (clash (step_agg (Unframes f held) a) (swapped (has_followed held a) (f == a) u) unused)
-  stops held frame r heard h u unused = absurd (clash (step_agg (Stops held frame) a) u unused)
+  stops : (held : Following) (frame : Option ℕ) (r : Reply) (received : List ℕ) → HasAll m w o run held frame
+      → LeavesAt (Stops held frame) r (after_step w run (Stops held frame) r received)
+  stops held None reply.Done received h u unused = absurd (clash (has_followed held a) (bare (has_followed held a) u) (finishing-uses m w o run run.broken w.chunked held h.bytes a h.has.holds h.ends refl unused))
+  stops held (Some f) reply.Done received h u unused = absurd (clash (step_agg (Unframes f held) a) (swapped (has_followed held a) (f == a) u) unused)
+  stops held frame r received h u unused = absurd (clash (step_agg (Stops held frame) a) u unused)
 
-  unframes : (f : ℕ) (held : Following) (r : Reply) (heard : List ℕ) → HasAll m w o run held (Some f)
-      → LeavesAt (Unframes f held) r (told_step w run (Unframes f held) r heard)
-  unframes f held reply.Done heard h u unused = (former_by (f == a) (has_followed held a) u (finishing-uses m w o run run.broken w.chunked held h.bytes a h.has.holds h.ends refl unused), refl)
-  unframes f held r heard h u unused = absurd (clash (step_agg (Unframes f held) a) u unused)
+  unframes : (f : ℕ) (held : Following) (r : Reply) (received : List ℕ) → HasAll m w o run held (Some f)
+      → LeavesAt (Unframes f held) r (after_step w run (Unframes f held) r received)
+  unframes f held reply.Done received h u unused = (former_by (f == a) (has_followed held a) u (finishing-uses m w o run run.broken w.chunked held h.bytes a h.has.holds h.ends refl unused), refl)
+  unframes f held r received h u unused = absurd (clash (step_agg (Unframes f held) a) u unused)
 
-  lasts : (held : Following) (r : Reply) (heard : List ℕ) → LeavesAt (Lasts held) r (told_step w run (Lasts held) r heard)
-  lasts None r heard u unused = absurd (cc (u))
-  lasts (Some x) (reply.Agg n) heard u unused = absurd (clash (step_agg (WrapsLast x.0 x.1 n) a) (former_of (x.0 == a) (n == a) u) unused)
-  lasts (Some x) r heard u unused = absurd (clash (step_agg (Lasts (Some x)) a) u unused)
+  lasts : (held : Following) (r : Reply) (received : List ℕ) → LeavesAt (Lasts held) r (after_step w run (Lasts held) r received)
+  lasts None r received u unused = absurd (cc (u))
+  lasts (Some x) (reply.Agg n) received u unused = absurd (clash (step_agg (WrapsLast x.0 x.1 n) a) (former_of (x.0 == a) (n == a) u) unused)
+  lasts (Some x) r received u unused = absurd (clash (step_agg (Lasts (Some x)) a) u unused)
 
-  gathers : (held size piece len : ℕ) (frame : Option ℕ) (r : Reply) (heard : List ℕ) → LeavesAt (Gathers held size piece len frame) r (told_step w run (Gathers held size piece len frame) r heard)
-  gathers held size piece len frame (reply.Agg n) heard u unused = (by (has_frame frame a) refl (held == a) (piece == a) u, refl)
+  gathers : (held size piece len : ℕ) (frame : Option ℕ) (r : Reply) (received : List ℕ) → LeavesAt (Gathers held size piece len frame) r (after_step w run (Gathers held size piece len frame) r received)
+  gathers held size piece len frame (reply.Agg n) received u unused = (by (has_frame frame a) refl (held == a) (piece == a) u, refl)
     where
       by : (f : Bool) → has_frame frame a ≡ f → (x y : Bool) → (x || (y || f)) ≡ true → (x || y) ≡ true
       by true is x y u = absurd (clash (step_agg (holding n (both size len) frame) a) (holding-frame n (both size len) frame a is) unused)
       by false is true y u = refl
       by false is false y u = bare y u
-  gathers held size piece len frame r heard u unused = absurd (clash (step_agg (Gathers held size piece len frame) a) u unused)
+  gathers held size piece len frame r received u unused = absurd (clash (step_agg (Gathers held size piece len frame) a) u unused)
 
-  hands : (j f : ℕ) (r : Reply) (heard : List ℕ) → LeavesAt (Hands j f) r (told_step w run (Hands j f) r heard)
-  hands j f (reply.Count n) heard u unused = absurd (clash (j == a) u unused)
-  hands j f (reply.Refused x) heard u unused = absurd (by (is_again x) unused)
+  hands : (j f : ℕ) (r : Reply) (received : List ℕ) → LeavesAt (Hands j f) r (after_step w run (Hands j f) r received)
+  hands j f (reply.Count n) received u unused = absurd (clash (j == a) u unused)
+  hands j f (reply.Refused x) received u unused = absurd (by (is_again x) unused)
     where
       by : (b : Bool) → step_agg (if b then Hands j f else Lapses j) a ≡ false → ⊥
       by true unused = clash (j == a) u unused
       by false unused = clash (j == a) u unused
-  hands j f r heard u unused = absurd (clash (j == a) u unused)
+  hands j f r received u unused = absurd (clash (j == a) u unused)
 
-  step-leaves : (s : Step) (r : Reply) (heard : List ℕ) → HasStep job m w o run s → LeavesAt s r (told_step w run s r heard)
-  step-leaves (Hands j f) r heard has u unused = hands j f r heard u unused
-  step-leaves (Lets j) reply.Done heard has u unused = (u, refl)
-  step-leaves (Lets j) r heard has u unused = absurd (clash (j == a) u unused)
-  step-leaves (Sending d frame) r heard has u unused = sending d frame r has u unused
-  step-leaves (Hears held frame) r heard has u unused = hears held frame r heard has u unused
-  step-leaves (Spills b frame) reply.Done heard has u unused = (former_by (b == a) (has_frame frame a) u unused, refl)
-  step-leaves (Spills b frame) r heard has u unused = absurd (clash (step_agg (Spills b frame) a) u unused)
-  step-leaves (Gathers held size piece len frame) r heard has u unused = gathers held size piece len frame r heard u unused
-  step-leaves (Frames held) (reply.Agg n) heard has u unused = absurd (clash (step_agg (Wraps held n) a) (former_of (held == a) (n == a) u) unused)
-  step-leaves (Frames held) r heard has u unused = absurd (clash (held == a) u unused)
-  step-leaves (Wraps held frame) (reply.Agg n) heard has u unused = absurd (clash (step_agg (Trims held n (count_of heard) frame) a) (amid (held == a) (n == a) (frame == a) u) unused)
-  step-leaves (Wraps held frame) r heard has u unused = absurd (clash (step_agg (Wraps held frame) a) u unused)
-  step-leaves (Trims held chunk len frame) reply.Done heard has u unused = (former_by (held == a) ((chunk == a) || (frame == a)) u (plain (chunk == a) (frame == a) unused), refl)
-  step-leaves (Trims held chunk len frame) r heard has u unused = absurd (clash (step_agg (Trims held chunk len frame) a) u unused)
-  step-leaves (Ended b held frame) reply.Done heard has u unused = (former_by (b == a) (has_followed held a || has_frame frame a) u unused, refl)
-  step-leaves (Ended b held frame) r heard has u unused = absurd (clash (step_agg (Ended b held frame) a) u unused)
-  step-leaves (Unholds held frame) reply.Done heard has u unused = (former_by (held == a) (has_frame frame a) u unused, refl)
-  step-leaves (Unholds held frame) r heard has u unused = absurd (clash (step_agg (Unholds held frame) a) u unused)
-  step-leaves (Stops held frame) r heard has u unused = stops held frame r heard has.1 u unused
-  step-leaves (Unframes f held) r heard has u unused = unframes f held r heard has u unused
-  step-leaves (Lasts held) r heard has u unused = lasts held r heard u unused
-  step-leaves (WrapsLast held size frame) (reply.Agg n) heard has u unused = absurd (clash (step_agg (TrimsLast held n (count_of heard) frame) a) (amid (held == a) (n == a) (frame == a) u) unused)
-  step-leaves (WrapsLast held size frame) r heard has u unused = absurd (clash (step_agg (WrapsLast held size frame) a) u unused)
-  step-leaves (TrimsLast held chunk len frame) reply.Done heard has u unused = (former_by (held == a) ((chunk == a) || (frame == a)) u (swapped-none (chunk == a) (frame == a) unused), refl)
-  step-leaves (TrimsLast held chunk len frame) r heard has u unused = absurd (clash (step_agg (TrimsLast held chunk len frame) a) u unused)
-  step-leaves (Unwraps frame chunk len) reply.Done heard has u unused = (former_by (frame == a) (chunk == a) u (bare-none (chunk == a) unused), refl)
-  step-leaves (Unwraps frame chunk len) r heard has u unused = absurd (clash (step_agg (Unwraps frame chunk len) a) u unused)
-  step-leaves (Lapses j) reply.Done heard has u unused = (u, refl)
-  step-leaves (Lapses j) r heard has u unused = absurd (clash (j == a) u unused)
-  step-leaves s r heard has u unused = absurd (cc (u))
+  step-leaves : (s : Step) (r : Reply) (received : List ℕ) → HasStep job m w o run s → LeavesAt s r (after_step w run s r received)
+  step-leaves (Hands j f) r received has u unused = hands j f r received u unused
+  step-leaves (Lets j) reply.Done received has u unused = (u, refl)
+  step-leaves (Lets j) r received has u unused = absurd (clash (j == a) u unused)
+  step-leaves (Sending d frame) r received has u unused = sending d frame r has u unused
+  step-leaves (Receives held frame) r received has u unused = receives held frame r received has u unused
+  step-leaves (Spills b frame) reply.Done received has u unused = (former_by (b == a) (has_frame frame a) u unused, refl)
+  step-leaves (Spills b frame) r received has u unused = absurd (clash (step_agg (Spills b frame) a) u unused)
+  step-leaves (Gathers held size piece len frame) r received has u unused = gathers held size piece len frame r received u unused
+  step-leaves (Frames held) (reply.Agg n) received has u unused = absurd (clash (step_agg (Wraps held n) a) (former_of (held == a) (n == a) u) unused)
+  step-leaves (Frames held) r received has u unused = absurd (clash (held == a) u unused)
+  step-leaves (Wraps held frame) (reply.Agg n) received has u unused = absurd (clash (step_agg (Trims held n (count_of received) frame) a) (amid (held == a) (n == a) (frame == a) u) unused)
+  step-leaves (Wraps held frame) r received has u unused = absurd (clash (step_agg (Wraps held frame) a) u unused)
+  step-leaves (Trims held chunk len frame) reply.Done received has u unused = (former_by (held == a) ((chunk == a) || (frame == a)) u (plain (chunk == a) (frame == a) unused), refl)
+  step-leaves (Trims held chunk len frame) r received has u unused = absurd (clash (step_agg (Trims held chunk len frame) a) u unused)
+  step-leaves (Ended b held frame) reply.Done received has u unused = (former_by (b == a) (has_followed held a || has_frame frame a) u unused, refl)
+  step-leaves (Ended b held frame) r received has u unused = absurd (clash (step_agg (Ended b held frame) a) u unused)
+  step-leaves (Unholds held frame) reply.Done received has u unused = (former_by (held == a) (has_frame frame a) u unused, refl)
+  step-leaves (Unholds held frame) r received has u unused = absurd (clash (step_agg (Unholds held frame) a) u unused)
+  step-leaves (Stops held frame) r received has u unused = stops held frame r received has.1 u unused
+  step-leaves (Unframes f held) r received has u unused = unframes f held r received has u unused
+  step-leaves (Lasts held) r received has u unused = lasts held r received u unused
+  step-leaves (WrapsLast held size frame) (reply.Agg n) received has u unused = absurd (clash (step_agg (TrimsLast held n (count_of received) frame) a) (amid (held == a) (n == a) (frame == a) u) unused)
+  step-leaves (WrapsLast held size frame) r received has u unused = absurd (clash (step_agg (WrapsLast held size frame) a) u unused)
+  step-leaves (TrimsLast held chunk len frame) reply.Done received has u unused = (former_by (held == a) ((chunk == a) || (frame == a)) u (swapped-none (chunk == a) (frame == a) unused), refl)
+  step-leaves (TrimsLast held chunk len frame) r received has u unused = absurd (clash (step_agg (TrimsLast held chunk len frame) a) u unused)
+  step-leaves (Unwraps frame chunk len) reply.Done received has u unused = (former_by (frame == a) (chunk == a) u (bare-none (chunk == a) unused), refl)
+  step-leaves (Unwraps frame chunk len) r received has u unused = absurd (clash (step_agg (Unwraps frame chunk len) a) u unused)
+  step-leaves (Lapses j) reply.Done received has u unused = (u, refl)
+  step-leaves (Lapses j) r received has u unused = absurd (clash (j == a) u unused)
+  step-leaves s r received has u unused = absurd (cc (u))
 
-pub left : (come : AggregatesComeAndGo) (job : ℕ → List ℕ) (m n : State) (fd worker : ℕ) (w : Wanted) (x : Running) (o : Progress) (r : Reply) (heard : List ℕ) (a : ℕ)
+pub left : (come : AggregatesComeAndGo) (job : ℕ → List ℕ) (m n : State) (fd worker : ℕ) (w : Wanted) (x : Running) (o : Progress) (r : Reply) (received : List ℕ) (a : ℕ)
     → IsOrderly m → HasRun job m w o x → StepsTo m (event.Call server (wants job fd w x)) r n
-    → uses_agg x a ≡ true → uses_agg (told worker w x r heard) a ≡ false → lent_at n server a ≡ None
-left come job m n fd worker w (Runs run s) o r heard a order has step u unused =
-    let gives = step-leaves job m fd w o run a s r heard has.1 u unused in
+    → uses_agg x a ≡ true → uses_agg (after_reply worker w x r received) a ≡ false → readable_at n server a ≡ None
+left come job m n fd worker w (Runs run s) o r received a order has step u unused =
+    let gives = step-leaves job m fd w o run a s r received has.1 u unused in
     come.gone m n (event.Call server (wants job fd w (Runs run s))) r server a order step gives.0 gives.1
-left come job m n fd worker w (Leaves d) o r heard a order has step u unused =
-    let gives = leaves-told fd [] (serve w) d r heard a u unused in
+left come job m n fd worker w (Leaves d) o r received a order has step u unused =
+    let gives = leaves-after_reply fd [] (serve w) d r received a u unused in
     come.gone m n (event.Call server (wants job fd w (Leaves d))) r server a order step gives.0 gives.1
-left come job m n fd worker w x o r heard a order has step u unused = absurd (cc (u))
+left come job m n fd worker w x o r received a order has step u unused = absurd (cc (u))
 
 -- ---- an end of the pipe that it has no more is closed, or given away
 
@@ -248,8 +248,8 @@ module _ (own : CallsServeTheirDomain) (job : ℕ → List ℕ) (m n : State) (f
       by (reply.Refused x) did unused = absurd (clash (ends_of run s g) u (sym (same x) ∙ unused))
       by r did unused = absurd did
 
-  gives : (write : ℕ) (r : Reply) (heard : List ℕ) → HasStep job m w o run (Gives write) → ShutsAt (Gives write) r (told_step w run (Gives write) r heard)
-  gives write r heard has step u unused = by r (own.gives_fd m n server write (worker_domain run.worker) (on.WriteEnd has.0.pipe) r has.0.write_end step) unused
+  gives : (write : ℕ) (r : Reply) (received : List ℕ) → HasStep job m w o run (Gives write) → ShutsAt (Gives write) r (after_step w run (Gives write) r received)
+  gives write r received has step u unused = by r (own.gives_fd m n server write (worker_domain run.worker) (on.WriteEnd has.0.pipe) r has.0.write_end step) unused
     where
       again : (b : Bool) → has_end (Runs run (if b then Gives write else Returns write)) g ≡ false → ⊥
       again true unused = clash (ends_of run (Gives write) g) u unused
@@ -258,7 +258,7 @@ module _ (own : CallsServeTheirDomain) (job : ℕ → List ℕ) (m n : State) (f
       other : server ≡ worker_domain run.worker → ⊥
       other is = absurd (omega (arith, is))
 
-      by : (r : Reply) → caller.GivesFd m server write (worker_domain run.worker) (on.WriteEnd has.0.pipe) r n → has_end (Runs run (told_gives write r)) g ≡ false → descriptor n server g ≡ None
+      by : (r : Reply) → caller.GivesFd m server write (worker_domain run.worker) (on.WriteEnd has.0.pipe) r n → has_end (Runs run (after_give write r)) g ≡ false → descriptor n server g ≡ None
       by (reply.Fd f) did unused = ap (λ z. descriptor n server z) (sym (same-number write g (later_by (run.from == g) (write == g) u (none (run.from == g) unused)))) ∙ did.left other
         where
           none : (b : Bool) → (b || false) ≡ false → b ≡ false
@@ -270,7 +270,7 @@ module _ (own : CallsServeTheirDomain) (job : ℕ → List ℕ) (m n : State) (f
   holding-ends : (held size : ℕ) (frame : Option ℕ) → has_end (Runs run (holding held size frame)) g ≡ ((run.from == g) || false)
   holding-ends held size frame = by (nat_lt size CHUNK_BYTES) frame
     where
-      by : (b : Bool) (frame : Option ℕ) → has_end (Runs run (if b then Hears (Some (held, size)) frame else filled held frame)) g ≡ ((run.from == g) || false)
+      by : (b : Bool) (frame : Option ℕ) → has_end (Runs run (if b then Receives (Some (held, size)) frame else filled held frame)) g ≡ ((run.from == g) || false)
       by true frame = refl
       by false None = refl
       by false (Some f) = refl
@@ -281,103 +281,103 @@ module _ (own : CallsServeTheirDomain) (job : ℕ → List ℕ) (m n : State) (f
   hearing-ends false true None frame k len = holding-ends k len frame
   hearing-ends false true (Some x) frame k len = refl
 
-  sending-ends : (d : Doing) (frame : Option ℕ) (r : Reply) → has_end (told_sending run d frame r) g ≡ ((run.from == g) || false)
-  sending-ends (doing.Sent b taken None) frame reply.Done = refl
-  sending-ends (doing.Drops b None) frame reply.Done = refl
+  sending-ends : (d : Phase) (frame : Option ℕ) (r : Reply) → has_end (after_sending run d frame r) g ≡ ((run.from == g) || false)
+  sending-ends (phase.Sent b taken None) frame reply.Done = refl
+  sending-ends (phase.Drops b None) frame reply.Done = refl
   sending-ends d frame r = refl
 
-  hears-ends : (held : Following) (frame : Option ℕ) (r : Reply) (heard : List ℕ) → has_end (told_hears w run held frame r heard) g ≡ ((run.from == g) || false)
-  hears-ends held frame (reply.Agg k) [] = refl
-  hears-ends held frame (reply.Agg k) (b ∷ heard) = hearing-ends run.broken w.chunked held frame k (count_of (b ∷ heard))
-  hears-ends None frame (reply.Refused (no.Denied p)) heard = refl
-  hears-ends (Some x) frame (reply.Refused (no.Denied p)) heard = refl
-  hears-ends held frame r heard = refl
+  receives-ends : (held : Following) (frame : Option ℕ) (r : Reply) (received : List ℕ) → has_end (after_output w run held frame r received) g ≡ ((run.from == g) || false)
+  receives-ends held frame (reply.Agg k) [] = refl
+  receives-ends held frame (reply.Agg k) (b ∷ received) = hearing-ends run.broken w.chunked held frame k (count_of (b ∷ received))
+  receives-ends None frame (reply.Refused (no.Denied p)) received = refl
+  receives-ends (Some x) frame (reply.Refused (no.Denied p)) received = refl
+  receives-ends held frame r received = refl
 
-  hands-ends : (j f : ℕ) (r : Reply) (heard : List ℕ) → has_end (told_step w run (Hands j f) r heard) g ≡ ((run.from == g) || false)
-  hands-ends j f (reply.Count k) heard = refl
-  hands-ends j f (reply.Refused x) heard = by (is_again x)
+  hands-ends : (j f : ℕ) (r : Reply) (received : List ℕ) → has_end (after_step w run (Hands j f) r received) g ≡ ((run.from == g) || false)
+  hands-ends j f (reply.Count k) received = refl
+  hands-ends j f (reply.Refused x) received = by (is_again x)
     where
       by : (b : Bool) → has_end (Runs run (if b then Hands j f else Lapses j)) g ≡ ((run.from == g) || false)
       by true = refl
       by false = refl
-  hands-ends j f r heard = refl
+  hands-ends j f r received = refl
 
   abbrev Stays : Step → Reply → List ℕ → Type 0
-  Stays s r heard = has_end (told_step w run s r heard) g ≡ ((run.from == g) || false)
+  Stays s r received = has_end (after_step w run s r received) g ≡ ((run.from == g) || false)
 
-  makes-ends : (f : ℕ) (r : Reply) (heard : List ℕ) → Stays (Makes f) r heard
-  makes-ends f (reply.Agg k) heard = refl
-  makes-ends f r heard = refl
+  makes-ends : (f : ℕ) (r : Reply) (received : List ℕ) → Stays (Makes f) r received
+  makes-ends f (reply.Agg k) received = refl
+  makes-ends f r received = refl
 
-  lets-ends : (j : ℕ) (r : Reply) (heard : List ℕ) → Stays (Lets j) r heard
-  lets-ends j reply.Done heard = refl
-  lets-ends j r heard = refl
+  lets-ends : (j : ℕ) (r : Reply) (received : List ℕ) → Stays (Lets j) r received
+  lets-ends j reply.Done received = refl
+  lets-ends j r received = refl
 
-  heads-ends : (r : Reply) (heard : List ℕ) → Stays Heads r heard
-  heads-ends (reply.Agg k) heard = refl
-  heads-ends r heard = refl
+  heads-ends : (r : Reply) (received : List ℕ) → Stays Heads r received
+  heads-ends (reply.Agg k) received = refl
+  heads-ends r received = refl
 
-  spills-ends : (b : ℕ) (frame : Option ℕ) (r : Reply) (heard : List ℕ) → Stays (Spills b frame) r heard
-  spills-ends b frame reply.Done heard = refl
-  spills-ends b frame r heard = refl
+  spills-ends : (b : ℕ) (frame : Option ℕ) (r : Reply) (received : List ℕ) → Stays (Spills b frame) r received
+  spills-ends b frame reply.Done received = refl
+  spills-ends b frame r received = refl
 
-  gathers-ends : (held size piece len : ℕ) (frame : Option ℕ) (r : Reply) (heard : List ℕ) → Stays (Gathers held size piece len frame) r heard
-  gathers-ends held size piece len frame (reply.Agg k) heard = holding-ends k (both size len) frame
-  gathers-ends held size piece len frame r heard = refl
+  gathers-ends : (held size piece len : ℕ) (frame : Option ℕ) (r : Reply) (received : List ℕ) → Stays (Gathers held size piece len frame) r received
+  gathers-ends held size piece len frame (reply.Agg k) received = holding-ends k (both size len) frame
+  gathers-ends held size piece len frame r received = refl
 
-  frames-ends : (held : ℕ) (r : Reply) (heard : List ℕ) → Stays (Frames held) r heard
-  frames-ends held (reply.Agg k) heard = refl
-  frames-ends held r heard = refl
+  frames-ends : (held : ℕ) (r : Reply) (received : List ℕ) → Stays (Frames held) r received
+  frames-ends held (reply.Agg k) received = refl
+  frames-ends held r received = refl
 
-  wraps-ends : (held frame : ℕ) (r : Reply) (heard : List ℕ) → Stays (Wraps held frame) r heard
-  wraps-ends held frame (reply.Agg k) heard = refl
-  wraps-ends held frame r heard = refl
+  wraps-ends : (held frame : ℕ) (r : Reply) (received : List ℕ) → Stays (Wraps held frame) r received
+  wraps-ends held frame (reply.Agg k) received = refl
+  wraps-ends held frame r received = refl
 
-  trims-ends : (held chunk len frame : ℕ) (r : Reply) (heard : List ℕ) → Stays (Trims held chunk len frame) r heard
-  trims-ends held chunk len frame reply.Done heard = refl
-  trims-ends held chunk len frame r heard = refl
+  trims-ends : (held chunk len frame : ℕ) (r : Reply) (received : List ℕ) → Stays (Trims held chunk len frame) r received
+  trims-ends held chunk len frame reply.Done received = refl
+  trims-ends held chunk len frame r received = refl
 
-  ended-ends : (b : ℕ) (held : Following) (frame : Option ℕ) (r : Reply) (heard : List ℕ) → Stays (Ended b held frame) r heard
-  ended-ends b held frame reply.Done heard = refl
-  ended-ends b held frame r heard = refl
+  ended-ends : (b : ℕ) (held : Following) (frame : Option ℕ) (r : Reply) (received : List ℕ) → Stays (Ended b held frame) r received
+  ended-ends b held frame reply.Done received = refl
+  ended-ends b held frame r received = refl
 
-  unholds-ends : (held : ℕ) (frame : Option ℕ) (r : Reply) (heard : List ℕ) → Stays (Unholds held frame) r heard
-  unholds-ends held frame reply.Done heard = refl
-  unholds-ends held frame r heard = refl
+  unholds-ends : (held : ℕ) (frame : Option ℕ) (r : Reply) (received : List ℕ) → Stays (Unholds held frame) r received
+  unholds-ends held frame reply.Done received = refl
+  unholds-ends held frame r received = refl
 
-  lapses-ends : (j : ℕ) (r : Reply) (heard : List ℕ) → Stays (Lapses j) r heard
-  lapses-ends j reply.Done heard = refl
-  lapses-ends j r heard = refl
+  lapses-ends : (j : ℕ) (r : Reply) (received : List ℕ) → Stays (Lapses j) r received
+  lapses-ends j reply.Done received = refl
+  lapses-ends j r received = refl
 
-  kept : (s : Step) (r : Reply) (heard : List ℕ) → ends_of run s g ≡ true → has_end (told_step w run s r heard) g ≡ ends_of run s g
-      → has_end (told_step w run s r heard) g ≡ false → descriptor n server g ≡ None
-  kept s r heard u same unused = absurd (clash (ends_of run s g) u (sym same ∙ unused))
+  kept : (s : Step) (r : Reply) (received : List ℕ) → ends_of run s g ≡ true → has_end (after_step w run s r received) g ≡ ends_of run s g
+      → has_end (after_step w run s r received) g ≡ false → descriptor n server g ≡ None
+  kept s r received u same unused = absurd (clash (ends_of run s g) u (sym same ∙ unused))
 
-  step-shuts : (s : Step) (r : Reply) (heard : List ℕ) → HasStep job m w o run s → ShutsAt s r (told_step w run s r heard)
-  step-shuts (Gives write) r heard has step u unused = gives write r heard has step u unused
-  step-shuts (Returns write) r heard has step u unused = closed write (Returns write) r (λ k. told_step w run (Returns write) k heard) step (λ x. refl)
+  step-shuts : (s : Step) (r : Reply) (received : List ℕ) → HasStep job m w o run s → ShutsAt s r (after_step w run s r received)
+  step-shuts (Gives write) r received has step u unused = gives write r received has step u unused
+  step-shuts (Returns write) r received has step u unused = closed write (Returns write) r (λ k. after_step w run (Returns write) k received) step (λ x. refl)
       (λ none. later_by (run.from == g) (write == g) u (bare-none (run.from == g) none)) u unused
-  step-shuts (Stops held frame) r heard has step u unused = closed run.from (Stops held frame) r (λ k. told_step w run (Stops held frame) k heard) step (λ x. refl)
+  step-shuts (Stops held frame) r received has step u unused = closed run.from (Stops held frame) r (λ k. after_step w run (Stops held frame) k received) step (λ x. refl)
       (λ none. bare (run.from == g) u) u unused
-  step-shuts Fails r heard has step u unused = closed run.from Fails r (λ k. told_step w run Fails k heard) step (λ x. refl) (λ none. bare (run.from == g) u) u unused
-  step-shuts (Makes f) r heard has step u unused = kept (Makes f) r heard u (makes-ends f r heard) unused
-  step-shuts (Hands j f) r heard has step u unused = kept (Hands j f) r heard u (hands-ends j f r heard) unused
-  step-shuts (Lets j) r heard has step u unused = kept (Lets j) r heard u (lets-ends j r heard) unused
-  step-shuts Heads r heard has step u unused = kept Heads r heard u (heads-ends r heard) unused
-  step-shuts (Sending d frame) r heard has step u unused = kept (Sending d frame) r heard u (sending-ends d frame r) unused
-  step-shuts (Hears held frame) r heard has step u unused = kept (Hears held frame) r heard u (hears-ends held frame r heard) unused
-  step-shuts (Spills b frame) r heard has step u unused = kept (Spills b frame) r heard u (spills-ends b frame r heard) unused
-  step-shuts (Gathers held size piece len frame) r heard has step u unused = kept (Gathers held size piece len frame) r heard u (gathers-ends held size piece len frame r heard) unused
-  step-shuts (Frames held) r heard has step u unused = kept (Frames held) r heard u (frames-ends held r heard) unused
-  step-shuts (Wraps held frame) r heard has step u unused = kept (Wraps held frame) r heard u (wraps-ends held frame r heard) unused
-  step-shuts (Trims held chunk len frame) r heard has step u unused = kept (Trims held chunk len frame) r heard u (trims-ends held chunk len frame r heard) unused
-  step-shuts (Ended b held frame) r heard has step u unused = kept (Ended b held frame) r heard u (ended-ends b held frame r heard) unused
-  step-shuts (Unholds held frame) r heard has step u unused = kept (Unholds held frame) r heard u (unholds-ends held frame r heard) unused
-  step-shuts (Lapses j) r heard has step u unused = kept (Lapses j) r heard u (lapses-ends j r heard) unused
-  step-shuts s r heard has step u unused = absurd (cc (u))
+  step-shuts Fails r received has step u unused = closed run.from Fails r (λ k. after_step w run Fails k received) step (λ x. refl) (λ none. bare (run.from == g) u) u unused
+  step-shuts (Makes f) r received has step u unused = kept (Makes f) r received u (makes-ends f r received) unused
+  step-shuts (Hands j f) r received has step u unused = kept (Hands j f) r received u (hands-ends j f r received) unused
+  step-shuts (Lets j) r received has step u unused = kept (Lets j) r received u (lets-ends j r received) unused
+  step-shuts Heads r received has step u unused = kept Heads r received u (heads-ends r received) unused
+  step-shuts (Sending d frame) r received has step u unused = kept (Sending d frame) r received u (sending-ends d frame r) unused
+  step-shuts (Receives held frame) r received has step u unused = kept (Receives held frame) r received u (receives-ends held frame r received) unused
+  step-shuts (Spills b frame) r received has step u unused = kept (Spills b frame) r received u (spills-ends b frame r received) unused
+  step-shuts (Gathers held size piece len frame) r received has step u unused = kept (Gathers held size piece len frame) r received u (gathers-ends held size piece len frame r received) unused
+  step-shuts (Frames held) r received has step u unused = kept (Frames held) r received u (frames-ends held r received) unused
+  step-shuts (Wraps held frame) r received has step u unused = kept (Wraps held frame) r received u (wraps-ends held frame r received) unused
+  step-shuts (Trims held chunk len frame) r received has step u unused = kept (Trims held chunk len frame) r received u (trims-ends held chunk len frame r received) unused
+  step-shuts (Ended b held frame) r received has step u unused = kept (Ended b held frame) r received u (ended-ends b held frame r received) unused
+  step-shuts (Unholds held frame) r received has step u unused = kept (Unholds held frame) r received u (unholds-ends held frame r received) unused
+  step-shuts (Lapses j) r received has step u unused = kept (Lapses j) r received u (lapses-ends j r received) unused
+  step-shuts s r received has step u unused = absurd (cc (u))
 
-pub shut : (own : CallsServeTheirDomain) (job : ℕ → List ℕ) (m n : State) (fd worker : ℕ) (w : Wanted) (x : Running) (o : Progress) (r : Reply) (heard : List ℕ) (g : ℕ)
+pub shut : (own : CallsServeTheirDomain) (job : ℕ → List ℕ) (m n : State) (fd worker : ℕ) (w : Wanted) (x : Running) (o : Progress) (r : Reply) (received : List ℕ) (g : ℕ)
     → HasRun job m w o x → StepsTo m (event.Call server (wants job fd w x)) r n
-    → has_end x g ≡ true → has_end (told worker w x r heard) g ≡ false → descriptor n server g ≡ None
-shut own job m n fd worker w (Runs run s) o r heard g has step u unused = step-shuts own job m n fd w o run g s r heard has.1 step u unused
-shut own job m n fd worker w x o r heard g has step u unused = absurd (cc (u))
+    → has_end x g ≡ true → has_end (after_reply worker w x r received) g ≡ false → descriptor n server g ≡ None
+shut own job m n fd worker w (Runs run s) o r received g has step u unused = step-shuts own job m n fd w o run g s r received has.1 step u unused
+shut own job m n fd worker w x o r received g has step u unused = absurd (cc (u))

@@ -14,7 +14,7 @@ use Rattle.iol_core.specs.declared.events.Reply.TheVariants as reply
 use Rattle.iol_laws.specs.Frame.{EachStepLeavesTheRest, touches_fd}
 use Rattle.iol_laws.specs.Order.{IsOrderly}
 use Rattle.iol_laws.specs.Caller as caller
-use Rattle.iol_laws.specs.Caller.{CallsServeTheirDomain, lent_at}
+use Rattle.iol_laws.specs.Caller.{CallsServeTheirDomain, readable_at}
 use Rattle.iol_laws.specs.Reasons.{RefusalsTellWhy}
 use Rattle.iol_laws.specs.RefusalsLeft.{RefusalsThatAreLeft}
 use Rattle.flash_http.specs.Request.{serve, Wanted}
@@ -24,24 +24,24 @@ use Rattle.flash_laws.specs.Conn.Fits.{Has, Names}
 use Rattle.flash_laws.specs.Conn.OfferedBytes.{taken_of}
 use Rattle.flash_laws.specs.Run.Fits.{Progress, Ran, Broken, NotRun, Follows, MayAnswer, Continues, IsLeft, HasJobPipe, HasPart, HasRest, HasLeft, HasRun}
 use Rattle.flash_laws.specs.Run.OfferedBytes.{takes_on, Learns, taken_by, past_of, IsNextOf, HasWorker, RunsOfferTheResponse}
-use Rattle.flash_laws.specs.Run.{worker_domain, job_pipe, held_size, in_phase, wants, broken, told_lets, told_sending, told_spills, told_trims, told_ended, told_unholds, told_trims_last, told_lapses, told_hears, told_stops, told_unframes, told_lasts, told_unwraps, told_fails, finishing, told, is_left, is_over}
+use Rattle.flash_laws.specs.Run.{worker_domain, job_pipe, held_size, in_phase, wants, broken, after_release_job, after_sending, after_spill, after_trim, after_ended, after_release_held, after_trim_last, after_lapse, after_output, after_stop, after_release_frame, after_last, after_unwrap, after_fail, finishing, after_reply, is_left, is_over}
 use Rattle.flash_laws.specs.Answers.Scripts.{script_body, script_response}
 use Rattle.flash_laws.specs.Site.{server}
-use Rattle.flash_laws.specs.declared.phase.Doing.{Doing}
-use Rattle.flash_laws.specs.declared.phase.Doing.TheVariants as doing
+use Rattle.flash_laws.specs.declared.phase.Phase.{Phase}
+use Rattle.flash_laws.specs.declared.phase.Phase.TheVariants as phase
 use Rattle.flash_laws.specs.declared.script_run.TheConstants.{CHUNK_BYTES}
 use Rattle.flash_laws.specs.declared.script_run.Run.{Run}
 use Rattle.flash_laws.specs.declared.script_run.Step.{Step}
-use Rattle.flash_laws.specs.declared.script_run.Step.TheVariants.{Gives, Makes, Hands, Lets, Heads, Sending, Hears, Spills, Gathers, Frames, Wraps, Trims, Ended, Unholds, Stops, Unframes, Lasts, WrapsLast, TrimsLast, Unwraps, Returns, Lapses, Fails}
+use Rattle.flash_laws.specs.declared.script_run.Step.TheVariants.{Gives, Makes, Hands, Lets, Heads, Sending, Receives, Spills, Gathers, Frames, Wraps, Trims, Ended, Unholds, Stops, Unframes, Lasts, WrapsLast, TrimsLast, Unwraps, Returns, Lapses, Fails}
 use Rattle.flash_laws.specs.declared.script_run.Running.{Running}
 use Rattle.flash_laws.specs.declared.script_run.Running.TheVariants.{Awaits, Runs, Leaves, Closes}
-use Rattle.flash_laws.proofs.Client.Phases.{Next, written_fd, next-due}
+use Rattle.flash_laws.proofs.Client.Phases.{Next, written_fd, next-expected}
 use Rattle.flash_laws.proofs.Run.Rest as left
 use Rattle.flash_laws.proofs.Run.Rest.{is-rest}
 use Rattle.flash_laws.proofs.Run.Moves.{moves}
 use Rattle.flash_laws.proofs.Run.Progress.{rank, nears}
 use Rattle.flash_laws.proofs.Run.Parts as parts
-use Rattle.flash_laws.proofs.Run.Parts.{no-position, continued, goes-on}
+use Rattle.flash_laws.proofs.Run.Parts.{no-position, continued, proceeds-on}
 use Rattle.flash_laws.proofs.Run.ReadsOn.{reads_on}
 use Rattle.flash_laws.proofs.Run.Stays.{run_stays, hired-on, write-elsewhere}
 use Rattle.flash_laws.proofs.Run.Takes.{takes, breaks, fails, in_turn}
@@ -50,8 +50,8 @@ use Rattle.flash_laws.proofs.Run.Stops as stopping
 use Rattle.flash_laws.proofs.Lists.{not-false}
 
 module _ (steps : EachStepLeavesTheRest) (own : CallsServeTheirDomain) (m n : State) (order : IsOrderly m) (job : ℕ → List ℕ) (w : Wanted) where
-  abbrev Told : Running → Running → Reply → List ℕ → Progress → Type 0
-  Told x y r heard before = (after : Progress) × Learns m x r heard before after × HasRun job n w after y
+  abbrev AfterReply : Running → Running → Reply → List ℕ → Progress → Type 0
+  AfterReply x y r received before = (after : Progress) × Learns m x r received before after × HasRun job n w after y
 
   module _ (run : Run) (hired : HasJobPipe m run.worker) (fd c : ℕ) (open_on : descriptor m server fd ≡ Some (on.Connection c)) (frame : Option ℕ) where
     still-hired : (k : Call) (r : Reply) → StepsTo m (event.Call server k) r n → touches_fd m (event.Call server k) server (job_pipe run.worker) ≡ false → HasJobPipe n run.worker
@@ -61,96 +61,96 @@ module _ (steps : EachStepLeavesTheRest) (own : CallsServeTheirDomain) (m n : St
     written a r step = still-hired (call.IolWrite fd a) r step (no-position m fd (job_pipe run.worker) (on.Connection c) open_on refl)
 
     -- the part is sent whole
-    sent : (a taken : ℕ) (r : Reply) (heard : List ℕ) (o : Progress) → HasPart m w o run (doing.Sent a taken None) frame
+    sent : (a taken : ℕ) (r : Reply) (received : List ℕ) (o : Progress) → HasPart m w o run (phase.Sent a taken None) frame
         → StepsTo m (event.Call server (call.AggDrop a)) r n
-        → Told (Runs run (Sending (doing.Sent a taken None) frame)) (told_sending run (doing.Sent a taken None) frame r) r heard o
-    sent a taken r heard o h step = by r (own.drops m n server a r order step) step
+        → AfterReply (Runs run (Sending (phase.Sent a taken None) frame)) (after_sending run (phase.Sent a taken None) frame r) r received o
+    sent a taken r received o h step = by r (own.drops m n server a r order step) step
       where
         by : (r : Reply) → caller.Drops m server a r n → StepsTo m (event.Call server (call.AggDrop a)) r n
-            → Told (Runs run (Sending (doing.Sent a taken None) frame)) (told_sending run (doing.Sent a taken None) frame r) r heard o
+            → AfterReply (Runs run (Sending (phase.Sent a taken None) frame)) (after_sending run (phase.Sent a taken None) frame r) r received o
         by reply.Done did step = (
           takes_on o h.part,
           (h.part, h.is_part, refl),
           (
             still-hired (call.AggDrop a) reply.Done step refl,
-            parts.hears-again steps own m n order w o run frame a (doing.Sent a taken None) (takes_on o h.part) run step (λ f is. (or_parts (a == f) false is).0) refl
-                (goes-on run.broken w (takes_on o h.part) [] h.whole (continued w o h.part [] h.continues)) h,
+            parts.receives-again steps own m n order w o run frame a (phase.Sent a taken None) (takes_on o h.part) run step (λ f is. (or_parts (a == f) false is).0) refl
+                (proceeds-on run.broken w (takes_on o h.part) [] h.whole (continued w o h.part [] h.continues)) h,
           ),
         )
-        by (reply.Refused y) did step = (o, refl, subst (λ (s : State). HasRun job s w o (Runs run (Sending (doing.Sent a taken None) frame))) (sym did) (hired, h))
+        by (reply.Refused y) did step = (o, refl, subst (λ (s : State). HasRun job s w o (Runs run (Sending (phase.Sent a taken None) frame))) (sym did) (hired, h))
         by r did step = absurd did
 
     -- nobody takes it
-    unsent : (a : ℕ) (r : Reply) (heard : List ℕ) (o : Progress) → HasPart m w o run (doing.Drops a None) frame
+    unsent : (a : ℕ) (r : Reply) (received : List ℕ) (o : Progress) → HasPart m w o run (phase.Drops a None) frame
         → StepsTo m (event.Call server (call.AggDrop a)) r n
-        → Told (Runs run (Sending (doing.Drops a None) frame)) (told_sending run (doing.Drops a None) frame r) r heard o
-    unsent a r heard o h step = by r (own.drops m n server a r order step) step
+        → AfterReply (Runs run (Sending (phase.Drops a None) frame)) (after_sending run (phase.Drops a None) frame r) r received o
+    unsent a r received o h step = by r (own.drops m n server a r order step) step
       where
         by : (r : Reply) → caller.Drops m server a r n → StepsTo m (event.Call server (call.AggDrop a)) r n
-            → Told (Runs run (Sending (doing.Drops a None) frame)) (told_sending run (doing.Drops a None) frame r) r heard o
+            → AfterReply (Runs run (Sending (phase.Drops a None) frame)) (after_sending run (phase.Drops a None) frame r) r received o
         by reply.Done did step = (
           Broken,
           refl,
           (
             still-hired (call.AggDrop a) reply.Done step refl,
-            parts.hears-again steps own m n order w o run frame a (doing.Drops a None) Broken (broken run) step (λ f is. (or_parts (a == f) false is).0) refl (refl, refl) h,
+            parts.receives-again steps own m n order w o run frame a (phase.Drops a None) Broken (broken run) step (λ f is. (or_parts (a == f) false is).0) refl (refl, refl) h,
           ),
         )
-        by (reply.Refused y) did step = (o, refl, subst (λ (s : State). HasRun job s w o (Runs run (Sending (doing.Drops a None) frame))) (sym did) (hired, h))
+        by (reply.Refused y) did step = (o, refl, subst (λ (s : State). HasRun job s w o (Runs run (Sending (phase.Drops a None) frame))) (sym did) (hired, h))
         by r did step = absurd did
 
-    sending : (d : Doing) (r : Reply) (heard : List ℕ) (o : Progress) → HasPart m w o run d frame
+    sending : (d : Phase) (r : Reply) (received : List ℕ) (o : Progress) → HasPart m w o run d frame
         → StepsTo m (event.Call server (conn.wants fd (in_phase w d))) r n
-        → Told (Runs run (Sending d frame)) (told_sending run d frame r) r heard o
-    sending (doing.Sends a len taken None) r heard o h step = (o, refl, (written a r step, parts.sends steps own m n order w o run frame fd c a len taken r open_on h step))
-    sending (doing.Cuts a from len taken None) r heard o h step = (o, refl, (still-hired (call.AggCut a from (piece_end from len)) r step refl, parts.cuts steps own m n order w o run frame a from len taken r h step))
-    sending (doing.Offers a from len piece taken None) r heard o h step = (o, refl, (written piece r step, parts.offers steps own m n order w o run frame fd c a from len piece taken r open_on h step))
-    sending (doing.Swaps a from len piece taken None) r heard o h step = (o, refl, (still-hired (call.AggDrop piece) r step refl, parts.swaps steps own m n order w o run frame a from len piece taken r h step))
-    sending (doing.Breaks piece a None) r heard o h step = (o, refl, (still-hired (call.AggDrop piece) r step refl, parts.breaks steps own m n order w o run frame piece a r h step))
-    sending (doing.Sent a taken None) r heard o h step = sent a taken r heard o h step
-    sending (doing.Drops a None) r heard o h step = unsent a r heard o h step
-    sending d r heard o h step = absurd h.is_part
+        → AfterReply (Runs run (Sending d frame)) (after_sending run d frame r) r received o
+    sending (phase.Sends a len taken None) r received o h step = (o, refl, (written a r step, parts.sends steps own m n order w o run frame fd c a len taken r open_on h step))
+    sending (phase.Cuts a from len taken None) r received o h step = (o, refl, (still-hired (call.AggCut a from (piece_end from len)) r step refl, parts.cuts steps own m n order w o run frame a from len taken r h step))
+    sending (phase.Offers a from len piece taken None) r received o h step = (o, refl, (written piece r step, parts.offers steps own m n order w o run frame fd c a from len piece taken r open_on h step))
+    sending (phase.Swaps a from len piece taken None) r received o h step = (o, refl, (still-hired (call.AggDrop piece) r step refl, parts.swaps steps own m n order w o run frame a from len piece taken r h step))
+    sending (phase.Breaks piece a None) r received o h step = (o, refl, (still-hired (call.AggDrop piece) r step refl, parts.breaks steps own m n order w o run frame piece a r h step))
+    sending (phase.Sent a taken None) r received o h step = sent a taken r received o h step
+    sending (phase.Drops a None) r received o h step = unsent a r received o h step
+    sending d r received o h step = absurd h.is_part
 
   -- what is left goes on as a file's response does
-  rest : (fd c : ℕ) (o : Progress) (d : Doing) (r : Reply) (heard : List ℕ) → descriptor m server fd ≡ Some (on.Connection c)
-      → HasRest m w o d → StepsTo m (event.Call server (conn.wants fd (in_phase w d))) r n → Names n r heard
-      → Told (Leaves d) (Leaves (conn.told (in_phase w d) r heard).doing) r heard o
-  rest fd c o d r heard open_on h step names = left.leaving steps own m n order w h.due fd c d r heard o h.left h.has h.sends open_on step names
+  rest : (fd c : ℕ) (o : Progress) (d : Phase) (r : Reply) (received : List ℕ) → descriptor m server fd ≡ Some (on.Connection c)
+      → HasRest m w o d → StepsTo m (event.Call server (conn.wants fd (in_phase w d))) r n → Names n r received
+      → AfterReply (Leaves d) (Leaves (conn.after_reply (in_phase w d) r received).phase) r received o
+  rest fd c o d r received open_on h step names = left.leaving steps own m n order w h.expected fd c d r received o h.left h.has h.sends open_on step names
 
-  leaving : (fd c : ℕ) (o : Progress) (d : Doing) (r : Reply) (heard : List ℕ) → descriptor m server fd ≡ Some (on.Connection c) → is_left d ≡ true
-      → HasLeft m w o d → StepsTo m (event.Call server (conn.wants fd (in_phase w d))) r n → Names n r heard
-      → Told (Leaves d) (Leaves (conn.told (in_phase w d) r heard).doing) r heard o
-  leaving fd c o d r heard open_on is has step names = rest fd c o d r heard open_on (is-rest m w o d is has) step names
+  leaving : (fd c : ℕ) (o : Progress) (d : Phase) (r : Reply) (received : List ℕ) → descriptor m server fd ≡ Some (on.Connection c) → is_left d ≡ true
+      → HasLeft m w o d → StepsTo m (event.Call server (conn.wants fd (in_phase w d))) r n → Names n r received
+      → AfterReply (Leaves d) (Leaves (conn.after_reply (in_phase w d) r received).phase) r received o
+  leaving fd c o d r received open_on is has step names = rest fd c o d r received open_on (is-rest m w o d is has) step names
 
-  pub replied : (fd c worker : ℕ) (x : Running) (r : Reply) (heard : List ℕ) (o : Progress) → descriptor m server fd ≡ Some (on.Connection c)
+  pub replied : (fd c worker : ℕ) (x : Running) (r : Reply) (received : List ℕ) (o : Progress) → descriptor m server fd ≡ Some (on.Connection c)
       → (x ≡ Awaits → HasJobPipe m worker) → is_over x ≡ false → HasRun job m w o x
-      → StepsTo m (event.Call server (wants job fd w x)) r n → Names n r heard → Told x (told worker w x r heard) r heard o
-  replied fd c worker Awaits r heard o open_on free going has step names = acts.awaits steps own m n order job w worker r heard o (free refl) has step
-  replied fd c worker Closes r heard o open_on free going has step names = absurd (cc (going))
-  replied fd c worker (Leaves d) r heard o open_on free going has step names = leaving fd c o d r heard open_on (not-false (is_left d) going) has step names
-  replied fd c worker (Runs run (Gives write)) r heard o open_on free going has step names = (o, refl, acts.gives steps own m n order job w run has.0 write r o has.1 step)
-  replied fd c worker (Runs run (Makes f)) r heard o open_on free going has step names = (o, refl, acts.makes steps own m n order job w run has.0 f r o has.1 step)
-  replied fd c worker (Runs run (Hands j f)) r heard o open_on free going has step names = (o, refl, acts.hands steps own m n order job w run has.0 j f r o has.1 step)
-  replied fd c worker (Runs run (Lets j)) r heard o open_on free going has step names = (o, refl, acts.drops steps own m n order job w run has.0 j (Lets j) Heads r o has refl (has.1.0, has.1.2) step (λ z. Runs run (told_lets j z)) refl (λ y. refl))
-  replied fd c worker (Runs run Heads) r heard o open_on free going has step names = (o, refl, acts.heads steps own m n order job w run has.0 r heard o has.1 step names)
-  replied fd c worker (Runs run (Sending d frame)) r heard o open_on free going has step names = sending run has.0 fd c open_on frame d r heard o has.1 step
-  replied fd c worker (Runs run (Hears held frame)) r heard o open_on free going has step names = acts.hears steps own m n order job w run has.0 held frame r heard o has.1 step names
-  replied fd c worker (Runs run (Spills a frame)) r heard o open_on free going has step names = (o, refl, acts.drops steps own m n order job w run has.0 a (Spills a frame) (Hears None frame) r o has has.1.0.1 has.1.1 step (λ z. Runs run (told_spills a frame z)) refl (λ y. refl))
-  replied fd c worker (Runs run (Gathers held size piece len frame)) r heard o open_on free going has step names = (o, refl, acts.gathers steps own m n order job w run has.0 held size piece len frame r o has.1 step)
-  replied fd c worker (Runs run (Frames held)) r heard o open_on free going has step names = (o, refl, acts.frames steps own m n order job w run has.0 held r o has.1 step)
-  replied fd c worker (Runs run (Wraps held frame)) r heard o open_on free going has step names = (o, refl, acts.wraps steps own m n order job w run has.0 held frame r heard o has.1 step names)
-  replied fd c worker (Runs run (Trims held chunk len frame)) r heard o open_on free going has step names = (o, refl, acts.drops steps own m n order job w run has.0 held (Trims held chunk len frame) (Sending (doing.Sends chunk len 0 None) (Some frame)) r o has has.1.0.1 has.1.1 step (λ z. Runs run (told_trims held chunk len frame z)) refl (λ y. refl))
-  replied fd c worker (Runs run (Ended a held frame)) r heard o open_on free going has step names = (o, refl, acts.drops steps own m n order job w run has.0 a (Ended a held frame) (Stops held frame) r o has has.1.0.1 (has.1.1, has.1.2) step (λ z. Runs run (told_ended a held frame z)) refl (λ y. refl))
-  replied fd c worker (Runs run (Unholds held frame)) r heard o open_on free going has step names = (o, refl, acts.drops steps own m n order job w run has.0 held (Unholds held frame) (Stops None frame) r o has has.1.0.1 (has.1.1, has.1.2) step (λ z. Runs run (told_unholds held frame z)) refl (λ y. refl))
-  replied fd c worker (Runs run (Stops held frame)) r heard o open_on free going has step names = (o, refl, stopping.stops steps own m n order job w run has.0 held frame r o has.1 step)
-  replied fd c worker (Runs run (Unframes f held)) r heard o open_on free going has step names = (o, refl, stopping.unframes steps own m n order job w run has.0 f held r o has.1 step)
-  replied fd c worker (Runs run (Lasts held)) r heard o open_on free going has step names = (o, refl, stopping.lasts steps own m n order job w run has.0 held r heard o has.1 step names)
-  replied fd c worker (Runs run (WrapsLast held size frame)) r heard o open_on free going has step names = (o, refl, stopping.wraps_last steps own m n order job w run has.0 held size frame r heard o has.1 step names)
-  replied fd c worker (Runs run (TrimsLast held chunk len frame)) r heard o open_on free going has step names = (o, refl, acts.drops steps own m n order job w run has.0 held (TrimsLast held chunk len frame) (Unwraps frame chunk len) r o has has.1.0.1 (has.1.1, has.1.2) step (λ z. Runs run (told_trims_last held chunk len frame z)) refl (λ y. refl))
-  replied fd c worker (Runs run (Unwraps frame chunk len)) r heard o open_on free going has step names = (o, refl, stopping.unwraps steps own m n order job w run has.0 frame chunk len r o has.1 step)
-  replied fd c worker (Runs run (Returns write)) r heard o open_on free going has step names = (o, refl, stopping.returns steps own m n order job w run has.0 write r o has.1 step)
-  replied fd c worker (Runs run (Lapses j)) r heard o open_on free going has step names = (o, refl, acts.drops steps own m n order job w run has.0 j (Lapses j) Fails r o has refl (has.1.0, has.1.2) step (λ z. Runs run (told_lapses j z)) refl (λ y. refl))
-  replied fd c worker (Runs run Fails) r heard o open_on free going has step names = stopping.fails steps own m n order job w run has.0 r heard o has.1 step
+      → StepsTo m (event.Call server (wants job fd w x)) r n → Names n r received → AfterReply x (after_reply worker w x r received) r received o
+  replied fd c worker Awaits r received o open_on free going has step names = acts.awaits steps own m n order job w worker r received o (free refl) has step
+  replied fd c worker Closes r received o open_on free going has step names = absurd (cc (going))
+  replied fd c worker (Leaves d) r received o open_on free going has step names = leaving fd c o d r received open_on (not-false (is_left d) going) has step names
+  replied fd c worker (Runs run (Gives write)) r received o open_on free going has step names = (o, refl, acts.gives steps own m n order job w run has.0 write r o has.1 step)
+  replied fd c worker (Runs run (Makes f)) r received o open_on free going has step names = (o, refl, acts.makes steps own m n order job w run has.0 f r o has.1 step)
+  replied fd c worker (Runs run (Hands j f)) r received o open_on free going has step names = (o, refl, acts.hands steps own m n order job w run has.0 j f r o has.1 step)
+  replied fd c worker (Runs run (Lets j)) r received o open_on free going has step names = (o, refl, acts.drops steps own m n order job w run has.0 j (Lets j) Heads r o has refl (has.1.0, has.1.2) step (λ z. Runs run (after_release_job j z)) refl (λ y. refl))
+  replied fd c worker (Runs run Heads) r received o open_on free going has step names = (o, refl, acts.heads steps own m n order job w run has.0 r received o has.1 step names)
+  replied fd c worker (Runs run (Sending d frame)) r received o open_on free going has step names = sending run has.0 fd c open_on frame d r received o has.1 step
+  replied fd c worker (Runs run (Receives held frame)) r received o open_on free going has step names = acts.receives steps own m n order job w run has.0 held frame r received o has.1 step names
+  replied fd c worker (Runs run (Spills a frame)) r received o open_on free going has step names = (o, refl, acts.drops steps own m n order job w run has.0 a (Spills a frame) (Receives None frame) r o has has.1.0.1 has.1.1 step (λ z. Runs run (after_spill a frame z)) refl (λ y. refl))
+  replied fd c worker (Runs run (Gathers held size piece len frame)) r received o open_on free going has step names = (o, refl, acts.gathers steps own m n order job w run has.0 held size piece len frame r o has.1 step)
+  replied fd c worker (Runs run (Frames held)) r received o open_on free going has step names = (o, refl, acts.frames steps own m n order job w run has.0 held r o has.1 step)
+  replied fd c worker (Runs run (Wraps held frame)) r received o open_on free going has step names = (o, refl, acts.wraps steps own m n order job w run has.0 held frame r received o has.1 step names)
+  replied fd c worker (Runs run (Trims held chunk len frame)) r received o open_on free going has step names = (o, refl, acts.drops steps own m n order job w run has.0 held (Trims held chunk len frame) (Sending (phase.Sends chunk len 0 None) (Some frame)) r o has has.1.0.1 has.1.1 step (λ z. Runs run (after_trim held chunk len frame z)) refl (λ y. refl))
+  replied fd c worker (Runs run (Ended a held frame)) r received o open_on free going has step names = (o, refl, acts.drops steps own m n order job w run has.0 a (Ended a held frame) (Stops held frame) r o has has.1.0.1 (has.1.1, has.1.2) step (λ z. Runs run (after_ended a held frame z)) refl (λ y. refl))
+  replied fd c worker (Runs run (Unholds held frame)) r received o open_on free going has step names = (o, refl, acts.drops steps own m n order job w run has.0 held (Unholds held frame) (Stops None frame) r o has has.1.0.1 (has.1.1, has.1.2) step (λ z. Runs run (after_release_held held frame z)) refl (λ y. refl))
+  replied fd c worker (Runs run (Stops held frame)) r received o open_on free going has step names = (o, refl, stopping.stops steps own m n order job w run has.0 held frame r o has.1 step)
+  replied fd c worker (Runs run (Unframes f held)) r received o open_on free going has step names = (o, refl, stopping.unframes steps own m n order job w run has.0 f held r o has.1 step)
+  replied fd c worker (Runs run (Lasts held)) r received o open_on free going has step names = (o, refl, stopping.lasts steps own m n order job w run has.0 held r received o has.1 step names)
+  replied fd c worker (Runs run (WrapsLast held size frame)) r received o open_on free going has step names = (o, refl, stopping.wraps_last steps own m n order job w run has.0 held size frame r received o has.1 step names)
+  replied fd c worker (Runs run (TrimsLast held chunk len frame)) r received o open_on free going has step names = (o, refl, acts.drops steps own m n order job w run has.0 held (TrimsLast held chunk len frame) (Unwraps frame chunk len) r o has has.1.0.1 (has.1.1, has.1.2) step (λ z. Runs run (after_trim_last held chunk len frame z)) refl (λ y. refl))
+  replied fd c worker (Runs run (Unwraps frame chunk len)) r received o open_on free going has step names = (o, refl, stopping.unwraps steps own m n order job w run has.0 frame chunk len r o has.1 step)
+  replied fd c worker (Runs run (Returns write)) r received o open_on free going has step names = (o, refl, stopping.returns steps own m n order job w run has.0 write r o has.1 step)
+  replied fd c worker (Runs run (Lapses j)) r received o open_on free going has step names = (o, refl, acts.drops steps own m n order job w run has.0 j (Lapses j) Fails r o has refl (has.1.0, has.1.2) step (λ z. Runs run (after_lapse j z)) refl (λ y. refl))
+  replied fd c worker (Runs run Fails) r received o open_on free going has step names = stopping.fails steps own m n order job w run has.0 r received o has.1 step
 
 -- ---- what is offered
 
@@ -162,10 +162,10 @@ drop_past (p ∷ ps) xs t =
 
 -- of what begins with a part its next bytes are next
 next-in : (m : State) (w : Wanted) (o : Progress) (a taken : ℕ) (part bytes after : List ℕ) → Continues w o part []
-    → taken ≤ length part → bytes ++ after ≡ drop taken part → lent_at m server a ≡ Some bytes → IsNextOf m w o a taken
-next-in m w (Ran heard ended past) a taken part bytes after goes within next lends = record {
+    → taken ≤ length part → bytes ++ after ≡ drop taken part → readable_at m server a ≡ Some bytes → IsNextOf m w o a taken
+next-in m w (Ran received ended past) a taken part bytes after goes within next is_readable = record {
   bytes = bytes;
-  lends = lends;
+  is_readable = is_readable;
   next = λ r may. (
     after ++ script_body w.chunked may.0,
     (sym (append_assoc bytes after (script_body w.chunked may.0))
@@ -175,38 +175,38 @@ next-in m w (Ran heard ended past) a taken part bytes after goes within next len
         ∙ ap (λ (l : List ℕ). drop (length past + taken) l) (sym (may.2 ∙ (goes may.0 ∙ append_assoc past part (script_body w.chunked may.0)))))))),
   );
 }
-next-in m w x a taken part bytes after goes within next lends = absurd goes
+next-in m w x a taken part bytes after goes within next is_readable = absurd goes
 
--- what a phase of any response offers comes next in what is due
-offered : (m : State) (fd a : ℕ) (w : Wanted) (due : List ℕ) (d : Doing) → Has m (serve w) due d
-    → conn.wants fd (in_phase w d) ≡ call.IolWrite fd a → Next m due a (taken_of d)
-offered m fd a w due d has is = (next-due m fd fd a [] (serve w) d due has is).1
+-- what a phase of any response offers comes next in what is expected
+offered : (m : State) (fd a : ℕ) (w : Wanted) (expected : List ℕ) (d : Phase) → Has m (serve w) expected d
+    → conn.wants fd (in_phase w d) ≡ call.IolWrite fd a → Next m expected a (taken_of d)
+offered m fd a w expected d has is = (next-expected m fd fd a [] (serve w) d expected has is).1
 
-pub part-next : (m : State) (fd a : ℕ) (w : Wanted) (o : Progress) (run : Run) (d : Doing) (frame : Option ℕ) → HasPart m w o run d frame
+pub part-next : (m : State) (fd a : ℕ) (w : Wanted) (o : Progress) (run : Run) (d : Phase) (frame : Option ℕ) → HasPart m w o run d frame
     → conn.wants fd (in_phase w d) ≡ call.IolWrite fd a → IsNextOf m w o a (taken_of d)
 part-next m fd a w o run d frame h is =
     let p = offered m fd a w h.part d h.has is in
     next-in m w o a (taken_of d) h.part p.0 p.1 h.continues h.within p.3 p.2
 
 -- what may be the response, once all of it is known
-is-whole : (w : Wanted) (o : Progress) (due r : List ℕ) → IsLeft w o due → MayAnswer w o r → (taken : ℕ) → drop taken due ≡ drop (past_of o + taken) r
-is-whole w (Ran heard ended past) due r left may taken =
+is-whole : (w : Wanted) (o : Progress) (expected r : List ℕ) → IsLeft w o expected → MayAnswer w o r → (taken : ℕ) → drop taken expected ≡ drop (past_of o + taken) r
+is-whole w (Ran received ended past) expected r left may taken =
     let none : may.0 ≡ [] = subst (λ b. Follows b may.0) left.0 may.1 in
-    let all : r ≡ past ++ due = may.2 ∙ (ap (λ (l : List ℕ). script_response w (heard ++ l)) none ∙ (ap (λ (l : List ℕ). script_response w l) (append-nil heard) ∙ left.1)) in
-    sym (drop_past past due taken) ∙ ap (λ (l : List ℕ). drop (length past + taken) l) (sym all)
-is-whole w Broken due r left may taken = absurd left
-is-whole w (NotRun status past) due r left may taken = sym (drop_past past due taken) ∙ ap (λ (l : List ℕ). drop (length past + taken) l) (sym (may ∙ left))
+    let all : r ≡ past ++ expected = may.2 ∙ (ap (λ (l : List ℕ). script_response w (received ++ l)) none ∙ (ap (λ (l : List ℕ). script_response w l) (append-nil received) ∙ left.1)) in
+    sym (drop_past past expected taken) ∙ ap (λ (l : List ℕ). drop (length past + taken) l) (sym all)
+is-whole w Broken expected r left may taken = absurd left
+is-whole w (NotRun status past) expected r left may taken = sym (drop_past past expected taken) ∙ ap (λ (l : List ℕ). drop (length past + taken) l) (sym (may ∙ left))
 
-rest-next : (m : State) (fd a : ℕ) (w : Wanted) (o : Progress) (d : Doing) → HasRest m w o d
+rest-next : (m : State) (fd a : ℕ) (w : Wanted) (o : Progress) (d : Phase) → HasRest m w o d
     → conn.wants fd (in_phase w d) ≡ call.IolWrite fd a → IsNextOf m w o a (taken_of d)
 rest-next m fd a w o d h is =
-    let p = offered m fd a w h.due d h.has is in
-    record { bytes = p.0; lends = p.2; next = λ r may. (p.1, p.3 ∙ is-whole w o h.due r h.left may (taken_of d)) }
+    let p = offered m fd a w h.expected d h.has is in
+    record { bytes = p.0; is_readable = p.2; next = λ r may. (p.1, p.3 ∙ is-whole w o h.expected r h.left may (taken_of d)) }
 
-pub left-next : (m : State) (fd a : ℕ) (w : Wanted) (o : Progress) (d : Doing) → HasLeft m w o d
+pub left-next : (m : State) (fd a : ℕ) (w : Wanted) (o : Progress) (d : Phase) → HasLeft m w o d
     → conn.wants fd (in_phase w d) ≡ call.IolWrite fd a → IsNextOf m w o a (taken_of d)
-left-next m fd a w o doing.Rests has is = absurd (cc (is))
-left-next m fd a w o doing.Closes has is = absurd (cc (is))
+left-next m fd a w o phase.Rests has is = absurd (cc (is))
+left-next m fd a w o phase.Closes has is = absurd (cc (is))
 left-next m fd a w o d has is = rest-next m fd a w o d has is
 
 next-of : (job : ℕ → List ℕ) (m : State) (fd c a : ℕ) (w : Wanted) (x : Running) (o : Progress)
@@ -222,7 +222,7 @@ next-of job m fd c a w (Leaves d) o open_on has is = left-next m fd a w o d has 
 next-of job m fd c a w x o open_on has is = absurd (cc (is))
 
 few-held : (job : ℕ → List ℕ) (m : State) (w : Wanted) (o : Progress) (run : Run) (held : Option (ℕ × ℕ)) (frame : Option ℕ)
-    → HasRun job m w o (Runs run (Hears held frame)) → held_size held < CHUNK_BYTES
+    → HasRun job m w o (Runs run (Receives held frame)) → held_size held < CHUNK_BYTES
 few-held job m w o run None frame has = omega arith
 few-held job m w o run (Some x) frame has = has.1.has.holds.few
 
@@ -231,26 +231,26 @@ few-held job m w o run (Some x) frame has = has.1.has.holds.few
 none-of : (job : ℕ → List ℕ) (m : State) (fd a : ℕ) (w : Wanted) (x : Running) → HasRun job m w Broken x → wants job fd w x ≡ call.IolWrite fd a → ⊥
 none-of job m fd a w (Runs run (Sending d frame)) has is = has.1.continues
 none-of job m fd a w (Runs run (Hands j f)) has is = let e = has.1.2.1 in cc (e)
-none-of job m fd a w (Leaves doing.Rests) has is = has.0
-none-of job m fd a w (Leaves doing.Closes) has is = cc (is)
+none-of job m fd a w (Leaves phase.Rests) has is = has.0
+none-of job m fd a w (Leaves phase.Closes) has is = cc (is)
 none-of job m fd a w (Leaves d) has is = has.left
 none-of job m fd a w x has is = cc (is)
 
 -- ---- the job
 
-opened : (own : CallsServeTheirDomain) (job : ℕ → List ℕ) (m n : State) (fd worker : ℕ) (w : Wanted) (from write : ℕ) (heard : List ℕ)
+opened : (own : CallsServeTheirDomain) (job : ℕ → List ℕ) (m n : State) (fd worker : ℕ) (w : Wanted) (from write : ℕ) (received : List ℕ)
     → StepsTo m (event.Call server (wants job fd w Awaits)) (reply.Fds from write) n
-    → (told worker w Awaits (reply.Fds from write) heard ≡ Runs (record { worker = worker; from = from; broken = false }) (Gives write))
+    → (after_reply worker w Awaits (reply.Fds from write) received ≡ Runs (record { worker = worker; from = from; broken = false }) (Gives write))
     × ((p : ℕ) × (pipe_at n p ≡ new_pipe) × (descriptor n server from ≡ Some (on.ReadEnd p)) × (descriptor n server write ≡ Some (on.WriteEnd p)))
-opened own job m n fd worker w from write heard step =
+opened own job m n fd worker w from write received step =
     let did = own.makes_pipe m n server (reply.Fds from write) step in
     (refl, (did.pipe, did.empty, did.read_end, did.write_end))
 
-given : (steps : EachStepLeavesTheRest) (own : CallsServeTheirDomain) (job : ℕ → List ℕ) (m n : State) (fd worker : ℕ) (w : Wanted) (o : Progress) (run : Run) (write f : ℕ) (heard : List ℕ)
+given : (steps : EachStepLeavesTheRest) (own : CallsServeTheirDomain) (job : ℕ → List ℕ) (m n : State) (fd worker : ℕ) (w : Wanted) (o : Progress) (run : Run) (write f : ℕ) (received : List ℕ)
     → HasRun job m w o (Runs run (Gives write)) → StepsTo m (event.Call server (wants job fd w (Runs run (Gives write)))) (reply.Fd f) n
-    → (told worker w (Runs run (Gives write)) (reply.Fd f) heard ≡ Runs run (Makes f))
+    → (after_reply worker w (Runs run (Gives write)) (reply.Fd f) received ≡ Runs run (Makes f))
     × ((p : ℕ) × (descriptor n server run.from ≡ Some (on.ReadEnd p)) × (descriptor n (worker_domain run.worker) f ≡ Some (on.WriteEnd p)))
-given steps own job m n fd worker w o run write f heard has step = (
+given steps own job m n fd worker w o run write f received has step = (
   refl,
   (
     has.1.0.pipe,
@@ -267,53 +267,53 @@ keeps-finishing false true run held = refl
 keeps-finishing false false run held = tt
 keeps-finishing true c run held = tt
 
-keeps-stops : (w : Wanted) (run : Run) (held : Following) (frame : Option ℕ) (r : Reply) → HasWorker run.worker (told_stops w run held frame r)
+keeps-stops : (w : Wanted) (run : Run) (held : Following) (frame : Option ℕ) (r : Reply) → HasWorker run.worker (after_stop w run held frame r)
 keeps-stops w run held None reply.Done = keeps-finishing run.broken w.chunked run held
 keeps-stops w run held (Some f) reply.Done = refl
 keeps-stops w run held frame r = refl
 
-keeps-unframes : (w : Wanted) (run : Run) (f : ℕ) (held : Following) (r : Reply) → HasWorker run.worker (told_unframes w run f held r)
+keeps-unframes : (w : Wanted) (run : Run) (f : ℕ) (held : Following) (r : Reply) → HasWorker run.worker (after_release_frame w run f held r)
 keeps-unframes w run f held reply.Done = keeps-finishing run.broken w.chunked run held
 keeps-unframes w run f held r = refl
 
-keeps-sending : (run : Run) (d : Doing) (frame : Option ℕ) (r : Reply) → HasWorker run.worker (told_sending run d frame r)
-keeps-sending run (doing.Sent a taken None) frame reply.Done = refl
-keeps-sending run (doing.Drops a None) frame reply.Done = refl
+keeps-sending : (run : Run) (d : Phase) (frame : Option ℕ) (r : Reply) → HasWorker run.worker (after_sending run d frame r)
+keeps-sending run (phase.Sent a taken None) frame reply.Done = refl
+keeps-sending run (phase.Drops a None) frame reply.Done = refl
 keeps-sending run d frame r = refl
 
-keeps-hears : (w : Wanted) (run : Run) (held : Following) (frame : Option ℕ) (r : Reply) (heard : List ℕ) → HasWorker run.worker (told_hears w run held frame r heard)
-keeps-hears w run held frame (reply.Agg n) [] = refl
-keeps-hears w run held frame (reply.Agg n) (b ∷ heard) = refl
-keeps-hears w run held frame (reply.Refused (no.Denied p)) heard = refl
-keeps-hears w run held frame r heard = refl
+keeps-receives : (w : Wanted) (run : Run) (held : Following) (frame : Option ℕ) (r : Reply) (received : List ℕ) → HasWorker run.worker (after_output w run held frame r received)
+keeps-receives w run held frame (reply.Agg n) [] = refl
+keeps-receives w run held frame (reply.Agg n) (b ∷ received) = refl
+keeps-receives w run held frame (reply.Refused (no.Denied p)) received = refl
+keeps-receives w run held frame r received = refl
 
-keeps-lasts : (run : Run) (held : Following) (r : Reply) (heard : List ℕ) → HasWorker run.worker (told_lasts run held r heard)
-keeps-lasts run None (reply.Agg n) heard = tt
-keeps-lasts run (Some x) (reply.Agg n) heard = refl
-keeps-lasts run held r heard = refl
+keeps-lasts : (run : Run) (held : Following) (r : Reply) (received : List ℕ) → HasWorker run.worker (after_last run held r received)
+keeps-lasts run None (reply.Agg n) received = tt
+keeps-lasts run (Some x) (reply.Agg n) received = refl
+keeps-lasts run held r received = refl
 
-keeps-unwraps : (run : Run) (frame chunk len : ℕ) (r : Reply) → HasWorker run.worker (told_unwraps run frame chunk len r)
+keeps-unwraps : (run : Run) (frame chunk len : ℕ) (r : Reply) → HasWorker run.worker (after_unwrap run frame chunk len r)
 keeps-unwraps run frame chunk len reply.Done = tt
 keeps-unwraps run frame chunk len r = refl
 
-keeps-fails : (run : Run) (r : Reply) → HasWorker run.worker (told_fails run r)
+keeps-fails : (run : Run) (r : Reply) → HasWorker run.worker (after_fail run r)
 keeps-fails run reply.Done = tt
 keeps-fails run r = refl
 
-pub keeps : (worker : ℕ) (w : Wanted) (run : Run) (step : Step) (r : Reply) (heard : List ℕ) → HasWorker run.worker (told worker w (Runs run step) r heard)
-keeps worker w run (Sending d frame) r heard = keeps-sending run d frame r
-keeps worker w run (Hears held frame) r heard = keeps-hears w run held frame r heard
-keeps worker w run (Stops held frame) r heard = keeps-stops w run held frame r
-keeps worker w run (Unframes frame held) r heard = keeps-unframes w run frame held r
-keeps worker w run (Lasts held) r heard = keeps-lasts run held r heard
-keeps worker w run (Unwraps frame chunk len) r heard = keeps-unwraps run frame chunk len r
-keeps worker w run Fails r heard = keeps-fails run r
-keeps worker w run step r heard = refl
+pub keeps : (worker : ℕ) (w : Wanted) (run : Run) (step : Step) (r : Reply) (received : List ℕ) → HasWorker run.worker (after_reply worker w (Runs run step) r received)
+keeps worker w run (Sending d frame) r received = keeps-sending run d frame r
+keeps worker w run (Receives held frame) r received = keeps-receives w run held frame r received
+keeps worker w run (Stops held frame) r received = keeps-stops w run held frame r
+keeps worker w run (Unframes frame held) r received = keeps-unframes w run frame held r
+keeps worker w run (Lasts held) r received = keeps-lasts run held r received
+keeps worker w run (Unwraps frame chunk len) r received = keeps-unwraps run frame chunk len r
+keeps worker w run Fails r received = keeps-fails run r
+keeps worker w run step r received = refl
 
 pub runs_offer : EachStepLeavesTheRest → CallsServeTheirDomain → RefusalsTellWhy → RefusalsThatAreLeft → RunsOfferTheResponse
 runs_offer steps own why may = λ job. record {
   starts = λ m w. refl;
-  replied = λ m n fd c worker w x r heard o order open_on free going has step names. replied steps own m n order job w fd c worker x r heard o open_on free going has step names;
+  replied = λ m n fd c worker w x r received o order open_on free going has step names. replied steps own m n order job w fd c worker x r received o open_on free going has step names;
   stays = λ m n w x e r o. run_stays steps job m n w x e r o;
   offers = next-of job;
   silent = none-of job;
@@ -324,7 +324,7 @@ runs_offer steps own why may = λ job. record {
   nears = nears own may job;
   moves = moves job;
   reads = few-held job;
-  hears = λ m n fd w o run held frame r order has step.
+  receives = λ m n fd w o run held frame r order has step.
       (has.1.reads.0, has.1.reads.1, own.read_pipe m n server run.from has.1.reads.0 (CHUNK_BYTES - held_size held) r order has.1.reads.1 step);
   reads_on = reads_on;
   opens = opened own job;

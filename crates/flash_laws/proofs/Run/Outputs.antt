@@ -7,7 +7,7 @@ use Rattle.flash_http.specs.Chunk.{chunk_head, chunk_end, chunk, last_chunk}
 use Rattle.flash_http.specs.Request.{Wanted}
 use Rattle.flash_laws.specs.declared.script_run.TheConstants.{CHUNK_BYTES}
 use Rattle.flash_laws.specs.Run.Fits.{Progress, Ran, Broken, HoldsBack, Continues, IsLeft, Goes, Ends}
-use Rattle.flash_laws.specs.Run.OfferedBytes.{hears_on}
+use Rattle.flash_laws.specs.Run.OfferedBytes.{receives_on}
 use Rattle.flash_laws.specs.Answers.Scripts.{script_body, script_response}
 use Rattle.flash_laws.proofs.Run.Pieces.{chunk_more, last_body}
 
@@ -24,9 +24,9 @@ short-prefix (suc j) (suc k) [] = omega arith
 short-prefix (suc j) (suc k) (x ∷ t) = let e = short-prefix j k t in omega (arith, e)
 
 -- no more is read than is asked for
-pub short-output : (may : ℕ → Bool) (k : ℕ) (queue text : Text) (heard : List ℕ) → text ≡ admitted may (take k queue)
-    → heard ≡ bytes_of text → length heard ≤ k
-short-output may k queue text heard is same =
+pub short-output : (may : ℕ → Bool) (k : ℕ) (queue text : Text) (received : List ℕ) → text ≡ admitted may (take k queue)
+    → received ≡ bytes_of text → length received ≤ k
+short-output may k queue text received is same =
     let e = short-prefix (prefix_len (λ x. may x.1) (take k queue)) k queue in
     let f = ap (λ (t : Text). length t) is in
     let g = ap (λ (l : List ℕ). length l) same ∙ length-bytes text in
@@ -58,26 +58,26 @@ short-chunk size bytes end few short =
 -- ---- what the response is made of
 
 -- more output is held back
-pub hears-more : (w : Wanted) (o : Progress) (held : List ℕ) (b : ℕ) (new : List ℕ) → HoldsBack w o held
-    → HoldsBack w (hears_on o (b ∷ new)) (held ++ (b ∷ new))
-hears-more w (Ran heard ended past) held b new back = λ more.
-    (ap (λ (l : List ℕ). script_response w l) (append_assoc heard (b ∷ new) more) ∙ (back ((b ∷ new) ++ more)
+pub receives-more : (w : Wanted) (o : Progress) (held : List ℕ) (b : ℕ) (new : List ℕ) → HoldsBack w o held
+    → HoldsBack w (receives_on o (b ∷ new)) (held ++ (b ∷ new))
+receives-more w (Ran received ended past) held b new back = λ more.
+    (ap (λ (l : List ℕ). script_response w l) (append_assoc received (b ∷ new) more) ∙ (back ((b ∷ new) ++ more)
     ∙ ap (λ (l : List ℕ). past ++ script_body w.chunked l) (sym (append_assoc held (b ∷ new) more))))
-hears-more w x held b new back = absurd back
+receives-more w x held b new back = absurd back
 
 -- the end was seen: only what is held is left
-pub hears-end : (b : Bool) (w : Wanted) (o : Progress) (held : List ℕ) → Goes b w o held → Ends b w (hears_on o []) held
-hears-end true w o held is = (subst (λ (z : Progress). hears_on z [] ≡ Broken) (sym is.0) refl, is.1)
-hears-end false w (Ran heard ended past) held back = (
+pub receives-end : (b : Bool) (w : Wanted) (o : Progress) (held : List ℕ) → Goes b w o held → Ends b w (receives_on o []) held
+receives-end true w o held is = (subst (λ (z : Progress). receives_on z [] ≡ Broken) (sym is.0) refl, is.1)
+receives-end false w (Ran received ended past) held back = (
   refl,
-  (ap (λ (l : List ℕ). script_response w l) (sym (append-nil heard)) ∙ (back [] ∙ ap (λ (l : List ℕ). past ++ script_body w.chunked l) (append-nil held))),
+  (ap (λ (l : List ℕ). script_response w l) (sym (append-nil received)) ∙ (back [] ∙ ap (λ (l : List ℕ). past ++ script_body w.chunked l) (append-nil held))),
 )
-hears-end false w x held back = absurd back
+receives-end false w x held back = absurd back
 
 -- what is held makes a part of the response
 part-of : (w : Wanted) (o : Progress) (part held : List ℕ) → ((more : List ℕ) → script_body w.chunked (held ++ more) ≡ part ++ script_body w.chunked more)
     → HoldsBack w o held → Continues w o part []
-part-of w (Ran heard ended past) part held makes back = λ more. (back more ∙ (ap (λ (l : List ℕ). past ++ l) (makes more) ∙ sym (append_assoc past part (script_body w.chunked more))))
+part-of w (Ran received ended past) part held makes back = λ more. (back more ∙ (ap (λ (l : List ℕ). past ++ l) (makes more) ∙ sym (append_assoc past part (script_body w.chunked more))))
 part-of w x part held makes back = absurd back
 
 -- without chunks its own bytes

@@ -7,18 +7,18 @@ use Rattle.iol_core.specs.declared.events.Reply.TheVariants as reply
 use Rattle.flash_http.specs.Request.{Wanted}
 use Rattle.flash_laws.specs.Conn.{Following, count_of}
 use Rattle.flash_laws.specs.Run.OfferedBytes.{is_stopping, StopsBy}
-use Rattle.flash_laws.specs.Run.{both, is_again, told_gives, told_makes, told_hands, told_lets, told_heads, told_sending, told_spills, told_gathers, told_frames, told_wraps, told_trims, told_returns, told_lapses, told_hears, told_fails, filled, holding, hearing, told}
-use Rattle.flash_laws.specs.declared.phase.Doing.{Doing}
-use Rattle.flash_laws.specs.declared.phase.Doing.TheVariants as doing
+use Rattle.flash_laws.specs.Run.{both, is_again, after_give, after_make, after_hand, after_release_job, after_head, after_sending, after_spill, after_gather, after_frame, after_wrap, after_trim, after_return, after_lapse, after_output, after_fail, filled, holding, hearing, after_reply}
+use Rattle.flash_laws.specs.declared.phase.Phase.{Phase}
+use Rattle.flash_laws.specs.declared.phase.Phase.TheVariants as phase
 use Rattle.flash_laws.specs.declared.script_run.TheConstants.{CHUNK_BYTES}
 use Rattle.flash_laws.specs.declared.script_run.Run.{Run}
 use Rattle.flash_laws.specs.declared.script_run.Step.{Step}
-use Rattle.flash_laws.specs.declared.script_run.Step.TheVariants.{Gives, Makes, Hands, Lets, Heads, Sending, Hears, Spills, Gathers, Frames, Wraps, Trims, Returns, Lapses, Fails}
+use Rattle.flash_laws.specs.declared.script_run.Step.TheVariants.{Gives, Makes, Hands, Lets, Heads, Sending, Receives, Spills, Gathers, Frames, Wraps, Trims, Returns, Lapses, Fails}
 use Rattle.flash_laws.specs.declared.script_run.Running.{Running}
 use Rattle.flash_laws.specs.declared.script_run.Running.TheVariants.{Awaits, Runs}
 
 module _ (run : Run) where
-  gives : (write : ℕ) (r : Reply) → is_stopping (Runs run (told_gives write r)) ≡ true → ⊥
+  gives : (write : ℕ) (r : Reply) → is_stopping (Runs run (after_give write r)) ≡ true → ⊥
   gives write (reply.Fd f) z = cc (z)
   gives write (reply.Refused x) z = by (is_again x) z
     where
@@ -27,11 +27,11 @@ module _ (run : Run) where
       by false z = cc (z)
   gives write r z = cc (z)
 
-  makes : (f : ℕ) (r : Reply) → is_stopping (Runs run (told_makes f r)) ≡ true → ⊥
+  makes : (f : ℕ) (r : Reply) → is_stopping (Runs run (after_make f r)) ≡ true → ⊥
   makes f (reply.Agg n) z = cc (z)
   makes f r z = cc (z)
 
-  hands : (j f : ℕ) (r : Reply) → is_stopping (Runs run (told_hands j f r)) ≡ true → ⊥
+  hands : (j f : ℕ) (r : Reply) → is_stopping (Runs run (after_hand j f r)) ≡ true → ⊥
   hands j f (reply.Count k) z = cc (z)
   hands j f (reply.Refused x) z = by (is_again x) z
     where
@@ -40,56 +40,56 @@ module _ (run : Run) where
       by false z = cc (z)
   hands j f r z = cc (z)
 
-  lets : (j : ℕ) (r : Reply) → is_stopping (Runs run (told_lets j r)) ≡ true → ⊥
+  lets : (j : ℕ) (r : Reply) → is_stopping (Runs run (after_release_job j r)) ≡ true → ⊥
   lets j reply.Done z = cc (z)
   lets j r z = cc (z)
 
-  heads : (r : Reply) (heard : List ℕ) → is_stopping (Runs run (told_heads r heard)) ≡ true → ⊥
-  heads (reply.Agg n) heard z = cc (z)
-  heads r heard z = cc (z)
+  heads : (r : Reply) (received : List ℕ) → is_stopping (Runs run (after_head r received)) ≡ true → ⊥
+  heads (reply.Agg n) received z = cc (z)
+  heads r received z = cc (z)
 
-  sending : (d : Doing) (frame : Option ℕ) (r : Reply) → is_stopping (told_sending run d frame r) ≡ true → ⊥
-  sending (doing.Sent a taken None) frame reply.Done z = cc (z)
-  sending (doing.Drops a None) frame reply.Done z = cc (z)
+  sending : (d : Phase) (frame : Option ℕ) (r : Reply) → is_stopping (after_sending run d frame r) ≡ true → ⊥
+  sending (phase.Sent a taken None) frame reply.Done z = cc (z)
+  sending (phase.Drops a None) frame reply.Done z = cc (z)
   sending d frame r z = cc (z)
 
-  spills : (a : ℕ) (frame : Option ℕ) (r : Reply) → is_stopping (Runs run (told_spills a frame r)) ≡ true → ⊥
+  spills : (a : ℕ) (frame : Option ℕ) (r : Reply) → is_stopping (Runs run (after_spill a frame r)) ≡ true → ⊥
   spills a frame reply.Done z = cc (z)
   spills a frame r z = cc (z)
 
   holds : (held size : ℕ) (frame : Option ℕ) → is_stopping (Runs run (holding held size frame)) ≡ true → ⊥
   holds held size frame z = by (nat_lt size CHUNK_BYTES) frame z
     where
-      by : (b : Bool) (frame : Option ℕ) → is_stopping (Runs run (if b then Hears (Some (held, size)) frame else filled held frame)) ≡ true → ⊥
+      by : (b : Bool) (frame : Option ℕ) → is_stopping (Runs run (if b then Receives (Some (held, size)) frame else filled held frame)) ≡ true → ⊥
       by true frame z = cc (z)
       by false None z = cc (z)
       by false (Some f) z = cc (z)
 
-  gathers : (held size piece len : ℕ) (frame : Option ℕ) (r : Reply) → is_stopping (Runs run (told_gathers held size piece len frame r)) ≡ true → ⊥
+  gathers : (held size piece len : ℕ) (frame : Option ℕ) (r : Reply) → is_stopping (Runs run (after_gather held size piece len frame r)) ≡ true → ⊥
   gathers held size piece len frame (reply.Agg n) z = holds n (both size len) frame z
   gathers held size piece len frame r z = cc (z)
 
-  frames : (held : ℕ) (r : Reply) → is_stopping (Runs run (told_frames held r)) ≡ true → ⊥
+  frames : (held : ℕ) (r : Reply) → is_stopping (Runs run (after_frame held r)) ≡ true → ⊥
   frames held (reply.Agg n) z = cc (z)
   frames held r z = cc (z)
 
-  wraps : (held frame : ℕ) (r : Reply) (heard : List ℕ) → is_stopping (Runs run (told_wraps held frame r heard)) ≡ true → ⊥
-  wraps held frame (reply.Agg n) heard z = cc (z)
-  wraps held frame r heard z = cc (z)
+  wraps : (held frame : ℕ) (r : Reply) (received : List ℕ) → is_stopping (Runs run (after_wrap held frame r received)) ≡ true → ⊥
+  wraps held frame (reply.Agg n) received z = cc (z)
+  wraps held frame r received z = cc (z)
 
-  trims : (held chunk len frame : ℕ) (r : Reply) → is_stopping (Runs run (told_trims held chunk len frame r)) ≡ true → ⊥
+  trims : (held chunk len frame : ℕ) (r : Reply) → is_stopping (Runs run (after_trim held chunk len frame r)) ≡ true → ⊥
   trims held chunk len frame reply.Done z = cc (z)
   trims held chunk len frame r z = cc (z)
 
-  returns : (write : ℕ) (r : Reply) → is_stopping (Runs run (told_returns write r)) ≡ true → ⊥
+  returns : (write : ℕ) (r : Reply) → is_stopping (Runs run (after_return write r)) ≡ true → ⊥
   returns write reply.Done z = cc (z)
   returns write r z = cc (z)
 
-  lapses : (j : ℕ) (r : Reply) → is_stopping (Runs run (told_lapses j r)) ≡ true → ⊥
+  lapses : (j : ℕ) (r : Reply) → is_stopping (Runs run (after_lapse j r)) ≡ true → ⊥
   lapses j reply.Done z = cc (z)
   lapses j r z = cc (z)
 
-  fails : (r : Reply) → is_stopping (told_fails run r) ≡ true → ⊥
+  fails : (r : Reply) → is_stopping (after_fail run r) ≡ true → ⊥
   fails reply.Done z = cc (z)
   fails r z = cc (z)
 
@@ -99,38 +99,38 @@ module _ (run : Run) where
   hearing-on false true None frame a len z = holds a len frame z
   hearing-on false true (Some x) frame a len z = cc (z)
 
-  hears : (w : Wanted) (held : Following) (frame : Option ℕ) (r : Reply) (heard : List ℕ) → is_stopping (told_hears w run held frame r heard) ≡ true
-      → StopsBy (Runs run (Hears held frame)) r heard
-  hears w held frame (reply.Agg n) [] z = refl
-  hears w held frame (reply.Agg n) (b ∷ heard) z = absurd (hearing-on run.broken w.chunked held frame n (count_of (b ∷ heard)) z)
-  hears w held frame (reply.Refused (no.Denied p)) heard z = tt
-  hears w held frame r heard z = absurd (cc (z))
+  receives : (w : Wanted) (held : Following) (frame : Option ℕ) (r : Reply) (received : List ℕ) → is_stopping (after_output w run held frame r received) ≡ true
+      → StopsBy (Runs run (Receives held frame)) r received
+  receives w held frame (reply.Agg n) [] z = refl
+  receives w held frame (reply.Agg n) (b ∷ received) z = absurd (hearing-on run.broken w.chunked held frame n (count_of (b ∷ received)) z)
+  receives w held frame (reply.Refused (no.Denied p)) received z = tt
+  receives w held frame r received z = absurd (cc (z))
 
-  steps : (worker : ℕ) (w : Wanted) (s : Step) (r : Reply) (heard : List ℕ) → is_stopping (Runs run s) ≡ false
-      → is_stopping (told worker w (Runs run s) r heard) ≡ true → StopsBy (Runs run s) r heard
-  steps worker w (Gives write) r heard on z = absurd (gives write r z)
-  steps worker w (Makes f) r heard on z = absurd (makes f r z)
-  steps worker w (Hands j f) r heard on z = absurd (hands j f r z)
-  steps worker w (Lets j) r heard on z = absurd (lets j r z)
-  steps worker w Heads r heard on z = absurd (heads r heard z)
-  steps worker w (Sending d frame) r heard on z = absurd (sending d frame r z)
-  steps worker w (Hears held frame) r heard on z = hears w held frame r heard z
-  steps worker w (Spills a frame) r heard on z = absurd (spills a frame r z)
-  steps worker w (Gathers held size piece len frame) r heard on z = absurd (gathers held size piece len frame r z)
-  steps worker w (Frames held) r heard on z = absurd (frames held r z)
-  steps worker w (Wraps held frame) r heard on z = absurd (wraps held frame r heard z)
-  steps worker w (Trims held chunk len frame) r heard on z = absurd (trims held chunk len frame r z)
-  steps worker w (Returns write) r heard on z = absurd (returns write r z)
-  steps worker w (Lapses j) r heard on z = absurd (lapses j r z)
-  steps worker w Fails r heard on z = absurd (fails r z)
-  steps worker w s r heard on z = absurd (cc (on))
+  steps : (worker : ℕ) (w : Wanted) (s : Step) (r : Reply) (received : List ℕ) → is_stopping (Runs run s) ≡ false
+      → is_stopping (after_reply worker w (Runs run s) r received) ≡ true → StopsBy (Runs run s) r received
+  steps worker w (Gives write) r received on z = absurd (gives write r z)
+  steps worker w (Makes f) r received on z = absurd (makes f r z)
+  steps worker w (Hands j f) r received on z = absurd (hands j f r z)
+  steps worker w (Lets j) r received on z = absurd (lets j r z)
+  steps worker w Heads r received on z = absurd (heads r received z)
+  steps worker w (Sending d frame) r received on z = absurd (sending d frame r z)
+  steps worker w (Receives held frame) r received on z = receives w held frame r received z
+  steps worker w (Spills a frame) r received on z = absurd (spills a frame r z)
+  steps worker w (Gathers held size piece len frame) r received on z = absurd (gathers held size piece len frame r z)
+  steps worker w (Frames held) r received on z = absurd (frames held r z)
+  steps worker w (Wraps held frame) r received on z = absurd (wraps held frame r received z)
+  steps worker w (Trims held chunk len frame) r received on z = absurd (trims held chunk len frame r z)
+  steps worker w (Returns write) r received on z = absurd (returns write r z)
+  steps worker w (Lapses j) r received on z = absurd (lapses j r z)
+  steps worker w Fails r received on z = absurd (fails r z)
+  steps worker w s r received on z = absurd (cc (on))
 
-pub reads_on : (worker : ℕ) (w : Wanted) (x : Running) (r : Reply) (heard : List ℕ) → is_stopping x ≡ false
-    → is_stopping (told worker w x r heard) ≡ true → StopsBy x r heard
-reads_on worker w Awaits r heard on z = absurd (by r z)
+pub reads_on : (worker : ℕ) (w : Wanted) (x : Running) (r : Reply) (received : List ℕ) → is_stopping x ≡ false
+    → is_stopping (after_reply worker w x r received) ≡ true → StopsBy x r received
+reads_on worker w Awaits r received on z = absurd (by r z)
   where
-    by : (r : Reply) → is_stopping (told worker w Awaits r heard) ≡ true → ⊥
+    by : (r : Reply) → is_stopping (after_reply worker w Awaits r received) ≡ true → ⊥
     by (reply.Fds from write) z = cc (z)
     by r z = cc (z)
-reads_on worker w (Runs run s) r heard on z = steps run worker w s r heard on z
-reads_on worker w x r heard on z = absurd (cc (z))
+reads_on worker w (Runs run s) r received on z = steps run worker w s r received on z
+reads_on worker w x r received on z = absurd (cc (z))

@@ -13,23 +13,23 @@ use Rattle.iol_core.specs.declared.events.Reply.{Reply}
 use Rattle.iol_core.specs.declared.events.Reply.TheVariants as reply
 use Rattle.iol_laws.specs.Aggregates.{AggregatesComeAndGo, brings}
 use Rattle.iol_laws.specs.Caller as caller
-use Rattle.iol_laws.specs.Caller.{CallsServeTheirDomain, lent_at}
+use Rattle.iol_laws.specs.Caller.{CallsServeTheirDomain, readable_at}
 use Rattle.iol_laws.specs.Order.{IsOrderly}
 use Rattle.flash_http.specs.Request.{serve, Wanted}
 use Rattle.flash_laws.specs.Conn as conn
 use Rattle.flash_laws.specs.Conn.{Following, has_followed, count_of, piece_end}
 use Rattle.flash_laws.specs.Conn.Fits.{Has}
-use Rattle.flash_laws.specs.Run.Fits.{Progress, HasHeard, HasPart, HasLeft, HasRun}
+use Rattle.flash_laws.specs.Run.Fits.{Progress, HasReceived, HasPart, HasLeft, HasRun}
 use Rattle.flash_laws.specs.Run.Holdings.{RunsKeepNothing}
-use Rattle.flash_laws.specs.Run.{both, worker_domain, has_frame, uses_agg, held_size, in_phase, step_wants, wants, ending, told_sending, told_hears, told_step, told, is_left, is_over}
+use Rattle.flash_laws.specs.Run.{both, worker_domain, has_frame, uses_agg, held_size, in_phase, step_wants, wants, ending, after_sending, after_output, after_step, after_reply, is_left, is_over}
 use Rattle.flash_laws.specs.Answers.Scripts.{script_text, frame_of, place_in_frame, end_around}
 use Rattle.flash_laws.specs.Site.{server}
-use Rattle.flash_laws.specs.declared.phase.Doing.{Doing}
-use Rattle.flash_laws.specs.declared.phase.Doing.TheVariants as doing
+use Rattle.flash_laws.specs.declared.phase.Phase.{Phase}
+use Rattle.flash_laws.specs.declared.phase.Phase.TheVariants as phase
 use Rattle.flash_laws.specs.declared.script_run.TheConstants.{CHUNK_BYTES}
 use Rattle.flash_laws.specs.declared.script_run.Run.{Run}
 use Rattle.flash_laws.specs.declared.script_run.Step.{Step}
-use Rattle.flash_laws.specs.declared.script_run.Step.TheVariants.{Gives, Makes, Hands, Lets, Heads, Sending, Hears, Spills, Gathers, Frames, Wraps, Trims, Ended, Unholds, Unframes, Lasts, WrapsLast, TrimsLast, Unwraps, Returns, Lapses}
+use Rattle.flash_laws.specs.declared.script_run.Step.TheVariants.{Gives, Makes, Hands, Lets, Heads, Sending, Receives, Spills, Gathers, Frames, Wraps, Trims, Ended, Unholds, Unframes, Lasts, WrapsLast, TrimsLast, Unwraps, Returns, Lapses}
 use Rattle.flash_laws.specs.declared.script_run.Running.{Running}
 use Rattle.flash_laws.specs.declared.script_run.Running.TheVariants.{Awaits, Runs, Leaves, Closes}
 use Rattle.flash_laws.proofs.Conn.Holdings as keeping
@@ -40,7 +40,7 @@ use Rattle.flash_laws.proofs.Run.Rest.{is-rest}
 use Rattle.flash_laws.proofs.Run.Holdings.{holding-new, hearing-new, left, shut}
 
 module _ (come : AggregatesComeAndGo) (own : CallsServeTheirDomain) (m n : State) (order : IsOrderly m)
-    (a : ℕ) (bytes : List ℕ) (before : lent_at m server a ≡ None) (after : lent_at n server a ≡ Some bytes) (w : Wanted) where
+    (a : ℕ) (bytes : List ℕ) (before : readable_at m server a ≡ None) (after : readable_at n server a ≡ Some bytes) (w : Wanted) where
   -- the reply names what comes
   named : (e : Event) (r : Reply) → StepsTo m e r n → brings e r server a ≡ true
   named = keeping.named come own m n order a bytes before after
@@ -53,13 +53,13 @@ module _ (come : AggregatesComeAndGo) (own : CallsServeTheirDomain) (m n : State
   shuts = keeping.closed come own m n order a bytes before after
 
   written : (fd c b : ℕ) (sent : List ℕ) (r : Reply) → descriptor m server fd ≡ Some (on.Connection c)
-      → lent_at m server b ≡ Some sent → StepsTo m (event.Call server (call.IolWrite fd b)) r n → ⊥
+      → readable_at m server b ≡ Some sent → StepsTo m (event.Call server (call.IolWrite fd b)) r n → ⊥
   written = keeping.written come own m n order a bytes before after
 
   handed : (fd p b : ℕ) (sent : List ℕ) (r : Reply) → descriptor m server fd ≡ Some (on.WriteEnd p)
-      → lent_at m server b ≡ Some sent → StepsTo m (event.Call server (call.IolWrite fd b)) r n → ⊥
-  handed fd p b sent r open_on lends step =
-      keeping.unnamed come own m n order a bytes before after (call.IolWrite fd b) (λ x. caller.WritesPipe m p sent x n) r step (own.write_pipe m n server fd p b sent r order open_on lends step) (λ x bad. bad) (λ x y bad. bad)
+      → readable_at m server b ≡ Some sent → StepsTo m (event.Call server (call.IolWrite fd b)) r n → ⊥
+  handed fd p b sent r open_on is_readable step =
+      keeping.unnamed come own m n order a bytes before after (call.IolWrite fd b) (λ x. caller.WritesPipe m p sent x n) r step (own.write_pipe m n server fd p b sent r order open_on is_readable step) (λ x bad. bad) (λ x y bad. bad)
 
   piped : (r : Reply) → StepsTo m (event.Call server call.Pipe) r n → ⊥
   piped r step = keeping.unnamed come own m n order a bytes before after call.Pipe (λ x. caller.MakesPipe m server x n) r step (own.makes_pipe m n server r step) (λ x bad. bad) (λ x y bad. bad)
@@ -76,95 +76,95 @@ module _ (come : AggregatesComeAndGo) (own : CallsServeTheirDomain) (m n : State
   made k it y = keeping.made come own m n order a bytes before after k it (λ z. uses_agg (y z) a)
 
   module _ (job : ℕ → List ℕ) (fd c : ℕ) (open_on : descriptor m server fd ≡ Some (on.Connection c)) (o : Progress) where
-    sending-brings : (run : Run) (d : Doing) (frame : Option ℕ) (r : Reply) → HasPart m w o run d frame
-        → StepsTo m (event.Call server (conn.wants fd (in_phase w d))) r n → uses_agg (told_sending run d frame r) a ≡ true
-    sending-brings run (doing.Sends b len taken None) frame r h step = absurd (written fd c b h.has.bytes r open_on h.has.lends step)
-    sending-brings run (doing.Cuts b from len taken None) frame r h step = made (call.AggCut b from (piece_end from len)) (slice_range h.has.0.bytes from (piece_end from len)) (λ k. told_sending run (doing.Cuts b from len taken None) frame k) r step
-        (own.cut m n server b from (piece_end from len) h.has.0.bytes r order h.has.0.lends step) (λ x is. is) (λ x is. cc (is))
+    sending-brings : (run : Run) (d : Phase) (frame : Option ℕ) (r : Reply) → HasPart m w o run d frame
+        → StepsTo m (event.Call server (conn.wants fd (in_phase w d))) r n → uses_agg (after_sending run d frame r) a ≡ true
+    sending-brings run (phase.Sends b len taken None) frame r h step = absurd (written fd c b h.has.bytes r open_on h.has.is_readable step)
+    sending-brings run (phase.Cuts b from len taken None) frame r h step = made (call.AggCut b from (piece_end from len)) (slice_range h.has.0.bytes from (piece_end from len)) (λ k. after_sending run (phase.Cuts b from len taken None) frame k) r step
+        (own.cut m n server b from (piece_end from len) h.has.0.bytes r order h.has.0.is_readable step) (λ x is. is) (λ x is. cc (is))
         (λ x is. former_of ((x == a) || ((b == a) || false)) (has_frame frame a) (former_of (x == a) ((b == a) || false) is))
-    sending-brings run (doing.Offers b from len piece taken None) frame r h step = absurd (written fd c piece (slice_range h.has.whole.bytes from (piece_end from len)) r open_on h.has.lends step)
-    sending-brings run (doing.Swaps b from len piece taken None) frame r h step = absurd (dropped piece r step)
-    sending-brings run (doing.Sent b taken None) frame r h step = absurd (dropped b r step)
-    sending-brings run (doing.Breaks piece b None) frame r h step = absurd (dropped piece r step)
-    sending-brings run (doing.Drops b None) frame r h step = absurd (dropped b r step)
+    sending-brings run (phase.Offers b from len piece taken None) frame r h step = absurd (written fd c piece (slice_range h.has.whole.bytes from (piece_end from len)) r open_on h.has.is_readable step)
+    sending-brings run (phase.Swaps b from len piece taken None) frame r h step = absurd (dropped piece r step)
+    sending-brings run (phase.Sent b taken None) frame r h step = absurd (dropped b r step)
+    sending-brings run (phase.Breaks piece b None) frame r h step = absurd (dropped piece r step)
+    sending-brings run (phase.Drops b None) frame r h step = absurd (dropped b r step)
     sending-brings run d frame r h step = absurd h.is_part
 
-    hears-brings : (run : Run) (held : Following) (frame : Option ℕ) (r : Reply) (heard : List ℕ) (h : HasHeard m w o run held frame)
-        → StepsTo m (event.Call server (call.IolRead run.from (CHUNK_BYTES - held_size held))) r n → uses_agg (told_hears w run held frame r heard) a ≡ true
-    hears-brings run held frame r heard h step = by r heard (own.read_pipe m n server run.from h.reads.0 (CHUNK_BYTES - held_size held) r order h.reads.1 step) (named (event.Call server (call.IolRead run.from (CHUNK_BYTES - held_size held))) r step)
+    receives-brings : (run : Run) (held : Following) (frame : Option ℕ) (r : Reply) (received : List ℕ) (h : HasReceived m w o run held frame)
+        → StepsTo m (event.Call server (call.IolRead run.from (CHUNK_BYTES - held_size held))) r n → uses_agg (after_output w run held frame r received) a ≡ true
+    receives-brings run held frame r received h step = by r received (own.read_pipe m n server run.from h.reads.0 (CHUNK_BYTES - held_size held) r order h.reads.1 step) (named (event.Call server (call.IolRead run.from (CHUNK_BYTES - held_size held))) r step)
       where
-        by : (r : Reply) (heard : List ℕ) → caller.ReadsPipe m server h.reads.0 (CHUNK_BYTES - held_size held) r n
+        by : (r : Reply) (received : List ℕ) → caller.ReadsPipe m server h.reads.0 (CHUNK_BYTES - held_size held) r n
             → brings (event.Call server (call.IolRead run.from (CHUNK_BYTES - held_size held))) r server a ≡ true
-            → uses_agg (told_hears w run held frame r heard) a ≡ true
+            → uses_agg (after_output w run held frame r received) a ≡ true
         by (reply.Agg k) [] did is = former_of (k == a) (has_followed held a || has_frame frame a) is
-        by (reply.Agg k) (b ∷ heard) did is = hearing-new run.broken w.chunked held frame k (count_of (b ∷ heard)) a is
-        by (reply.Refused x) heard did is = absurd (cc (is))
-        by r heard did is = absurd did
+        by (reply.Agg k) (b ∷ received) did is = hearing-new run.broken w.chunked held frame k (count_of (b ∷ received)) a is
+        by (reply.Refused x) received did is = absurd (cc (is))
+        by r received did is = absurd did
 
     ending-new : (run : Run) (held : Following) (k len : ℕ) → (k == a) ≡ true → uses_agg (ending run held k len) a ≡ true
     ending-new run None k len is = former_of (k == a) false is
     ending-new run (Some x) k len is = later_of (x.0 == a) (k == a) is
 
-    step-brings : (run : Run) (s : Step) (r : Reply) (heard : List ℕ) → HasRun job m w o (Runs run s)
-        → StepsTo m (event.Call server (step_wants job fd w run s)) r n → uses_agg (told_step w run s r heard) a ≡ true
-    step-brings run (Gives write) r heard has step = absurd (given write (worker_domain run.worker) has.1.0.pipe r has.1.0.write_end step)
-    step-brings run (Makes f) r heard has step = made (call.AggMake (job f)) (job f) (λ k. told_step w run (Makes f) k heard) r step (own.make m n server (job f) r order step) (λ x is. is) (λ x is. cc (is)) (λ x is. is)
-    step-brings run (Hands j f) r heard has step = absurd (handed (run.worker + 1) has.0.0 j (job f) r has.0.1 has.1.1 step)
-    step-brings run (Lets j) r heard has step = absurd (dropped j r step)
-    step-brings run Heads r heard has step = made (call.AggMake (script_text w)) (script_text w) (λ k. told_step w run Heads k heard) r step (own.make m n server (script_text w) r order step) (λ x is. is) (λ x is. cc (is))
+    step-brings : (run : Run) (s : Step) (r : Reply) (received : List ℕ) → HasRun job m w o (Runs run s)
+        → StepsTo m (event.Call server (step_wants job fd w run s)) r n → uses_agg (after_step w run s r received) a ≡ true
+    step-brings run (Gives write) r received has step = absurd (given write (worker_domain run.worker) has.1.0.pipe r has.1.0.write_end step)
+    step-brings run (Makes f) r received has step = made (call.AggMake (job f)) (job f) (λ k. after_step w run (Makes f) k received) r step (own.make m n server (job f) r order step) (λ x is. is) (λ x is. cc (is)) (λ x is. is)
+    step-brings run (Hands j f) r received has step = absurd (handed (run.worker + 1) has.0.0 j (job f) r has.0.1 has.1.1 step)
+    step-brings run (Lets j) r received has step = absurd (dropped j r step)
+    step-brings run Heads r received has step = made (call.AggMake (script_text w)) (script_text w) (λ k. after_step w run Heads k received) r step (own.make m n server (script_text w) r order step) (λ x is. is) (λ x is. cc (is))
         (λ x is. former_of ((x == a) || false) false (former_of (x == a) false is))
-    step-brings run (Sending d frame) r heard has step = sending-brings run d frame r has.1 step
-    step-brings run (Hears held frame) r heard has step = hears-brings run held frame r heard has.1 step
-    step-brings run (Spills b frame) r heard has step = absurd (dropped b r step)
-    step-brings run (Gathers held size piece len frame) r heard has step = made (call.AggJoin held piece) (has.1.bytes ++ has.1.more) (λ k. told_step w run (Gathers held size piece len frame) k heard) r step
-        (own.join m n server held piece has.1.bytes has.1.more r order has.1.has.holds.lends has.1.lends step) (λ x is. is) (λ x is. cc (is)) (λ x is. holding-new x (both size len) frame a is)
-    step-brings run (Frames held) r heard has step = made (call.AggMake (frame_of CHUNK_BYTES)) (frame_of CHUNK_BYTES) (λ k. told_step w run (Frames held) k heard) r step (own.make m n server (frame_of CHUNK_BYTES) r order step) (λ x is. is) (λ x is. cc (is))
+    step-brings run (Sending d frame) r received has step = sending-brings run d frame r has.1 step
+    step-brings run (Receives held frame) r received has step = receives-brings run held frame r received has.1 step
+    step-brings run (Spills b frame) r received has step = absurd (dropped b r step)
+    step-brings run (Gathers held size piece len frame) r received has step = made (call.AggJoin held piece) (has.1.bytes ++ has.1.more) (λ k. after_step w run (Gathers held size piece len frame) k received) r step
+        (own.join m n server held piece has.1.bytes has.1.more r order has.1.has.holds.is_readable has.1.is_readable step) (λ x is. is) (λ x is. cc (is)) (λ x is. holding-new x (both size len) frame a is)
+    step-brings run (Frames held) r received has step = made (call.AggMake (frame_of CHUNK_BYTES)) (frame_of CHUNK_BYTES) (λ k. after_step w run (Frames held) k received) r step (own.make m n server (frame_of CHUNK_BYTES) r order step) (λ x is. is) (λ x is. cc (is))
         (λ x is. later_of (held == a) (x == a) is)
-    step-brings run (Wraps held frame) r heard has step = made (call.AggReplace frame (place_in_frame CHUNK_BYTES) (place_in_frame CHUNK_BYTES) held) (take (place_in_frame CHUNK_BYTES) (frame_of CHUNK_BYTES) ++ has.1.0.bytes ++ drop (place_in_frame CHUNK_BYTES) (frame_of CHUNK_BYTES))
-        (λ k. told_step w run (Wraps held frame) k heard) r step (own.replace m n server frame (place_in_frame CHUNK_BYTES) (place_in_frame CHUNK_BYTES) held (frame_of CHUNK_BYTES) has.1.0.bytes r order has.1.1 has.1.0.lends step) (λ x is. is) (λ x is. cc (is))
+    step-brings run (Wraps held frame) r received has step = made (call.AggReplace frame (place_in_frame CHUNK_BYTES) (place_in_frame CHUNK_BYTES) held) (take (place_in_frame CHUNK_BYTES) (frame_of CHUNK_BYTES) ++ has.1.0.bytes ++ drop (place_in_frame CHUNK_BYTES) (frame_of CHUNK_BYTES))
+        (λ k. after_step w run (Wraps held frame) k received) r step (own.replace m n server frame (place_in_frame CHUNK_BYTES) (place_in_frame CHUNK_BYTES) held (frame_of CHUNK_BYTES) has.1.0.bytes r order has.1.1 has.1.0.is_readable step) (λ x is. is) (λ x is. cc (is))
         (λ x is. later_of (held == a) ((x == a) || (frame == a)) (former_of (x == a) (frame == a) is))
-    step-brings run (Trims held chunk len frame) r heard has step = absurd (dropped held r step)
-    step-brings run (Ended b held frame) r heard has step = absurd (dropped b r step)
-    step-brings run (Unholds held frame) r heard has step = absurd (dropped held r step)
-    step-brings run (Unframes f held) r heard has step = absurd (dropped f r step)
-    step-brings run (Lasts held) r heard has step = made (call.AggMake (end_around held)) (end_around held) (λ k. told_step w run (Lasts held) k heard) r step (own.make m n server (end_around held) r order step) (λ x is. is) (λ x is. cc (is))
-        (λ x is. ending-new run held x (count_of heard) is)
-    step-brings run (WrapsLast held size frame) r heard has step = made (call.AggReplace frame (place_in_frame size) (place_in_frame size) held) (take (place_in_frame size) (end_around (Some (held, size))) ++ has.1.bytes ++ drop (place_in_frame size) (end_around (Some (held, size))))
-        (λ k. told_step w run (WrapsLast held size frame) k heard) r step (own.replace m n server frame (place_in_frame size) (place_in_frame size) held (end_around (Some (held, size))) has.1.bytes r order has.1.frames has.1.holds.lends step) (λ x is. is) (λ x is. cc (is))
+    step-brings run (Trims held chunk len frame) r received has step = absurd (dropped held r step)
+    step-brings run (Ended b held frame) r received has step = absurd (dropped b r step)
+    step-brings run (Unholds held frame) r received has step = absurd (dropped held r step)
+    step-brings run (Unframes f held) r received has step = absurd (dropped f r step)
+    step-brings run (Lasts held) r received has step = made (call.AggMake (end_around held)) (end_around held) (λ k. after_step w run (Lasts held) k received) r step (own.make m n server (end_around held) r order step) (λ x is. is) (λ x is. cc (is))
+        (λ x is. ending-new run held x (count_of received) is)
+    step-brings run (WrapsLast held size frame) r received has step = made (call.AggReplace frame (place_in_frame size) (place_in_frame size) held) (take (place_in_frame size) (end_around (Some (held, size))) ++ has.1.bytes ++ drop (place_in_frame size) (end_around (Some (held, size))))
+        (λ k. after_step w run (WrapsLast held size frame) k received) r step (own.replace m n server frame (place_in_frame size) (place_in_frame size) held (end_around (Some (held, size))) has.1.bytes r order has.1.frames has.1.holds.is_readable step) (λ x is. is) (λ x is. cc (is))
         (λ x is. later_of (held == a) ((x == a) || (frame == a)) (former_of (x == a) (frame == a) is))
-    step-brings run (TrimsLast held chunk len frame) r heard has step = absurd (dropped held r step)
-    step-brings run (Unwraps frame chunk len) r heard has step = absurd (dropped frame r step)
-    step-brings run (Returns write) r heard has step = absurd (shuts write r step)
-    step-brings run (Lapses j) r heard has step = absurd (dropped j r step)
-    step-brings run x r heard has step = absurd (shuts run.from r step)
+    step-brings run (TrimsLast held chunk len frame) r received has step = absurd (dropped held r step)
+    step-brings run (Unwraps frame chunk len) r received has step = absurd (dropped frame r step)
+    step-brings run (Returns write) r received has step = absurd (shuts write r step)
+    step-brings run (Lapses j) r received has step = absurd (dropped j r step)
+    step-brings run x r received has step = absurd (shuts run.from r step)
 
-    left-brings : (due : List ℕ) (d : Doing) (r : Reply) (heard : List ℕ) → is_left d ≡ true → Has m (serve w) due d
-        → StepsTo m (event.Call server (conn.wants fd (in_phase w d))) r n → conn.uses_agg (conn.told (in_phase w d) r heard).doing a ≡ true
-    left-brings due (doing.Heads k) r heard is has step = made (call.AggMake (conn.text_of (serve w) k)) (conn.text_of (serve w) k) (λ z. Leaves (conn.told (in_phase w (doing.Heads k)) z heard).doing) r step (own.make m n server (conn.text_of (serve w) k) r order step) (λ x is. is) (λ x is. cc (is))
-        (λ x is. headed-first x (count_of heard) (conn.following k) a is)
-    left-brings due (doing.Sends b len taken more) r heard is has step = absurd (written fd c b has.bytes r open_on has.lends step)
-    left-brings due (doing.Cuts b from len taken more) r heard is has step = made (call.AggCut b from (piece_end from len)) (slice_range has.0.bytes from (piece_end from len)) (λ z. Leaves (conn.told (in_phase w (doing.Cuts b from len taken more)) z heard).doing) r step
-        (own.cut m n server b from (piece_end from len) has.0.bytes r order has.0.lends step) (λ x is. is) (λ x is. cc (is)) (λ x is. former_of (x == a) ((b == a) || has_followed more a) is)
-    left-brings due (doing.Offers b from len piece taken more) r heard is has step = absurd (written fd c piece (slice_range has.whole.bytes from (piece_end from len)) r open_on has.lends step)
-    left-brings due (doing.Swaps b from len piece taken more) r heard is has step = absurd (dropped piece r step)
-    left-brings due (doing.Sent b taken more) r heard is has step = absurd (dropped b r step)
-    left-brings due (doing.Breaks piece b more) r heard is has step = absurd (dropped piece r step)
-    left-brings due (doing.Drops b more) r heard is has step = absurd (dropped b r step)
-    left-brings due d r heard is has step = absurd (cc (is))
+    left-brings : (expected : List ℕ) (d : Phase) (r : Reply) (received : List ℕ) → is_left d ≡ true → Has m (serve w) expected d
+        → StepsTo m (event.Call server (conn.wants fd (in_phase w d))) r n → conn.uses_agg (conn.after_reply (in_phase w d) r received).phase a ≡ true
+    left-brings expected (phase.Heads k) r received is has step = made (call.AggMake (conn.text_of (serve w) k)) (conn.text_of (serve w) k) (λ z. Leaves (conn.after_reply (in_phase w (phase.Heads k)) z received).phase) r step (own.make m n server (conn.text_of (serve w) k) r order step) (λ x is. is) (λ x is. cc (is))
+        (λ x is. headed-first x (count_of received) (conn.following k) a is)
+    left-brings expected (phase.Sends b len taken more) r received is has step = absurd (written fd c b has.bytes r open_on has.is_readable step)
+    left-brings expected (phase.Cuts b from len taken more) r received is has step = made (call.AggCut b from (piece_end from len)) (slice_range has.0.bytes from (piece_end from len)) (λ z. Leaves (conn.after_reply (in_phase w (phase.Cuts b from len taken more)) z received).phase) r step
+        (own.cut m n server b from (piece_end from len) has.0.bytes r order has.0.is_readable step) (λ x is. is) (λ x is. cc (is)) (λ x is. former_of (x == a) ((b == a) || has_followed more a) is)
+    left-brings expected (phase.Offers b from len piece taken more) r received is has step = absurd (written fd c piece (slice_range has.whole.bytes from (piece_end from len)) r open_on has.is_readable step)
+    left-brings expected (phase.Swaps b from len piece taken more) r received is has step = absurd (dropped piece r step)
+    left-brings expected (phase.Sent b taken more) r received is has step = absurd (dropped b r step)
+    left-brings expected (phase.Breaks piece b more) r received is has step = absurd (dropped piece r step)
+    left-brings expected (phase.Drops b more) r received is has step = absurd (dropped b r step)
+    left-brings expected d r received is has step = absurd (cc (is))
 
-    leaving-brings : (o : Progress) (d : Doing) (r : Reply) (heard : List ℕ) → is_left d ≡ true → HasLeft m w o d
-        → StepsTo m (event.Call server (conn.wants fd (in_phase w d))) r n → conn.uses_agg (conn.told (in_phase w d) r heard).doing a ≡ true
-    leaving-brings o d r heard is has step = let h = is-rest m w o d is has in left-brings h.due d r heard is h.has step
+    leaving-brings : (o : Progress) (d : Phase) (r : Reply) (received : List ℕ) → is_left d ≡ true → HasLeft m w o d
+        → StepsTo m (event.Call server (conn.wants fd (in_phase w d))) r n → conn.uses_agg (conn.after_reply (in_phase w d) r received).phase a ≡ true
+    leaving-brings o d r received is has step = let h = is-rest m w o d is has in left-brings h.expected d r received is h.has step
 
-pub brought : (come : AggregatesComeAndGo) (own : CallsServeTheirDomain) (job : ℕ → List ℕ) (m n : State) (fd c worker : ℕ) (w : Wanted) (x : Running) (o : Progress) (r : Reply) (heard bytes : List ℕ) (a : ℕ)
+pub brought : (come : AggregatesComeAndGo) (own : CallsServeTheirDomain) (job : ℕ → List ℕ) (m n : State) (fd c worker : ℕ) (w : Wanted) (x : Running) (o : Progress) (r : Reply) (received bytes : List ℕ) (a : ℕ)
     → IsOrderly m → descriptor m server fd ≡ Some (on.Connection c) → is_over x ≡ false → HasRun job m w o x
     → StepsTo m (event.Call server (wants job fd w x)) r n
-    → lent_at m server a ≡ None → lent_at n server a ≡ Some bytes → uses_agg (told worker w x r heard) a ≡ true
-brought come own job m n fd c worker w Awaits o r heard bytes a order open_on going has step before after = absurd (piped come own m n order a bytes before after w r step)
-brought come own job m n fd c worker w (Runs run s) o r heard bytes a order open_on going has step before after = step-brings come own m n order a bytes before after w job fd c open_on o run s r heard has step
-brought come own job m n fd c worker w (Leaves d) o r heard bytes a order open_on going has step before after =
-    leaving-brings come own m n order a bytes before after w job fd c open_on o o d r heard (not-false (is_left d) going) has step
-brought come own job m n fd c worker w Closes o r heard bytes a order open_on going has step before after = absurd (cc (going))
+    → readable_at m server a ≡ None → readable_at n server a ≡ Some bytes → uses_agg (after_reply worker w x r received) a ≡ true
+brought come own job m n fd c worker w Awaits o r received bytes a order open_on going has step before after = absurd (piped come own m n order a bytes before after w r step)
+brought come own job m n fd c worker w (Runs run s) o r received bytes a order open_on going has step before after = step-brings come own m n order a bytes before after w job fd c open_on o run s r received has step
+brought come own job m n fd c worker w (Leaves d) o r received bytes a order open_on going has step before after =
+    leaving-brings come own m n order a bytes before after w job fd c open_on o o d r received (not-false (is_left d) going) has step
+brought come own job m n fd c worker w Closes o r received bytes a order open_on going has step before after = absurd (cc (going))
 
 pub runs_keep : AggregatesComeAndGo → CallsServeTheirDomain → RunsKeepNothing
 runs_keep come own = λ job. record {

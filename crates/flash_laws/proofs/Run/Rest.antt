@@ -1,4 +1,5 @@
--- The rest of a response is sent by the phases of a file's response, and the bytes that the connection took count as taken.
+-- The rest of a response is sent by the phases of a file's response, and the bytes that the connection took count as
+-- taken.
 use Rattle.std.proofs.Common.{inl, ◌≡◌, ℕ, ◌+◌, ◌==◌, ◌≤◌, List, [], ◌++◌, length, drop, ap, ◌∙◌, refl, sym, subst, arith, Some, None, true, false, Bool, append-nil, length-append, length-drop, if◌then◌else◌}
 use Rattle.std.specs.Prelude.{not, nat_lt, slice_range}
 use Rattle.std.proofs.lemmas.Bool.{or_parts}
@@ -14,7 +15,7 @@ use Rattle.iol_core.specs.declared.events.Event.TheVariants as event
 use Rattle.iol_core.specs.declared.events.Reply.{Reply}
 use Rattle.iol_core.specs.declared.events.Reply.TheVariants as reply
 use Rattle.iol_laws.specs.Caller as caller
-use Rattle.iol_laws.specs.Caller.{CallsServeTheirDomain, lent_at}
+use Rattle.iol_laws.specs.Caller.{CallsServeTheirDomain, readable_at}
 use Rattle.iol_laws.specs.Frame.{EachStepLeavesTheRest}
 use Rattle.iol_laws.specs.Order.{IsOrderly}
 use Rattle.flash_http.specs.Request.{serve, Wanted}
@@ -27,19 +28,19 @@ use Rattle.flash_laws.specs.Conn.OfferedBytes.{taken_of, newly_taken, is_droppin
 use Rattle.flash_laws.specs.Run.OfferedBytes.{takes_on, PartLearns}
 use Rattle.flash_laws.specs.Run.{in_phase, is_left}
 use Rattle.flash_laws.specs.Site.{server}
-use Rattle.flash_laws.specs.declared.phase.Content.TheVariants.{Error}
-use Rattle.flash_laws.specs.declared.phase.Doing.{Doing}
-use Rattle.flash_laws.specs.declared.phase.Doing.TheVariants as doing
+use Rattle.flash_laws.specs.declared.phase.Payload.TheVariants.{Error}
+use Rattle.flash_laws.specs.declared.phase.Phase.{Phase}
+use Rattle.flash_laws.specs.declared.phase.Phase.TheVariants as phase
 use Rattle.flash_laws.proofs.Conn.AnswerParts as having
-use Rattle.flash_laws.proofs.Conn.LentBytes.{lent-stays}
+use Rattle.flash_laws.proofs.Conn.ReadableBytes.{readable-stays}
 use Rattle.flash_laws.proofs.Lists.{self, turned, few-taken}
 
--- what a phase that sends all that is due has
-abbrev pub SendsAll : State → Wanted → (due : List ℕ) → Doing → Type 0
-SendsAll s w due d = Has s (serve w) due d × IsPart s (sent_agg d) due × (taken_of d ≤ length due)
+-- what a phase that sends all that is expected has
+abbrev pub SendsAll : State → Wanted → (expected : List ℕ) → Phase → Type 0
+SendsAll s w expected d = Has s (serve w) expected d × IsPart s (sent_agg d) expected × (taken_of d ≤ length expected)
 
-abbrev pub is_sent : Doing → Bool
-is_sent (doing.Sent a taken more) = true
+abbrev pub is_sent : Phase → Bool
+is_sent (phase.Sent a taken more) = true
 is_sent d = false
 
 -- no more of a part is taken than there is
@@ -58,64 +59,64 @@ whole-taken part taken none within =
     omega (arith, e, f, within)
 
 -- of what is left these bytes are taken whole
-left-none : (w : Wanted) (o : Progress) (due : List ℕ) → IsLeft w o due → IsLeft w (takes_on o due) []
-left-none w (Ran heard ended past) due left = (left.0, left.1 ∙ sym (append-nil (past ++ due)))
-left-none w Broken due left = absurd left
-left-none w (NotRun status past) due left = left ∙ sym (append-nil (past ++ due))
+left-none : (w : Wanted) (o : Progress) (expected : List ℕ) → IsLeft w o expected → IsLeft w (takes_on o expected) []
+left-none w (Ran received ended past) expected left = (left.0, left.1 ∙ sym (append-nil (past ++ expected)))
+left-none w Broken expected left = absurd left
+left-none w (NotRun status past) expected left = left ∙ sym (append-nil (past ++ expected))
 
 none-left : (w : Wanted) (o : Progress) → w.keep ≡ false → IsLeft w o [] → HasNone w o
 none-left w Broken closes left = absurd left
 none-left w x closes left = (left, inl closes)
 
 -- a part is sent as what is left is
-pub part-sends : (m : State) (due : List ℕ) (d : Doing) → IsPart m (sent_agg d) due → taken_of d ≤ length due → IsSending m due d
-part-sends m due (doing.Heads (Error status)) is within = tt
-part-sends m due d is within = (is, within)
+pub part-sends : (m : State) (expected : List ℕ) (d : Phase) → IsPart m (sent_agg d) expected → taken_of d ≤ length expected → IsSending m expected d
+part-sends m expected (phase.Heads (Error status)) is within = tt
+part-sends m expected d is within = (is, within)
 
 -- what is to be sent yet is the rest
-pub is-rest : (m : State) (w : Wanted) (o : Progress) (d : Doing) → is_left d ≡ true → HasLeft m w o d → HasRest m w o d
-is-rest m w o doing.Rests is has = absurd (cc (is))
-is-rest m w o doing.Closes is has = absurd (cc (is))
+pub is-rest : (m : State) (w : Wanted) (o : Progress) (d : Phase) → is_left d ≡ true → HasLeft m w o d → HasRest m w o d
+is-rest m w o phase.Rests is has = absurd (cc (is))
+is-rest m w o phase.Closes is has = absurd (cc (is))
 is-rest m w o d is has = has
 
-module _ (steps : EachStepLeavesTheRest) (own : CallsServeTheirDomain) (m n : State) (order : IsOrderly m) (w : Wanted) (due : List ℕ) where
-  abbrev Sends : State → Doing → Type 0
-  Sends s d = SendsAll s w due d
+module _ (steps : EachStepLeavesTheRest) (own : CallsServeTheirDomain) (m n : State) (order : IsOrderly m) (w : Wanted) (expected : List ℕ) where
+  abbrev Sends : State → Phase → Type 0
+  Sends s d = SendsAll s w expected d
 
-  lends : (k : Call) (r : Reply) → StepsTo m (event.Call server k) r n → (a : ℕ)
-      → gives_up (event.Call server k) server a ≡ false → lent_at m server a ≡ Some due → lent_at n server a ≡ Some due
-  lends k r step a un is = lent-stays steps m n (event.Call server k) r step a due is un
+  is_readable : (k : Call) (r : Reply) → StepsTo m (event.Call server k) r n → (a : ℕ)
+      → gives_up (event.Call server k) server a ≡ false → readable_at m server a ≡ Some expected → readable_at n server a ≡ Some expected
+  is_readable k r step a un is = readable-stays steps m n (event.Call server k) r step a expected is un
 
   -- ---- how much is taken
 
-  counts-sends : (fd c a len taken : ℕ) (r : Reply) → descriptor m server fd ≡ Some (on.Connection c) → Sends m (doing.Sends a len taken None)
-      → StepsTo m (event.Call server (call.IolWrite fd a)) r n → is_dropping (conn.told_sends a len taken None r) ≡ false
-      → taken_of (conn.told_sends a len taken None r) ≡ taken + newly_taken fd (call.IolWrite fd a) r
-  counts-sends fd c a len taken r open_on has step on = by r (own.write_conn m n server fd c a has.0.bytes r order open_on has.0.lends step) on
+  counts-sends : (fd c a len taken : ℕ) (r : Reply) → descriptor m server fd ≡ Some (on.Connection c) → Sends m (phase.Sends a len taken None)
+      → StepsTo m (event.Call server (call.IolWrite fd a)) r n → is_dropping (conn.after_send a len taken None r) ≡ false
+      → taken_of (conn.after_send a len taken None r) ≡ taken + newly_taken fd (call.IolWrite fd a) r
+  counts-sends fd c a len taken r open_on has step on = by r (own.write_conn m n server fd c a has.0.bytes r order open_on has.0.is_readable step) on
     where
-      by : (r : Reply) → caller.WritesConn m c has.0.bytes r n → is_dropping (conn.told_sends a len taken None r) ≡ false
-          → taken_of (conn.told_sends a len taken None r) ≡ taken + newly_taken fd (call.IolWrite fd a) r
+      by : (r : Reply) → caller.WritesConn m c has.0.bytes r n → is_dropping (conn.after_send a len taken None r) ≡ false
+          → taken_of (conn.after_send a len taken None r) ≡ taken + newly_taken fd (call.IolWrite fd a) r
       by (reply.Count k) puts on = all (nat_lt k len) refl
         where
           new : (if fd == fd then k else 0) ≡ k
           new = ap (λ b. if b then k else 0) (self fd)
 
           all : (b : Bool) → nat_lt k len ≡ b
-              → taken_of (if b then doing.Cuts a k len (taken + k) None else doing.Sent a (taken + len) None) ≡ taken + (if fd == fd then k else 0)
+              → taken_of (if b then phase.Cuts a k len (taken + k) None else phase.Sent a (taken + len) None) ≡ taken + (if fd == fd then k else 0)
           all true is = ap (λ z. taken + z) (sym new)
           all false is = (let size = has.0.size in let within = puts.within in let le : len ≤ k = grind (arith, nat_tests, is) in omega (arith, new, size, within, le))
       by (reply.Refused no.BrokenPipe) did on = absurd (cc (on))
       by (reply.Refused y) did on = omega arith
       by r did on = absurd did
 
-  counts-offers : (fd c a from len piece taken : ℕ) (r : Reply) → descriptor m server fd ≡ Some (on.Connection c) → Sends m (doing.Offers a from len piece taken None)
-      → StepsTo m (event.Call server (call.IolWrite fd piece)) r n → is_dropping (conn.told_offers a from len piece taken None r) ≡ false
-      → taken_of (conn.told_offers a from len piece taken None r) ≡ taken + newly_taken fd (call.IolWrite fd piece) r
+  counts-offers : (fd c a from len piece taken : ℕ) (r : Reply) → descriptor m server fd ≡ Some (on.Connection c) → Sends m (phase.Offers a from len piece taken None)
+      → StepsTo m (event.Call server (call.IolWrite fd piece)) r n → is_dropping (conn.after_offer a from len piece taken None r) ≡ false
+      → taken_of (conn.after_offer a from len piece taken None r) ≡ taken + newly_taken fd (call.IolWrite fd piece) r
   counts-offers fd c a from len piece taken r open_on has step on =
-      by r (own.write_conn m n server fd c piece (slice_range has.0.whole.bytes from (piece_end from len)) r order open_on has.0.lends step) on
+      by r (own.write_conn m n server fd c piece (slice_range has.0.whole.bytes from (piece_end from len)) r order open_on has.0.is_readable step) on
     where
-      by : (r : Reply) → caller.WritesConn m c (slice_range has.0.whole.bytes from (piece_end from len)) r n → is_dropping (conn.told_offers a from len piece taken None r) ≡ false
-          → taken_of (conn.told_offers a from len piece taken None r) ≡ taken + newly_taken fd (call.IolWrite fd piece) r
+      by : (r : Reply) → caller.WritesConn m c (slice_range has.0.whole.bytes from (piece_end from len)) r n → is_dropping (conn.after_offer a from len piece taken None r) ≡ false
+          → taken_of (conn.after_offer a from len piece taken None r) ≡ taken + newly_taken fd (call.IolWrite fd piece) r
       by (reply.Count k) puts on =
           let new : (if fd == fd then k else 0) ≡ k = ap (λ b. if b then k else 0) (self fd) in
           let few = (few-taken k from len has.0.whole.bytes has.0.whole.size puts.within).1 in
@@ -124,76 +125,76 @@ module _ (steps : EachStepLeavesTheRest) (own : CallsServeTheirDomain) (m n : St
       by (reply.Refused y) did on = omega arith
       by r did on = absurd did
 
-  counts-cuts : (fd a from len taken : ℕ) (r : Reply) → taken_of (conn.told_cuts a from len taken None r) ≡ taken + newly_taken fd (call.AggCut a from (piece_end from len)) r
+  counts-cuts : (fd a from len taken : ℕ) (r : Reply) → taken_of (conn.after_cut a from len taken None r) ≡ taken + newly_taken fd (call.AggCut a from (piece_end from len)) r
   counts-cuts fd a from len taken (reply.Agg x) = omega arith
   counts-cuts fd a from len taken r = omega arith
 
-  counts-swaps : (fd a from len piece taken : ℕ) (r : Reply) → taken_of (conn.told_swaps a from len piece taken None r) ≡ taken + newly_taken fd (call.AggDrop piece) r
+  counts-swaps : (fd a from len piece taken : ℕ) (r : Reply) → taken_of (conn.after_swap a from len piece taken None r) ≡ taken + newly_taken fd (call.AggDrop piece) r
   counts-swaps fd a from len piece taken reply.Done = by (nat_lt from len)
     where
-      by : (b : Bool) → taken_of (if b then doing.Cuts a from len taken None else doing.Sent a taken None) ≡ taken + newly_taken fd (call.AggDrop piece) reply.Done
+      by : (b : Bool) → taken_of (if b then phase.Cuts a from len taken None else phase.Sent a taken None) ≡ taken + newly_taken fd (call.AggDrop piece) reply.Done
       by true = omega arith
       by false = omega arith
   counts-swaps fd a from len piece taken r = omega arith
 
   -- a part that is sent, of which nothing is dropped
-  pub counts : (fd c : ℕ) (d : Doing) (r : Reply) (heard : List ℕ) → descriptor m server fd ≡ Some (on.Connection c) → Sends m d
+  pub counts : (fd c : ℕ) (d : Phase) (r : Reply) (received : List ℕ) → descriptor m server fd ≡ Some (on.Connection c) → Sends m d
       → StepsTo m (event.Call server (conn.wants fd (in_phase w d))) r n → is_sent d ≡ false → is_dropping d ≡ false
-      → is_dropping (conn.told (in_phase w d) r heard).doing ≡ false
-      → taken_of (conn.told (in_phase w d) r heard).doing ≡ taken_of d + newly_taken fd (conn.wants fd (in_phase w d)) r
-  counts fd c (doing.Sends a len taken None) r heard open_on has step unsent at on = counts-sends fd c a len taken r open_on has step on
-  counts fd c (doing.Cuts a from len taken None) r heard open_on has step unsent at on = counts-cuts fd a from len taken r
-  counts fd c (doing.Offers a from len piece taken None) r heard open_on has step unsent at on = counts-offers fd c a from len piece taken r open_on has step on
-  counts fd c (doing.Swaps a from len piece taken None) r heard open_on has step unsent at on = counts-swaps fd a from len piece taken r
-  counts fd c (doing.Sent a taken None) r heard open_on has step unsent at on = absurd (cc (unsent))
-  counts fd c (doing.Breaks piece a None) r heard open_on has step unsent at on = absurd (cc (at))
-  counts fd c (doing.Drops a None) r heard open_on has step unsent at on = absurd (cc (at))
-  counts fd c d r heard open_on has step unsent at on = absurd has.1
+      → is_dropping (conn.after_reply (in_phase w d) r received).phase ≡ false
+      → taken_of (conn.after_reply (in_phase w d) r received).phase ≡ taken_of d + newly_taken fd (conn.wants fd (in_phase w d)) r
+  counts fd c (phase.Sends a len taken None) r received open_on has step unsent at on = counts-sends fd c a len taken r open_on has step on
+  counts fd c (phase.Cuts a from len taken None) r received open_on has step unsent at on = counts-cuts fd a from len taken r
+  counts fd c (phase.Offers a from len piece taken None) r received open_on has step unsent at on = counts-offers fd c a from len piece taken r open_on has step on
+  counts fd c (phase.Swaps a from len piece taken None) r received open_on has step unsent at on = counts-swaps fd a from len piece taken r
+  counts fd c (phase.Sent a taken None) r received open_on has step unsent at on = absurd (cc (unsent))
+  counts fd c (phase.Breaks piece a None) r received open_on has step unsent at on = absurd (cc (at))
+  counts fd c (phase.Drops a None) r received open_on has step unsent at on = absurd (cc (at))
+  counts fd c d r received open_on has step unsent at on = absurd has.1
 
   -- ---- what a phase has after the reply to its call
 
-  pub sends : (fd c a len taken : ℕ) (r : Reply) → descriptor m server fd ≡ Some (on.Connection c) → Sends m (doing.Sends a len taken None)
-      → StepsTo m (event.Call server (call.IolWrite fd a)) r n → Sends n (conn.told_sends a len taken None r)
-  sends fd c a len taken r open_on has step = by r (own.write_conn m n server fd c a has.0.bytes r order open_on has.0.lends step)
-      (having.sends steps own m n order (serve w) fd c a len taken None due r open_on has.0 step) (lends (call.IolWrite fd a) r step a refl has.1)
+  pub sends : (fd c a len taken : ℕ) (r : Reply) → descriptor m server fd ≡ Some (on.Connection c) → Sends m (phase.Sends a len taken None)
+      → StepsTo m (event.Call server (call.IolWrite fd a)) r n → Sends n (conn.after_send a len taken None r)
+  sends fd c a len taken r open_on has step = by r (own.write_conn m n server fd c a has.0.bytes r order open_on has.0.is_readable step)
+      (having.sends steps own m n order (serve w) fd c a len taken None expected r open_on has.0 step) (is_readable (call.IolWrite fd a) r step a refl has.1)
     where
-      most : taken + length has.0.bytes ≤ length due
-      most = most-left has.0.bytes has.0.after due taken has.0.next has.2
+      most : taken + length has.0.bytes ≤ length expected
+      most = most-left has.0.bytes has.0.after expected taken has.0.next has.2
 
-      by : (r : Reply) → caller.WritesConn m c has.0.bytes r n → Has n (serve w) due (conn.told_sends a len taken None r) → lent_at n server a ≡ Some due
-          → Sends n (conn.told_sends a len taken None r)
+      by : (r : Reply) → caller.WritesConn m c has.0.bytes r n → Has n (serve w) expected (conn.after_send a len taken None r) → readable_at n server a ≡ Some expected
+          → Sends n (conn.after_send a len taken None r)
       by (reply.Count k) puts next here = all (nat_lt k len) refl next
         where
-          all : (b : Bool) → nat_lt k len ≡ b → Has n (serve w) due (if b then doing.Cuts a k len (taken + k) None else doing.Sent a (taken + len) None)
-              → Sends n (if b then doing.Cuts a k len (taken + k) None else doing.Sent a (taken + len) None)
+          all : (b : Bool) → nat_lt k len ≡ b → Has n (serve w) expected (if b then phase.Cuts a k len (taken + k) None else phase.Sent a (taken + len) None)
+              → Sends n (if b then phase.Cuts a k len (taken + k) None else phase.Sent a (taken + len) None)
           all true is next = (next, here, (let size = has.0.size in let le = most in let lt : k ≤ len = grind (arith, nat_tests, is) in omega (arith, size, le, lt)))
           all false is next = (next, here, (let size = has.0.size in let le = most in omega (arith, size, le)))
       by (reply.Refused no.BrokenPipe) did next here = (next, here, omega arith)
       by (reply.Refused y) did next here = (next, here, has.2)
       by r did next here = absurd did
 
-  pub cuts : (a from len taken : ℕ) (r : Reply) → Sends m (doing.Cuts a from len taken None)
-      → StepsTo m (event.Call server (call.AggCut a from (piece_end from len))) r n → Sends n (conn.told_cuts a from len taken None r)
-  cuts a from len taken r has step = by r (own.cut m n server a from (piece_end from len) due r order has.1 step)
-      (having.cuts steps own m n order (serve w) a from len taken None due r has.0 step) (lends (call.AggCut a from (piece_end from len)) r step a refl has.1)
+  pub cuts : (a from len taken : ℕ) (r : Reply) → Sends m (phase.Cuts a from len taken None)
+      → StepsTo m (event.Call server (call.AggCut a from (piece_end from len))) r n → Sends n (conn.after_cut a from len taken None r)
+  cuts a from len taken r has step = by r (own.cut m n server a from (piece_end from len) expected r order has.1 step)
+      (having.cuts steps own m n order (serve w) a from len taken None expected r has.0 step) (is_readable (call.AggCut a from (piece_end from len)) r step a refl has.1)
     where
-      by : (r : Reply) → caller.Makes m server (slice_range due from (piece_end from len)) r n → Has n (serve w) due (conn.told_cuts a from len taken None r) → lent_at n server a ≡ Some due
-          → Sends n (conn.told_cuts a from len taken None r)
+      by : (r : Reply) → caller.Makes m server (slice_range expected from (piece_end from len)) r n → Has n (serve w) expected (conn.after_cut a from len taken None r) → readable_at n server a ≡ Some expected
+          → Sends n (conn.after_cut a from len taken None r)
       by (reply.Agg x) did next here = (next, here, has.2)
       by (reply.Refused y) did next here = (next, here, has.2)
       by r did next here = absurd did
 
-  pub offers : (fd c a from len piece taken : ℕ) (r : Reply) → descriptor m server fd ≡ Some (on.Connection c) → Sends m (doing.Offers a from len piece taken None)
-      → StepsTo m (event.Call server (call.IolWrite fd piece)) r n → Sends n (conn.told_offers a from len piece taken None r)
+  pub offers : (fd c a from len piece taken : ℕ) (r : Reply) → descriptor m server fd ≡ Some (on.Connection c) → Sends m (phase.Offers a from len piece taken None)
+      → StepsTo m (event.Call server (call.IolWrite fd piece)) r n → Sends n (conn.after_offer a from len piece taken None r)
   offers fd c a from len piece taken r open_on has step =
-      by r (own.write_conn m n server fd c piece (slice_range has.0.whole.bytes from (piece_end from len)) r order open_on has.0.lends step)
-      (having.offers_piece steps own m n order (serve w) fd c a from len piece taken None due r open_on has.0 step) (lends (call.IolWrite fd piece) r step a refl has.1)
+      by r (own.write_conn m n server fd c piece (slice_range has.0.whole.bytes from (piece_end from len)) r order open_on has.0.is_readable step)
+      (having.offers_piece steps own m n order (serve w) fd c a from len piece taken None expected r open_on has.0 step) (is_readable (call.IolWrite fd piece) r step a refl has.1)
     where
-      by : (r : Reply) → caller.WritesConn m c (slice_range has.0.whole.bytes from (piece_end from len)) r n → Has n (serve w) due (conn.told_offers a from len piece taken None r) → lent_at n server a ≡ Some due
-          → Sends n (conn.told_offers a from len piece taken None r)
+      by : (r : Reply) → caller.WritesConn m c (slice_range has.0.whole.bytes from (piece_end from len)) r n → Has n (serve w) expected (conn.after_offer a from len piece taken None r) → readable_at n server a ≡ Some expected
+          → Sends n (conn.after_offer a from len piece taken None r)
       by (reply.Count k) puts next here =
           let few = few-taken k from len has.0.whole.bytes has.0.whole.size puts.within in
-          let most = most-left (drop from has.0.whole.bytes) has.0.whole.after due taken has.0.whole.next has.2 in
+          let most = most-left (drop from has.0.whole.bytes) has.0.whole.after expected taken has.0.whole.next has.2 in
           let le = few.0 in
           let same = few.1 in
           (next, here, omega (arith, most, le, same))
@@ -201,31 +202,31 @@ module _ (steps : EachStepLeavesTheRest) (own : CallsServeTheirDomain) (m n : St
       by (reply.Refused y) did next here = (next, here, has.2)
       by r did next here = absurd did
 
-  pub swaps : (a from len piece taken : ℕ) (r : Reply) → Sends m (doing.Swaps a from len piece taken None)
-      → StepsTo m (event.Call server (call.AggDrop piece)) r n → Sends n (conn.told_swaps a from len piece taken None r)
+  pub swaps : (a from len piece taken : ℕ) (r : Reply) → Sends m (phase.Swaps a from len piece taken None)
+      → StepsTo m (event.Call server (call.AggDrop piece)) r n → Sends n (conn.after_swap a from len piece taken None r)
   swaps a from len piece taken r has step = by r (own.drops m n server piece r order step)
-      (having.swaps steps own m n order (serve w) a from len piece taken None due r has.0 step)
-      (lends (call.AggDrop piece) r step a (turned a piece (or_parts (a == piece) false has.0.1).0) has.1)
+      (having.swaps steps own m n order (serve w) a from len piece taken None expected r has.0 step)
+      (is_readable (call.AggDrop piece) r step a (turned a piece (or_parts (a == piece) false has.0.1).0) has.1)
     where
-      by : (r : Reply) → caller.Drops m server piece r n → Has n (serve w) due (conn.told_swaps a from len piece taken None r) → lent_at n server a ≡ Some due
-          → Sends n (conn.told_swaps a from len piece taken None r)
+      by : (r : Reply) → caller.Drops m server piece r n → Has n (serve w) expected (conn.after_swap a from len piece taken None r) → readable_at n server a ≡ Some expected
+          → Sends n (conn.after_swap a from len piece taken None r)
       by reply.Done did next here = all (nat_lt from len) next
         where
-          all : (b : Bool) → Has n (serve w) due (if b then doing.Cuts a from len taken None else doing.Sent a taken None)
-              → Sends n (if b then doing.Cuts a from len taken None else doing.Sent a taken None)
+          all : (b : Bool) → Has n (serve w) expected (if b then phase.Cuts a from len taken None else phase.Sent a taken None)
+              → Sends n (if b then phase.Cuts a from len taken None else phase.Sent a taken None)
           all true next = (next, here, has.2)
           all false next = (next, here, has.2)
       by (reply.Refused y) did next here = (next, here, has.2)
       by r did next here = absurd did
 
-  pub breaks : (piece a : ℕ) (r : Reply) → Sends m (doing.Breaks piece a None)
-      → StepsTo m (event.Call server (call.AggDrop piece)) r n → Sends n (conn.told_breaks piece a None r)
+  pub breaks : (piece a : ℕ) (r : Reply) → Sends m (phase.Breaks piece a None)
+      → StepsTo m (event.Call server (call.AggDrop piece)) r n → Sends n (conn.after_break piece a None r)
   breaks piece a r has step = by r (own.drops m n server piece r order step)
-      (having.breaks steps own m n order (serve w) piece a None due r has.0 step)
-      (lends (call.AggDrop piece) r step a (turned a piece (or_parts (a == piece) false has.0.1).0) has.1)
+      (having.breaks steps own m n order (serve w) piece a None expected r has.0 step)
+      (is_readable (call.AggDrop piece) r step a (turned a piece (or_parts (a == piece) false has.0.1).0) has.1)
     where
-      by : (r : Reply) → caller.Drops m server piece r n → Has n (serve w) due (conn.told_breaks piece a None r) → lent_at n server a ≡ Some due
-          → Sends n (conn.told_breaks piece a None r)
+      by : (r : Reply) → caller.Drops m server piece r n → Has n (serve w) expected (conn.after_break piece a None r) → readable_at n server a ≡ Some expected
+          → Sends n (conn.after_break piece a None r)
       by reply.Done did next here = (next, here, omega arith)
       by (reply.Refused y) did next here = (next, here, has.2)
       by r did next here = absurd did
@@ -233,65 +234,65 @@ module _ (steps : EachStepLeavesTheRest) (own : CallsServeTheirDomain) (m n : St
   -- ---- what is left
 
   -- after the reply more is known, or what was, and the rest is there
-  abbrev Told : Doing → Doing → Reply → Progress → Type 0
-  Told d e r before = (after : Progress) × PartLearns m d r before after × HasLeft n w after e
+  abbrev AfterReply : Phase → Phase → Reply → Progress → Type 0
+  AfterReply d e r before = (after : Progress) × PartLearns m d r before after × HasLeft n w after e
 
-  heads : (status : ℕ) (r : Reply) (heard : List ℕ) (o : Progress) → IsLeft w o due → Has m (serve w) due (doing.Heads (Error status))
-      → StepsTo m (event.Call server (call.AggMake (error_text status w.head_only (not w.keep)))) r n → Names n r heard
-      → HasRest n w o (conn.told_heads (Error status) r heard)
-  heads status r heard o left has step names = by r (own.make m n server (error_text status w.head_only (not w.keep)) r order step)
-      (having.heads steps own m n order (serve w) (Error status) due r heard has step names)
+  heads : (status : ℕ) (r : Reply) (received : List ℕ) (o : Progress) → IsLeft w o expected → Has m (serve w) expected (phase.Heads (Error status))
+      → StepsTo m (event.Call server (call.AggMake (error_text status w.head_only (not w.keep)))) r n → Names n r received
+      → HasRest n w o (conn.after_head (Error status) r received)
+  heads status r received o left has step names = by r (own.make m n server (error_text status w.head_only (not w.keep)) r order step)
+      (having.heads steps own m n order (serve w) (Error status) expected r received has step names)
     where
-      by : (r : Reply) → caller.Makes m server (error_text status w.head_only (not w.keep)) r n → Has n (serve w) due (conn.told_heads (Error status) r heard)
-          → HasRest n w o (conn.told_heads (Error status) r heard)
-      by (reply.Agg x) did next = record { due = due; left = left; has = next; sends = (did.0 ∙ ap (λ (l : List ℕ). Some l) (sym has), omega arith) }
-      by (reply.Refused y) did next = record { due = due; left = left; has = next; sends = tt }
+      by : (r : Reply) → caller.Makes m server (error_text status w.head_only (not w.keep)) r n → Has n (serve w) expected (conn.after_head (Error status) r received)
+          → HasRest n w o (conn.after_head (Error status) r received)
+      by (reply.Agg x) did next = record { expected = expected; left = left; has = next; sends = (did.0 ∙ ap (λ (l : List ℕ). Some l) (sym has), omega arith) }
+      by (reply.Refused y) did next = record { expected = expected; left = left; has = next; sends = tt }
       by r did next = absurd did
 
   -- all of it is sent
-  sent : (a taken : ℕ) (r : Reply) (o : Progress) → IsLeft w o due → Sends m (doing.Sent a taken None)
-      → StepsTo m (event.Call server (call.AggDrop a)) r n → Told (doing.Sent a taken None) (conn.told_sent (serve w) a taken None r) r o
+  sent : (a taken : ℕ) (r : Reply) (o : Progress) → IsLeft w o expected → Sends m (phase.Sent a taken None)
+      → StepsTo m (event.Call server (call.AggDrop a)) r n → AfterReply (phase.Sent a taken None) (conn.after_taken (serve w) a taken None r) r o
   sent a taken r o left has step = by r (own.drops m n server a r order step)
     where
-      over : (b : Bool) → w.keep ≡ b → HasLeft n w (takes_on o due) (if b then doing.Rests else doing.Closes)
-      over true is = (left-none w o due left, is)
-      over false is = none-left w (takes_on o due) is (left-none w o due left)
+      over : (b : Bool) → w.keep ≡ b → HasLeft n w (takes_on o expected) (if b then phase.Rests else phase.Closes)
+      over true is = (left-none w o expected left, is)
+      over false is = none-left w (takes_on o expected) is (left-none w o expected left)
 
-      by : (r : Reply) → caller.Drops m server a r n → Told (doing.Sent a taken None) (conn.told_sent (serve w) a taken None r) r o
-      by reply.Done did = (takes_on o due, (due, has.1, refl), over w.keep refl)
-      by (reply.Refused y) did = (o, refl, subst (λ (s : State). HasRest s w o (doing.Sent a taken None)) (sym did) (record { due = due; left = left; has = has.0; sends = (has.1, has.2) }))
+      by : (r : Reply) → caller.Drops m server a r n → AfterReply (phase.Sent a taken None) (conn.after_taken (serve w) a taken None r) r o
+      by reply.Done did = (takes_on o expected, (expected, has.1, refl), over w.keep refl)
+      by (reply.Refused y) did = (o, refl, subst (λ (s : State). HasRest s w o (phase.Sent a taken None)) (sym did) (record { expected = expected; left = left; has = has.0; sends = (has.1, has.2) }))
       by r did = absurd did
 
   -- nobody takes it
-  drops : (a : ℕ) (r : Reply) (o : Progress) → IsLeft w o due → Sends m (doing.Drops a None)
-      → StepsTo m (event.Call server (call.AggDrop a)) r n → Told (doing.Drops a None) (conn.told_drops a None r) r o
+  drops : (a : ℕ) (r : Reply) (o : Progress) → IsLeft w o expected → Sends m (phase.Drops a None)
+      → StepsTo m (event.Call server (call.AggDrop a)) r n → AfterReply (phase.Drops a None) (conn.after_drop a None r) r o
   drops a r o left has step = by r (own.drops m n server a r order step)
     where
-      by : (r : Reply) → caller.Drops m server a r n → Told (doing.Drops a None) (conn.told_drops a None r) r o
+      by : (r : Reply) → caller.Drops m server a r n → AfterReply (phase.Drops a None) (conn.after_drop a None r) r o
       by reply.Done did = (Broken, refl, tt)
-      by (reply.Refused y) did = (o, refl, subst (λ (s : State). HasRest s w o (doing.Drops a None)) (sym did) (record { due = due; left = left; has = has.0; sends = (has.1, has.2) }))
+      by (reply.Refused y) did = (o, refl, subst (λ (s : State). HasRest s w o (phase.Drops a None)) (sym did) (record { expected = expected; left = left; has = has.0; sends = (has.1, has.2) }))
       by r did = absurd did
 
   -- a phase that goes on sending
-  goes-on : (o : Progress) → IsLeft w o due → (e : Doing) → Sends n e → HasLeft n w o e
-  goes-on o left doing.Rests has = absurd has.1
-  goes-on o left doing.Closes has = absurd has.1
-  goes-on o left (doing.Heads (Error status)) has = absurd has.1
-  goes-on o left e has = record { due = due; left = left; has = has.0; sends = (has.1, has.2) }
+  proceeds-on : (o : Progress) → IsLeft w o expected → (e : Phase) → Sends n e → HasLeft n w o e
+  proceeds-on o left phase.Rests has = absurd has.1
+  proceeds-on o left phase.Closes has = absurd has.1
+  proceeds-on o left (phase.Heads (Error status)) has = absurd has.1
+  proceeds-on o left e has = record { expected = expected; left = left; has = has.0; sends = (has.1, has.2) }
 
-  pub leaving : (fd c : ℕ) (d : Doing) (r : Reply) (heard : List ℕ) (o : Progress) → IsLeft w o due → Has m (serve w) due d → IsSending m due d
+  pub leaving : (fd c : ℕ) (d : Phase) (r : Reply) (received : List ℕ) (o : Progress) → IsLeft w o expected → Has m (serve w) expected d → IsSending m expected d
       → descriptor m server fd ≡ Some (on.Connection c)
-      → StepsTo m (event.Call server (conn.wants fd (in_phase w d))) r n → Names n r heard → Told d (conn.told (in_phase w d) r heard).doing r o
-  leaving fd c (doing.Heads (Error status)) r heard o left has is open_on step names = (o, refl, by r (heads status r heard o left has step names))
+      → StepsTo m (event.Call server (conn.wants fd (in_phase w d))) r n → Names n r received → AfterReply d (conn.after_reply (in_phase w d) r received).phase r o
+  leaving fd c (phase.Heads (Error status)) r received o left has is open_on step names = (o, refl, by r (heads status r received o left has step names))
     where
-      by : (r : Reply) → HasRest n w o (conn.told_heads (Error status) r heard) → HasLeft n w o (conn.told_heads (Error status) r heard)
+      by : (r : Reply) → HasRest n w o (conn.after_head (Error status) r received) → HasLeft n w o (conn.after_head (Error status) r received)
       by (reply.Agg x) h = h
       by r h = h
-  leaving fd c (doing.Sends a len taken None) r heard o left has is open_on step names = (o, refl, goes-on o left (conn.told_sends a len taken None r) (sends fd c a len taken r open_on (has, is.0, is.1) step))
-  leaving fd c (doing.Cuts a from len taken None) r heard o left has is open_on step names = (o, refl, goes-on o left (conn.told_cuts a from len taken None r) (cuts a from len taken r (has, is.0, is.1) step))
-  leaving fd c (doing.Offers a from len piece taken None) r heard o left has is open_on step names = (o, refl, goes-on o left (conn.told_offers a from len piece taken None r) (offers fd c a from len piece taken r open_on (has, is.0, is.1) step))
-  leaving fd c (doing.Swaps a from len piece taken None) r heard o left has is open_on step names = (o, refl, goes-on o left (conn.told_swaps a from len piece taken None r) (swaps a from len piece taken r (has, is.0, is.1) step))
-  leaving fd c (doing.Breaks piece a None) r heard o left has is open_on step names = (o, refl, goes-on o left (conn.told_breaks piece a None r) (breaks piece a r (has, is.0, is.1) step))
-  leaving fd c (doing.Sent a taken None) r heard o left has is open_on step names = sent a taken r o left (has, is.0, is.1) step
-  leaving fd c (doing.Drops a None) r heard o left has is open_on step names = drops a r o left (has, is.0, is.1) step
-  leaving fd c d r heard o left has is open_on step names = absurd is.0
+  leaving fd c (phase.Sends a len taken None) r received o left has is open_on step names = (o, refl, proceeds-on o left (conn.after_send a len taken None r) (sends fd c a len taken r open_on (has, is.0, is.1) step))
+  leaving fd c (phase.Cuts a from len taken None) r received o left has is open_on step names = (o, refl, proceeds-on o left (conn.after_cut a from len taken None r) (cuts a from len taken r (has, is.0, is.1) step))
+  leaving fd c (phase.Offers a from len piece taken None) r received o left has is open_on step names = (o, refl, proceeds-on o left (conn.after_offer a from len piece taken None r) (offers fd c a from len piece taken r open_on (has, is.0, is.1) step))
+  leaving fd c (phase.Swaps a from len piece taken None) r received o left has is open_on step names = (o, refl, proceeds-on o left (conn.after_swap a from len piece taken None r) (swaps a from len piece taken r (has, is.0, is.1) step))
+  leaving fd c (phase.Breaks piece a None) r received o left has is open_on step names = (o, refl, proceeds-on o left (conn.after_break piece a None r) (breaks piece a r (has, is.0, is.1) step))
+  leaving fd c (phase.Sent a taken None) r received o left has is open_on step names = sent a taken r o left (has, is.0, is.1) step
+  leaving fd c (phase.Drops a None) r received o left has is open_on step names = drops a r o left (has, is.0, is.1) step
+  leaving fd c d r received o left has is open_on step names = absurd is.0

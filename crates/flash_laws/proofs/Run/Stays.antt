@@ -8,27 +8,27 @@ use Rattle.iol_core.specs.declared.descriptors.Descriptor.{Descriptor}
 use Rattle.iol_core.specs.declared.descriptors.Descriptor.TheVariants as on
 use Rattle.iol_core.specs.declared.events.Event.{Event}
 use Rattle.iol_core.specs.declared.events.Reply.{Reply}
-use Rattle.iol_laws.specs.Caller.{lent_at}
+use Rattle.iol_laws.specs.Caller.{readable_at}
 use Rattle.iol_laws.specs.Frame.{EachStepLeavesTheRest, touches_fd}
 use Rattle.flash_http.specs.Request.{serve, Wanted}
 use Rattle.flash_laws.specs.Conn as conn
 use Rattle.flash_laws.specs.Conn.{Following, has_followed}
-use Rattle.flash_laws.specs.Conn.Fits.{IsLent}
-use Rattle.flash_laws.specs.Run.Fits.{Progress, HasJobPipe, IsReading, HoldsOutput, IsHeld, HasFrame, HasOutput, HasHeard, HasAll, HasPipe, sent_agg, IsPart, HasPart, HasEnd, HasStep, IsSending, HasRest, HasLeft, HasRun}
+use Rattle.flash_laws.specs.Conn.Fits.{IsReadable}
+use Rattle.flash_laws.specs.Run.Fits.{Progress, HasJobPipe, IsReading, HoldsOutput, IsHeld, HasFrame, HasOutput, HasReceived, HasAll, HasPipe, sent_agg, IsPart, HasPart, HasEnd, HasStep, IsSending, HasRest, HasLeft, HasRun}
 use Rattle.flash_laws.specs.Run.{job_pipe, has_frame, step_agg, is_reading, step_fd, uses_agg, uses_fd}
 use Rattle.flash_laws.specs.Answers.Scripts.{frame_of, end_around}
 use Rattle.flash_laws.specs.Site.{server}
-use Rattle.flash_laws.specs.declared.phase.Content.TheVariants.{Error}
-use Rattle.flash_laws.specs.declared.phase.Doing.{Doing}
-use Rattle.flash_laws.specs.declared.phase.Doing.TheVariants as doing
+use Rattle.flash_laws.specs.declared.phase.Payload.TheVariants.{Error}
+use Rattle.flash_laws.specs.declared.phase.Phase.{Phase}
+use Rattle.flash_laws.specs.declared.phase.Phase.TheVariants as phase
 use Rattle.flash_laws.specs.declared.script_run.TheConstants.{CHUNK_BYTES}
 use Rattle.flash_laws.specs.declared.script_run.Run.{Run}
 use Rattle.flash_laws.specs.declared.script_run.Step.{Step}
-use Rattle.flash_laws.specs.declared.script_run.Step.TheVariants.{Gives, Hands, Lets, Sending, Hears, Spills, Gathers, Frames, Wraps, Trims, Ended, Unholds, Stops, Unframes, Lasts, WrapsLast, TrimsLast, Unwraps, Returns, Lapses}
+use Rattle.flash_laws.specs.declared.script_run.Step.TheVariants.{Gives, Hands, Lets, Sending, Receives, Spills, Gathers, Frames, Wraps, Trims, Ended, Unholds, Stops, Unframes, Lasts, WrapsLast, TrimsLast, Unwraps, Returns, Lapses}
 use Rattle.flash_laws.specs.declared.script_run.Running.{Running}
 use Rattle.flash_laws.specs.declared.script_run.Running.TheVariants.{Runs, Leaves}
 use Rattle.flash_laws.proofs.Conn.Responses.{some-inj}
-use Rattle.flash_laws.proofs.Conn.LentBytes.{lent-stays, lent-on, has-stays}
+use Rattle.flash_laws.proofs.Conn.ReadableBytes.{readable-stays, readable-on, has-stays}
 use Rattle.flash_laws.proofs.Lists.{not-equal, turned, self, first_of, later_of, amid, bare, former_of, swapped}
 
 -- two descriptors that are open on different things
@@ -43,73 +43,73 @@ pub write-elsewhere : (m : State) (run : Run) (write : ℕ) → HasPipe m run wr
 write-elsewhere m run write h = turned run.from write (ends-differ m run.from write h.pipe h.pipe h.read_end h.write_end)
 
 -- no phase that sends a part uses a descriptor of a file
-no-file : (m : State) (d : Doing) (part : List ℕ) → IsPart m (sent_agg d) part → (g : ℕ) → conn.uses_fd d g ≡ true → ⊥
-no-file m (doing.Reads f) part is g u = is
-no-file m (doing.Shuts f k) part is g u = is
+no-file : (m : State) (d : Phase) (part : List ℕ) → IsPart m (sent_agg d) part → (g : ℕ) → conn.uses_fd d g ≡ true → ⊥
+no-file m (phase.Reads f) part is g u = is
+no-file m (phase.Shuts f k) part is g u = is
 no-file m d part is g u = absurd (cc (u))
 
 -- the part that is sent is used
-part-used : (m : State) (d : Doing) (part : List ℕ) (n : State) → ((a : ℕ) (bytes : List ℕ) → conn.uses_agg d a ≡ true
-    → lent_at m server a ≡ Some bytes → lent_at n server a ≡ Some bytes) → IsPart m (sent_agg d) part → IsPart n (sent_agg d) part
-part-used m (doing.Sends a len taken None) part n lends is = lends a part (first_of a (false)) is
-part-used m (doing.Cuts a from len taken None) part n lends is = lends a part (first_of a (false)) is
-part-used m (doing.Offers a from len piece taken None) part n lends is = lends a part (later_of (piece == a) ((a == a) || false) (first_of a (false))) is
-part-used m (doing.Swaps a from len piece taken None) part n lends is = lends a part (later_of (piece == a) ((a == a) || false) (first_of a (false))) is
-part-used m (doing.Sent a taken None) part n lends is = lends a part (first_of a (false)) is
-part-used m (doing.Breaks piece a None) part n lends is = lends a part (later_of (piece == a) ((a == a) || false) (first_of a (false))) is
-part-used m (doing.Drops a None) part n lends is = lends a part (first_of a (false)) is
-part-used m d part n lends is = absurd is
+part-used : (m : State) (d : Phase) (part : List ℕ) (n : State) → ((a : ℕ) (bytes : List ℕ) → conn.uses_agg d a ≡ true
+    → readable_at m server a ≡ Some bytes → readable_at n server a ≡ Some bytes) → IsPart m (sent_agg d) part → IsPart n (sent_agg d) part
+part-used m (phase.Sends a len taken None) part n is_readable is = is_readable a part (first_of a (false)) is
+part-used m (phase.Cuts a from len taken None) part n is_readable is = is_readable a part (first_of a (false)) is
+part-used m (phase.Offers a from len piece taken None) part n is_readable is = is_readable a part (later_of (piece == a) ((a == a) || false) (first_of a (false))) is
+part-used m (phase.Swaps a from len piece taken None) part n is_readable is = is_readable a part (later_of (piece == a) ((a == a) || false) (first_of a (false))) is
+part-used m (phase.Sent a taken None) part n is_readable is = is_readable a part (first_of a (false)) is
+part-used m (phase.Breaks piece a None) part n is_readable is = is_readable a part (later_of (piece == a) ((a == a) || false) (first_of a (false))) is
+part-used m (phase.Drops a None) part n is_readable is = is_readable a part (first_of a (false)) is
+part-used m d part n is_readable is = absurd is
 
 module _ (m n : State) where
-  abbrev LendsOn : (ℕ → Bool) → Type 0
-  LendsOn uses = (a : ℕ) (bytes : List ℕ) → uses a ≡ true → lent_at m server a ≡ Some bytes → lent_at n server a ≡ Some bytes
+  abbrev IsReadableOn : (ℕ → Bool) → Type 0
+  IsReadableOn uses = (a : ℕ) (bytes : List ℕ) → uses a ≡ true → readable_at m server a ≡ Some bytes → readable_at n server a ≡ Some bytes
 
   abbrev OpensOn : (ℕ → Bool) → Type 0
   OpensOn uses = (g : ℕ) (x : Descriptor) → uses g ≡ true → descriptor m server g ≡ Some x → descriptor n server g ≡ Some x
 
   -- of two that are used each
-  fore : (u v : ℕ → Bool) → LendsOn (λ a. u a || v a) → LendsOn u
-  fore u v lends a bytes is has = lends a bytes (former_of (u a) (v a) is) has
+  fore : (u v : ℕ → Bool) → IsReadableOn (λ a. u a || v a) → IsReadableOn u
+  fore u v is_readable a bytes is has = is_readable a bytes (former_of (u a) (v a) is) has
 
-  back : (u v : ℕ → Bool) → LendsOn (λ a. u a || v a) → LendsOn v
-  back u v lends a bytes is has = lends a bytes (later_of (u a) (v a) is) has
+  back : (u v : ℕ → Bool) → IsReadableOn (λ a. u a || v a) → IsReadableOn v
+  back u v is_readable a bytes is has = is_readable a bytes (later_of (u a) (v a) is) has
 
-  pub frame-on : (frame : Option ℕ) → LendsOn (λ a. has_frame frame a) → HasFrame m frame → HasFrame n frame
-  frame-on None lends has = tt
-  frame-on (Some f) lends has = lends f (frame_of CHUNK_BYTES) (self f) has
+  pub frame-on : (frame : Option ℕ) → IsReadableOn (λ a. has_frame frame a) → HasFrame m frame → HasFrame n frame
+  frame-on None is_readable has = tt
+  frame-on (Some f) is_readable has = is_readable f (frame_of CHUNK_BYTES) (self f) has
 
-  pub output-on : (w : Wanted) (a size : ℕ) (bytes : List ℕ) → (lent_at m server a ≡ Some bytes → lent_at n server a ≡ Some bytes)
+  pub output-on : (w : Wanted) (a size : ℕ) (bytes : List ℕ) → (readable_at m server a ≡ Some bytes → readable_at n server a ≡ Some bytes)
       → HoldsOutput m w a size bytes → HoldsOutput n w a size bytes
-  output-on w a size bytes lends h = record { lends = lends h.lends; count = h.count; some = h.some; few = h.few; chunked = h.chunked }
+  output-on w a size bytes is_readable h = record { is_readable = is_readable h.is_readable; count = h.count; some = h.some; few = h.few; chunked = h.chunked }
 
-  pub held-on : (w : Wanted) (held : Following) (bytes : List ℕ) → LendsOn (λ a. has_followed held a) → IsHeld m w held bytes → IsHeld n w held bytes
-  held-on w None bytes lends has = has
-  held-on w (Some x) bytes lends has = output-on w x.0 x.1 bytes (λ is. lends x.0 bytes (self x.0) is) has
+  pub held-on : (w : Wanted) (held : Following) (bytes : List ℕ) → IsReadableOn (λ a. has_followed held a) → IsHeld m w held bytes → IsHeld n w held bytes
+  held-on w None bytes is_readable has = has
+  held-on w (Some x) bytes is_readable has = output-on w x.0 x.1 bytes (λ is. is_readable x.0 bytes (self x.0) is) has
 
   pub has-output-on : (w : Wanted) (held : Following) (frame : Option ℕ) (bytes : List ℕ)
-      → LendsOn (λ a. has_followed held a || has_frame frame a) → HasOutput m w held frame bytes → HasOutput n w held frame bytes
-  has-output-on w held frame bytes lends h = record {
-    holds = held-on w held bytes (fore (λ a. has_followed held a) (λ a. has_frame frame a) lends) h.holds;
-    frames = frame-on frame (back (λ a. has_followed held a) (λ a. has_frame frame a) lends) h.frames;
+      → IsReadableOn (λ a. has_followed held a || has_frame frame a) → HasOutput m w held frame bytes → HasOutput n w held frame bytes
+  has-output-on w held frame bytes is_readable h = record {
+    holds = held-on w held bytes (fore (λ a. has_followed held a) (λ a. has_frame frame a) is_readable) h.holds;
+    frames = frame-on frame (back (λ a. has_followed held a) (λ a. has_frame frame a) is_readable) h.frames;
     apart = h.apart;
   }
 
   pub has-all-on : (w : Wanted) (o : Progress) (run : Run) (held : Following) (frame : Option ℕ)
-      → LendsOn (λ a. has_followed held a || has_frame frame a) → HasAll m w o run held frame → HasAll n w o run held frame
-  has-all-on w o run held frame lends h = record { bytes = h.bytes; has = has-output-on w held frame h.bytes lends h.has; ends = h.ends }
+      → IsReadableOn (λ a. has_followed held a || has_frame frame a) → HasAll m w o run held frame → HasAll n w o run held frame
+  has-all-on w o run held frame is_readable h = record { bytes = h.bytes; has = has-output-on w held frame h.bytes is_readable h.has; ends = h.ends }
 
-  has-heard-on : (w : Wanted) (o : Progress) (run : Run) (held : Following) (frame : Option ℕ) → (IsReading m run → IsReading n run)
-      → LendsOn (λ a. has_followed held a || has_frame frame a) → HasHeard m w o run held frame → HasHeard n w o run held frame
-  has-heard-on w o run held frame reads lends h = record { reads = reads h.reads; bytes = h.bytes; has = has-output-on w held frame h.bytes lends h.has; goes = h.goes }
+  has-received-on : (w : Wanted) (o : Progress) (run : Run) (held : Following) (frame : Option ℕ) → (IsReading m run → IsReading n run)
+      → IsReadableOn (λ a. has_followed held a || has_frame frame a) → HasReceived m w o run held frame → HasReceived n w o run held frame
+  has-received-on w o run held frame reads is_readable h = record { reads = reads h.reads; bytes = h.bytes; has = has-output-on w held frame h.bytes is_readable h.has; goes = h.goes }
 
-  has-part-on : (w : Wanted) (o : Progress) (run : Run) (d : Doing) (frame : Option ℕ) → (IsReading m run → IsReading n run)
-      → LendsOn (λ a. conn.uses_agg d a || has_frame frame a) → HasPart m w o run d frame → HasPart n w o run d frame
-  has-part-on w o run d frame reads lends h = record {
+  has-part-on : (w : Wanted) (o : Progress) (run : Run) (d : Phase) (frame : Option ℕ) → (IsReading m run → IsReading n run)
+      → IsReadableOn (λ a. conn.uses_agg d a || has_frame frame a) → HasPart m w o run d frame → HasPart n w o run d frame
+  has-part-on w o run d frame reads is_readable h = record {
     reads = reads h.reads;
-    frames = frame-on frame (back (λ a. conn.uses_agg d a) (λ a. has_frame frame a) lends) h.frames;
+    frames = frame-on frame (back (λ a. conn.uses_agg d a) (λ a. has_frame frame a) is_readable) h.frames;
     part = h.part;
-    is_part = part-used m d h.part n (fore (λ a. conn.uses_agg d a) (λ a. has_frame frame a) lends) h.is_part;
-    has = has-stays m n (serve w) h.part d (fore (λ a. conn.uses_agg d a) (λ a. has_frame frame a) lends)
+    is_part = part-used m d h.part n (fore (λ a. conn.uses_agg d a) (λ a. has_frame frame a) is_readable) h.is_part;
+    has = has-stays m n (serve w) h.part d (fore (λ a. conn.uses_agg d a) (λ a. has_frame frame a) is_readable)
         (λ g x u is. absurd (no-file m d h.part h.is_part g u)) h.has;
     within = h.within;
     apart = h.apart;
@@ -117,9 +117,9 @@ module _ (m n : State) where
     continues = h.continues;
   }
 
-  has-end-on : (w : Wanted) (o : Progress) (a len : ℕ) → ((bytes : List ℕ) → lent_at m server a ≡ Some bytes → lent_at n server a ≡ Some bytes)
+  has-end-on : (w : Wanted) (o : Progress) (a len : ℕ) → ((bytes : List ℕ) → readable_at m server a ≡ Some bytes → readable_at n server a ≡ Some bytes)
       → HasEnd m w o a len → HasEnd n w o a len
-  has-end-on w o a len lends h = record { bytes = h.bytes; lends = lends h.bytes h.lends; count = h.count; left = h.left }
+  has-end-on w o a len is_readable h = record { bytes = h.bytes; is_readable = is_readable h.bytes h.is_readable; count = h.count; left = h.left }
 
   pub hired-on : (worker : ℕ) → ((x : Descriptor) → descriptor m server (job_pipe worker) ≡ Some x → descriptor n server (job_pipe worker) ≡ Some x)
       → HasJobPipe m worker → HasJobPipe n worker
@@ -147,26 +147,26 @@ module _ (m n : State) where
     apart = h.apart;
   }
 
-  lent-if : (u : ℕ → Bool) (a : ℕ) → u a ≡ true → LendsOn u → IsLent m a → IsLent n a
-  lent-if u a is lends has = lent-on m n a (λ bytes e. lends a bytes is e) has
+  readable-if : (u : ℕ → Bool) (a : ℕ) → u a ≡ true → IsReadableOn u → IsReadable m a → IsReadable n a
+  readable-if u a is is_readable has = readable-on m n a (λ bytes e. is_readable a bytes is e) has
 
-  step-on : (job : ℕ → List ℕ) (w : Wanted) (o : Progress) (run : Run) (step : Step) → LendsOn (λ a. step_agg step a) → OpensOn (λ g. uses_fd (Runs run step) g)
+  step-on : (job : ℕ → List ℕ) (w : Wanted) (o : Progress) (run : Run) (step : Step) → IsReadableOn (λ a. step_agg step a) → OpensOn (λ g. uses_fd (Runs run step) g)
       → HasStep job m w o run step → HasStep job n w o run step
-  step-on job w o run (Gives write) lends opens has = (pipe-on run (Gives write) write refl (self write) opens has.0, has.1)
-  step-on job w o run (Hands j f) lends opens has = (reads run (Hands j f) refl opens has.0, lends j (job f) (self j) has.1, has.2)
-  step-on job w o run (Lets j) lends opens has = (reads run (Lets j) refl opens has.0, lent-if (λ a. j == a) j (self j) lends has.1, has.2)
-  step-on job w o run (Sending d frame) lends opens has = has-part-on w o run d frame (reads run (Sending d frame) refl opens) lends has
-  step-on job w o run (Hears held frame) lends opens has = has-heard-on w o run held frame (reads run (Hears held frame) refl opens) lends has
-  step-on job w o run (Spills a frame) lends opens has = (
-    (lent-if (λ b. (a == b) || has_frame frame b) a (first_of a (has_frame frame a)) lends has.0.0, has.0.1),
-    has-heard-on w o run None frame (reads run (Spills a frame) refl opens) (back (λ b. a == b) (λ b. has_frame frame b) lends) has.1,
+  step-on job w o run (Gives write) is_readable opens has = (pipe-on run (Gives write) write refl (self write) opens has.0, has.1)
+  step-on job w o run (Hands j f) is_readable opens has = (reads run (Hands j f) refl opens has.0, is_readable j (job f) (self j) has.1, has.2)
+  step-on job w o run (Lets j) is_readable opens has = (reads run (Lets j) refl opens has.0, readable-if (λ a. j == a) j (self j) is_readable has.1, has.2)
+  step-on job w o run (Sending d frame) is_readable opens has = has-part-on w o run d frame (reads run (Sending d frame) refl opens) is_readable has
+  step-on job w o run (Receives held frame) is_readable opens has = has-received-on w o run held frame (reads run (Receives held frame) refl opens) is_readable has
+  step-on job w o run (Spills a frame) is_readable opens has = (
+    (readable-if (λ b. (a == b) || has_frame frame b) a (first_of a (has_frame frame a)) is_readable has.0.0, has.0.1),
+    has-received-on w o run None frame (reads run (Spills a frame) refl opens) (back (λ b. a == b) (λ b. has_frame frame b) is_readable) has.1,
   )
-  step-on job w o run (Gathers held size piece len frame) lends opens h = record {
+  step-on job w o run (Gathers held size piece len frame) is_readable opens h = record {
     reads = reads run (Gathers held size piece len frame) refl opens h.reads;
     bytes = h.bytes;
     more = h.more;
-    has = has-output-on w (Some (held, size)) frame h.bytes (λ a bytes u is. lends a bytes (amid (held == a) (piece == a) (has_frame frame a) u) is) h.has;
-    lends = lends piece h.more (later_of (held == piece) ((piece == piece) || has_frame frame piece) (first_of piece (has_frame frame piece))) h.lends;
+    has = has-output-on w (Some (held, size)) frame h.bytes (λ a bytes u is. is_readable a bytes (amid (held == a) (piece == a) (has_frame frame a) u) is) h.has;
+    is_readable = is_readable piece h.more (later_of (held == piece) ((piece == piece) || has_frame frame piece) (first_of piece (has_frame frame piece))) h.is_readable;
     count = h.count;
     within = h.within;
     other = h.other;
@@ -174,83 +174,83 @@ module _ (m n : State) where
     whole = h.whole;
     goes = h.goes;
   }
-  step-on job w o run (Frames held) lends opens h = record { reads = reads run (Frames held) refl opens h.reads; bytes = h.bytes; lends = lends held h.bytes (self held) h.lends; count = h.count; chunked = h.chunked; whole = h.whole; goes = h.goes }
-  step-on job w o run (Wraps held frame) lends opens has = (
-    record { reads = reads run (Wraps held frame) refl opens has.0.reads; bytes = has.0.bytes; lends = lends held has.0.bytes (first_of held (frame == held)) has.0.lends; count = has.0.count; chunked = has.0.chunked; whole = has.0.whole; goes = has.0.goes },
-    lends frame (frame_of CHUNK_BYTES) (later_of (held == frame) (frame == frame) (self frame)) has.1,
+  step-on job w o run (Frames held) is_readable opens h = record { reads = reads run (Frames held) refl opens h.reads; bytes = h.bytes; is_readable = is_readable held h.bytes (self held) h.is_readable; count = h.count; chunked = h.chunked; whole = h.whole; goes = h.goes }
+  step-on job w o run (Wraps held frame) is_readable opens has = (
+    record { reads = reads run (Wraps held frame) refl opens has.0.reads; bytes = has.0.bytes; is_readable = is_readable held has.0.bytes (first_of held (frame == held)) has.0.is_readable; count = has.0.count; chunked = has.0.chunked; whole = has.0.whole; goes = has.0.goes },
+    is_readable frame (frame_of CHUNK_BYTES) (later_of (held == frame) (frame == frame) (self frame)) has.1,
     has.2,
   )
-  step-on job w o run (Trims held chunk len frame) lends opens has = (
-    (lent-if (λ a. (held == a) || ((chunk == a) || (frame == a))) held (first_of held ((chunk == held) || (frame == held))) lends has.0.0, has.0.1),
-    has-part-on w o run (doing.Sends chunk len 0 None) (Some frame) (reads run (Trims held chunk len frame) refl opens)
-        (λ a bytes u is. lends a bytes (later_of (held == a) ((chunk == a) || (frame == a)) (plain (chunk == a) (frame == a) u)) is) has.1,
+  step-on job w o run (Trims held chunk len frame) is_readable opens has = (
+    (readable-if (λ a. (held == a) || ((chunk == a) || (frame == a))) held (first_of held ((chunk == held) || (frame == held))) is_readable has.0.0, has.0.1),
+    has-part-on w o run (phase.Sends chunk len 0 None) (Some frame) (reads run (Trims held chunk len frame) refl opens)
+        (λ a bytes u is. is_readable a bytes (later_of (held == a) ((chunk == a) || (frame == a)) (plain (chunk == a) (frame == a) u)) is) has.1,
   )
     where
       plain : (x z : Bool) → ((x || false) || z) ≡ true → (x || z) ≡ true
       plain true z u = refl
       plain false z u = u
-  step-on job w o run (Ended a held frame) lends opens has = (
-    (lent-if (λ b. (a == b) || (has_followed held b || has_frame frame b)) a (first_of a (has_followed held a || has_frame frame a)) lends has.0.0, has.0.1),
+  step-on job w o run (Ended a held frame) is_readable opens has = (
+    (readable-if (λ b. (a == b) || (has_followed held b || has_frame frame b)) a (first_of a (has_followed held a || has_frame frame a)) is_readable has.0.0, has.0.1),
     reads run (Ended a held frame) refl opens has.1,
-    has-all-on w o run held frame (back (λ b. a == b) (λ b. has_followed held b || has_frame frame b) lends) has.2,
+    has-all-on w o run held frame (back (λ b. a == b) (λ b. has_followed held b || has_frame frame b) is_readable) has.2,
   )
-  step-on job w o run (Unholds held frame) lends opens has = (
-    (lent-if (λ b. (held == b) || has_frame frame b) held (first_of held (has_frame frame held)) lends has.0.0, has.0.1),
+  step-on job w o run (Unholds held frame) is_readable opens has = (
+    (readable-if (λ b. (held == b) || has_frame frame b) held (first_of held (has_frame frame held)) is_readable has.0.0, has.0.1),
     reads run (Unholds held frame) refl opens has.1,
-    has-all-on w o run None frame (back (λ b. held == b) (λ b. has_frame frame b) lends) has.2,
+    has-all-on w o run None frame (back (λ b. held == b) (λ b. has_frame frame b) is_readable) has.2,
   )
-  step-on job w o run (Stops held frame) lends opens has = (reads run (Stops held frame) refl opens has.0, has-all-on w o run held frame lends has.1)
-  step-on job w o run (Unframes f held) lends opens has = has-all-on w o run held (Some f) (λ a bytes u is. lends a bytes (swapped (has_followed held a) (f == a) u) is) has
-  step-on job w o run (Lasts held) lends opens has = (has.0, has.1, has-all-on w o run held None (λ a bytes u is. lends a bytes (bare (has_followed held a) u) is) has.2)
-  step-on job w o run (WrapsLast held size frame) lends opens h = record {
+  step-on job w o run (Stops held frame) is_readable opens has = (reads run (Stops held frame) refl opens has.0, has-all-on w o run held frame is_readable has.1)
+  step-on job w o run (Unframes f held) is_readable opens has = has-all-on w o run held (Some f) (λ a bytes u is. is_readable a bytes (swapped (has_followed held a) (f == a) u) is) has
+  step-on job w o run (Lasts held) is_readable opens has = (has.0, has.1, has-all-on w o run held None (λ a bytes u is. is_readable a bytes (bare (has_followed held a) u) is) has.2)
+  step-on job w o run (WrapsLast held size frame) is_readable opens h = record {
     bytes = h.bytes;
-    holds = output-on w held size h.bytes (λ is. lends held h.bytes (first_of held (frame == held)) is) h.holds;
-    frames = lends frame (end_around (Some (held, size))) (later_of (held == frame) (frame == frame) (self frame)) h.frames;
+    holds = output-on w held size h.bytes (λ is. is_readable held h.bytes (first_of held (frame == held)) is) h.holds;
+    frames = is_readable frame (end_around (Some (held, size))) (later_of (held == frame) (frame == frame) (self frame)) h.frames;
     apart = h.apart;
     left = h.left;
   }
-  step-on job w o run (TrimsLast held chunk len frame) lends opens has = (
-    (lent-if (λ a. (held == a) || ((chunk == a) || (frame == a))) held (first_of held ((chunk == held) || (frame == held))) lends has.0.0, has.0.1),
-    (lent-if (λ a. (held == a) || ((chunk == a) || (frame == a))) frame (later_of (held == frame) ((chunk == frame) || (frame == frame)) (later_of (chunk == frame) (frame == frame) (self frame))) lends has.1.0, has.1.1),
-    has-end-on w o chunk len (λ bytes is. lends chunk bytes (later_of (held == chunk) ((chunk == chunk) || (frame == chunk)) (first_of chunk (frame == chunk))) is) has.2,
+  step-on job w o run (TrimsLast held chunk len frame) is_readable opens has = (
+    (readable-if (λ a. (held == a) || ((chunk == a) || (frame == a))) held (first_of held ((chunk == held) || (frame == held))) is_readable has.0.0, has.0.1),
+    (readable-if (λ a. (held == a) || ((chunk == a) || (frame == a))) frame (later_of (held == frame) ((chunk == frame) || (frame == frame)) (later_of (chunk == frame) (frame == frame) (self frame))) is_readable has.1.0, has.1.1),
+    has-end-on w o chunk len (λ bytes is. is_readable chunk bytes (later_of (held == chunk) ((chunk == chunk) || (frame == chunk)) (first_of chunk (frame == chunk))) is) has.2,
   )
-  step-on job w o run (Unwraps frame chunk len) lends opens has = (
-    (lent-if (λ a. (frame == a) || (chunk == a)) frame (first_of frame (chunk == frame)) lends has.0.0, has.0.1),
-    has-end-on w o chunk len (λ bytes is. lends chunk bytes (later_of (frame == chunk) (chunk == chunk) (self chunk)) is) has.1,
+  step-on job w o run (Unwraps frame chunk len) is_readable opens has = (
+    (readable-if (λ a. (frame == a) || (chunk == a)) frame (first_of frame (chunk == frame)) is_readable has.0.0, has.0.1),
+    has-end-on w o chunk len (λ bytes is. is_readable chunk bytes (later_of (frame == chunk) (chunk == chunk) (self chunk)) is) has.1,
   )
-  step-on job w o run (Returns write) lends opens has = (pipe-on run (Returns write) write refl (self write) opens has.0, has.1)
-  step-on job w o run (Lapses j) lends opens has = (reads run (Lapses j) refl opens has.0, lent-if (λ a. j == a) j (self j) lends has.1, has.2)
-  step-on job w o run step lends opens has = (reads run step refl opens has.0, has.1)
+  step-on job w o run (Returns write) is_readable opens has = (pipe-on run (Returns write) write refl (self write) opens has.0, has.1)
+  step-on job w o run (Lapses j) is_readable opens has = (reads run (Lapses j) refl opens has.0, readable-if (λ a. j == a) j (self j) is_readable has.1, has.2)
+  step-on job w o run step is_readable opens has = (reads run step refl opens has.0, has.1)
 
-  sending-on : (due : List ℕ) (d : Doing) → LendsOn (λ a. conn.uses_agg d a) → IsSending m due d → IsSending n due d
-  sending-on due (doing.Heads (Error status)) lends has = tt
-  sending-on due (doing.Sends a len taken None) lends has = (part-used m (doing.Sends a len taken None) due n lends has.0, has.1)
-  sending-on due (doing.Cuts a from len taken None) lends has = (part-used m (doing.Cuts a from len taken None) due n lends has.0, has.1)
-  sending-on due (doing.Offers a from len piece taken None) lends has = (part-used m (doing.Offers a from len piece taken None) due n lends has.0, has.1)
-  sending-on due (doing.Swaps a from len piece taken None) lends has = (part-used m (doing.Swaps a from len piece taken None) due n lends has.0, has.1)
-  sending-on due (doing.Sent a taken None) lends has = (part-used m (doing.Sent a taken None) due n lends has.0, has.1)
-  sending-on due (doing.Breaks piece a None) lends has = (part-used m (doing.Breaks piece a None) due n lends has.0, has.1)
-  sending-on due (doing.Drops a None) lends has = (part-used m (doing.Drops a None) due n lends has.0, has.1)
-  sending-on due d lends has = absurd has.0
+  sending-on : (expected : List ℕ) (d : Phase) → IsReadableOn (λ a. conn.uses_agg d a) → IsSending m expected d → IsSending n expected d
+  sending-on expected (phase.Heads (Error status)) is_readable has = tt
+  sending-on expected (phase.Sends a len taken None) is_readable has = (part-used m (phase.Sends a len taken None) expected n is_readable has.0, has.1)
+  sending-on expected (phase.Cuts a from len taken None) is_readable has = (part-used m (phase.Cuts a from len taken None) expected n is_readable has.0, has.1)
+  sending-on expected (phase.Offers a from len piece taken None) is_readable has = (part-used m (phase.Offers a from len piece taken None) expected n is_readable has.0, has.1)
+  sending-on expected (phase.Swaps a from len piece taken None) is_readable has = (part-used m (phase.Swaps a from len piece taken None) expected n is_readable has.0, has.1)
+  sending-on expected (phase.Sent a taken None) is_readable has = (part-used m (phase.Sent a taken None) expected n is_readable has.0, has.1)
+  sending-on expected (phase.Breaks piece a None) is_readable has = (part-used m (phase.Breaks piece a None) expected n is_readable has.0, has.1)
+  sending-on expected (phase.Drops a None) is_readable has = (part-used m (phase.Drops a None) expected n is_readable has.0, has.1)
+  sending-on expected d is_readable has = absurd has.0
 
-  rest-on : (w : Wanted) (o : Progress) (d : Doing) → LendsOn (λ a. conn.uses_agg d a) → OpensOn (λ g. conn.uses_fd d g)
+  rest-on : (w : Wanted) (o : Progress) (d : Phase) → IsReadableOn (λ a. conn.uses_agg d a) → OpensOn (λ g. conn.uses_fd d g)
       → HasRest m w o d → HasRest n w o d
-  rest-on w o d lends opens h = record { due = h.due; left = h.left; has = has-stays m n (serve w) h.due d lends opens h.has; sends = sending-on h.due d lends h.sends }
+  rest-on w o d is_readable opens h = record { expected = h.expected; left = h.left; has = has-stays m n (serve w) h.expected d is_readable opens h.has; sends = sending-on h.expected d is_readable h.sends }
 
-  left-on : (w : Wanted) (o : Progress) (d : Doing) → LendsOn (λ a. conn.uses_agg d a) → OpensOn (λ g. conn.uses_fd d g)
+  left-on : (w : Wanted) (o : Progress) (d : Phase) → IsReadableOn (λ a. conn.uses_agg d a) → OpensOn (λ g. conn.uses_fd d g)
       → HasLeft m w o d → HasLeft n w o d
-  left-on w o doing.Rests lends opens has = has
-  left-on w o doing.Closes lends opens has = has
-  left-on w o d lends opens has = rest-on w o d lends opens has
+  left-on w o phase.Rests is_readable opens has = has
+  left-on w o phase.Closes is_readable opens has = has
+  left-on w o d is_readable opens has = rest-on w o d is_readable opens has
 
 pub run_stays : (steps : EachStepLeavesTheRest) (job : ℕ → List ℕ) (m n : State) (w : Wanted) (x : Running) (e : Event) (r : Reply) (o : Progress) → StepsTo m e r n
     → ((a : ℕ) → uses_agg x a ≡ true → gives_up e server a ≡ false)
     → ((g : ℕ) → uses_fd x g ≡ true → touches_fd m e server g ≡ false) → HasRun job m w o x → HasRun job n w o x
-run_stays steps job m n w (Runs run doing) e r o step un still has =
-    let opens : (g : ℕ) (x : Descriptor) → uses_fd (Runs run doing) g ≡ true → descriptor m server g ≡ Some x → descriptor n server g ≡ Some x
+run_stays steps job m n w (Runs run phase) e r o step un still has =
+    let opens : (g : ℕ) (x : Descriptor) → uses_fd (Runs run phase) g ≡ true → descriptor m server g ≡ Some x → descriptor n server g ≡ Some x
     = λ g x u is. (steps.leaves m n e r step).fds server g x is (still g u) in (
-      hired-on m n run.worker (λ x is. opens (job_pipe run.worker) x (first_of (job_pipe run.worker) ((is_reading doing && (run.from == job_pipe run.worker)) || step_fd doing (job_pipe run.worker))) is) has.0,
-      step-on m n job w o run doing (λ a bytes u is. lent-stays steps m n e r step a bytes is (un a u)) opens has.1,
+      hired-on m n run.worker (λ x is. opens (job_pipe run.worker) x (first_of (job_pipe run.worker) ((is_reading phase && (run.from == job_pipe run.worker)) || step_fd phase (job_pipe run.worker))) is) has.0,
+      step-on m n job w o run phase (λ a bytes u is. readable-stays steps m n e r step a bytes is (un a u)) opens has.1,
     )
-run_stays steps job m n w (Leaves d) e r o step un still has = left-on m n w o d (λ a bytes u is. lent-stays steps m n e r step a bytes is (un a u)) (λ g x u is. (steps.leaves m n e r step).fds server g x is (still g u)) has
+run_stays steps job m n w (Leaves d) e r o step un still has = left-on m n w o d (λ a bytes u is. readable-stays steps m n e r step a bytes is (un a u)) (λ g x u is. (steps.leaves m n e r step).fds server g x is (still g u)) has
 run_stays steps job m n w x e r o step un still has = has

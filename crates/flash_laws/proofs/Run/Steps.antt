@@ -18,54 +18,54 @@ use Rattle.iol_core.specs.declared.events.Reply.TheVariants as reply
 use Rattle.iol_laws.specs.Frame.{EachStepLeavesTheRest, touches_fd}
 use Rattle.iol_laws.specs.Order.{IsOrderly}
 use Rattle.iol_laws.specs.Caller as caller
-use Rattle.iol_laws.specs.Caller.{CallsServeTheirDomain, lent_at}
+use Rattle.iol_laws.specs.Caller.{CallsServeTheirDomain, readable_at}
 use Rattle.flash_http.specs.Chunk.{chunk_head, chunk_end, chunk}
 use Rattle.flash_http.specs.Request.{Wanted}
 use Rattle.flash_laws.specs.Conn.{Following, has_followed, count_of}
 use Rattle.flash_laws.specs.Conn.Fits.{HoldsRest, Names}
-use Rattle.flash_laws.specs.Run.Fits.{Progress, Broken, nothing_yet, HoldsBack, Continues, Goes, HasJobPipe, IsReading, IsHeld, HasFrame, meets, HasOutput, HasHeard, sends_frame, HasChunk, HasStep, HasRun}
-use Rattle.flash_laws.specs.Run.OfferedBytes.{hears_on, Learns}
-use Rattle.flash_laws.specs.Run.{both, worker_domain, job_pipe, has_frame, step_agg, uses_fd, held_size, is_again, broken, told_awaits, told_gives, told_makes, told_hands, told_heads, filled, holding, hearing, unread, told_hears, told_gathers, told_frames, told_wraps}
+use Rattle.flash_laws.specs.Run.Fits.{Progress, Broken, nothing_yet, HoldsBack, Continues, Goes, HasJobPipe, IsReading, IsHeld, HasFrame, meets, HasOutput, HasReceived, sends_frame, HasChunk, HasStep, HasRun}
+use Rattle.flash_laws.specs.Run.OfferedBytes.{receives_on, Learns}
+use Rattle.flash_laws.specs.Run.{both, worker_domain, job_pipe, has_frame, step_agg, uses_fd, held_size, is_again, broken, after_wait, after_give, after_make, after_hand, after_head, filled, holding, hearing, unread, after_output, after_gather, after_frame, after_wrap}
 use Rattle.flash_laws.specs.Answers.Scripts.{script_text, frame_of, place_in_frame}
 use Rattle.flash_laws.specs.Site.{server}
-use Rattle.flash_laws.specs.declared.phase.Doing.TheVariants as doing
+use Rattle.flash_laws.specs.declared.phase.Phase.TheVariants as phase
 use Rattle.flash_laws.specs.declared.script_run.TheConstants.{CHUNK_BYTES}
 use Rattle.flash_laws.specs.declared.script_run.Run.{Run}
 use Rattle.flash_laws.specs.declared.script_run.Step.{Step}
-use Rattle.flash_laws.specs.declared.script_run.Step.TheVariants.{Gives, Makes, Hands, Heads, Hears, Gathers, Frames, Wraps, Returns, Lapses}
+use Rattle.flash_laws.specs.declared.script_run.Step.TheVariants.{Gives, Makes, Hands, Heads, Receives, Gathers, Frames, Wraps, Returns, Lapses}
 use Rattle.flash_laws.specs.declared.script_run.Running.{Running}
 use Rattle.flash_laws.specs.declared.script_run.Running.TheVariants.{Awaits, Runs}
 use Rattle.flash_laws.proofs.Conn.Responses.{some-inj}
 use Rattle.flash_laws.proofs.Counts.{counted, made-short}
-use Rattle.flash_laws.proofs.Conn.LentBytes.{lent-stays, new-other}
+use Rattle.flash_laws.proofs.Conn.ReadableBytes.{readable-stays, new-other}
 use Rattle.flash_laws.proofs.Lists.{not-equal, turned}
-use Rattle.flash_laws.proofs.Run.Outputs.{short-output, short-chunk, hears-more, hears-end, plain-part, chunk-part}
+use Rattle.flash_laws.proofs.Run.Outputs.{short-output, short-chunk, receives-more, receives-end, plain-part, chunk-part}
 use Rattle.flash_laws.proofs.Run.Pieces.{set_between}
-use Rattle.flash_laws.proofs.Run.Parts.{other, no-position, new-frame, goes-on}
+use Rattle.flash_laws.proofs.Run.Parts.{other, no-position, new-frame, proceeds-on}
 use Rattle.flash_laws.proofs.Run.Stays.{run_stays, frame-on, hired-on, reading-on, write-elsewhere}
 
 -- a part that is not yet sent
-pub begun : (n : State) (a len : ℕ) (part : List ℕ) → lent_at n server a ≡ Some part → len ≡ length part → HoldsRest n part a len 0 None
-begun n a len part lends size = record { bytes = part; after = []; lends = lends; size = size; follows = refl; next = append-nil part; apart = refl }
+pub begun : (n : State) (a len : ℕ) (part : List ℕ) → readable_at n server a ≡ Some part → len ≡ length part → HoldsRest n part a len 0 None
+begun n a len part is_readable size = record { bytes = part; after = []; is_readable = is_readable; size = size; follows = refl; next = append-nil part; apart = refl }
 
 module _ (steps : EachStepLeavesTheRest) (own : CallsServeTheirDomain) (m n : State) (order : IsOrderly m) (job : ℕ → List ℕ) (w : Wanted) where
-  abbrev Told : Running → Running → Reply → List ℕ → Progress → Type 0
-  Told x y r heard before = (after : Progress) × Learns m x r heard before after × HasRun job n w after y
+  abbrev AfterReply : Running → Running → Reply → List ℕ → Progress → Type 0
+  AfterReply x y r received before = (after : Progress) × Learns m x r received before after × HasRun job n w after y
 
-  pub lends : (k : Call) (r : Reply) → StepsTo m (event.Call server k) r n → (a : ℕ) (bytes : List ℕ)
-      → gives_up (event.Call server k) server a ≡ false → lent_at m server a ≡ Some bytes → lent_at n server a ≡ Some bytes
-  lends k r step a bytes un is = lent-stays steps m n (event.Call server k) r step a bytes is un
+  pub is_readable : (k : Call) (r : Reply) → StepsTo m (event.Call server k) r n → (a : ℕ) (bytes : List ℕ)
+      → gives_up (event.Call server k) server a ≡ false → readable_at m server a ≡ Some bytes → readable_at n server a ≡ Some bytes
+  is_readable k r step a bytes un is = readable-stays steps m n (event.Call server k) r step a bytes is un
 
   pub same : (o : Progress) (x : Running) → n ≡ m → HasRun job m w o x → HasRun job n w o x
   same o x is has = subst (λ (s : State). HasRun job s w o x) (sym is) has
 
   -- ---- a run begins: the pipe is made
 
-  pub awaits : (worker : ℕ) (r : Reply) (heard : List ℕ) (o : Progress) → HasJobPipe m worker
-      → o ≡ nothing_yet → StepsTo m (event.Call server call.Pipe) r n → Told Awaits (told_awaits worker r) r heard o
-  awaits worker r heard o hired fresh step = by r (own.makes_pipe m n server r step) step
+  pub awaits : (worker : ℕ) (r : Reply) (received : List ℕ) (o : Progress) → HasJobPipe m worker
+      → o ≡ nothing_yet → StepsTo m (event.Call server call.Pipe) r n → AfterReply Awaits (after_wait worker r) r received o
+  awaits worker r received o hired fresh step = by r (own.makes_pipe m n server r step) step
     where
-      by : (r : Reply) → caller.MakesPipe m server r n → StepsTo m (event.Call server call.Pipe) r n → Told Awaits (told_awaits worker r) r heard o
+      by : (r : Reply) → caller.MakesPipe m server r n → StepsTo m (event.Call server call.Pipe) r n → AfterReply Awaits (after_wait worker r) r received o
       by (reply.Fds from write) did step = (
         o,
         refl,
@@ -111,7 +111,7 @@ module _ (steps : EachStepLeavesTheRest) (own : CallsServeTheirDomain) (m n : St
     -- ---- the job
 
     pub gives : (write : ℕ) (r : Reply) (o : Progress) → HasStep job m w o run (Gives write)
-        → StepsTo m (event.Call server (call.GiveFd write (worker_domain run.worker))) r n → HasRun job n w o (Runs run (told_gives write r))
+        → StepsTo m (event.Call server (call.GiveFd write (worker_domain run.worker))) r n → HasRun job n w o (Runs run (after_give write r))
     gives write r o has step = by r (own.gives_fd m n server write (worker_domain run.worker) (on.WriteEnd has.0.pipe) r has.0.write_end step) step
       where
         again : (b : Bool) → n ≡ m → HasRun job n w o (Runs run (if b then Gives write else Returns write))
@@ -119,7 +119,7 @@ module _ (steps : EachStepLeavesTheRest) (own : CallsServeTheirDomain) (m n : St
         again false is = same o (Runs run (Returns write)) is (hired, has)
 
         by : (r : Reply) → caller.GivesFd m server write (worker_domain run.worker) (on.WriteEnd has.0.pipe) r n
-            → StepsTo m (event.Call server (call.GiveFd write (worker_domain run.worker))) r n → HasRun job n w o (Runs run (told_gives write r))
+            → StepsTo m (event.Call server (call.GiveFd write (worker_domain run.worker))) r n → HasRun job n w o (Runs run (after_give write r))
         by (reply.Fd f) did step = (
           still-hired (call.GiveFd write (worker_domain run.worker)) (reply.Fd f) step has.0.apart,
           (still-reading (call.GiveFd write (worker_domain run.worker)) (reply.Fd f) step (write-elsewhere m run write has.0) (has.0.pipe, has.0.read_end), has.1),
@@ -128,10 +128,10 @@ module _ (steps : EachStepLeavesTheRest) (own : CallsServeTheirDomain) (m n : St
         by r did step = absurd did
 
     pub makes : (f : ℕ) (r : Reply) (o : Progress) → HasStep job m w o run (Makes f)
-        → StepsTo m (event.Call server (call.AggMake (job f))) r n → HasRun job n w o (Runs run (told_makes f r))
+        → StepsTo m (event.Call server (call.AggMake (job f))) r n → HasRun job n w o (Runs run (after_make f r))
     makes f r o has step = by r (own.make m n server (job f) r order step) step
       where
-        by : (r : Reply) → caller.Makes m server (job f) r n → StepsTo m (event.Call server (call.AggMake (job f))) r n → HasRun job n w o (Runs run (told_makes f r))
+        by : (r : Reply) → caller.Makes m server (job f) r n → StepsTo m (event.Call server (call.AggMake (job f))) r n → HasRun job n w o (Runs run (after_make f r))
         by (reply.Agg x) did step =
             let here = stay (call.AggMake (job f)) (reply.Agg x) o (Makes f) step (λ a u. refl) (λ g u. refl) has in
             (here.0, (here.1.0, did.0, here.1.1))
@@ -139,7 +139,7 @@ module _ (steps : EachStepLeavesTheRest) (own : CallsServeTheirDomain) (m n : St
         by r did step = absurd did
 
     pub hands : (j f : ℕ) (r : Reply) (o : Progress) → HasStep job m w o run (Hands j f)
-        → StepsTo m (event.Call server (call.IolWrite (job_pipe run.worker) j)) r n → HasRun job n w o (Runs run (told_hands j f r))
+        → StepsTo m (event.Call server (call.IolWrite (job_pipe run.worker) j)) r n → HasRun job n w o (Runs run (after_hand j f r))
     hands j f r o has step = by r (own.write_pipe m n server (job_pipe run.worker) hired.0 j (job f) r order hired.1 has.1 step) step
       where
         again : (b : Bool) → n ≡ m → HasRun job n w o (Runs run (if b then Hands j f else Lapses j))
@@ -147,7 +147,7 @@ module _ (steps : EachStepLeavesTheRest) (own : CallsServeTheirDomain) (m n : St
         again false is = same o (Runs run (Lapses j)) is (hired, (has.0, (job f, has.1), has.2))
 
         by : (r : Reply) → caller.WritesPipe m hired.0 (job f) r n → StepsTo m (event.Call server (call.IolWrite (job_pipe run.worker) j)) r n
-            → HasRun job n w o (Runs run (told_hands j f r))
+            → HasRun job n w o (Runs run (after_hand j f r))
         by (reply.Count k) did step =
             let here = stay (call.IolWrite (job_pipe run.worker) j) (reply.Count k) o (Hands j f) step (λ a u. refl) (λ g u. no-position m (job_pipe run.worker) g (on.WriteEnd hired.0) hired.1 refl) has in
             (here.0, (here.1.0, (job f, here.1.1), here.1.2))
@@ -156,22 +156,22 @@ module _ (steps : EachStepLeavesTheRest) (own : CallsServeTheirDomain) (m n : St
 
     -- ---- the head
 
-    pub heads : (r : Reply) (heard : List ℕ) (o : Progress) → HasStep job m w o run Heads
-        → StepsTo m (event.Call server (call.AggMake (script_text w))) r n → Names n r heard → HasRun job n w o (Runs run (told_heads r heard))
-    heads r heard o has step names = by r (own.make m n server (script_text w) r order step) step names
+    pub heads : (r : Reply) (received : List ℕ) (o : Progress) → HasStep job m w o run Heads
+        → StepsTo m (event.Call server (call.AggMake (script_text w))) r n → Names n r received → HasRun job n w o (Runs run (after_head r received))
+    heads r received o has step names = by r (own.make m n server (script_text w) r order step) step names
       where
-        by : (r : Reply) → caller.Makes m server (script_text w) r n → StepsTo m (event.Call server (call.AggMake (script_text w))) r n → Names n r heard
-            → HasRun job n w o (Runs run (told_heads r heard))
+        by : (r : Reply) → caller.Makes m server (script_text w) r n → StepsTo m (event.Call server (call.AggMake (script_text w))) r n → Names n r received
+            → HasRun job n w o (Runs run (after_head r received))
         by (reply.Agg x) did step names =
             let here = stay (call.AggMake (script_text w)) (reply.Agg x) o Heads step (λ a u. refl) (λ g u. refl) has in
-            let hears : heard ≡ script_text w = some-inj heard (script_text w) (sym names ∙ did.0) in (
+            let receives : received ≡ script_text w = some-inj received (script_text w) (sym names ∙ did.0) in (
               here.0,
               record {
                 reads = here.1.0;
                 frames = tt;
                 part = script_text w;
                 is_part = did.0;
-                has = begun n x (count_of heard) (script_text w) did.0 (ap (λ (l : List ℕ). count_of l) hears ∙ counted (script_text w) (made-short m n server x (script_text w) step));
+                has = begun n x (count_of received) (script_text w) did.0 (ap (λ (l : List ℕ). count_of l) receives ∙ counted (script_text w) (made-short m n server x (script_text w) step));
                 within = omega arith;
                 apart = refl;
                 whole = has.1.0;
@@ -184,29 +184,29 @@ module _ (steps : EachStepLeavesTheRest) (own : CallsServeTheirDomain) (m n : St
     -- ---- output is read
 
     -- what is held is not a new aggregate
-    pub new-held : (held : Following) (bytes : List ℕ) (x : ℕ) → IsHeld m w held bytes → lent_at m server x ≡ None → has_followed held x ≡ false
+    pub new-held : (held : Following) (bytes : List ℕ) (x : ℕ) → IsHeld m w held bytes → readable_at m server x ≡ None → has_followed held x ≡ false
     new-held None bytes x has new = refl
-    new-held (Some y) bytes x has new = new-other m y.0 x bytes has.lends new
+    new-held (Some y) bytes x has new = new-other m y.0 x bytes has.is_readable new
 
     -- so many bytes are held, at most a chunk's
-    held-now : (a size : ℕ) (bytes : List ℕ) (frame : Option ℕ) (o : Progress) → lent_at n server a ≡ Some bytes → size ≡ length bytes → 0 < size
+    held-now : (a size : ℕ) (bytes : List ℕ) (frame : Option ℕ) (o : Progress) → readable_at n server a ≡ Some bytes → size ≡ length bytes → 0 < size
         → size ≤ CHUNK_BYTES → w.chunked ≡ true → run.broken ≡ false → IsReading n run → HasFrame n frame → has_frame frame a ≡ false
         → HoldsBack w o bytes → HasStep job n w o run (holding a size frame)
-    held-now a size bytes frame o lent count some most chunked whole reads frames apart back = by (nat_lt size CHUNK_BYTES) refl
+    held-now a size bytes frame o readable count some most chunked whole reads frames apart back = by (nat_lt size CHUNK_BYTES) refl
       where
         full : nat_lt size CHUNK_BYTES ≡ false → HasChunk n w o run a
-        full is = record { reads = reads; bytes = bytes; lends = lent; count = (let le : CHUNK_BYTES ≤ size = grind (arith, nat_tests, is) in omega (arith, le, most, count)); chunked = chunked; whole = whole; goes = back }
+        full is = record { reads = reads; bytes = bytes; is_readable = readable; count = (let le : CHUNK_BYTES ≤ size = grind (arith, nat_tests, is) in omega (arith, le, most, count)); chunked = chunked; whole = whole; goes = back }
 
         set : (frame : Option ℕ) → HasFrame n frame → has_frame frame a ≡ false → nat_lt size CHUNK_BYTES ≡ false → HasStep job n w o run (filled a frame)
         set None frames apart is = full is
         set (Some f) frames apart is = (full is, frames, apart)
 
-        by : (b : Bool) → nat_lt size CHUNK_BYTES ≡ b → HasStep job n w o run (if b then Hears (Some (a, size)) frame else filled a frame)
+        by : (b : Bool) → nat_lt size CHUNK_BYTES ≡ b → HasStep job n w o run (if b then Receives (Some (a, size)) frame else filled a frame)
         by true is = record {
           reads = reads;
           bytes = bytes;
-          has = record { holds = record { lends = lent; count = count; some = some; few = grind (arith, nat_tests, is); chunked = chunked }; frames = frames; apart = apart };
-          goes = goes-on run.broken w o bytes whole back;
+          has = record { holds = record { is_readable = readable; count = count; some = some; few = grind (arith, nat_tests, is); chunked = chunked }; frames = frames; apart = apart };
+          goes = proceeds-on run.broken w o bytes whole back;
         }
         by false is = set frame frames apart is
 
@@ -215,28 +215,28 @@ module _ (steps : EachStepLeavesTheRest) (own : CallsServeTheirDomain) (m n : St
     none-held s None bytes has plain = has
     none-held s (Some x) bytes has plain = let c = has.chunked in absurd (cc (c, plain))
 
-    off-frame : (a : ℕ) (frame : Option ℕ) → has_frame frame a ≡ false → sends_frame (doing.Sends a 0 0 None) frame ≡ false
+    off-frame : (a : ℕ) (frame : Option ℕ) → has_frame frame a ≡ false → sends_frame (phase.Sends a 0 0 None) frame ≡ false
     off-frame a None apart = refl
     off-frame a (Some f) apart = or_from (a == f) false (turned f a apart) refl
 
-    heard-now : (held : Following) (frame : Option ℕ) (x b : ℕ) (new : List ℕ) (o : Progress) (h : HasHeard n w o run held frame)
-        → lent_at n server x ≡ Some (b ∷ new) → length (b ∷ new) ≤ CHUNK_BYTES - held_size held → has_followed held x ≡ false → has_frame frame x ≡ false
-        → HasStep job n w (hears_on o (b ∷ new)) run (hearing run.broken w.chunked held frame x (count_of (b ∷ new)))
-    heard-now held frame x b new o h lent short other apart = by run.broken w.chunked held h.has.holds h.has.apart short other refl refl h.goes
+    received-now : (held : Following) (frame : Option ℕ) (x b : ℕ) (new : List ℕ) (o : Progress) (h : HasReceived n w o run held frame)
+        → readable_at n server x ≡ Some (b ∷ new) → length (b ∷ new) ≤ CHUNK_BYTES - held_size held → has_followed held x ≡ false → has_frame frame x ≡ false
+        → HasStep job n w (receives_on o (b ∷ new)) run (hearing run.broken w.chunked held frame x (count_of (b ∷ new)))
+    received-now held frame x b new o h readable short other apart = by run.broken w.chunked held h.has.holds h.has.apart short other refl refl h.goes
       where
         count : count_of (b ∷ new) ≡ length (b ∷ new)
         count = counted (b ∷ new) (omega (arith, short))
 
         by : (c d : Bool) (held : Following) → IsHeld n w held h.bytes → meets held frame ≡ false → length (b ∷ new) ≤ CHUNK_BYTES - held_size held
             → has_followed held x ≡ false → run.broken ≡ c → w.chunked ≡ d
-            → Goes c w o h.bytes → HasStep job n w (hears_on o (b ∷ new)) run (hearing c d held frame x (count_of (b ∷ new)))
+            → Goes c w o h.bytes → HasStep job n w (receives_on o (b ∷ new)) run (hearing c d held frame x (count_of (b ∷ new)))
         by true d held holds off short other is_c is_d goes = (
-          ((b ∷ new, lent), apart),
+          ((b ∷ new, readable), apart),
           record {
             reads = h.reads;
             bytes = [];
             has = record { holds = refl; frames = h.has.frames; apart = refl };
-            goes = subst (λ c. Goes c w (hears_on o (b ∷ new)) []) (sym is_c) (subst (λ (z : Progress). hears_on z (b ∷ new) ≡ Broken) (sym goes.0) refl, refl);
+            goes = subst (λ c. Goes c w (receives_on o (b ∷ new)) []) (sym is_c) (subst (λ (z : Progress). receives_on z (b ∷ new) ≡ Broken) (sym goes.0) refl, refl);
           },
         )
         by false false held holds off short other is_c is_d goes =
@@ -245,28 +245,28 @@ module _ (steps : EachStepLeavesTheRest) (own : CallsServeTheirDomain) (m n : St
               reads = h.reads;
               frames = h.has.frames;
               part = b ∷ new;
-              is_part = lent;
-              has = begun n x (count_of (b ∷ new)) (b ∷ new) lent count;
+              is_part = readable;
+              has = begun n x (count_of (b ∷ new)) (b ∷ new) readable count;
               within = omega arith;
               apart = off-frame x frame apart;
               whole = is_c;
-              continues = plain-part w (hears_on o (b ∷ new)) (b ∷ new) is_d (subst (λ (l : List ℕ). HoldsBack w (hears_on o (b ∷ new)) (l ++ (b ∷ new))) none (hears-more w o h.bytes b new goes));
+              continues = plain-part w (receives_on o (b ∷ new)) (b ∷ new) is_d (subst (λ (l : List ℕ). HoldsBack w (receives_on o (b ∷ new)) (l ++ (b ∷ new))) none (receives-more w o h.bytes b new goes));
             }
         by false true None holds off short other is_c is_d goes =
-            held-now x (count_of (b ∷ new)) (b ∷ new) frame (hears_on o (b ∷ new)) lent count (omega (arith, count)) (omega (arith, count, short)) is_d is_c h.reads h.has.frames apart
-            (subst (λ (l : List ℕ). HoldsBack w (hears_on o (b ∷ new)) (l ++ (b ∷ new))) holds (hears-more w o h.bytes b new goes))
+            held-now x (count_of (b ∷ new)) (b ∷ new) frame (receives_on o (b ∷ new)) readable count (omega (arith, count)) (omega (arith, count, short)) is_d is_c h.reads h.has.frames apart
+            (subst (λ (l : List ℕ). HoldsBack w (receives_on o (b ∷ new)) (l ++ (b ∷ new))) holds (receives-more w o h.bytes b new goes))
         by false true (Some y) holds off short other is_c is_d goes = record {
           reads = h.reads;
           bytes = h.bytes;
           more = b ∷ new;
           has = record { holds = holds; frames = h.has.frames; apart = off };
-          lends = lent;
+          is_readable = readable;
           count = count;
           within = (let few = holds.few in omega (arith, few, short, count));
           other = other;
           apart = apart;
           whole = is_c;
-          goes = hears-more w o h.bytes b new goes;
+          goes = receives-more w o h.bytes b new goes;
         }
 
     -- the output may not be read: nothing more is sent
@@ -274,63 +274,63 @@ module _ (steps : EachStepLeavesTheRest) (own : CallsServeTheirDomain) (m n : St
         → HasStep job m w Broken (broken run) (unread held frame)
     barred None frame reads bytes has = (reads, record { bytes = []; has = record { holds = refl; frames = has.frames; apart = refl }; ends = (refl, refl) })
     barred (Some x) frame reads bytes has = (
-      ((bytes, has.holds.lends), has.apart),
+      ((bytes, has.holds.is_readable), has.apart),
       reads,
       record { bytes = []; has = record { holds = refl; frames = has.frames; apart = refl }; ends = (refl, refl) },
     )
 
-    pub hears : (held : Following) (frame : Option ℕ) (r : Reply) (heard : List ℕ) (o : Progress) → HasStep job m w o run (Hears held frame)
-        → StepsTo m (event.Call server (call.IolRead run.from (CHUNK_BYTES - held_size held))) r n → Names n r heard
-        → Told (Runs run (Hears held frame)) (told_hears w run held frame r heard) r heard o
-    hears held frame r heard o has step names =
+    pub receives : (held : Following) (frame : Option ℕ) (r : Reply) (received : List ℕ) (o : Progress) → HasStep job m w o run (Receives held frame)
+        → StepsTo m (event.Call server (call.IolRead run.from (CHUNK_BYTES - held_size held))) r n → Names n r received
+        → AfterReply (Runs run (Receives held frame)) (after_output w run held frame r received) r received o
+    receives held frame r received o has step names =
         by r (own.read_pipe m n server run.from has.reads.0 (CHUNK_BYTES - held_size held) r order has.reads.1 step) step names
       where
         count : ℕ
         count = CHUNK_BYTES - held_size held
 
         -- more, or the end
-        more : (x : ℕ) (heard : List ℕ) → HasJobPipe n run.worker → HasHeard n w o run held frame → lent_at n server x ≡ Some heard → length heard ≤ count
+        more : (x : ℕ) (received : List ℕ) → HasJobPipe n run.worker → HasReceived n w o run held frame → readable_at n server x ≡ Some received → length received ≤ count
             → has_followed held x ≡ false → has_frame frame x ≡ false
-            → Told (Runs run (Hears held frame)) (told_hears w run held frame (reply.Agg x) heard) (reply.Agg x) heard o
-        more x [] hired here lent short off apart = (
-          hears_on o [],
+            → AfterReply (Runs run (Receives held frame)) (after_output w run held frame (reply.Agg x) received) (reply.Agg x) received o
+        more x [] hired here readable short off apart = (
+          receives_on o [],
           refl,
           (
             hired,
             (
-              (([], lent), or_from (has_followed held x) (has_frame frame x) off apart),
+              (([], readable), or_from (has_followed held x) (has_frame frame x) off apart),
               here.reads,
-              record { bytes = here.bytes; has = here.has; ends = hears-end run.broken w o here.bytes here.goes },
+              record { bytes = here.bytes; has = here.has; ends = receives-end run.broken w o here.bytes here.goes },
             ),
           ),
         )
-        more x (b ∷ new) hired here lent short off apart = (hears_on o (b ∷ new), refl, (hired, heard-now held frame x b new o here lent short off apart))
+        more x (b ∷ new) hired here readable short off apart = (receives_on o (b ∷ new), refl, (hired, received-now held frame x b new o here readable short off apart))
 
         by : (r : Reply) → caller.ReadsPipe m server has.reads.0 (CHUNK_BYTES - held_size held) r n
-            → StepsTo m (event.Call server (call.IolRead run.from (CHUNK_BYTES - held_size held))) r n → Names n r heard
-            → Told (Runs run (Hears held frame)) (told_hears w run held frame r heard) r heard o
+            → StepsTo m (event.Call server (call.IolRead run.from (CHUNK_BYTES - held_size held))) r n → Names n r received
+            → AfterReply (Runs run (Receives held frame)) (after_output w run held frame r received) r received o
         by (reply.Agg x) did step names =
-            let here = stay (call.IolRead run.from count) (reply.Agg x) o (Hears held frame) step (λ a u. refl) (λ g u. no-position m run.from g (on.ReadEnd has.reads.0) has.reads.1 refl) has in
-            more x heard here.0 here.1 names
-            (short-output (may_read m server) count (pipe_at m has.reads.0).queue did.text heard did.most (some-inj heard (bytes_of did.text) (sym names ∙ did.lends)))
+            let here = stay (call.IolRead run.from count) (reply.Agg x) o (Receives held frame) step (λ a u. refl) (λ g u. no-position m run.from g (on.ReadEnd has.reads.0) has.reads.1 refl) has in
+            more x received here.0 here.1 names
+            (short-output (may_read m server) count (pipe_at m has.reads.0).queue did.text received did.most (some-inj received (bytes_of did.text) (sym names ∙ did.is_readable)))
             (new-held held has.bytes x has.has.holds did.new) (new-frame m frame x has.has.frames did.new)
         by (reply.Refused (no.Denied p)) did step names = (Broken, refl, subst (λ (s : State). HasJobPipe s run.worker × HasStep job s w Broken (broken run) (unread held frame)) (sym did) (hired, barred held frame has.reads has.bytes has.has))
-        by (reply.Refused y) did step names = (o, refl, same o (Runs run (Hears held frame)) did (hired, has))
+        by (reply.Refused y) did step names = (o, refl, same o (Runs run (Receives held frame)) did (hired, has))
         by r did step names = absurd did
 
     pub gathers : (held size piece len : ℕ) (frame : Option ℕ) (r : Reply) (o : Progress) → HasStep job m w o run (Gathers held size piece len frame)
-        → StepsTo m (event.Call server (call.AggJoin held piece)) r n → HasRun job n w o (Runs run (told_gathers held size piece len frame r))
-    gathers held size piece len frame r o has step = by r (own.join m n server held piece has.bytes has.more r order has.has.holds.lends has.lends step) step
+        → StepsTo m (event.Call server (call.AggJoin held piece)) r n → HasRun job n w o (Runs run (after_gather held size piece len frame r))
+    gathers held size piece len frame r o has step = by r (own.join m n server held piece has.bytes has.more r order has.has.holds.is_readable has.is_readable step) step
       where
         by : (r : Reply) → caller.Makes m server (has.bytes ++ has.more) r n → StepsTo m (event.Call server (call.AggJoin held piece)) r n
-            → HasRun job n w o (Runs run (told_gathers held size piece len frame r))
+            → HasRun job n w o (Runs run (after_gather held size piece len frame r))
         by (reply.Agg x) did step = (
           still-hired (call.AggJoin held piece) (reply.Agg x) step refl,
           held-now x (both size len) (has.bytes ++ has.more) frame o did.0
               (let a = length-append has.bytes has.more in let b = has.has.holds.count in let c = has.count in let within = has.within in omega (arith, a, b, c, within))
               (let b = has.has.holds.some in omega (arith, b)) (let within = has.within in omega (arith, within)) has.has.holds.chunked has.whole
               (still-reading (call.AggJoin held piece) (reply.Agg x) step refl has.reads)
-              (frame-on m n frame (λ a bytes u is. lends (call.AggJoin held piece) (reply.Agg x) step a bytes (or_from (held == a) (piece == a) (other (λ z. has_frame frame z) held a has.has.apart u) (other (λ z. has_frame frame z) piece a has.apart u)) is) has.has.frames)
+              (frame-on m n frame (λ a bytes u is. is_readable (call.AggJoin held piece) (reply.Agg x) step a bytes (or_from (held == a) (piece == a) (other (λ z. has_frame frame z) held a has.has.apart u) (other (λ z. has_frame frame z) piece a has.apart u)) is) has.has.frames)
               (new-frame m frame x has.has.frames did.1) has.goes,
         )
         by (reply.Refused y) did step = same o (Runs run (Gathers held size piece len frame)) did (hired, has)
@@ -339,46 +339,46 @@ module _ (steps : EachStepLeavesTheRest) (own : CallsServeTheirDomain) (m n : St
     -- ---- a chunk is made
 
     pub frames : (held : ℕ) (r : Reply) (o : Progress) → HasStep job m w o run (Frames held)
-        → StepsTo m (event.Call server (call.AggMake (frame_of CHUNK_BYTES))) r n → HasRun job n w o (Runs run (told_frames held r))
+        → StepsTo m (event.Call server (call.AggMake (frame_of CHUNK_BYTES))) r n → HasRun job n w o (Runs run (after_frame held r))
     frames held r o has step = by r (own.make m n server (frame_of CHUNK_BYTES) r order step) step
       where
         by : (r : Reply) → caller.Makes m server (frame_of CHUNK_BYTES) r n → StepsTo m (event.Call server (call.AggMake (frame_of CHUNK_BYTES))) r n
-            → HasRun job n w o (Runs run (told_frames held r))
+            → HasRun job n w o (Runs run (after_frame held r))
         by (reply.Agg x) did step =
             let here = stay (call.AggMake (frame_of CHUNK_BYTES)) (reply.Agg x) o (Frames held) step (λ a u. refl) (λ g u. refl) has in
-            (here.0, (here.1, did.0, turned held x (new-other m held x has.bytes has.lends did.1)))
+            (here.0, (here.1, did.0, turned held x (new-other m held x has.bytes has.is_readable did.1)))
         by (reply.Refused y) did step = same o (Runs run (Frames held)) did (hired, has)
         by r did step = absurd did
 
-    pub wraps : (held frame : ℕ) (r : Reply) (heard : List ℕ) (o : Progress) → HasStep job m w o run (Wraps held frame)
-        → StepsTo m (event.Call server (call.AggReplace frame (place_in_frame CHUNK_BYTES) (place_in_frame CHUNK_BYTES) held)) r n → Names n r heard
-        → HasRun job n w o (Runs run (told_wraps held frame r heard))
-    wraps held frame r heard o has step names =
-        by r (own.replace m n server frame (place_in_frame CHUNK_BYTES) (place_in_frame CHUNK_BYTES) held (frame_of CHUNK_BYTES) has.0.bytes r order has.1 has.0.lends step) step names
+    pub wraps : (held frame : ℕ) (r : Reply) (received : List ℕ) (o : Progress) → HasStep job m w o run (Wraps held frame)
+        → StepsTo m (event.Call server (call.AggReplace frame (place_in_frame CHUNK_BYTES) (place_in_frame CHUNK_BYTES) held)) r n → Names n r received
+        → HasRun job n w o (Runs run (after_wrap held frame r received))
+    wraps held frame r received o has step names =
+        by r (own.replace m n server frame (place_in_frame CHUNK_BYTES) (place_in_frame CHUNK_BYTES) held (frame_of CHUNK_BYTES) has.0.bytes r order has.1 has.0.is_readable step) step names
       where
         is_chunk : take (place_in_frame CHUNK_BYTES) (frame_of CHUNK_BYTES) ++ has.0.bytes ++ drop (place_in_frame CHUNK_BYTES) (frame_of CHUNK_BYTES) ≡ chunk has.0.bytes
         is_chunk = set_between (chunk_head CHUNK_BYTES) chunk_end has.0.bytes ∙ ap (λ k. chunk_head k ++ (has.0.bytes ++ chunk_end)) (sym has.0.count)
 
         by : (r : Reply) → caller.Makes m server (take (place_in_frame CHUNK_BYTES) (frame_of CHUNK_BYTES) ++ has.0.bytes ++ drop (place_in_frame CHUNK_BYTES) (frame_of CHUNK_BYTES)) r n
-            → StepsTo m (event.Call server (call.AggReplace frame (place_in_frame CHUNK_BYTES) (place_in_frame CHUNK_BYTES) held)) r n → Names n r heard
-            → HasRun job n w o (Runs run (told_wraps held frame r heard))
+            → StepsTo m (event.Call server (call.AggReplace frame (place_in_frame CHUNK_BYTES) (place_in_frame CHUNK_BYTES) held)) r n → Names n r received
+            → HasRun job n w o (Runs run (after_wrap held frame r received))
         by (reply.Agg x) did step names =
             let here = stay (call.AggReplace frame (place_in_frame CHUNK_BYTES) (place_in_frame CHUNK_BYTES) held) (reply.Agg x) o (Wraps held frame) step (λ a u. refl) (λ g u. refl) has in
-            let lent : lent_at n server x ≡ Some (chunk has.0.bytes) = did.0 ∙ ap (λ (l : List ℕ). Some l) is_chunk in
-            let hears : heard ≡ chunk has.0.bytes = some-inj heard (chunk has.0.bytes) (sym names ∙ lent) in
+            let readable : readable_at n server x ≡ Some (chunk has.0.bytes) = did.0 ∙ ap (λ (l : List ℕ). Some l) is_chunk in
+            let receives : received ≡ chunk has.0.bytes = some-inj received (chunk has.0.bytes) (sym names ∙ readable) in
             let c = has.0.count in
             let few : length has.0.bytes ≤ CHUNK_BYTES = omega (arith, c) in
-            let not_held = turned held x (new-other m held x has.0.bytes has.0.lends did.1) in
+            let not_held = turned held x (new-other m held x has.0.bytes has.0.is_readable did.1) in
             let not_frame = turned frame x (new-other m frame x (frame_of CHUNK_BYTES) has.1 did.1) in (
               here.0,
               (
-                ((here.1.0.bytes, here.1.0.lends), or_from ((x == held) || false) (frame == held) (or_from (x == held) false not_held refl) has.2),
+                ((here.1.0.bytes, here.1.0.is_readable), or_from ((x == held) || false) (frame == held) (or_from (x == held) false not_held refl) has.2),
                 record {
                   reads = here.1.0.reads;
                   frames = here.1.1;
                   part = chunk has.0.bytes;
-                  is_part = lent;
-                  has = begun n x (count_of heard) (chunk has.0.bytes) lent (ap (λ (l : List ℕ). count_of l) hears ∙ counted (chunk has.0.bytes) (short-chunk (length has.0.bytes) has.0.bytes chunk_end few (omega arith)));
+                  is_part = readable;
+                  has = begun n x (count_of received) (chunk has.0.bytes) readable (ap (λ (l : List ℕ). count_of l) receives ∙ counted (chunk has.0.bytes) (short-chunk (length has.0.bytes) has.0.bytes chunk_end few (omega arith)));
                   within = omega arith;
                   apart = or_from (x == frame) false not_frame refl;
                   whole = has.0.whole;

@@ -15,17 +15,17 @@ use Rattle.iol_core.specs.declared.events.Reply.TheVariants as reply
 use Rattle.iol_core.specs.Run.{StepsTo}
 use Rattle.iol_laws.specs.RefusalsLeft.{may_wait}
 use Rattle.flash_http.specs.Request.{Answer, serve, refuse, Wanted}
-use Rattle.flash_laws.specs.Client.{Client, is_for_script, conn_wants, wants, Readies, IsAwaiting, kept_text, told_spares, file_told, keeps_text, text_on, goes_on, run_told, told, left_over}
+use Rattle.flash_laws.specs.Client.{Client, is_for_script, conn_wants, wants, Readies, IsAwaiting, kept_text, after_drop_whole, file_after_reply, keeps_text, text_on, proceeds, run_after_reply, after_reply, left_over}
 use Rattle.flash_laws.specs.Conn as conn
 use Rattle.flash_laws.specs.Conn.{Conn, is_head_only, text_of, begins, Starts}
 use Rattle.flash_laws.specs.World.Idle.{WouldWait, Blocks, BlocksAt}
-use Rattle.flash_laws.specs.Site.Places.{first_free, has_free, runs_scripts, told_at}
+use Rattle.flash_laws.specs.Site.Places.{first_free, has_free, runs_scripts, after_reply_at}
 use Rattle.flash_laws.specs.Run as running
-use Rattle.flash_laws.specs.Run.{is_over, told_sending}
+use Rattle.flash_laws.specs.Run.{is_over, after_sending}
 use Rattle.flash_laws.specs.Site.OtherConns.{with_at, left_by}
-use Rattle.flash_laws.specs.declared.phase.Content.TheVariants.{Error, Script}
-use Rattle.flash_laws.specs.declared.phase.Doing.{Doing}
-use Rattle.flash_laws.specs.declared.phase.Doing.TheVariants.{Rests, Reads as Reading, Spares, Sent, Drops, Over}
+use Rattle.flash_laws.specs.declared.phase.Payload.TheVariants.{Error, Script}
+use Rattle.flash_laws.specs.declared.phase.Phase.{Phase}
+use Rattle.flash_laws.specs.declared.phase.Phase.TheVariants.{Rests, Reads as Reading, Spares, Sent, Drops, Over}
 use Rattle.flash_laws.specs.declared.script_run.Run.{Run}
 use Rattle.flash_laws.specs.declared.script_run.Step.{Step}
 use Rattle.flash_laws.specs.declared.script_run.Step.TheVariants as act
@@ -63,92 +63,92 @@ same-there clients fd x is = ap (λ (l : List (Option Client)). slice_set l fd (
 
 -- A connection that would block is as it was.
 
-conn-blocked : (kept : List ℕ) (q : Answer) (d : Doing) (heard : List ℕ) → conn.told (at kept q d) (reply.Refused no.WouldBlock) heard ≡ at kept q d
-conn-blocked kept q Rests heard = refl
-conn-blocked kept q d heard = refl
+conn-blocked : (kept : List ℕ) (q : Answer) (d : Phase) (received : List ℕ) → conn.after_reply (at kept q d) (reply.Refused no.WouldBlock) received ≡ at kept q d
+conn-blocked kept q Rests received = refl
+conn-blocked kept q d received = refl
 
 -- so is a run
 
-part-blocked : (run : Run) (d : Doing) (frame : Option ℕ) → told_sending run d frame (reply.Refused no.WouldBlock) ≡ Runs run (act.Sending d frame)
+part-blocked : (run : Run) (d : Phase) (frame : Option ℕ) → after_sending run d frame (reply.Refused no.WouldBlock) ≡ Runs run (act.Sending d frame)
 part-blocked run (Sent a taken None) frame = refl
 part-blocked run (Drops a None) frame = refl
 part-blocked run d frame = refl
 
-step-blocked : (w : Wanted) (run : Run) (s : Step) (heard : List ℕ) → running.told_step w run s (reply.Refused no.WouldBlock) heard ≡ Runs run s
-step-blocked w run (act.Sending d frame) heard = part-blocked run d frame
-step-blocked w run s heard = refl
+step-blocked : (w : Wanted) (run : Run) (s : Step) (received : List ℕ) → running.after_step w run s (reply.Refused no.WouldBlock) received ≡ Runs run s
+step-blocked w run (act.Sending d frame) received = part-blocked run d frame
+step-blocked w run s received = refl
 
-run-blocked : (worker : ℕ) (w : Wanted) (y : Running) (heard : List ℕ) → running.told worker w y (reply.Refused no.WouldBlock) heard ≡ y
-run-blocked worker w (Runs run s) heard = step-blocked w run s heard
-run-blocked worker w (Leaves d) heard = ap (λ (x : Conn). Leaves x.doing) (conn-blocked [] (serve w) d heard)
-run-blocked worker w x heard = refl
+run-blocked : (worker : ℕ) (w : Wanted) (y : Running) (received : List ℕ) → running.after_reply worker w y (reply.Refused no.WouldBlock) received ≡ y
+run-blocked worker w (Runs run s) received = step-blocked w run s received
+run-blocked worker w (Leaves d) received = ap (λ (x : Conn). Leaves x.phase) (conn-blocked [] (serve w) d received)
+run-blocked worker w x received = refl
 
 -- one that stands still is neither over now, nor is its text kept no more
 same-text : (k : Bool) (text : List ℕ) → text_on k k text ≡ text
 same-text true text = refl
 same-text false text = refl
 
-stands : (x : Client) (y : Running) (over : Bool) → x.run ≡ Some y → goes_on over over x y y ≡ x
+stands : (x : Client) (y : Running) (over : Bool) → x.run ≡ Some y → proceeds over over x y y ≡ x
 stands x y over run_is =
     same over
     ∙ (ap (λ (l : List ℕ). record { conn = x.conn; run = Some y; script = l }) (same-text (keeps_text y) x.script)
     ∙ ap (λ (o : Option Running). record { conn = x.conn; run = o; script = x.script }) (sym run_is))
   where
-    same : (b : Bool) → goes_on b b x y y ≡ record { conn = x.conn; run = Some y; script = text_on (keeps_text y) (keeps_text y) x.script }
+    same : (b : Bool) → proceeds b b x y y ≡ record { conn = x.conn; run = Some y; script = text_on (keeps_text y) (keeps_text y) x.script }
     same true = refl
     same false = refl
 
 -- A client that would block is as it was.
 
-script-blocked : (kept : List ℕ) (q : Answer) (d : Doing) (script heard : List ℕ) → file_told true (of (at kept q d) None script) (reply.Refused no.WouldBlock) heard ≡ of (at kept q d) None script
-script-blocked kept q (Reading f) script heard = by (is_head_only q)
+script-blocked : (kept : List ℕ) (q : Answer) (d : Phase) (script received : List ℕ) → file_after_reply true (of (at kept q d) None script) (reply.Refused no.WouldBlock) received ≡ of (at kept q d) None script
+script-blocked kept q (Reading f) script received = by (is_head_only q)
   where
-    by : (h : Bool) → of (at kept q (Reading f)) None (kept_text h script (reply.Refused no.WouldBlock) heard) ≡ of (at kept q (Reading f)) None script
+    by : (h : Bool) → of (at kept q (Reading f)) None (kept_text h script (reply.Refused no.WouldBlock) received) ≡ of (at kept q (Reading f)) None script
     by true = refl
     by false = refl
-script-blocked kept q (Spares a Script) script heard = by (is_head_only q)
+script-blocked kept q (Spares a Script) script received = by (is_head_only q)
   where
-    by : (h : Bool) → of (at kept q (Spares a Script)) (told_spares h (reply.Refused no.WouldBlock)) script ≡ of (at kept q (Spares a Script)) None script
+    by : (h : Bool) → of (at kept q (Spares a Script)) (after_drop_whole h (reply.Refused no.WouldBlock)) script ≡ of (at kept q (Spares a Script)) None script
     by true = refl
     by false = refl
-script-blocked kept q d script heard = refl
+script-blocked kept q d script received = refl
 
-pub told-blocked : (scripts : Bool) (worker : ℕ) (c : Conn) (run : Option Running) (script heard : List ℕ)
-    → told scripts worker (of c run script) (reply.Refused no.WouldBlock) heard ≡ of c run script
-told-blocked scripts worker c None script heard = by (is_for_script scripts c.q)
+pub after_reply-blocked : (scripts : Bool) (worker : ℕ) (c : Conn) (run : Option Running) (script received : List ℕ)
+    → after_reply scripts worker (of c run script) (reply.Refused no.WouldBlock) received ≡ of c run script
+after_reply-blocked scripts worker c None script received = by (is_for_script scripts c.q)
   where
-    by : (b : Bool) → file_told b (of c None script) (reply.Refused no.WouldBlock) heard ≡ of c None script
-    by true = script-blocked c.kept c.q c.doing script heard
-    by false = ap (λ (z : Conn). of z None script) (conn-blocked c.kept c.q c.doing heard)
-told-blocked scripts worker c (Some y) script heard = by c.q
+    by : (b : Bool) → file_after_reply b (of c None script) (reply.Refused no.WouldBlock) received ≡ of c None script
+    by true = script-blocked c.kept c.q c.phase script received
+    by false = ap (λ (z : Conn). of z None script) (conn-blocked c.kept c.q c.phase received)
+after_reply-blocked scripts worker c (Some y) script received = by c.q
   where
-    by : (q : Answer) → run_told worker q (of c (Some y) script) y (reply.Refused no.WouldBlock) heard ≡ of c (Some y) script
-    by (serve w) = ap (λ (z : Running). goes_on (is_over y) (is_over z) (of c (Some y) script) y z) (run-blocked worker w y heard) ∙ stands (of c (Some y) script) y (is_over y) refl
+    by : (q : Answer) → run_after_reply worker q (of c (Some y) script) y (reply.Refused no.WouldBlock) received ≡ of c (Some y) script
+    by (serve w) = ap (λ (z : Running). proceeds (is_over y) (is_over z) (of c (Some y) script) y z) (run-blocked worker w y received) ∙ stands (of c (Some y) script) y (is_over y) refl
     by (refuse status head_only close) = refl
 
 -- and it is not over
-doing-blocked : WaitLaw → (m : State) (by fd : ℕ) (b : Bool) (kept : List ℕ) (q : Answer) (d : Doing) (x : Client) → WouldWait m by (conn_wants b fd (at kept q d)) → left_by d x ≡ Some x
-doing-blocked waits m by fd true kept q Over x step = absurd (let may = waits m m by (call.Close fd) step in cc (may))
-doing-blocked waits m by fd false kept q Over x step = absurd (let may = waits m m by (call.Close fd) step in cc (may))
-doing-blocked waits m by fd b kept q d x step = refl
+phase-blocked : WaitLaw → (m : State) (by fd : ℕ) (b : Bool) (kept : List ℕ) (q : Answer) (d : Phase) (x : Client) → WouldWait m by (conn_wants b fd (at kept q d)) → left_by d x ≡ Some x
+phase-blocked waits m by fd true kept q Over x step = absurd (let may = waits m m by (call.Close fd) step in cc (may))
+phase-blocked waits m by fd false kept q Over x step = absurd (let may = waits m m by (call.Close fd) step in cc (may))
+phase-blocked waits m by fd b kept q d x step = refl
 
 left-blocked : WaitLaw → (m : State) (by workers fd : ℕ) (clients : List (Option Client)) (c : Conn) (run : Option Running) (script : List ℕ)
     → Blocks m by workers clients fd (of c run script) → left_over (of c run script) ≡ Some (of c run script)
 left-blocked waits m by workers fd clients c (Some y) script blocks = refl
 left-blocked waits m by workers fd clients c None script blocks = elim blocks.1 [
   | inl passed ↦ absurd (never_passed (has_free workers clients) passed)
-  | inr step ↦ doing-blocked waits m by fd (is_for_script (runs_scripts workers) c.q) c.kept c.q c.doing (of c None script) step
+  | inr step ↦ phase-blocked waits m by fd (is_for_script (runs_scripts workers) c.q) c.kept c.q c.phase (of c None script) step
 ]
 
-pub filed-at : WaitLaw → (m : State) (by workers fd : ℕ) (clients : List (Option Client)) (heard : List ℕ)
+pub filed-at : WaitLaw → (m : State) (by workers fd : ℕ) (clients : List (Option Client)) (received : List ℕ)
     → BlocksAt m by workers clients fd
-    → told_at workers clients fd (in_place clients fd) (reply.Refused no.WouldBlock) heard ≡ clients
-filed-at waits m by workers fd clients heard blocked = at_place (in_place clients fd) refl
+    → after_reply_at workers clients fd (in_place clients fd) (reply.Refused no.WouldBlock) received ≡ clients
+filed-at waits m by workers fd clients received blocked = at_place (in_place clients fd) refl
   where
-    at_place : (o : Option Client) → in_place clients fd ≡ o → told_at workers clients fd o (reply.Refused no.WouldBlock) heard ≡ clients
+    at_place : (o : Option Client) → in_place clients fd ≡ o → after_reply_at workers clients fd o (reply.Refused no.WouldBlock) received ≡ clients
     at_place None is = refl
     at_place (Some x) is =
-        ap (λ (y : Client). with_at clients fd (left_over y)) (told-blocked (runs_scripts workers) (first_free workers clients) x.conn x.run x.script heard)
+        ap (λ (y : Client). with_at clients fd (left_over y)) (after_reply-blocked (runs_scripts workers) (first_free workers clients) x.conn x.run x.script received)
         ∙ (ap (λ (o : Option Client). with_at clients fd o) (left-blocked waits m by workers fd clients x.conn x.run x.script (blocked x is)) ∙ same-there clients fd x is)
 
 -- What is made ready is what stood there, or begins.
@@ -159,7 +159,7 @@ Stands x y = (y ≡ x) × conn.IsAwaiting y
 abbrev Begins : Conn → Type 0
 Begins y = (p : Answer) × (rest : List ℕ) × (y ≡ at rest p (begins p))
 
-pub conn-ready : (kept : List ℕ) (q : Answer) (d : Doing) (y : Conn) → conn.Readies (at kept q d) y → Stands (at kept q d) y ⊎ Begins y
+pub conn-ready : (kept : List ℕ) (q : Answer) (d : Phase) (y : Conn) → conn.Readies (at kept q d) y → Stands (at kept q d) y ⊎ Begins y
 conn-ready kept q Rests y ready = by ready
   where
     by : Starts (at kept q Rests) y → Stands (at kept q Rests) y ⊎ Begins y
@@ -178,7 +178,7 @@ never-waits waits m by fd false rest (refuse status head_only close) step = (let
 pub ready-blocked : WaitLaw → (m : State) (by fd : ℕ) (scripts : Bool) (c : Conn) (run : Option Running) (script : List ℕ) (y : Client)
     → Readies (of c run script) y → WouldWait m by (wants scripts fd y) → (y ≡ of c run script) × IsAwaiting y
 ready-blocked waits m by fd scripts c (Some z) script y ready step = (ready, subst (λ (x : Client). IsAwaiting x) (sym ready) tt)
-ready-blocked waits m by fd scripts c None script y ready step = elim (conn-ready c.kept c.q c.doing ready.0 ready.1) [
+ready-blocked waits m by fd scripts c None script y ready step = elim (conn-ready c.kept c.q c.phase ready.0 ready.1) [
   | inl stands ↦ (
     ready.2 ∙ ap (λ (x : Conn). of x None script) stands.0,
     subst (λ (x : Client). IsAwaiting x) (sym ready.2) stands.1,

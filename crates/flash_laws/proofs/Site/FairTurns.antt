@@ -9,19 +9,19 @@ use Rattle.iol_core.specs.declared.events.Reply.TheVariants as reply
 use Rattle.iol_proc.specs.declared.process.Turn.{Turn}
 use Rattle.flash_http.specs.Request.{Answer, serve, refuse}
 use Rattle.flash_laws.specs.Answers.{keeps}
-use Rattle.flash_laws.specs.Client.{Client, Readies, file_told, goes_on, is_for_script, left_over, run_told, told}
-use Rattle.flash_laws.specs.Conn.{begins, told_closes, told_sent}
-use Rattle.flash_laws.specs.Conn.Policy.{most_conns, is_later, door, flight_past, flight_to}
+use Rattle.flash_laws.specs.Client.{Client, Readies, file_after_reply, proceeds, is_for_script, left_over, run_after_reply, after_reply}
+use Rattle.flash_laws.specs.Conn.{begins, after_disconnect, after_taken}
+use Rattle.flash_laws.specs.Conn.Policy.{most_conns, is_later, accept_step, pending_call_past, pending_call_to}
 use Rattle.flash_laws.specs.Run.{is_over}
-use Rattle.flash_laws.specs.Serves.{Server, Picks, PicksAt, heard_of, server_turns}
+use Rattle.flash_laws.specs.Serves.{Server, Picks, PicksAt, received_of, server_turns}
 use Rattle.flash_laws.specs.Serves.FairTurns.{OneTurn, BeginsAt, Follow, GoesThroughout, HasATurn, TurnsAreFair, clients_in, is_answered}
-use Rattle.flash_laws.specs.Serves.Rounds.{leaves_off, place_after, goes_in, next_place, flight_from, in_rounds}
+use Rattle.flash_laws.specs.Serves.Rounds.{leaves_off, place_after, goes_in, next_place, pending_call_from, in_rounds}
 use Rattle.flash_laws.specs.Site.OtherConns.{left_by}
-use Rattle.flash_laws.specs.Site.Places.{filed, first_free, has_free, may_go, runs_scripts, told_at}
-use Rattle.flash_laws.specs.declared.phase.Doing.{Doing}
-use Rattle.flash_laws.specs.declared.phase.Doing.TheVariants.{Rests, Sent, Closes}
-use Rattle.flash_laws.specs.declared.phase.Flight.{Flight}
-use Rattle.flash_laws.specs.declared.phase.Flight.TheVariants.{Nothing, Accepting, At}
+use Rattle.flash_laws.specs.Site.Places.{filed, first_free, has_free, may_go, runs_scripts, after_reply_at}
+use Rattle.flash_laws.specs.declared.phase.Phase.{Phase}
+use Rattle.flash_laws.specs.declared.phase.Phase.TheVariants.{Rests, Sent, Closes}
+use Rattle.flash_laws.specs.declared.phase.PendingCall.{PendingCall}
+use Rattle.flash_laws.specs.declared.phase.PendingCall.TheVariants.{Nothing, Accepting, At}
 use Rattle.flash_laws.specs.declared.script_run.Running.{Running}
 use Rattle.flash_laws.specs.declared.script_run.Running.TheVariants.{Leaves}
 use Rattle.flash_laws.proofs.Conn.Responses.{some-inj}
@@ -37,7 +37,7 @@ module _ (workers : ℕ) (clients : List (Option Client)) (gd : ℕ) (goes : goe
   -- who is picked from there on is no later than it
   record Reaches (from : ℕ) : Type 0 where
     place : ℕ
-    is : flight_from workers clients from ≡ At place
+    is : pending_call_from workers clients from ≡ At place
     low : from ≤ place
     high : place ≤ gd
 
@@ -54,13 +54,13 @@ module _ (workers : ℕ) (clients : List (Option Client)) (gd : ℕ) (goes : goe
       by None is = absurd (clash (goes_in (has_free workers clients) (in_place clients gd)) goes ((found workers clients from).none is gd le))
       by (Some k) is = record {
         place = k;
-        is = ap (λ (o : Option ℕ). flight_to clients o) is;
+        is = ap (λ (o : Option ℕ). pending_call_to clients o) is;
         low = from-there (has_free workers clients) clients from k is;
         high = no-more k is;
       }
 
   -- it has its turn, or one before it has
-  lands : (from : ℕ) (f : Flight) → f ≡ flight_from workers clients from → from ≤ gd
+  lands : (from : ℕ) (f : PendingCall) → f ≡ pending_call_from workers clients from → from ≤ gd
       → (f ≡ At gd) ⊎ ((k : ℕ) × (f ≡ At k) × (from ≤ k) × (k < gd))
   lands from f is le =
       let r = reaches from le in
@@ -75,16 +75,16 @@ module _ (workers : ℕ) (clients : List (Option Client)) (gd : ℕ) (goes : goe
 -- ---- a client in place `fd` is away: before it comes again the one in place `gd` has its turn
 
 -- where that place comes behind it
-abbrev Up : (fd gd : ℕ) → Flight → Type 0
+abbrev Up : (fd gd : ℕ) → PendingCall → Type 0
 Up fd gd (At k) = (fd < k) × (k < gd)
 Up fd gd w = ⊥
 
 -- where it comes before it, in the next round
-abbrev Down : (fd gd : ℕ) → Flight → Type 0
+abbrev Down : (fd gd : ℕ) → PendingCall → Type 0
 Down fd gd (At k) = (fd < k) ⊎ (k < gd)
 Down fd gd w = Unit {0}
 
-abbrev Away : (fd gd : ℕ) → Flight → Type 0
+abbrev Away : (fd gd : ℕ) → PendingCall → Type 0
 Away fd gd w = ((fd < gd) × Up fd gd w) ⊎ ((gd < fd) × Down fd gd w)
 
 not-home : (fd gd : ℕ) → Away fd gd (At fd) → ⊥
@@ -94,36 +94,36 @@ not-home fd gd (inr (lt, inr before)) = omega (arith, lt, before)
 
 module _ (workers : ℕ) (clients : List (Option Client)) (fd gd : ℕ) (goes : goes_in (has_free workers clients) (in_place clients gd) ≡ true) where
   -- past its place, and no further than the other, where that comes behind it
-  climbs : (from : ℕ) (f : Flight) → f ≡ flight_from workers clients from → fd < gd → fd < from → from ≤ gd → (f ≡ At gd) ⊎ Away fd gd f
+  climbs : (from : ℕ) (f : PendingCall) → f ≡ pending_call_from workers clients from → fd < gd → fd < from → from ≤ gd → (f ≡ At gd) ⊎ Away fd gd f
   climbs from f is before past le = elim (lands workers clients gd goes from f is le) [
     | inl there ↦ inl there
-    | inr r ↦ inr (subst (λ (w : Flight). Away fd gd w) (sym r.1) (let low = r.2 in inl (before, (omega (arith, low, past), r.3))))
+    | inr r ↦ inr (subst (λ (w : PendingCall). Away fd gd w) (sym r.1) (let low = r.2 in inl (before, (omega (arith, low, past), r.3))))
   ]
 
   -- in the next round, before its place
-  returns : (from : ℕ) (f : Flight) → f ≡ flight_from workers clients from → gd < fd → from ≤ gd → (f ≡ At gd) ⊎ Away fd gd f
+  returns : (from : ℕ) (f : PendingCall) → f ≡ pending_call_from workers clients from → gd < fd → from ≤ gd → (f ≡ At gd) ⊎ Away fd gd f
   returns from f is behind le = elim (lands workers clients gd goes from f is le) [
     | inl there ↦ inl there
-    | inr r ↦ inr (subst (λ (w : Flight). Away fd gd w) (sym r.1) (inr (behind, inr r.3)))
+    | inr r ↦ inr (subst (λ (w : PendingCall). Away fd gd w) (sym r.1) (inr (behind, inr r.3)))
   ]
 
-  at-door : gd < fd → Away fd gd (door clients)
-  at-door behind = by (nat_lt (taken clients) most_conns)
+  at-accept_step : gd < fd → Away fd gd (accept_step clients)
+  at-accept_step behind = by (nat_lt (taken clients) most_conns)
     where
       by : (b : Bool) → Away fd gd (if b then Accepting else Nothing)
       by true = inr (behind, tt)
       by false = inr (behind, tt)
 
   -- past its place, where the other comes before it
-  passes-on : (from : ℕ) (f : Flight) → f ≡ flight_from workers clients from → gd < fd → fd < from → Away fd gd f
-  passes-on from f is behind past = subst (λ (w : Flight). Away fd gd w) (sym is) (by (next_place workers clients from) (λ k at. from-there (has_free workers clients) clients from k at))
+  passes-on : (from : ℕ) (f : PendingCall) → f ≡ pending_call_from workers clients from → gd < fd → fd < from → Away fd gd f
+  passes-on from f is behind past = subst (λ (w : PendingCall). Away fd gd w) (sym is) (by (next_place workers clients from) (λ k at. from-there (has_free workers clients) clients from k at))
     where
-      by : (o : Option ℕ) → ((k : ℕ) → o ≡ Some k → from ≤ k) → Away fd gd (flight_to clients o)
+      by : (o : Option ℕ) → ((k : ℕ) → o ≡ Some k → from ≤ k) → Away fd gd (pending_call_to clients o)
       by (Some k) later = let low = later k refl in inr (behind, inl (omega (arith, low, past)))
-      by None later = at-door behind
+      by None later = at-accept_step behind
 
   -- its turn has passed
-  departs : (f : Flight) → f ≡ flight_from workers clients (fd + 1) → fd ≢ gd → (f ≡ At gd) ⊎ Away fd gd f
+  departs : (f : PendingCall) → f ≡ pending_call_from workers clients (fd + 1) → fd ≢ gd → (f ≡ At gd) ⊎ Away fd gd f
   departs f is other = elim (cases_order fd gd) [
     | inl same ↦ absurd (other same)
     | inr rest ↦ elim rest [
@@ -133,7 +133,7 @@ module _ (workers : ℕ) (clients : List (Option Client)) (fd gd : ℕ) (goes : 
   ]
 
   -- a turn of another
-  walks : (w f : Flight) (r : Reply) → in_rounds workers clients w r f → Away fd gd w → (f ≡ At gd) ⊎ Away fd gd f
+  walks : (w f : PendingCall) (r : Reply) → in_rounds workers clients w r f → Away fd gd w → (f ≡ At gd) ⊎ Away fd gd f
   walks (At k) f r is (inl (lt, (low, high))) =
       let from = no-earlier k (in_place clients k) r in
       climbs (place_after k (in_place clients k) r) f is lt (omega (arith, from, low)) (no-later gd k (in_place clients k) r high)
@@ -142,22 +142,22 @@ module _ (workers : ℕ) (clients : List (Option Client)) (fd gd : ℕ) (goes : 
       inr (passes-on (place_after k (in_place clients k) r) f is gt (omega (arith, from, low)))
   walks (At k) f r is (inr (gt, inr high)) = returns (place_after k (in_place clients k) r) f is gt (no-later gd k (in_place clients k) r high)
   walks Accepting f r is (inl (lt, up)) = absurd up
-  walks Accepting f r is (inr (gt, down)) = inr (subst (λ (w : Flight). Away fd gd w) (sym is) (by r))
+  walks Accepting f r is (inr (gt, down)) = inr (subst (λ (w : PendingCall). Away fd gd w) (sym is) (by r))
     where
-      by : (r : Reply) → Away fd gd (flight_past clients r)
-      by (reply.Fd n) = at-door gt
+      by : (r : Reply) → Away fd gd (pending_call_past clients r)
+      by (reply.Fd n) = at-accept_step gt
       by r = inr (gt, tt)
   walks Nothing f r is (inl (lt, up)) = absurd up
   walks Nothing f r is (inr (gt, down)) = returns 0 f is gt (omega arith)
 
 -- before it comes again the other has had its turn
-comes : (s : Server) (xs : List OneTurn) (y : OneTurn) (fd gd : ℕ) → Follow s (xs ++ y ∷ []) → y.after.flight ≡ At fd
-    → GoesThroughout gd s (xs ++ y ∷ []) → fd ≢ gd → Away fd gd s.flight → HasATurn gd xs
-comes s [] y fd gd turns home goes other away = elim (walks s.workers (clients_in s y) fd gd goes.0 s.flight y.after.flight y.last turns.0.0 away) [
+comes : (s : Server) (xs : List OneTurn) (y : OneTurn) (fd gd : ℕ) → Follow s (xs ++ y ∷ []) → y.after.pending_call ≡ At fd
+    → GoesThroughout gd s (xs ++ y ∷ []) → fd ≢ gd → Away fd gd s.pending_call → HasATurn gd xs
+comes s [] y fd gd turns home goes other away = elim (walks s.workers (clients_in s y) fd gd goes.0 s.pending_call y.after.pending_call y.last turns.0.0 away) [
   | inl there ↦ absurd (let same : At fd ≡ At gd = sym home ∙ there in let e : fd ≡ gd = cc (same) in other e)
-  | inr still ↦ absurd (not-home fd gd (subst (λ (w : Flight). Away fd gd w) home still))
+  | inr still ↦ absurd (not-home fd gd (subst (λ (w : PendingCall). Away fd gd w) home still))
 ]
-comes s (x ∷ xs) y fd gd turns home goes other away = elim (walks s.workers (clients_in s x) fd gd goes.0 s.flight x.after.flight x.last turns.0.0 away) [
+comes s (x ∷ xs) y fd gd turns home goes other away = elim (walks s.workers (clients_in s x) fd gd goes.0 s.pending_call x.after.pending_call x.last turns.0.0 away) [
   | inl there ↦ inl there
   | inr still ↦ inr (comes x.after xs y fd gd turns.1 home goes.1 other still)
 ]
@@ -165,7 +165,7 @@ comes s (x ∷ xs) y fd gd turns home goes other away = elim (walks s.workers (c
 -- ---- from the end of a response its turn passes before the next begins
 
 -- nothing is in progress of a further request
-abbrev Still : List ℕ → Doing → Option Running → Type 0
+abbrev Still : List ℕ → Phase → Option Running → Type 0
 Still kept (Sent a taken None) None = Unit {0}
 Still kept Closes None = Unit {0}
 Still kept Rests None = kept ≡ []
@@ -175,17 +175,17 @@ Still kept d (Some y) = ⊥
 
 abbrev IsStill : Option Client → Type 0
 IsStill None = Unit {0}
-IsStill (Some x) = Still x.conn.kept x.conn.doing x.run
+IsStill (Some x) = Still x.conn.kept x.conn.phase x.run
 
 -- its call is out, and it has its turn still
-abbrev Busy : List ℕ → Doing → Option Running → Type 0
+abbrev Busy : List ℕ → Phase → Option Running → Type 0
 Busy kept (Sent a taken None) None = kept ≡ []
 Busy kept Closes None = Unit {0}
 Busy kept d None = ⊥
 Busy kept d (Some (Leaves (Sent a taken None))) = kept ≡ []
 Busy kept d (Some y) = ⊥
 
-answered-still : (kept : List ℕ) (q : Answer) (d : Doing) (run : Option Running) (script : List ℕ) → is_answered (of (at kept q d) run script) ≡ true → Still kept d run
+answered-still : (kept : List ℕ) (q : Answer) (d : Phase) (run : Option Running) (script : List ℕ) → is_answered (of (at kept q d) run script) ≡ true → Still kept d run
 answered-still kept q (Sent a taken None) None script is = tt
 answered-still kept q (Sent a taken (Some x)) None script is = absurd (cc (is))
 answered-still kept q d None script is = absurd (cc (is))
@@ -203,7 +203,7 @@ on-sent : (kept : List ℕ) (later : Bool) → (later || (not (length kept == 0)
 on-sent kept later on =
     none-kept kept (not-false (length kept == 0) (bare-none (not (length kept == 0)) (neither later (not (length kept == 0) || false) on).1))
 
-on-busy : (kept : List ℕ) (q : Answer) (d : Doing) (run : Option Running) (script : List ℕ) (r : Reply) → leaves_off (Some (of (at kept q d) run script)) r ≡ false
+on-busy : (kept : List ℕ) (q : Answer) (d : Phase) (run : Option Running) (script : List ℕ) (r : Reply) → leaves_off (Some (of (at kept q d) run script)) r ≡ false
     → Still kept d run → Busy kept d run
 on-busy kept q (Sent a taken None) None script r on still = on-sent kept (is_later r) on
 on-busy kept q (Sent a taken (Some x)) None script r on still = absurd still
@@ -221,13 +221,13 @@ or-true : (b : Bool) → (b || true) ≡ true
 or-true true = refl
 or-true false = refl
 
-busy-goes : (free : Bool) (kept : List ℕ) (q : Answer) (d : Doing) (run : Option Running) (script : List ℕ) → Busy kept d run → may_go free (of (at kept q d) run script) ≡ true
+busy-goes : (free : Bool) (kept : List ℕ) (q : Answer) (d : Phase) (run : Option Running) (script : List ℕ) → Busy kept d run → may_go free (of (at kept q d) run script) ≡ true
 busy-goes free kept q d None script busy = or-true free
 busy-goes free kept q d (Some (Leaves e)) script busy = or-true free
 busy-goes free kept q d (Some y) script busy = absurd busy
 
 -- and is as it was
-busy-ready : (kept : List ℕ) (q : Answer) (d : Doing) (run : Option Running) (script : List ℕ) (y : Client) → Busy kept d run → Readies (of (at kept q d) run script) y
+busy-ready : (kept : List ℕ) (q : Answer) (d : Phase) (run : Option Running) (script : List ℕ) (y : Client) → Busy kept d run → Readies (of (at kept q d) run script) y
     → y ≡ of (at kept q d) run script
 busy-ready kept q (Sent a taken None) None script y busy ready = ready.2 ∙ ap (λ c. of c None script) ready.1
 busy-ready kept q (Sent a taken (Some x)) None script y busy ready = absurd busy
@@ -236,7 +236,7 @@ busy-ready kept q d None script y busy ready = absurd busy
 busy-ready kept q d (Some z) script y busy ready = ready
 
 -- it begins nothing
-busy-begins : (kept : List ℕ) (q : Answer) (d : Doing) (run : Option Running) → Busy kept d run → d ≡ begins q → run ≡ None → ⊥
+busy-begins : (kept : List ℕ) (q : Answer) (d : Phase) (run : Option Running) → Busy kept d run → d ≡ begins q → run ≡ None → ⊥
 busy-begins kept (serve w) (Sent a taken None) None busy is none = cc (is)
 busy-begins kept (refuse status head_only close) (Sent a taken None) None busy is none = cc (is)
 busy-begins kept q (Sent a taken (Some x)) None busy is none = busy
@@ -252,71 +252,71 @@ ends-still true kept q script none = none
 ends-still false kept q script none = tt
 
 sent-still : (kept : List ℕ) (q : Answer) (a taken : ℕ) (script : List ℕ) (r : Reply) → kept ≡ []
-    → IsStill (left_by (told_sent q a taken None r) (of (at kept q (told_sent q a taken None r)) None script))
+    → IsStill (left_by (after_taken q a taken None r) (of (at kept q (after_taken q a taken None r)) None script))
 sent-still kept q a taken script reply.Done none = ends-still (keeps q) kept q script none
 sent-still kept q a taken script r none = tt
 
-closes-still : (kept : List ℕ) (q : Answer) (script : List ℕ) (r : Reply) → IsStill (left_by (told_closes r) (of (at kept q (told_closes r)) None script))
+closes-still : (kept : List ℕ) (q : Answer) (script : List ℕ) (r : Reply) → IsStill (left_by (after_disconnect r) (of (at kept q (after_disconnect r)) None script))
 closes-still kept q script reply.Done = tt
 closes-still kept q script r = tt
 
-run-ends : (b : Bool) (kept : List ℕ) (q : Answer) (d : Doing) (a taken : ℕ) (script : List ℕ) → kept ≡ []
-    → IsStill (left_over (goes_on false (is_over (Leaves (if b then Rests else Closes))) (of (at kept q d) (Some (Leaves (Sent a taken None))) script) (Leaves (Sent a taken None)) (Leaves (if b then Rests else Closes))))
+run-ends : (b : Bool) (kept : List ℕ) (q : Answer) (d : Phase) (a taken : ℕ) (script : List ℕ) → kept ≡ []
+    → IsStill (left_over (proceeds false (is_over (Leaves (if b then Rests else Closes))) (of (at kept q d) (Some (Leaves (Sent a taken None))) script) (Leaves (Sent a taken None)) (Leaves (if b then Rests else Closes))))
 run-ends true kept q d a taken script none = none
 run-ends false kept q d a taken script none = tt
 
-run-still : (worker : ℕ) (kept : List ℕ) (q : Answer) (d : Doing) (a taken : ℕ) (script : List ℕ) (r : Reply) (heard : List ℕ) → kept ≡ []
-    → IsStill (left_over (run_told worker q (of (at kept q d) (Some (Leaves (Sent a taken None))) script) (Leaves (Sent a taken None)) r heard))
-run-still worker kept (serve w) d a taken script reply.Done heard none = run-ends (keeps (serve w)) kept (serve w) d a taken script none
-run-still worker kept (serve w) d a taken script r heard none = tt
-run-still worker kept (refuse status head_only close) d a taken script r heard none = tt
+run-still : (worker : ℕ) (kept : List ℕ) (q : Answer) (d : Phase) (a taken : ℕ) (script : List ℕ) (r : Reply) (received : List ℕ) → kept ≡ []
+    → IsStill (left_over (run_after_reply worker q (of (at kept q d) (Some (Leaves (Sent a taken None))) script) (Leaves (Sent a taken None)) r received))
+run-still worker kept (serve w) d a taken script reply.Done received none = run-ends (keeps (serve w)) kept (serve w) d a taken script none
+run-still worker kept (serve w) d a taken script r received none = tt
+run-still worker kept (refuse status head_only close) d a taken script r received none = tt
 
-told-sent : (b : Bool) (kept : List ℕ) (q : Answer) (a taken : ℕ) (script : List ℕ) (r : Reply) (heard : List ℕ) → kept ≡ []
-    → IsStill (left_over (file_told b (of (at kept q (Sent a taken None)) None script) r heard))
-told-sent true kept q a taken script r heard none = sent-still kept q a taken script r none
-told-sent false kept q a taken script r heard none = sent-still kept q a taken script r none
+after_reply-sent : (b : Bool) (kept : List ℕ) (q : Answer) (a taken : ℕ) (script : List ℕ) (r : Reply) (received : List ℕ) → kept ≡ []
+    → IsStill (left_over (file_after_reply b (of (at kept q (Sent a taken None)) None script) r received))
+after_reply-sent true kept q a taken script r received none = sent-still kept q a taken script r none
+after_reply-sent false kept q a taken script r received none = sent-still kept q a taken script r none
 
-told-closed : (b : Bool) (kept : List ℕ) (q : Answer) (script : List ℕ) (r : Reply) (heard : List ℕ)
-    → IsStill (left_over (file_told b (of (at kept q Closes) None script) r heard))
-told-closed true kept q script r heard = closes-still kept q script r
-told-closed false kept q script r heard = closes-still kept q script r
+after_reply-closed : (b : Bool) (kept : List ℕ) (q : Answer) (script : List ℕ) (r : Reply) (received : List ℕ)
+    → IsStill (left_over (file_after_reply b (of (at kept q Closes) None script) r received))
+after_reply-closed true kept q script r received = closes-still kept q script r
+after_reply-closed false kept q script r received = closes-still kept q script r
 
-busy-told : (scripts : Bool) (worker : ℕ) (kept : List ℕ) (q : Answer) (d : Doing) (run : Option Running) (script : List ℕ) (r : Reply) (heard : List ℕ) → Busy kept d run
-    → IsStill (left_over (told scripts worker (of (at kept q d) run script) r heard))
-busy-told scripts worker kept q (Sent a taken None) None script r heard busy = told-sent (is_for_script scripts q) kept q a taken script r heard busy
-busy-told scripts worker kept q (Sent a taken (Some x)) None script r heard busy = absurd busy
-busy-told scripts worker kept q Closes None script r heard busy = told-closed (is_for_script scripts q) kept q script r heard
-busy-told scripts worker kept q d None script r heard busy = absurd busy
-busy-told scripts worker kept q d (Some (Leaves (Sent a taken None))) script r heard busy = run-still worker kept q d a taken script r heard busy
-busy-told scripts worker kept q d (Some (Leaves (Sent a taken (Some x)))) script r heard busy = absurd busy
-busy-told scripts worker kept q d (Some (Leaves e)) script r heard busy = absurd busy
-busy-told scripts worker kept q d (Some y) script r heard busy = absurd busy
+busy-after_reply : (scripts : Bool) (worker : ℕ) (kept : List ℕ) (q : Answer) (d : Phase) (run : Option Running) (script : List ℕ) (r : Reply) (received : List ℕ) → Busy kept d run
+    → IsStill (left_over (after_reply scripts worker (of (at kept q d) run script) r received))
+busy-after_reply scripts worker kept q (Sent a taken None) None script r received busy = after_reply-sent (is_for_script scripts q) kept q a taken script r received busy
+busy-after_reply scripts worker kept q (Sent a taken (Some x)) None script r received busy = absurd busy
+busy-after_reply scripts worker kept q Closes None script r received busy = after_reply-closed (is_for_script scripts q) kept q script r received
+busy-after_reply scripts worker kept q d None script r received busy = absurd busy
+busy-after_reply scripts worker kept q d (Some (Leaves (Sent a taken None))) script r received busy = run-still worker kept q d a taken script r received busy
+busy-after_reply scripts worker kept q d (Some (Leaves (Sent a taken (Some x)))) script r received busy = absurd busy
+busy-after_reply scripts worker kept q d (Some (Leaves e)) script r received busy = absurd busy
+busy-after_reply scripts worker kept q d (Some y) script r received busy = absurd busy
 
 -- ---- turns
 
 -- the client has its turn still
 record Stays (fd : ℕ) (t : Server) : Type 0 where
   client : Client
-  turn : t.flight ≡ At fd
+  turn : t.pending_call ≡ At fd
   there : in_place t.clients fd ≡ Some client
-  busy : Busy client.conn.kept client.conn.doing client.run
+  busy : Busy client.conn.kept client.conn.phase client.run
 
 stays-filed : (fd : ℕ) (s : Server) (x : OneTurn) → Stays fd s → IsStill (in_place (clients_in s x) fd)
 stays-filed fd s x stays =
     let c = stays.client in
-    let heard = heard_of x.last x.lent in
-    let after = left_over (told (runs_scripts s.workers) (first_free s.workers s.clients) stays.client x.last (heard_of x.last x.lent)) in
-    let is : in_place (clients_in s x) fd ≡ left_over (told (runs_scripts s.workers) (first_free s.workers s.clients) stays.client x.last (heard_of x.last x.lent)) =
-    ap (λ (w : Flight). in_place (filed s.workers s.clients w x.last heard) fd) stays.turn
-    ∙ (ap (λ (o : Option Client). in_place (told_at s.workers s.clients fd o x.last heard) fd) stays.there ∙ at-same s.clients fd after) in
+    let received = received_of x.last x.readable in
+    let after = left_over (after_reply (runs_scripts s.workers) (first_free s.workers s.clients) stays.client x.last (received_of x.last x.readable)) in
+    let is : in_place (clients_in s x) fd ≡ left_over (after_reply (runs_scripts s.workers) (first_free s.workers s.clients) stays.client x.last (received_of x.last x.readable)) =
+    ap (λ (w : PendingCall). in_place (filed s.workers s.clients w x.last received) fd) stays.turn
+    ∙ (ap (λ (o : Option Client). in_place (after_reply_at s.workers s.clients fd o x.last received) fd) stays.there ∙ at-same s.clients fd after) in
     subst (λ (o : Option Client). IsStill o) (sym is)
-    (busy-told (runs_scripts s.workers) (first_free s.workers s.clients) c.conn.kept c.conn.q c.conn.doing c.run c.script x.last heard stays.busy)
+    (busy-after_reply (runs_scripts s.workers) (first_free s.workers s.clients) c.conn.kept c.conn.q c.conn.phase c.run c.script x.last received stays.busy)
 
 picked-stays : (workers : ℕ) (clients : List (Option Client)) (fd : ℕ) (made : Turn) (t : Server) (c : Client) → in_place clients fd ≡ Some c
-    → Busy c.conn.kept c.conn.doing c.run → t.flight ≡ At fd → PicksAt workers clients fd made t.clients → Stays fd t
+    → Busy c.conn.kept c.conn.phase c.run → t.pending_call ≡ At fd → PicksAt workers clients fd made t.clients → Stays fd t
 picked-stays workers clients fd made t c there busy turn picks =
     let same : picks.was ≡ c = some-inj picks.was c (sym picks.there ∙ there) in
-    let ready : picks.ready ≡ c = busy-ready c.conn.kept c.conn.q c.conn.doing c.run c.script picks.ready busy (subst (λ (z : Client). Readies z picks.ready) same picks.readies) in
+    let ready : picks.ready ≡ c = busy-ready c.conn.kept c.conn.q c.conn.phase c.run c.script picks.ready busy (subst (λ (z : Client). Readies z picks.ready) same picks.readies) in
     record {
       client = c;
       turn = turn;
@@ -326,61 +326,61 @@ picked-stays workers clients fd made t c there busy turn picks =
 
 -- The other has its turn; or it is away; or it has its turn still.
 abbrev Goes : (fd gd : ℕ) → Server → Type 0
-Goes fd gd t = (t.flight ≡ At gd) ⊎ (Away fd gd t.flight ⊎ Stays fd t)
+Goes fd gd t = (t.pending_call ≡ At gd) ⊎ (Away fd gd t.pending_call ⊎ Stays fd t)
 
-turns-pass : (s : Server) (x : OneTurn) (fd gd : ℕ) → fd ≢ gd → s.flight ≡ At fd → IsStill (in_place (clients_in s x) fd)
-    → goes_in (has_free s.workers (clients_in s x)) (in_place (clients_in s x) gd) ≡ true → server_turns in_rounds s x.last x.lent x.made x.after
+turns-pass : (s : Server) (x : OneTurn) (fd gd : ℕ) → fd ≢ gd → s.pending_call ≡ At fd → IsStill (in_place (clients_in s x) fd)
+    → goes_in (has_free s.workers (clients_in s x)) (in_place (clients_in s x) gd) ≡ true → server_turns in_rounds s x.last x.readable x.made x.after
     → Goes fd gd x.after
 turns-pass s x fd gd other turn still goes did = by (in_place (clients_in s x) fd) refl still
   where
-    next : in_rounds s.workers (clients_in s x) (At fd) x.last x.after.flight
-    next = subst (λ (w : Flight). in_rounds s.workers (clients_in s x) w x.last x.after.flight) turn did.0
+    next : in_rounds s.workers (clients_in s x) (At fd) x.last x.after.pending_call
+    next = subst (λ (w : PendingCall). in_rounds s.workers (clients_in s x) w x.last x.after.pending_call) turn did.0
 
-    leaves : (from : ℕ) → place_after fd (in_place (clients_in s x) fd) x.last ≡ from → x.after.flight ≡ flight_from s.workers (clients_in s x) from
-    leaves from is = next ∙ ap (λ k. flight_from s.workers (clients_in s x) k) is
+    leaves : (from : ℕ) → place_after fd (in_place (clients_in s x) fd) x.last ≡ from → x.after.pending_call ≡ pending_call_from s.workers (clients_in s x) from
+    leaves from is = next ∙ ap (λ k. pending_call_from s.workers (clients_in s x) k) is
 
     off : (o : Option Client) → in_place (clients_in s x) fd ≡ o → leaves_off o x.last ≡ true → Goes fd gd x.after
     off o is passed =
-        elim (departs s.workers (clients_in s x) fd gd goes x.after.flight
+        elim (departs s.workers (clients_in s x) fd gd goes x.after.pending_call
         (leaves (fd + 1) (ap (λ (z : Option Client). place_after fd z x.last) is ∙ ap (λ b. if b then fd + 1 else fd) passed)) other) [
           | inl there ↦ inl there
           | inr away ↦ inr (inl away)
         ]
 
     on : (c : Client) → in_place (clients_in s x) fd ≡ Some c → leaves_off (Some c) x.last ≡ false → IsStill (Some c) → Goes fd gd x.after
-    on c is stays calm =
-        let busy = on-busy c.conn.kept c.conn.q c.conn.doing c.run c.script x.last stays calm in
+    on c is stays undisturbed =
+        let busy = on-busy c.conn.kept c.conn.q c.conn.phase c.run c.script x.last stays undisturbed in
         let may : goes_in (has_free s.workers (clients_in s x)) (in_place (clients_in s x) fd) ≡ true =
         ap (λ (o : Option Client). goes_in (has_free s.workers (clients_in s x)) o) is
-        ∙ busy-goes (has_free s.workers (clients_in s x)) c.conn.kept c.conn.q c.conn.doing c.run c.script busy in
+        ∙ busy-goes (has_free s.workers (clients_in s x)) c.conn.kept c.conn.q c.conn.phase c.run c.script busy in
         let r = reaches s.workers (clients_in s x) fd may fd (omega arith) in
         let low = r.low in
         let high = r.high in
         let same : r.place ≡ fd = omega (arith, low, high) in
-        let flies : x.after.flight ≡ At fd =
+        let flies : x.after.pending_call ≡ At fd =
         leaves fd (ap (λ (z : Option Client). place_after fd z x.last) is ∙ ap (λ b. if b then fd + 1 else fd) stays) ∙ (r.is ∙ ap (λ k. At k) same) in
         inr (inr (picked-stays s.workers (clients_in s x) fd x.made x.after c is busy flies
-        (subst (λ (w : Flight). Picks s.workers (clients_in s x) w x.made x.after.clients) flies did.1)))
+        (subst (λ (w : PendingCall). Picks s.workers (clients_in s x) w x.made x.after.clients) flies did.1)))
 
     which : (b : Bool) (c : Client) → leaves_off (Some c) x.last ≡ b → in_place (clients_in s x) fd ≡ Some c → IsStill (Some c) → Goes fd gd x.after
-    which true c passed is calm = off (Some c) is passed
-    which false c stays is calm = on c is stays calm
+    which true c passed is undisturbed = off (Some c) is passed
+    which false c stays is undisturbed = on c is stays undisturbed
 
     by : (o : Option Client) → in_place (clients_in s x) fd ≡ o → IsStill (in_place (clients_in s x) fd) → Goes fd gd x.after
-    by None is calm = off None is refl
-    by (Some c) is calm = which (leaves_off (Some c) x.last) c refl is (subst (λ (o : Option Client). IsStill o) is calm)
+    by None is undisturbed = off None is refl
+    by (Some c) is undisturbed = which (leaves_off (Some c) x.last) c refl is (subst (λ (o : Option Client). IsStill o) is undisturbed)
 
 -- one that begins a request has not had its turn all the time
 never-begins : (fd : ℕ) (t : Server) → Stays fd t → BeginsAt fd t → ⊥
 never-begins fd t stays begun =
     let same : stays.client ≡ begun.client = some-inj stays.client begun.client (sym stays.there ∙ begun.there) in
     let c = begun.client in
-    busy-begins c.conn.kept c.conn.q c.conn.doing c.run (subst (λ (z : Client). Busy z.conn.kept z.conn.doing z.run) same stays.busy) begun.begins begun.no_script
+    busy-begins c.conn.kept c.conn.q c.conn.phase c.run (subst (λ (z : Client). Busy z.conn.kept z.conn.phase z.run) same stays.busy) begun.begins begun.no_script
 
 module _ (y : OneTurn) (fd gd : ℕ) (other : fd ≢ gd) (begun : BeginsAt fd y.after) where
   at-end : Goes fd gd y.after → ⊥
   at-end (inl there) = let same : At fd ≡ At gd = sym begun.turn ∙ there in let e : fd ≡ gd = cc (same) in other e
-  at-end (inr (inl away)) = not-home fd gd (subst (λ (w : Flight). Away fd gd w) begun.turn away)
+  at-end (inr (inl away)) = not-home fd gd (subst (λ (w : PendingCall). Away fd gd w) begun.turn away)
   at-end (inr (inr stays)) = never-begins fd y.after stays begun
 
   fair-on : (s : Server) (xs : List OneTurn) → Follow s (xs ++ y ∷ []) → GoesThroughout gd s (xs ++ y ∷ []) → Stays fd s → HasATurn gd xs
@@ -396,7 +396,7 @@ module _ (y : OneTurn) (fd gd : ℕ) (other : fd ≢ gd) (begun : BeginsAt fd y.
 pub turns_fair : TurnsAreFair
 turns_fair s x xs y fd gd turns answered begun other goes =
     let c = answered.client in
-    let still = subst (λ (o : Option Client). IsStill o) (sym answered.there) (answered-still c.conn.kept c.conn.q c.conn.doing c.run c.script answered.answered) in
+    let still = subst (λ (o : Option Client). IsStill o) (sym answered.there) (answered-still c.conn.kept c.conn.q c.conn.phase c.run c.script answered.answered) in
     elim (turns-pass s x fd gd other answered.turn still goes.0 turns.0) [
       | inl there ↦ inl there
       | inr rest ↦ elim rest [

@@ -13,23 +13,23 @@ use Rattle.iol_core.specs.declared.events.Call.{Call}
 use Rattle.iol_core.specs.declared.events.Call.TheVariants as call
 use Rattle.iol_core.specs.declared.events.Reply.{Reply}
 use Rattle.iol_core.specs.declared.events.Reply.TheVariants as reply
-use Rattle.iol_proc.specs.LentBytes.{lent_to}
+use Rattle.iol_proc.specs.ReadableBytes.{readable_to}
 use Rattle.iol_proc.specs.Idle.{more_of_two}
-use Rattle.iol_proc.specs.Settlement.{Claim, Settles}
-use Rattle.iol_proc.specs.Turns.{Account}
+use Rattle.iol_proc.specs.Quiescence.{Claim, Quiesces}
+use Rattle.iol_proc.specs.Turns.{TransitionRelation}
 use Rattle.iol_proc.specs.declared.process.Turn.{Turn}
 use Rattle.iol_proc.specs.declared.process.Turn.TheVariants as turn
 use Rattle.flash_laws.specs.Client.{Client, wants, IsAwaiting}
 use Rattle.flash_laws.specs.Conn.{Conn}
-use Rattle.flash_laws.specs.World.Idle.{WouldWait, BlocksAt, AllBlock, BlockUpTo, HasYielded, IsPolling, server_settled, actor_settled}
+use Rattle.flash_laws.specs.World.Idle.{WouldWait, BlocksAt, AllBlock, BlockUpTo, HasYielded, IsPolling, server_quiescent, actor_quiescent}
 use Rattle.flash_laws.specs.Site.Places.{has_free, may_go, runs_scripts, filed}
-use Rattle.flash_laws.specs.Conn.Policy.{most_conns, flight_to}
-use Rattle.flash_laws.specs.Serves.Rounds.{leaves_off, goes_in, next_place, flight_from, next_flight, in_rounds}
-use Rattle.flash_laws.specs.Serves.{Server, heard_of, PicksAt, Picks, filed_in, server_turns}
-use Rattle.flash_laws.specs.World.Tie.{Actor, Serving, Working, actor_goes, actor_turns}
+use Rattle.flash_laws.specs.Conn.Policy.{most_conns, pending_call_to}
+use Rattle.flash_laws.specs.Serves.Rounds.{leaves_off, goes_in, next_place, pending_call_from, next_pending_call, in_rounds}
+use Rattle.flash_laws.specs.Serves.{Server, received_of, PicksAt, Picks, filed_in, server_turns}
+use Rattle.flash_laws.specs.World.Consistency.{Actor, Serving, Working, actor_goes, actor_turns}
 use Rattle.flash_laws.specs.Site.OtherConns.{with_at}
-use Rattle.flash_laws.specs.declared.phase.Flight.{Flight}
-use Rattle.flash_laws.specs.declared.phase.Flight.TheVariants.{Nothing, Accepting, At}
+use Rattle.flash_laws.specs.declared.phase.PendingCall.{PendingCall}
+use Rattle.flash_laws.specs.declared.phase.PendingCall.TheVariants.{Nothing, Accepting, At}
 use Rattle.flash_laws.specs.declared.script_run.Running.{Running}
 use Rattle.flash_laws.proofs.Conn.Responses.{some-inj}
 use Rattle.flash_laws.proofs.Site.BlockedClients.{WaitLaw, none-in, same-there, filed-at, ready-blocked}
@@ -87,61 +87,61 @@ blocks-none m by workers clients i none x is =
     (passed-awaits (has_free workers clients) x.conn x.run x.script passed, inl passed)
 
 -- What the server files where it polls changes nothing.
-pub filed-same : (waits : WaitLaw) (m : State) (by : ℕ) (s : Server) (l : Reply) (heard : List ℕ)
-    → IsPolling m by s l → filed s.workers s.clients s.flight l heard ≡ s.clients
-filed-same waits m by s l heard (inl y) = ap (λ w. filed s.workers s.clients w l heard) y.0
-filed-same waits m by s l heard (inr b) = ap (λ (r : Reply). filed s.workers s.clients s.flight r heard) b.0 ∙ at s.flight b.1
+pub filed-same : (waits : WaitLaw) (m : State) (by : ℕ) (s : Server) (l : Reply) (received : List ℕ)
+    → IsPolling m by s l → filed s.workers s.clients s.pending_call l received ≡ s.clients
+filed-same waits m by s l received (inl y) = ap (λ w. filed s.workers s.clients w l received) y.0
+filed-same waits m by s l received (inr b) = ap (λ (r : Reply). filed s.workers s.clients s.pending_call r received) b.0 ∙ at s.pending_call b.1
   where
-    at : (w : Flight) → BlockUpTo m by s.workers s.clients w → filed s.workers s.clients w (reply.Refused no.WouldBlock) heard ≡ s.clients
+    at : (w : PendingCall) → BlockUpTo m by s.workers s.clients w → filed s.workers s.clients w (reply.Refused no.WouldBlock) received ≡ s.clients
     at Nothing up = absurd up
     at Accepting up = refl
-    at (At fd) up = filed-at waits m by s.workers fd s.clients heard (up fd (omega arith))
+    at (At fd) up = filed-at waits m by s.workers fd s.clients received (up fd (omega arith))
 
 -- Where it looks next: from place k on, where all before would block, or nowhere, since all would.
-pub record From (m : State) (by workers : ℕ) (clients : List (Option Client)) (next : Flight) : Type 0 where
+pub record From (m : State) (by workers : ℕ) (clients : List (Option Client)) (next : PendingCall) : Type 0 where
   pub place : ℕ
   pub known : (i : ℕ) → i < place → BlocksAt m by workers clients i
-  pub is : next ≡ flight_from workers clients place
+  pub is : next ≡ pending_call_from workers clients place
 
-pub record Nowhere (m : State) (by workers : ℕ) (clients : List (Option Client)) (next : Flight) : Type 0 where
+pub record Nowhere (m : State) (by workers : ℕ) (clients : List (Option Client)) (next : PendingCall) : Type 0 where
   pub all : AllBlock m by workers clients
   pub is : next ≡ Nothing
 
 looks : (m : State) (by : ℕ) (s : Server) (l : Reply) → IsPolling m by s l
-    → From m by s.workers s.clients (next_flight s.workers s.clients s.flight l) ⊎ Nowhere m by s.workers s.clients (next_flight s.workers s.clients s.flight l)
-looks m by s l (inl y) = inl (record { place = 0; known = λ i lt. absurd (omega (arith, lt)); is = ap (λ w. next_flight s.workers s.clients w l) y.0 })
+    → From m by s.workers s.clients (next_pending_call s.workers s.clients s.pending_call l) ⊎ Nowhere m by s.workers s.clients (next_pending_call s.workers s.clients s.pending_call l)
+looks m by s l (inl y) = inl (record { place = 0; known = λ i lt. absurd (omega (arith, lt)); is = ap (λ w. next_pending_call s.workers s.clients w l) y.0 })
 looks m by s l (inr b) =
-    subst (λ (r : Reply). From m by s.workers s.clients (next_flight s.workers s.clients s.flight r) ⊎ Nowhere m by s.workers s.clients (next_flight s.workers s.clients s.flight r)) (sym b.0) (at s.flight b.1)
+    subst (λ (r : Reply). From m by s.workers s.clients (next_pending_call s.workers s.clients s.pending_call r) ⊎ Nowhere m by s.workers s.clients (next_pending_call s.workers s.clients s.pending_call r)) (sym b.0) (at s.pending_call b.1)
   where
-    at : (w : Flight) → BlockUpTo m by s.workers s.clients w
-        → From m by s.workers s.clients (next_flight s.workers s.clients w (reply.Refused no.WouldBlock)) ⊎ Nowhere m by s.workers s.clients (next_flight s.workers s.clients w (reply.Refused no.WouldBlock))
+    at : (w : PendingCall) → BlockUpTo m by s.workers s.clients w
+        → From m by s.workers s.clients (next_pending_call s.workers s.clients w (reply.Refused no.WouldBlock)) ⊎ Nowhere m by s.workers s.clients (next_pending_call s.workers s.clients w (reply.Refused no.WouldBlock))
     at Nothing up = absurd up
     at Accepting up = inr (record { all = up; is = refl })
     at (At fd) up = inl (record { place = fd + 1; known = λ i lt. up i (omega (arith, lt)); is = after (in_place s.clients fd) })
       where
         after : (o : Option Client)
-            → flight_from s.workers s.clients (if leaves_off o (reply.Refused no.WouldBlock) then fd + 1 else fd) ≡ flight_from s.workers s.clients (fd + 1)
+            → pending_call_from s.workers s.clients (if leaves_off o (reply.Refused no.WouldBlock) then fd + 1 else fd) ≡ pending_call_from s.workers s.clients (fd + 1)
         after None = refl
         after (Some x) = refl
 
 -- what yields picks nothing
-yielded : (workers : ℕ) (clients : List (Option Client)) (t : Server) → Picks workers clients t.flight turn.Yield t.clients
-    → (t.clients ≡ clients) × (t.flight ≡ Nothing)
-yielded workers clients t picks = by t.flight refl picks
+yielded : (workers : ℕ) (clients : List (Option Client)) (t : Server) → Picks workers clients t.pending_call turn.Yield t.clients
+    → (t.clients ≡ clients) × (t.pending_call ≡ Nothing)
+yielded workers clients t picks = by t.pending_call refl picks
   where
-    by : (w : Flight) → t.flight ≡ w → Picks workers clients w turn.Yield t.clients → (t.clients ≡ clients) × (t.flight ≡ Nothing)
+    by : (w : PendingCall) → t.pending_call ≡ w → Picks workers clients w turn.Yield t.clients → (t.clients ≡ clients) × (t.pending_call ≡ Nothing)
     by Nothing is did = (did.0, is)
     by Accepting is did = (let bad = did.1 in absurd (cc (bad)))
     by (At fd) is did = (let bad = did.call_is in absurd (cc (bad)))
 
 -- A turn where it polls.
-module _ (waits : WaitLaw) (m : State) (by : ℕ) (s t : Server) (l : Reply) (lent : ℕ → Option (List ℕ))
-    (polls : IsPolling m by s l) (next : in_rounds s.workers (filed_in s l lent) s.flight l t.flight) where
-  conns-are : filed_in s l lent ≡ s.clients
-  conns-are = filed-same waits m by s l (heard_of l lent) polls
+module _ (waits : WaitLaw) (m : State) (by : ℕ) (s t : Server) (l : Reply) (readable : ℕ → Option (List ℕ))
+    (polls : IsPolling m by s l) (next : in_rounds s.workers (filed_in s l readable) s.pending_call l t.pending_call) where
+  conns-are : filed_in s l readable ≡ s.clients
+  conns-are = filed-same waits m by s l (received_of l readable) polls
 
-  next-is : t.flight ≡ next_flight s.workers s.clients s.flight l
-  next-is = next ∙ ap (λ (xs : List (Option Client)). next_flight s.workers xs s.flight l) conns-are
+  next-is : t.pending_call ≡ next_pending_call s.workers s.clients s.pending_call l
+  next-is = next ∙ ap (λ (xs : List (Option Client)). next_pending_call s.workers xs s.pending_call l) conns-are
 
   -- all would block where those before would, and none is there from then on
   all-of : (k : ℕ) → ((i : ℕ) → i < k → BlocksAt m by s.workers s.clients i) → next_place s.workers s.clients k ≡ None → (i : ℕ)
@@ -150,7 +150,7 @@ module _ (waits : WaitLaw) (m : State) (by : ℕ) (s t : Server) (l : Reply) (le
 
   -- a call that would block
   abbrev Blocks : Type 0
-  Blocks = (t.clients ≡ s.clients) × BlockUpTo m by s.workers s.clients t.flight
+  Blocks = (t.clients ≡ s.clients) × BlockUpTo m by s.workers s.clients t.pending_call
 
   blocks-at : (c : Call) (fd : ℕ) → WouldWait m by c → PicksAt s.workers s.clients fd (turn.Make c) t.clients
       → (t.clients ≡ s.clients) × BlocksAt m by s.workers s.clients fd
@@ -166,21 +166,21 @@ module _ (waits : WaitLaw) (m : State) (by : ℕ) (s t : Server) (l : Reply) (le
             (on.0, inr on.1)),
       )
 
-  blocks-on : (c : Call) → Picks s.workers (filed_in s l lent) t.flight (turn.Make c) t.clients → WouldWait m by c → Blocks
+  blocks-on : (c : Call) → Picks s.workers (filed_in s l readable) t.pending_call (turn.Make c) t.clients → WouldWait m by c → Blocks
   blocks-on c picks step = elim (looks m by s l polls) [
-    | inr nowhere ↦ absurd (let did : (t.clients ≡ s.clients) × (turn.Make c ≡ turn.Yield) = subst (λ (w : Flight). Picks s.workers s.clients w (turn.Make c) t.clients) (next-is ∙ nowhere.is) here in let bad = did.1 in cc (bad))
+    | inr nowhere ↦ absurd (let did : (t.clients ≡ s.clients) × (turn.Make c ≡ turn.Yield) = subst (λ (w : PendingCall). Picks s.workers s.clients w (turn.Make c) t.clients) (next-is ∙ nowhere.is) here in let bad = did.1 in cc (bad))
     | inl from ↦ at from.place from.known (next_place s.workers s.clients from.place) refl (next-is ∙ from.is)
   ]
     where
-      here : Picks s.workers s.clients t.flight (turn.Make c) t.clients
-      here = subst (λ (xs : List (Option Client)). Picks s.workers xs t.flight (turn.Make c) t.clients) conns-are picks
+      here : Picks s.workers s.clients t.pending_call (turn.Make c) t.clients
+      here = subst (λ (xs : List (Option Client)). Picks s.workers xs t.pending_call (turn.Make c) t.clients) conns-are picks
 
       at : (k : ℕ) → ((i : ℕ) → i < k → BlocksAt m by s.workers s.clients i) → (o : Option ℕ)
-          → next_place s.workers s.clients k ≡ o → t.flight ≡ flight_to s.clients o → Blocks
+          → next_place s.workers s.clients k ≡ o → t.pending_call ≡ pending_call_to s.clients o → Blocks
       at k known (Some fd) is w =
-          let did = blocks-at c fd step (subst (λ (f : Flight). Picks s.workers s.clients f (turn.Make c) t.clients) w here) in (
+          let did = blocks-at c fd step (subst (λ (f : PendingCall). Picks s.workers s.clients f (turn.Make c) t.clients) w here) in (
             did.0,
-            subst (λ (f : Flight). BlockUpTo m by s.workers s.clients f) (sym w) (λ i le. elim (cases_order i fd) [
+            subst (λ (f : PendingCall). BlockUpTo m by s.workers s.clients f) (sym w) (λ i le. elim (cases_order i fd) [
               | inl same ↦ subst (λ z. BlocksAt m by s.workers s.clients z) (sym same) did.1
               | inr rest ↦ elim rest [
                 | inl lt ↦ elim (cases_lt i k) [ inl before ↦ known i before | inr more ↦ blocks-none m by s.workers s.clients i ((found s.workers s.clients k).before fd is i more lt) ]
@@ -190,15 +190,15 @@ module _ (waits : WaitLaw) (m : State) (by : ℕ) (s t : Server) (l : Reply) (le
           )
       at k known None is w = past (nat_lt (taken s.clients) most_conns) w
         where
-          past : (b : Bool) → t.flight ≡ (if b then Accepting else Nothing) → Blocks
+          past : (b : Bool) → t.pending_call ≡ (if b then Accepting else Nothing) → Blocks
           past true w =
-              let did : (t.clients ≡ s.clients) × (turn.Make c ≡ turn.Make call.Accept) = subst (λ (f : Flight). Picks s.workers s.clients f (turn.Make c) t.clients) w here in
+              let did : (t.clients ≡ s.clients) × (turn.Make c ≡ turn.Make call.Accept) = subst (λ (f : PendingCall). Picks s.workers s.clients f (turn.Make c) t.clients) w here in
               let c_is : c ≡ call.Accept = ap (λ (z : Turn). called_in z c) did.1 in
-              (did.0, subst (λ (f : Flight). BlockUpTo m by s.workers s.clients f) (sym w) (record { places = all-of k known is; door = inr (subst (λ (z : Call). WouldWait m by z) c_is step) }))
-          past false w = absurd (let did : (t.clients ≡ s.clients) × (turn.Make c ≡ turn.Yield) = subst (λ (f : Flight). Picks s.workers s.clients f (turn.Make c) t.clients) w here in let bad = did.1 in cc (bad))
+              (did.0, subst (λ (f : PendingCall). BlockUpTo m by s.workers s.clients f) (sym w) (record { places = all-of k known is; accept_step = inr (subst (λ (z : Call). WouldWait m by z) c_is step) }))
+          past false w = absurd (let did : (t.clients ≡ s.clients) × (turn.Make c ≡ turn.Yield) = subst (λ (f : PendingCall). Picks s.workers s.clients f (turn.Make c) t.clients) w here in let bad = did.1 in cc (bad))
 
   -- a yield: all would block
-  yields-on : Picks s.workers (filed_in s l lent) t.flight turn.Yield t.clients → (t.clients ≡ s.clients) × AllBlock m by s.workers s.clients
+  yields-on : Picks s.workers (filed_in s l readable) t.pending_call turn.Yield t.clients → (t.clients ≡ s.clients) × AllBlock m by s.workers s.clients
   yields-on picks = (
     did.0,
     elim (looks m by s l polls) [
@@ -207,18 +207,18 @@ module _ (waits : WaitLaw) (m : State) (by : ℕ) (s t : Server) (l : Reply) (le
     ],
   )
     where
-      did : (t.clients ≡ s.clients) × (t.flight ≡ Nothing)
-      did = yielded s.workers s.clients t (subst (λ (xs : List (Option Client)). Picks s.workers xs t.flight turn.Yield t.clients) conns-are picks)
+      did : (t.clients ≡ s.clients) × (t.pending_call ≡ Nothing)
+      did = yielded s.workers s.clients t (subst (λ (xs : List (Option Client)). Picks s.workers xs t.pending_call turn.Yield t.clients) conns-are picks)
 
       at : (k : ℕ) → ((i : ℕ) → i < k → BlocksAt m by s.workers s.clients i) → (o : Option ℕ)
-          → next_place s.workers s.clients k ≡ o → Nothing ≡ flight_to s.clients o → AllBlock m by s.workers s.clients
+          → next_place s.workers s.clients k ≡ o → Nothing ≡ pending_call_to s.clients o → AllBlock m by s.workers s.clients
       at k known (Some fd) is w = absurd (cc (w))
       at k known None is w = past (nat_lt (taken s.clients) most_conns) refl w
         where
           past : (b : Bool) → nat_lt (taken s.clients) most_conns ≡ b
               → Nothing ≡ (if b then Accepting else Nothing) → AllBlock m by s.workers s.clients
           past true full w = absurd (cc (w))
-          past false full w = record { places = all-of k known is; door = inl full }
+          past false full w = record { places = all-of k known is; accept_step = inl full }
 
 -- What the server declares is kept by its account.
 
@@ -229,63 +229,63 @@ module _ (waits : WaitLaw) where
   all-on : (m : State) (by : ℕ) (s t : Server) → t.clients ≡ s.clients → t.workers ≡ s.workers → AllBlock m by s.workers s.clients → AllBlock m by t.workers t.clients
   all-on m by s t same hired all = subst (λ k. AllBlock m by k t.clients) (sym hired) (subst (λ (xs : List (Option Client)). AllBlock m by s.workers xs) (sym same) all)
 
-  up-on : (m : State) (by : ℕ) (s t : Server) → t.clients ≡ s.clients → t.workers ≡ s.workers → BlockUpTo m by s.workers s.clients t.flight
-      → BlockUpTo m by t.workers t.clients t.flight
-  up-on m by s t same hired up = subst (λ k. BlockUpTo m by k t.clients t.flight) (sym hired) (subst (λ (xs : List (Option Client)). BlockUpTo m by s.workers xs t.flight) (sym same) up)
+  up-on : (m : State) (by : ℕ) (s t : Server) → t.clients ≡ s.clients → t.workers ≡ s.workers → BlockUpTo m by s.workers s.clients t.pending_call
+      → BlockUpTo m by t.workers t.clients t.pending_call
+  up-on m by s t same hired up = subst (λ k. BlockUpTo m by k t.clients t.pending_call) (sym hired) (subst (λ (xs : List (Option Client)). BlockUpTo m by s.workers xs t.pending_call) (sym same) up)
 
   server_blocks : (n by : ℕ) (s t : Server) (l : Reply) (m : State) (c : Call)
-      → server_settled n by s l m → server_turns in_rounds s l (λ a. lent_to m by a) (turn.Make c) t
-      → WouldWait m by c → server_settled n by t (reply.Refused no.WouldBlock) m
-  server_blocks zero by s t l m c settled goes step = tt
-  server_blocks (suc zero) by s t l m c settled goes step =
-      let did = blocks-on waits m by s t l (λ a. lent_to m by a) settled goes.0 c goes.1 step in
+      → server_quiescent n by s l m → server_turns in_rounds s l (λ a. readable_to m by a) (turn.Make c) t
+      → WouldWait m by c → server_quiescent n by t (reply.Refused no.WouldBlock) m
+  server_blocks zero by s t l m c quiescent goes step = tt
+  server_blocks (suc zero) by s t l m c quiescent goes step =
+      let did = blocks-on waits m by s t l (λ a. readable_to m by a) quiescent goes.0 c goes.1 step in
       inr (refl, up-on m by s t did.0 goes.2 did.1)
-  server_blocks (suc (suc n)) by s t l m c settled goes step =
-      let did = blocks-on waits m by s t l (λ a. lent_to m by a) settled.0 goes.0 c goes.1 step in
-      (inr (refl, up-on m by s t did.0 goes.2 did.1), all-on m by s t did.0 goes.2 settled.1)
+  server_blocks (suc (suc n)) by s t l m c quiescent goes step =
+      let did = blocks-on waits m by s t l (λ a. readable_to m by a) quiescent.0 goes.0 c goes.1 step in
+      (inr (refl, up-on m by s t did.0 goes.2 did.1), all-on m by s t did.0 goes.2 quiescent.1)
 
-  server_yields : (n by : ℕ) (s t : Server) (l : Reply) (m : State) → server_settled n by s l m
-      → server_turns in_rounds s l (λ a. lent_to m by a) turn.Yield t
-      → server_settled (more_of_two n) by t reply.Done m
-  server_yields n by s t l m settled goes = at n settled
+  server_yields : (n by : ℕ) (s t : Server) (l : Reply) (m : State) → server_quiescent n by s l m
+      → server_turns in_rounds s l (λ a. readable_to m by a) turn.Yield t
+      → server_quiescent (more_of_two n) by t reply.Done m
+  server_yields n by s t l m quiescent goes = at n quiescent
     where
       new : HasYielded t reply.Done
-      new = ((yielded s.workers (filed_in s l (λ a. lent_to m by a)) t goes.1).1, refl)
+      new = ((yielded s.workers (filed_in s l (λ a. readable_to m by a)) t goes.1).1, refl)
 
-      at : (n : ℕ) → server_settled n by s l m → server_settled (more_of_two n) by t reply.Done m
-      at zero settled = inl new
-      at (suc zero) settled = (let did = yields-on waits m by s t l (λ a. lent_to m by a) settled goes.0 goes.1 in (inl new, all-on m by s t did.0 goes.2 did.1))
-      at (suc (suc n)) settled =
-          let did = yields-on waits m by s t l (λ a. lent_to m by a) settled.0 goes.0 goes.1 in
-          let two : server_settled (suc (suc n)) by t reply.Done m = (inl new, all-on m by s t did.0 goes.2 did.1) in
-          subst (λ k. server_settled k by t reply.Done m) (sym (stays-two n)) two
+      at : (n : ℕ) → server_quiescent n by s l m → server_quiescent (more_of_two n) by t reply.Done m
+      at zero quiescent = inl new
+      at (suc zero) quiescent = (let did = yields-on waits m by s t l (λ a. readable_to m by a) quiescent goes.0 goes.1 in (inl new, all-on m by s t did.0 goes.2 did.1))
+      at (suc (suc n)) quiescent =
+          let did = yields-on waits m by s t l (λ a. readable_to m by a) quiescent.0 goes.0 goes.1 in
+          let two : server_quiescent (suc (suc n)) by t reply.Done m = (inl new, all-on m by s t did.0 goes.2 did.1) in
+          subst (λ k. server_quiescent k by t reply.Done m) (sym (stays-two n)) two
 
   -- and so is what all processes declare
-  pub actor_settles : {W : Type 0} (works : Account W) (Settled : Claim W) → Settles Settled works
-      → Settles (actor_settled Settled) (actor_turns in_rounds works)
-  actor_settles {W = W} works Settled workers = record {
+  pub actor_quiesces : {W : Type 0} (works : TransitionRelation W) (Quiescent : Claim W) → Quiesces Quiescent works
+      → Quiesces (actor_quiescent Quiescent) (actor_turns in_rounds works)
+  actor_quiesces {W = W} works Quiescent workers = record {
     first = λ by p l m. first by p l m;
-    blocks = λ n by p q l m c settled goes step. blocks n by p q l m c settled goes step;
-    yields = λ n by p q l m settled goes. yields n by p q l m settled goes;
+    blocks = λ n by p q l m c quiescent goes step. blocks n by p q l m c quiescent goes step;
+    yields = λ n by p q l m quiescent goes. yields n by p q l m quiescent goes;
   }
     where
-      first : (by : ℕ) (p : Actor W) (l : Reply) (m : State) → actor_settled Settled 0 by p l m
+      first : (by : ℕ) (p : Actor W) (l : Reply) (m : State) → actor_quiescent Quiescent 0 by p l m
       first by (Serving s) l m = tt
       first by (Working w) l m = workers.first by w l m
 
       blocks : (n by : ℕ) (p q : Actor W) (l : Reply) (m : State) (c : Call)
-          → actor_settled Settled n by p l m
-          → actor_goes in_rounds works p l (λ a. lent_to m by a) (turn.Make c) q → WouldWait m by c
-          → actor_settled Settled n by q (reply.Refused no.WouldBlock) m
-      blocks n by (Serving s) (Serving t) l m c settled goes step = server_blocks n by s t l m c settled goes step
-      blocks n by (Working w) (Working v) l m c settled goes step = workers.blocks n by w v l m c settled goes step
-      blocks n by (Serving s) (Working v) l m c settled goes step = absurd goes
-      blocks n by (Working w) (Serving t) l m c settled goes step = absurd goes
+          → actor_quiescent Quiescent n by p l m
+          → actor_goes in_rounds works p l (λ a. readable_to m by a) (turn.Make c) q → WouldWait m by c
+          → actor_quiescent Quiescent n by q (reply.Refused no.WouldBlock) m
+      blocks n by (Serving s) (Serving t) l m c quiescent goes step = server_blocks n by s t l m c quiescent goes step
+      blocks n by (Working w) (Working v) l m c quiescent goes step = workers.blocks n by w v l m c quiescent goes step
+      blocks n by (Serving s) (Working v) l m c quiescent goes step = absurd goes
+      blocks n by (Working w) (Serving t) l m c quiescent goes step = absurd goes
 
-      yields : (n by : ℕ) (p q : Actor W) (l : Reply) (m : State) → actor_settled Settled n by p l m
-          → actor_goes in_rounds works p l (λ a. lent_to m by a) turn.Yield q
-          → actor_settled Settled (more_of_two n) by q reply.Done m
-      yields n by (Serving s) (Serving t) l m settled goes = server_yields n by s t l m settled goes
-      yields n by (Working w) (Working v) l m settled goes = workers.yields n by w v l m settled goes
-      yields n by (Serving s) (Working v) l m settled goes = absurd goes
-      yields n by (Working w) (Serving t) l m settled goes = absurd goes
+      yields : (n by : ℕ) (p q : Actor W) (l : Reply) (m : State) → actor_quiescent Quiescent n by p l m
+          → actor_goes in_rounds works p l (λ a. readable_to m by a) turn.Yield q
+          → actor_quiescent Quiescent (more_of_two n) by q reply.Done m
+      yields n by (Serving s) (Serving t) l m quiescent goes = server_yields n by s t l m quiescent goes
+      yields n by (Working w) (Working v) l m quiescent goes = workers.yields n by w v l m quiescent goes
+      yields n by (Serving s) (Working v) l m quiescent goes = absurd goes
+      yields n by (Working w) (Serving t) l m quiescent goes = absurd goes

@@ -5,8 +5,8 @@ use Rattle.std.proofs.lemmas.Bool.Decides.{nat_tests}
 use Rattle.std.proofs.lemmas.Grind.{common_steps}
 use Rattle.iol_core.specs.NumberedLists.{in_place}
 use Rattle.flash_laws.specs.Site.OtherConns.{with_at, left_by}
-use Rattle.flash_laws.specs.declared.phase.Doing.{Doing}
-use Rattle.flash_laws.specs.declared.phase.Doing.TheVariants.{Over}
+use Rattle.flash_laws.specs.declared.phase.Phase.{Phase}
+use Rattle.flash_laws.specs.declared.phase.Phase.TheVariants.{Over}
 use Rattle.flash_laws.proofs.Conn.Responses.{some-inj}
 
 -- ---- with one place changed
@@ -32,10 +32,10 @@ at-other xs fd gd x differ = let e = place-grown xs (fd + 1 - length xs) gd in g
 
 -- ---- what is over is forgotten
 
-pub left-is : {A : Type 0} (d : Doing) (x y : A) → left_by d x ≡ Some y → x ≡ y
+pub left-is : {A : Type 0} (d : Phase) (x y : A) → left_by d x ≡ Some y → x ≡ y
 left-is Over x y is = absurd (cc (is))
 left-is d x y is = some-inj x y is
 
-pub left-map : {A B : Type 0} (f : A → B) (d : Doing) (x : A) → option_map f (left_by d x) ≡ left_by d (f x)
+pub left-map : {A B : Type 0} (f : A → B) (d : Phase) (x : A) → option_map f (left_by d x) ≡ left_by d (f x)
 left-map f Over x = refl
 left-map f d x = refl

@@ -15,71 +15,71 @@ use Rattle.flash_cgi.specs.declared.line.Line.{Line}
 use Rattle.flash_laws.specs.Answers.{Outcome, Found, Failed, outcome_of, keeps, NextIn, Next, Reads, last_may_close, last_closes}
 use Rattle.flash_laws.specs.Answers.Scripts.{script_response}
 use Rattle.flash_laws.specs.Client.{is_for_script}
-use Rattle.flash_laws.specs.Shelf.{Shelf, due_to, MayFind, MayShow, AllMayShow, MayRun, MayAnswerText, MayGive, MayBeDue, AllMayBeDue, Begins, IsAnswer}
-use Rattle.flash_laws.specs.Shelf.Due.{outcomes_by, due_if, due_of_run, due_of_text, due_of_script}
-use Rattle.flash_laws.specs.Shelf.OneAnswer.{RefusesNothing, StreamsHaveOneAnswer}
+use Rattle.flash_laws.specs.SiteContents.{SiteContents, expected_to, MayFind, MayShow, AllMayShow, MayRun, MayAnswerText, MayGive, MayBeExpected, AllMayBeExpected, Begins, IsAnswer}
+use Rattle.flash_laws.specs.SiteContents.Expected.{outcomes_by, expected_if, expected_of_run, expected_of_text, expected_of_script}
+use Rattle.flash_laws.specs.SiteContents.OneAnswer.{RefusesNothing, StreamsHaveOneAnswer}
 use Rattle.flash_laws.proofs.Lists.{clash}
-use Rattle.flash_laws.proofs.Site.Due.{due-may}
+use Rattle.flash_laws.proofs.Site.Expected.{expected-may}
 
 -- ---- one response
 
-module _ (shelf : Shelf) (none : RefusesNothing shelf) where
-  none-found : (x : Refusal) → shelf.refuses.of_server x ≡ true → ⊥
-  none-found x may = clash (shelf.refuses.of_server x) may (none x).0
+module _ (site_contents : SiteContents) (none : RefusesNothing site_contents) where
+  none-found : (x : Refusal) → site_contents.refuses.of_server x ≡ true → ⊥
+  none-found x may = clash (site_contents.refuses.of_server x) may (none x).0
 
-  none-shown : (x : Refusal) → shelf.refuses.of_workers x ≡ true → ⊥
-  none-shown x may = clash (shelf.refuses.of_workers x) may (none x).1
+  none-shown : (x : Refusal) → site_contents.refuses.of_workers x ≡ true → ⊥
+  none-shown x may = clash (site_contents.refuses.of_workers x) may (none x).1
 
-  find-one : (there got : Outcome) → MayFind shelf there got → got ≡ there
+  find-one : (there got : Outcome) → MayFind site_contents there got → got ≡ there
   find-one there got (inl is) = is
   find-one there got (inr refused) = absurd (none-found refused.0 refused.1)
 
-  show-first : (o p : script.Outcome) → MayShow shelf o p → p ≡ o
+  show-first : (o p : script.Outcome) → MayShow site_contents o p → p ≡ o
   show-first o p (inl is) = is
   show-first o p (inr refused) = absurd (none-shown refused.0 refused.1)
 
-  show-one : (there got : List script.Outcome) → AllMayShow shelf there got → got ≡ there
+  show-one : (there got : List script.Outcome) → AllMayShow site_contents there got → got ≡ there
   show-one [] [] all = refl
   show-one (o ∷ os) (p ∷ ps) all = ap (λ (x : script.Outcome). x ∷ ps) (show-first o p all.0) ∙ ap (λ (xs : List script.Outcome). o ∷ xs) (show-one os ps all.1)
   show-one [] (p ∷ ps) all = absurd all
   show-one (o ∷ os) [] all = absurd all
 
-  run-one : (b : Bool) (w : Wanted) (lines : List Line) (r : List ℕ) → MayRun shelf b w lines r → r ≡ due_of_run b shelf.shows w lines
+  run-one : (b : Bool) (w : Wanted) (lines : List Line) (r : List ℕ) → MayRun site_contents b w lines r → r ≡ expected_of_run b site_contents.shows w lines
   run-one true w lines r may = may
   run-one false w lines r may =
-      may.2 ∙ ap (λ (os : List script.Outcome). script_response w (output w.query lines os)) (show-one (outcomes_by shelf.shows lines) may.0 may.1)
+      may.2 ∙ ap (λ (os : List script.Outcome). script_response w (output w.query lines os)) (show-one (outcomes_by site_contents.shows lines) may.0 may.1)
 
-  text-one : (w : Wanted) (o : Option (List Line)) (r : List ℕ) → MayAnswerText shelf w o r → r ≡ due_of_text shelf.shows w o
+  text-one : (w : Wanted) (o : Option (List Line)) (r : List ℕ) → MayAnswerText site_contents w o r → r ≡ expected_of_text site_contents.shows w o
   text-one w (Some lines) r may = run-one w.head_only w lines r may
   text-one w None r may = may
 
-  script-one : (w : Wanted) (o : Outcome) (r : List ℕ) → MayGive shelf true (serve w) o r → r ≡ due_of_script shelf.shows w o
+  script-one : (w : Wanted) (o : Outcome) (r : List ℕ) → MayGive site_contents true (serve w) o r → r ≡ expected_of_script site_contents.shows w o
   script-one w (Found text) r may = text-one w (script_of text) r may
   script-one w (Failed status) r may = may
 
-  give-one : (b : Bool) (q : Answer) (r : List ℕ) → MayGive shelf b q (outcome_of shelf.finds q) r → r ≡ due_if b shelf.finds shelf.shows q
-  give-one true (serve w) r may = script-one w (shelf.finds w.name) r may
+  give-one : (b : Bool) (q : Answer) (r : List ℕ) → MayGive site_contents b q (outcome_of site_contents.finds q) r → r ≡ expected_if b site_contents.finds site_contents.shows q
+  give-one true (serve w) r may = script-one w (site_contents.finds w.name) r may
   give-one true (refuse status head_only close) r may = may
   give-one false (serve w) r may = may
   give-one false (refuse status head_only close) r may = may
 
-  due-one : (q : Answer) (r : List ℕ) → MayBeDue shelf q r → r ≡ due_to shelf q
-  due-one q r may = give-one (is_for_script shelf.scripts q) q r
-      (subst (λ (o : Outcome). MayGive shelf (is_for_script shelf.scripts q) q o r) (find-one (outcome_of shelf.finds q) may.0 may.1) may.2)
+  expected-one : (q : Answer) (r : List ℕ) → MayBeExpected site_contents q r → r ≡ expected_to site_contents q
+  expected-one q r may = give-one (is_for_script site_contents.scripts q) q r
+      (subst (λ (o : Outcome). MayGive site_contents (is_for_script site_contents.scripts q) q o r) (find-one (outcome_of site_contents.finds q) may.0 may.1) may.2)
 
-  -- the responses that are due
-  abbrev all_due : List Answer → List ℕ
-  all_due qs = concat (map (λ q. due_to shelf q) qs)
+  -- the responses that are expected
+  abbrev all_expected : List Answer → List ℕ
+  all_expected qs = concat (map (λ q. expected_to site_contents q) qs)
 
-  all-one : (qs : List Answer) (rs : List (List ℕ)) → AllMayBeDue shelf qs rs → concat rs ≡ all_due qs
+  all-one : (qs : List Answer) (rs : List (List ℕ)) → AllMayBeExpected site_contents qs rs → concat rs ≡ all_expected qs
   all-one [] [] all = refl
-  all-one (q ∷ qs) (r ∷ rs) all = ap (λ (l : List ℕ). l ++ concat rs) (due-one q r all.0) ∙ ap (λ (l : List ℕ). due_to shelf q ++ l) (all-one qs rs all.1)
+  all-one (q ∷ qs) (r ∷ rs) all = ap (λ (l : List ℕ). l ++ concat rs) (expected-one q r all.0) ∙ ap (λ (l : List ℕ). expected_to site_contents q ++ l) (all-one qs rs all.1)
   all-one [] (r ∷ rs) all = absurd all
   all-one (q ∷ qs) [] all = absurd all
 
-  due-append : (qs ps : List Answer) → all_due (qs ++ ps) ≡ all_due qs ++ all_due ps
-  due-append [] ps = refl
-  due-append (q ∷ qs) ps = ap (λ (l : List ℕ). due_to shelf q ++ l) (due-append qs ps) ∙ sym (append_assoc (due_to shelf q) (all_due qs) (all_due ps))
+  expected-append : (qs ps : List Answer) → all_expected (qs ++ ps) ≡ all_expected qs ++ all_expected ps
+  expected-append [] ps = refl
+  expected-append (q ∷ qs) ps = ap (λ (l : List ℕ). expected_to site_contents q ++ l) (expected-append qs ps) ∙ sym (append_assoc (expected_to site_contents q) (all_expected qs) (all_expected ps))
 
 -- ---- the requests of a stream
 
@@ -125,21 +125,21 @@ module _ (one : OneAnswer) where
 
   -- ---- one answer
 
-  begins_one : (shelf : Shelf) (s bytes all : List ℕ) → RefusesNothing shelf → Begins shelf s bytes → IsAnswer shelf s all
+  begins_one : (site_contents : SiteContents) (s bytes all : List ℕ) → RefusesNothing site_contents → Begins site_contents s bytes → IsAnswer site_contents s all
       → (more : List ℕ) × (all ≡ bytes ++ more)
-  begins_one shelf s bytes all none b a =
+  begins_one site_contents s bytes all none b a =
       let first = are-first s b.qs a.qs b.rest a.rest b.reads a.reads b.order a.order a.no_more in
-      let whole : bytes ++ b.more ≡ all_due shelf none b.qs = sym b.all ∙ (b.responds.all ∙ all-one shelf none b.qs b.responds.responses b.responds.each) in (
-        b.more ++ all_due shelf none first.0,
-        a.responds.all ∙ (all-one shelf none a.qs a.responds.responses a.responds.each
-            ∙ (ap (λ (l : List Answer). all_due shelf none l) first.1
-            ∙ (due-append shelf none b.qs first.0
-            ∙ (ap (λ (l : List ℕ). l ++ all_due shelf none first.0) (sym whole)
-            ∙ append_assoc bytes b.more (all_due shelf none first.0))))),
+      let whole : bytes ++ b.more ≡ all_expected site_contents none b.qs = sym b.all ∙ (b.responds.all ∙ all-one site_contents none b.qs b.responds.responses b.responds.each) in (
+        b.more ++ all_expected site_contents none first.0,
+        a.responds.all ∙ (all-one site_contents none a.qs a.responds.responses a.responds.each
+            ∙ (ap (λ (l : List Answer). all_expected site_contents none l) first.1
+            ∙ (expected-append site_contents none b.qs first.0
+            ∙ (ap (λ (l : List ℕ). l ++ all_expected site_contents none first.0) (sym whole)
+            ∙ append_assoc bytes b.more (all_expected site_contents none first.0))))),
       )
 
-  begins-whole : (shelf : Shelf) (s bytes : List ℕ) → IsAnswer shelf s bytes → Begins shelf s bytes
-  begins-whole shelf s bytes a = record {
+  begins-whole : (site_contents : SiteContents) (s bytes : List ℕ) → IsAnswer site_contents s bytes → Begins site_contents s bytes
+  begins-whole site_contents s bytes a = record {
     qs = a.qs;
     rest = a.rest;
     reads = a.reads;
@@ -157,16 +157,16 @@ module _ (one : OneAnswer) where
       let back : length a ≡ length b + length (x ∷ n) = ap (λ (l : List ℕ). length l) two ∙ length-append b (x ∷ n) in
       absurd (omega (arith, there, back))
 
-  same_one : (shelf : Shelf) (s a b : List ℕ) → RefusesNothing shelf → IsAnswer shelf s a → IsAnswer shelf s b → a ≡ b
-  same_one shelf s a b none is_a is_b =
-      let there = begins_one shelf s a b none (begins-whole shelf s a is_a) is_b in
-      let back = begins_one shelf s b a none (begins-whole shelf s b is_b) is_a in
+  same_one : (site_contents : SiteContents) (s a b : List ℕ) → RefusesNothing site_contents → IsAnswer site_contents s a → IsAnswer site_contents s b → a ≡ b
+  same_one site_contents s a b none is_a is_b =
+      let there = begins_one site_contents s a b none (begins-whole site_contents s a is_a) is_b in
+      let back = begins_one site_contents s b a none (begins-whole site_contents s b is_b) is_a in
       both-ways a b there.0 back.0 there.1 back.1
 
   pub one_answer : StreamsHaveOneAnswer
   one_answer = record {
-    due = λ shelf q. due-may shelf q;
-    one = λ shelf q r none may. due-one shelf none q r may;
+    expected = λ site_contents q. expected-may site_contents q;
+    one = λ site_contents q r none may. expected-one site_contents none q r may;
     begins = begins_one;
     same = same_one;
   }

@@ -1,5 +1,5 @@
--- The objects of the server's descriptors exist, so they are neither waiting nor closed; and a ready client that reads waits
--- for input.
+-- The objects of the server's descriptors exist, so they are neither waiting nor closed; and a ready client that reads
+-- waits for input.
 use Rattle.std.proofs.Common.{inl, inr, ◌≡◌, ◌≢◌, ℕ, List, ap, ◌∙◌, refl, sym, subst, Option, Some, true, false, Bool}
 use Rattle.std.specs.Prelude.{◌&&◌, not}
 use Rattle.iol_core.specs.State.{State, descriptor, conn_at}
@@ -8,8 +8,8 @@ use Rattle.iol_core.specs.declared.descriptors.Descriptor.{Descriptor}
 use Rattle.iol_core.specs.declared.descriptors.Descriptor.TheVariants as on
 use Rattle.flash_http.specs.Request.{Answer, serve, refuse}
 use Rattle.flash_laws.specs.Conn.{Conn, begins, Starts, Readies, IsAwaiting}
-use Rattle.flash_laws.specs.declared.phase.Doing.{Doing}
-use Rattle.flash_laws.specs.declared.phase.Doing.TheVariants.{Rests}
+use Rattle.flash_laws.specs.declared.phase.Phase.{Phase}
+use Rattle.flash_laws.specs.declared.phase.Phase.TheVariants.{Rests}
 use Rattle.flash_laws.specs.Site.{server}
 
 pub no-true : (b : Bool) → (b ≡ true → ⊥) → b ≡ false
@@ -47,14 +47,14 @@ pub conn-same : (m : State) (fd c k : ℕ) → descriptor m server fd ≡ Some (
 conn-same m fd c k is_c is_k = ap number_on (sym is_c ∙ is_k)
 
 -- one that is ready has no request that could begin, where it reads
-pub ready-awaits : (kept : List ℕ) (q : Answer) (d : Doing) (y : Conn) → Readies (record { kept = kept; q = q; doing = d }) y → IsAwaiting y
+pub ready-awaits : (kept : List ℕ) (q : Answer) (d : Phase) (y : Conn) → Readies (record { kept = kept; q = q; phase = d }) y → IsAwaiting y
 ready-awaits kept q Rests y ready = starts ready
   where
-    begun : (p : Answer) (rest : List ℕ) → IsAwaiting (record { kept = rest; q = p; doing = begins p })
+    begun : (p : Answer) (rest : List ℕ) → IsAwaiting (record { kept = rest; q = p; phase = begins p })
     begun (serve w) rest = tt
     begun (refuse status head_only close) rest = tt
 
-    starts : Starts (record { kept = kept; q = q; doing = Rests }) y → IsAwaiting y
+    starts : Starts (record { kept = kept; q = q; phase = Rests }) y → IsAwaiting y
     starts (inl waits) = subst (λ (x : Conn). IsAwaiting x) (sym waits.1) waits.0
     starts (inr some) = subst (λ (x : Conn). IsAwaiting x) (sym some.3) (begun some.0 some.1)
 ready-awaits kept q d y ready = subst (λ (x : Conn). IsAwaiting x) (sym ready) tt

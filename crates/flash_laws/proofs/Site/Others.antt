@@ -13,10 +13,10 @@ use Rattle.iol_core.specs.declared.events.Call.TheVariants as call
 use Rattle.iol_core.specs.declared.events.Event.{Event}
 use Rattle.iol_core.specs.declared.events.Event.TheVariants as event
 use Rattle.iol_core.specs.declared.events.Reply.{Reply}
-use Rattle.flash_laws.specs.Answers.{Shelf, Found, Failed}
+use Rattle.flash_laws.specs.Answers.{SiteContents, Found, Failed}
 use Rattle.flash_laws.specs.Conn.{most_read}
 use Rattle.flash_laws.specs.Site.{server, net_pool, found_in, outcome_in, IsFixed, KeepsSite}
-use Rattle.flash_laws.proofs.Conn.LentBytes.{file-same, content-same}
+use Rattle.flash_laws.proofs.Conn.ReadableBytes.{file-same, content-same}
 
 -- a call of another domain gives up nothing of the server's, and moves none of its descriptors
 pub other-gives : (d : ℕ) (k : Call) (a : ℕ) → d ≢ server → gives_up (event.Call d k) server a ≡ false
@@ -50,18 +50,18 @@ pub called-same : (m n : State) (name : List ℕ) → n.files ≡ m.files → fi
 called-same m n name same = grind (arith, same)
 
 -- a step that changes no file and admits nobody leaves the site
-pub site-stays : (shelf : Shelf) (m n : State) (e : Event) → Leaves m e n → IsFixed shelf m
+pub site-stays : (site_contents : SiteContents) (m n : State) (e : Event) → Leaves m e n → IsFixed site_contents m
     → changes_files m e ≡ false → ((p : ℕ) → admits_to e p ≡ false) → KeepsSite m n
-site-stays shelf m n e leaves fixed calm un = record {
-  files = (leaves.files calm).0;
-  slots = (leaves.files calm).1;
+site-stays site_contents m n e leaves fixed undisturbed un = record {
+  files = (leaves.files undisturbed).0;
+  slots = (leaves.files undisturbed).1;
   net = λ d. may-same m n e net_pool d server leaves (un net_pool) fixed.net_read;
   readers = λ name f d is. let some = fixed.read_by name f is in may-same m n e (file m f).pool d some.0 leaves (un (file m f).pool) some.1;
 }
 
-pub fixed-stays : (shelf : Shelf) (steps : EachStepLeavesTheRest) (m n : State) (e : Event) (r : Reply)
-    → StepsTo m e r n → KeepsSite m n → ends e server ≡ false → IsFixed shelf m → IsFixed shelf n
-fixed-stays shelf steps m n e r step same lives fixed = record {
+pub fixed-stays : (site_contents : SiteContents) (steps : EachStepLeavesTheRest) (m n : State) (e : Event) (r : Reply)
+    → StepsTo m e r n → KeepsSite m n → ends e server ≡ false → IsFixed site_contents m → IsFixed site_contents n
+fixed-stays site_contents steps m n e r step same lives fixed = record {
   lives = leaves.lives server fixed.lives lives;
   outcomes = λ name. outcome name (file_called m name) refl;
   lengths = λ name f is. subst (λ (l : List ℕ). length l ≤ most_read) (sym (content-same m n f same.slots)) (fixed.lengths name f (sym (called-same m n name same.files) ∙ is));
@@ -73,7 +73,7 @@ fixed-stays shelf steps m n e r step same lives fixed = record {
     leaves : Leaves m e n
     leaves = steps.leaves m n e r step
 
-    outcome : (name : List ℕ) (o : Option ℕ) → file_called m name ≡ o → outcome_in n name ≡ shelf name
+    outcome : (name : List ℕ) (o : Option ℕ) → file_called m name ≡ o → outcome_in n name ≡ site_contents name
     outcome name o is = ap (λ (x : Option ℕ). found_in n x) (called-same m n name same.files ∙ is) ∙ (found o is ∙ (ap (λ (x : Option ℕ). found_in m x) (sym is) ∙ fixed.outcomes name))
       where
         found : (o : Option ℕ) → file_called m name ≡ o → found_in n o ≡ found_in m o

@@ -11,20 +11,20 @@ use Rattle.iol_core.specs.declared.events.Reply.{Reply}
 use Rattle.iol_core.specs.declared.events.Reply.TheVariants as reply
 use Rattle.iol_proc.specs.declared.process.Turn.{Turn}
 use Rattle.flash_http.specs.Request.{Answer, serve, refuse, Wanted}
-use Rattle.flash_laws.specs.Client.{Client, new_client, uses_agg, uses_fd, is_for_script, Readies, told_spares, file_told, goes_on, run_told, told, left_over, awaits}
+use Rattle.flash_laws.specs.Client.{Client, new_client, uses_agg, uses_fd, is_for_script, Readies, after_drop_whole, file_after_reply, proceeds, run_after_reply, after_reply, left_over, awaits}
 use Rattle.flash_laws.specs.Conn.{Conn, is_head_only}
-use Rattle.flash_laws.specs.Site.Places.{has_worker, is_run_by, runs_at, is_free, first_free, has_free, may_go, EachHasItsOwn, runs_scripts, told_at, accepted, filed}
+use Rattle.flash_laws.specs.Site.Places.{has_worker, is_run_by, runs_at, is_free, first_free, has_free, may_go, EachHasItsOwn, runs_scripts, after_reply_at, accepted, filed}
 use Rattle.flash_laws.specs.Run.OfferedBytes.{HasWorker}
 use Rattle.flash_laws.specs.Run as running
-use Rattle.flash_laws.specs.Run.{is_over, told_awaits}
-use Rattle.flash_laws.specs.Serves.{heard_of, filed_in, Picks}
-use Rattle.flash_laws.specs.Workers.OwnWorkers.{FlightGoes, RunsForAnother, WorkersAreShared}
+use Rattle.flash_laws.specs.Run.{is_over, after_wait}
+use Rattle.flash_laws.specs.Serves.{received_of, filed_in, Picks}
+use Rattle.flash_laws.specs.Workers.OwnWorkers.{PendingCallGoes, RunsForAnother, WorkersAreShared}
 use Rattle.flash_laws.specs.Site.OtherConns.{with_at}
-use Rattle.flash_laws.specs.declared.phase.Content.TheVariants.{Script}
-use Rattle.flash_laws.specs.declared.phase.Doing.{Doing}
-use Rattle.flash_laws.specs.declared.phase.Doing.TheVariants.{Spares}
-use Rattle.flash_laws.specs.declared.phase.Flight.{Flight}
-use Rattle.flash_laws.specs.declared.phase.Flight.TheVariants.{Nothing, Accepting, At}
+use Rattle.flash_laws.specs.declared.phase.Payload.TheVariants.{Script}
+use Rattle.flash_laws.specs.declared.phase.Phase.{Phase}
+use Rattle.flash_laws.specs.declared.phase.Phase.TheVariants.{Spares}
+use Rattle.flash_laws.specs.declared.phase.PendingCall.{PendingCall}
+use Rattle.flash_laws.specs.declared.phase.PendingCall.TheVariants.{Nothing, Accepting, At}
 use Rattle.flash_laws.specs.declared.script_run.Running.{Running}
 use Rattle.flash_laws.specs.declared.script_run.Running.TheVariants.{Awaits, Runs}
 use Rattle.flash_laws.proofs.Forms.{of}
@@ -63,13 +63,13 @@ first-free workers clients free =
 abbrev pub Had : (worker : ℕ) → Client → (k : ℕ) → Type 0
 Had worker x k = (is_run_by x k ≡ true) ⊎ ((awaits x ≡ true) × (k ≡ worker))
 
-on-goes : (was over : Bool) (x : Client) (y z : Running) (k : ℕ) → is_run_by (goes_on was over x y z) k ≡ true → has_worker z k ≡ true
+on-goes : (was over : Bool) (x : Client) (y z : Running) (k : ℕ) → is_run_by (proceeds was over x y z) k ≡ true → has_worker z k ≡ true
 on-goes false true x y z k u = absurd (cc (u))
 on-goes true true x y z k u = u
 on-goes true false x y z k u = u
 on-goes false false x y z k u = u
 
-awaits-on : (worker : ℕ) (r : Reply) (k : ℕ) → has_worker (told_awaits worker r) k ≡ true → k ≡ worker
+awaits-on : (worker : ℕ) (r : Reply) (k : ℕ) → has_worker (after_wait worker r) k ≡ true → k ≡ worker
 awaits-on worker (reply.Fds from write) k u = sym (same-number worker k u)
 awaits-on worker r k u = absurd (cc (u))
 
@@ -78,39 +78,39 @@ run-on Awaits worker k has u = absurd has
 run-on (Runs run s) worker k has u = ap (λ j. j == k) (sym has) ∙ u
 run-on x worker k has u = absurd (cc (u))
 
-on-run : (worker : ℕ) (w : Wanted) (c : Conn) (script : List ℕ) (y : Running) (r : Reply) (heard : List ℕ) (k : ℕ)
-    → has_worker (running.told worker w y r heard) k ≡ true → Had worker (of c (Some y) script) k
-on-run worker w c script Awaits r heard k u = inr (refl, awaits-on worker r k u)
-on-run worker w c script (Runs run s) r heard k u = inl (run-on (running.told worker w (Runs run s) r heard) run.worker k (keeps worker w run s r heard) u)
-on-run worker w c script x r heard k u = absurd (cc (u))
+on-run : (worker : ℕ) (w : Wanted) (c : Conn) (script : List ℕ) (y : Running) (r : Reply) (received : List ℕ) (k : ℕ)
+    → has_worker (running.after_reply worker w y r received) k ≡ true → Had worker (of c (Some y) script) k
+on-run worker w c script Awaits r received k u = inr (refl, awaits-on worker r k u)
+on-run worker w c script (Runs run s) r received k u = inl (run-on (running.after_reply worker w (Runs run s) r received) run.worker k (keeps worker w run s r received) u)
+on-run worker w c script x r received k u = absurd (cc (u))
 
 -- one for which no script runs has none then
-on-script : (kept : List ℕ) (q : Answer) (d : Doing) (script : List ℕ) (r : Reply) (heard : List ℕ) (k : ℕ)
-    → is_run_by (file_told true (of (record { kept = kept; q = q; doing = d }) None script) r heard) k ≡ true → ⊥
-on-script kept q (Spares a Script) script r heard k u = by (is_head_only q) r u
+on-script : (kept : List ℕ) (q : Answer) (d : Phase) (script : List ℕ) (r : Reply) (received : List ℕ) (k : ℕ)
+    → is_run_by (file_after_reply true (of (record { kept = kept; q = q; phase = d }) None script) r received) k ≡ true → ⊥
+on-script kept q (Spares a Script) script r received k u = by (is_head_only q) r u
   where
-    by : (h : Bool) (r : Reply) → is_run_by (of (record { kept = kept; q = q; doing = Spares a Script }) (told_spares h r) script) k ≡ true → ⊥
+    by : (h : Bool) (r : Reply) → is_run_by (of (record { kept = kept; q = q; phase = Spares a Script }) (after_drop_whole h r) script) k ≡ true → ⊥
     by false reply.Done u = cc (u)
     by b r u = cc (u)
-on-script kept q d script r heard k u = cc (u)
+on-script kept q d script r received k u = cc (u)
 
-pub on-told : (scripts : Bool) (worker : ℕ) (c : Conn) (run : Option Running) (script : List ℕ) (r : Reply) (heard : List ℕ) (k : ℕ)
-    → is_run_by (told scripts worker (of c run script) r heard) k ≡ true → Had worker (of c run script) k
-on-told scripts worker c None script r heard k u = absurd (by (is_for_script scripts c.q) u)
+pub on-after_reply : (scripts : Bool) (worker : ℕ) (c : Conn) (run : Option Running) (script : List ℕ) (r : Reply) (received : List ℕ) (k : ℕ)
+    → is_run_by (after_reply scripts worker (of c run script) r received) k ≡ true → Had worker (of c run script) k
+on-after_reply scripts worker c None script r received k u = absurd (by (is_for_script scripts c.q) u)
   where
-    by : (b : Bool) → is_run_by (file_told b (of c None script) r heard) k ≡ true → ⊥
-    by true u = on-script c.kept c.q c.doing script r heard k u
+    by : (b : Bool) → is_run_by (file_after_reply b (of c None script) r received) k ≡ true → ⊥
+    by true u = on-script c.kept c.q c.phase script r received k u
     by false u = cc (u)
-on-told scripts worker c (Some y) script r heard k u = by c.q u
+on-after_reply scripts worker c (Some y) script r received k u = by c.q u
   where
-    by : (q : Answer) → is_run_by (run_told worker q (of c (Some y) script) y r heard) k ≡ true → Had worker (of c (Some y) script) k
+    by : (q : Answer) → is_run_by (run_after_reply worker q (of c (Some y) script) y r received) k ≡ true → Had worker (of c (Some y) script) k
     by (serve w) u =
-        let z = running.told worker w y r heard in
-        on-run worker w c script y r heard k (on-goes (is_over y) (is_over (running.told worker w y r heard)) (of c (Some y) script) y (running.told worker w y r heard) k u)
+        let z = running.after_reply worker w y r received in
+        on-run worker w c script y r received k (on-goes (is_over y) (is_over (running.after_reply worker w y r received)) (of c (Some y) script) y (running.after_reply worker w y r received) k u)
     by (refuse status head_only close) u = inl u
 
 pub left-over-is : (c : Conn) (run : Option Running) (script : List ℕ) (y : Client) → left_over (of c run script) ≡ Some y → of c run script ≡ y
-left-over-is c None script y is = left-is c.doing (of c None script) y is
+left-over-is c None script y is = left-is c.phase (of c None script) y is
 left-over-is c (Some z) script y is = some-inj (of c (Some z) script) y is
 
 -- ---- one place changes
@@ -154,27 +154,27 @@ new-own workers clients fd free =
     let first = first-free workers clients free in
     (first.0, λ gd z differ is v. clash (is_run_by z (first_free workers clients)) v (free-runs clients (first_free workers clients) gd z first.1 is))
 
-own-filed : (workers : ℕ) (clients : List (Option Client)) (w : Flight) (r : Reply) (heard : List ℕ) → EachHasItsOwn workers clients
-    → FlightGoes workers clients w → EachHasItsOwn workers (filed workers clients w r heard)
-own-filed workers clients Nothing r heard own goes = own
-own-filed workers clients Accepting r heard own goes = by r
+own-filed : (workers : ℕ) (clients : List (Option Client)) (w : PendingCall) (r : Reply) (received : List ℕ) → EachHasItsOwn workers clients
+    → PendingCallGoes workers clients w → EachHasItsOwn workers (filed workers clients w r received)
+own-filed workers clients Nothing r received own goes = own
+own-filed workers clients Accepting r received own goes = by r
   where
     by : (r : Reply) → EachHasItsOwn workers (accepted clients r)
     by (reply.Fd fd) = own-set workers clients fd (Some new_client) own (λ k y is u. absurd (let none : false ≡ true = ap (λ (z : Client). is_run_by z k) (some-inj new_client y is) ∙ u in cc (none)))
     by r = own
-own-filed workers clients (At fd) r heard own goes = by (in_place clients fd) refl
+own-filed workers clients (At fd) r received own goes = by (in_place clients fd) refl
   where
-    by : (o : Option Client) → in_place clients fd ≡ o → EachHasItsOwn workers (told_at workers clients fd o r heard)
+    by : (o : Option Client) → in_place clients fd ≡ o → EachHasItsOwn workers (after_reply_at workers clients fd o r received)
     by None is = own
     by (Some x) is = own-set workers clients fd (left_over after) own here
       where
         after : Client
-        after = told (runs_scripts workers) (first_free workers clients) x r heard
+        after = after_reply (runs_scripts workers) (first_free workers clients) x r received
 
         here : (k : ℕ) (y : Client) → left_over after ≡ Some y → is_run_by y k ≡ true → IsOwn workers clients fd k
         here k y left u =
             let same : after ≡ y = left-over-is after.conn after.run after.script y left in
-            elim (on-told (runs_scripts workers) (first_free workers clients) x.conn x.run x.script r heard k (ap (λ (z : Client). is_run_by z k) same ∙ u)) [
+            elim (on-after_reply (runs_scripts workers) (first_free workers clients) x.conn x.run x.script r received k (ap (λ (z : Client). is_run_by z k) same ∙ u)) [
               | inl was ↦ still-own workers clients fd k x own is was
               | inr new ↦ subst (λ j. IsOwn workers clients fd j) (sym new.1) (new-own workers clients fd (must (has_free workers clients) (awaits x) (goes x is) new.0))
             ]
@@ -189,14 +189,14 @@ abbrev run_of : Option Running → (k : ℕ) → Bool
 run_of run k = is_run_by (record new_client { run = run }) k
 
 module _ (workers : ℕ) (clients : List (Option Client)) (own : EachHasItsOwn workers clients) (made : Turn) (after : List (Option Client)) where
-  pub own-picked : (w : Flight) → Picks workers clients w made after → EachHasItsOwn workers after
+  pub own-picked : (w : PendingCall) → Picks workers clients w made after → EachHasItsOwn workers after
   own-picked (At fd) p = subst (λ (l : List (Option Client)). EachHasItsOwn workers l) (sym p.after_is)
       (own-set workers clients fd (Some p.ready) own
       (λ k y is u. still-own workers clients fd k p.was own p.there
       (ap (λ (o : Option Running). run_of o k) (sym (ready-runs p.was.conn p.was.run p.was.script p.ready p.readies)) ∙ (ap (λ (z : Client). run_of z.run k) (some-inj p.ready y is) ∙ u))))
   own-picked x p = subst (λ (l : List (Option Client)). EachHasItsOwn workers l) (sym p.0) own
 
-  pub goes-picked : (w : Flight) → Picks workers clients w made after → FlightGoes workers after w
+  pub goes-picked : (w : PendingCall) → Picks workers clients w made after → PendingCallGoes workers after w
   goes-picked (At fd) p = λ x is.
       let same : p.ready ≡ x = some-inj p.ready x (sym (at-same clients fd (Some p.ready)) ∙ (ap (λ (l : List (Option Client)). in_place l fd) (sym p.after_is) ∙ is)) in
       ap (λ (z : Client). may_go (has_free workers after) z) (sym same) ∙ p.goes
@@ -290,14 +290,14 @@ workers_shared = record {
     goes = tt;
   };
   filing = own-filed;
-  turns = λ s t last lent made is goes.
-      let own = own-filed s.workers s.clients s.flight last (heard_of last lent) is.own is.goes in
+  turns = λ s t last readable made is goes.
+      let own = own-filed s.workers s.clients s.pending_call last (received_of last readable) is.own is.goes in
       let picks = goes.1 in
       let same = goes.2 in
       record {
-        own = subst (λ k. EachHasItsOwn k t.clients) (sym same) (own-picked s.workers (filed_in s last lent) own made t.clients t.flight picks);
-        goes = subst (λ k. FlightGoes k t.clients t.flight) (sym same) (goes-picked s.workers (filed_in s last lent) own made t.clients t.flight picks);
+        own = subst (λ k. EachHasItsOwn k t.clients) (sym same) (own-picked s.workers (filed_in s last readable) own made t.clients t.pending_call picks);
+        goes = subst (λ k. PendingCallGoes k t.clients t.pending_call) (sym same) (goes-picked s.workers (filed_in s last readable) own made t.clients t.pending_call picks);
       };
-  none = λ s t last lent made hired runs goes.
-      runs-picked s.workers (filed_in s last lent) t.flight made t.clients (runs-filed s.workers s.clients s.flight last (heard_of last lent) hired runs) goes.1;
+  none = λ s t last readable made hired runs goes.
+      runs-picked s.workers (filed_in s last readable) t.pending_call made t.clients (runs-filed s.workers s.clients s.pending_call last (received_of last readable) hired runs) goes.1;
 }

@@ -18,42 +18,42 @@ use Rattle.iol_laws.proofs.ConnChanges.{Change, Closes, changed_by, turned, all_
 use Rattle.iol_laws.proofs.Connections.{conn-unmade, conn-over, conn-there, conns_conn, conns_same, after-with_conn, nothing-left}
 
 -- if it is open, and its peer is gone, this is so
-abbrev pub IsTold : (gone : Bool) → Connection → Type 0
-IsTold gone k = k.closed ≡ false → is_gone k.peer ≡ true → gone ≡ true
+abbrev pub IsAfterReply : (gone : Bool) → Connection → Type 0
+IsAfterReply gone k = k.closed ≡ false → is_gone k.peer ≡ true → gone ≡ true
 
-pub told-none : (gone : Bool) (k : Connection) → k ≡ no_conn → IsTold gone k
-told-none gone k is open_yet left = absurd (let e = ap (λ (z : Connection). z.closed) is in cc (e, open_yet))
+pub after_reply-none : (gone : Bool) (k : Connection) → k ≡ no_conn → IsAfterReply gone k
+after_reply-none gone k is open_yet left = absurd (let e = ap (λ (z : Connection). z.closed) is in cc (e, open_yet))
 
-told-with_conn : (gone : Bool) (s : State) (e : ℕ) (x : Connection) (c : ℕ) → Once s.conns → (e ≡ c → IsTold gone x) → IsTold gone (conn_at s c) → IsTold gone (conn_at (with_conn s e x) c)
-told-with_conn gone s e x c once new was = elim (cases_eq e c) [
-  | inr differ ↦ subst (λ (k : Connection). IsTold gone k) (sym (conns_conn s e x c differ)) was
-  | inl same ↦ subst (λ z. IsTold gone (conn_at (with_conn s e x) z)) same (elim (after-with_conn s e x once) [
-    | inl is ↦ subst (λ (k : Connection). IsTold gone k) (sym is) (new same)
-    | inr none ↦ told-none gone (conn_at (with_conn s e x) e) none
+after_reply-with_conn : (gone : Bool) (s : State) (e : ℕ) (x : Connection) (c : ℕ) → Once s.conns → (e ≡ c → IsAfterReply gone x) → IsAfterReply gone (conn_at s c) → IsAfterReply gone (conn_at (with_conn s e x) c)
+after_reply-with_conn gone s e x c once new was = elim (cases_eq e c) [
+  | inr differ ↦ subst (λ (k : Connection). IsAfterReply gone k) (sym (conns_conn s e x c differ)) was
+  | inl same ↦ subst (λ z. IsAfterReply gone (conn_at (with_conn s e x) z)) same (elim (after-with_conn s e x once) [
+    | inl is ↦ subst (λ (k : Connection). IsAfterReply gone k) (sym is) (new same)
+    | inr none ↦ after_reply-none gone (conn_at (with_conn s e x) e) none
   ])
 ]
 
-told-changed : (gone : Bool) (x : Change) (k : Connection) → IsTold gone k → IsTold gone (changed_by x k)
-told-changed gone Closes k was = λ open_yet left. absurd (cc (open_yet))
-told-changed gone x k was = was
+after_reply-changed : (gone : Bool) (x : Change) (k : Connection) → IsAfterReply gone k → IsAfterReply gone (changed_by x k)
+after_reply-changed gone Closes k was = λ open_yet left. absurd (cc (open_yet))
+after_reply-changed gone x k was = was
 
-told-turned : (gone : Bool) (s : State) (e : ℕ × Change) (c : ℕ) → Once s.conns → IsTold gone (conn_at s c) → IsTold gone (conn_at (turned s e) c)
-told-turned gone s e c once was = told-with_conn gone s e.0 (changed_by e.1 (conn_at s e.0)) c once (λ same. told-changed gone e.1 (conn_at s e.0) (subst (λ z. IsTold gone (conn_at s z)) (sym same) was)) was
+after_reply-turned : (gone : Bool) (s : State) (e : ℕ × Change) (c : ℕ) → Once s.conns → IsAfterReply gone (conn_at s c) → IsAfterReply gone (conn_at (turned s e) c)
+after_reply-turned gone s e c once was = after_reply-with_conn gone s e.0 (changed_by e.1 (conn_at s e.0)) c once (λ same. after_reply-changed gone e.1 (conn_at s e.0) (subst (λ z. IsAfterReply gone (conn_at s z)) (sym same) was)) was
 
-told-all : (gone : Bool) (s : State) (es : List (ℕ × Change)) (c : ℕ) → Once s.conns → IsTold gone (conn_at s c) → IsTold gone (conn_at (all_turned s es) c)
-told-all gone s [] c once was = was
-told-all gone s (e ∷ es) c once was = told-all gone (turned s e) es c (once_turned s e once) (told-turned gone s e c once was)
+after_reply-all : (gone : Bool) (s : State) (es : List (ℕ × Change)) (c : ℕ) → Once s.conns → IsAfterReply gone (conn_at s c) → IsAfterReply gone (conn_at (all_turned s es) c)
+after_reply-all gone s [] c once was = was
+after_reply-all gone s (e ∷ es) c once was = after_reply-all gone (turned s e) es c (once_turned s e once) (after_reply-turned gone s e c once was)
 
-told-called : (gone : Bool) (s : State) (d : ℕ) (k : Call) (c : ℕ) → Once s.conns → IsTold gone (conn_at s c) → IsTold gone (conn_at (called s d k).after c)
-told-called gone s d k c once was = subst (λ (x : Connection). IsTold gone x) (sym (conns_same (all_turned s (changes s d k)) (called s d k).after (λ n. false) (conns_turned s d k).conns c refl)) (told-all gone s (changes s d k) c once was)
+after_reply-called : (gone : Bool) (s : State) (d : ℕ) (k : Call) (c : ℕ) → Once s.conns → IsAfterReply gone (conn_at s c) → IsAfterReply gone (conn_at (called s d k).after c)
+after_reply-called gone s d k c once was = subst (λ (x : Connection). IsAfterReply gone x) (sym (conns_same (all_turned s (changes s d k)) (called s d k).after (λ n. false) (conns_turned s d k).conns c refl)) (after_reply-all gone s (changes s d k) c once was)
 
-told-outcome : (gone : Bool) (x : Meaning Reply) (m n : State) (r : Result Reply Refusal) (c : ℕ) → IsTold gone (conn_at x.after c) → IsTold gone (conn_at m c) → Step x m r n → IsTold gone (conn_at n c)
-told-outcome gone x m n (Ok a) c after was step = subst (λ (s : State). IsTold gone (conn_at s c)) (sym step.2) after
-told-outcome gone x m n (Err y) c after was step = subst (λ (s : State). IsTold gone (conn_at s c)) (sym step.1) was
+after_reply-outcome : (gone : Bool) (x : Meaning Reply) (m n : State) (r : Result Reply Refusal) (c : ℕ) → IsAfterReply gone (conn_at x.after c) → IsAfterReply gone (conn_at m c) → Step x m r n → IsAfterReply gone (conn_at n c)
+after_reply-outcome gone x m n (Ok a) c after was step = subst (λ (s : State). IsAfterReply gone (conn_at s c)) (sym step.2) after
+after_reply-outcome gone x m n (Err y) c after was step = subst (λ (s : State). IsAfterReply gone (conn_at s c)) (sym step.1) was
 
 -- a call makes no peer gone
-pub told-call : (gone : Bool) (m n : State) (d : ℕ) (k : Call) (r : Reply) (c : ℕ) → IsOrderly m → StepsTo m (event.Call d k) r n → IsTold gone (conn_at m c) → IsTold gone (conn_at n c)
-told-call gone m n d k r c order step was = told-outcome gone (meaning m (event.Call d k)) m n (outcome r) c (told-called gone m d k c order.once was) was step
+pub after_reply-call : (gone : Bool) (m n : State) (d : ℕ) (k : Call) (r : Reply) (c : ℕ) → IsOrderly m → StepsTo m (event.Call d k) r n → IsAfterReply gone (conn_at m c) → IsAfterReply gone (conn_at n c)
+after_reply-call gone m n d k r c order step was = after_reply-outcome gone (meaning m (event.Call d k)) m n (outcome r) c (after_reply-called gone m d k c order.once was) was step
 
 -- A peer that is done: the connection is forgotten where it was over but for that.
 

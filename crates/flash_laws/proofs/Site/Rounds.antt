@@ -7,30 +7,30 @@ use Rattle.iol_core.specs.declared.events.Reply.TheVariants as reply
 use Rattle.flash_laws.specs.Client.{Client, is_bare, awaits, has_answered}
 use Rattle.flash_laws.specs.Serves.GoesRound.{IsAfter, IsBefore, TurnsGoRound}
 use Rattle.flash_laws.specs.Site.Places.{has_free, may_go}
-use Rattle.flash_laws.specs.Conn.Policy.{most_conns, is_later, door, flight_to}
-use Rattle.flash_laws.specs.Serves.Rounds.{leaves_off, place_after, goes_in, next_place, flight_from, in_rounds}
-use Rattle.flash_laws.specs.declared.phase.Flight.{Flight}
-use Rattle.flash_laws.specs.declared.phase.Flight.TheVariants.{Nothing, Accepting, At}
+use Rattle.flash_laws.specs.Conn.Policy.{most_conns, is_later, accept_step, pending_call_to}
+use Rattle.flash_laws.specs.Serves.Rounds.{leaves_off, place_after, goes_in, next_place, pending_call_from, in_rounds}
+use Rattle.flash_laws.specs.declared.phase.PendingCall.{PendingCall}
+use Rattle.flash_laws.specs.declared.phase.PendingCall.TheVariants.{Nothing, Accepting, At}
 use Rattle.flash_laws.proofs.Conn.Responses.{some-inj}
 use Rattle.flash_laws.proofs.Site.IdleMoments.{found}
 use Rattle.flash_laws.proofs.Lists.{neither}
 
-abbrev place_of : Flight → ℕ
+abbrev place_of : PendingCall → ℕ
 place_of (At fd) = fd
 place_of w = 0
 
--- the server picks no client at its door
-not-at-door : {A : Type 0} (clients : List (Option A)) (fd : ℕ) → At fd ≡ door clients → ⊥
-not-at-door clients fd is = by (nat_lt (taken clients) most_conns) is
+-- the server picks no client at its accept step
+not-at-accept_step : {A : Type 0} (clients : List (Option A)) (fd : ℕ) → At fd ≡ accept_step clients → ⊥
+not-at-accept_step clients fd is = by (nat_lt (taken clients) most_conns) is
   where
     by : (b : Bool) → At fd ≡ (if b then Accepting else Nothing) → ⊥
     by true is = cc (is)
     by false is = cc (is)
 
 -- who is picked is the next one found
-pub picked-is : (clients : List (Option Client)) (o : Option ℕ) (fd : ℕ) → At fd ≡ flight_to clients o → o ≡ Some fd
-picked-is clients (Some gd) fd is = ap (λ (w : Flight). Some (place_of w)) (sym is)
-picked-is clients None fd is = absurd (not-at-door clients fd is)
+pub picked-is : (clients : List (Option Client)) (o : Option ℕ) (fd : ℕ) → At fd ≡ pending_call_to clients o → o ≡ Some fd
+picked-is clients (Some gd) fd is = ap (λ (w : PendingCall). Some (place_of w)) (sym is)
+picked-is clients None fd is = absurd (not-at-accept_step clients fd is)
 
 -- it stands no earlier than where the look for it began
 pub from-there : (free : Bool) (clients : List (Option Client)) (from fd : ℕ)
@@ -41,7 +41,7 @@ from-there free clients from fd is = by (position (λ o. goes_in free o) (drop f
     by None is = absurd (cc (is))
     by (Some k) is = let e = some-inj (from + k) fd is in omega (arith, e)
 
-looked-from : (workers : ℕ) (clients : List (Option Client)) (from fd : ℕ) → At fd ≡ flight_from workers clients from → from ≤ fd
+looked-from : (workers : ℕ) (clients : List (Option Client)) (from fd : ℕ) → At fd ≡ pending_call_from workers clients from → from ≤ fd
 looked-from workers clients from fd is = from-there (has_free workers clients) clients from fd (picked-is clients (next_place workers clients from) fd is)
 
 pub no-earlier : (fd : ℕ) (x : Option Client) (last : Reply) → fd ≤ place_after fd x last
@@ -83,23 +83,23 @@ rises workers clients fd gd last is =
     omega (arith, from, here)
 
 -- from a place on nobody is passed over who may go, up to whoever is found
-none-passed : (workers : ℕ) (clients : List (Option Client)) (from : ℕ) (next : Flight) (fd : ℕ) (x : Client) → next ≡ flight_from workers clients from
+none-passed : (workers : ℕ) (clients : List (Option Client)) (from : ℕ) (next : PendingCall) (fd : ℕ) (x : Client) → next ≡ pending_call_from workers clients from
     → from ≤ fd → IsBefore next fd → in_place clients fd ≡ Some x → may_go (has_free workers clients) x ≡ false
 none-passed workers clients from next fd x is le before there =
-    ap (λ (o : Option Client). goes_in (has_free workers clients) o) (sym there) ∙ by (next_place workers clients from) refl (subst (λ (w : Flight). IsBefore w fd) is before)
+    ap (λ (o : Option Client). goes_in (has_free workers clients) o) (sym there) ∙ by (next_place workers clients from) refl (subst (λ (w : PendingCall). IsBefore w fd) is before)
   where
-    by : (o : Option ℕ) → next_place workers clients from ≡ o → IsBefore (flight_to clients o) fd → goes_in (has_free workers clients) (in_place clients fd) ≡ false
+    by : (o : Option ℕ) → next_place workers clients from ≡ o → IsBefore (pending_call_to clients o) fd → goes_in (has_free workers clients) (in_place clients fd) ≡ false
     by (Some gd) at before = (found workers clients from).before gd at fd le before
     by None at before = (found workers clients from).none at fd le
 
-skips_nobody : (workers : ℕ) (clients : List (Option Client)) (was next : Flight) (last : Reply) (fd : ℕ) (x : Client) → in_rounds workers clients was last next
+skips_nobody : (workers : ℕ) (clients : List (Option Client)) (was next : PendingCall) (last : Reply) (fd : ℕ) (x : Client) → in_rounds workers clients was last next
     → IsAfter was fd → IsBefore next fd → in_place clients fd ≡ Some x → may_go (has_free workers clients) x ≡ false
 skips_nobody workers clients Nothing next last fd x is after before there = none-passed workers clients 0 next fd x is (omega arith) before there
 skips_nobody workers clients Accepting next last fd x is after before there = absurd after
 skips_nobody workers clients (At gd) next last fd x is after before there =
     none-passed workers clients (place_after gd (in_place clients gd) last) next fd x is (no-later fd gd (in_place clients gd) last after) before there
 
-ends : (workers : ℕ) (clients : List (Option Client)) (last : Reply) (next : Flight) → in_rounds workers clients Accepting last next
+ends : (workers : ℕ) (clients : List (Option Client)) (last : Reply) (next : PendingCall) → in_rounds workers clients Accepting last next
     → (next ≡ Nothing) ⊎ ((next ≡ Accepting) × ((fd : ℕ) × (last ≡ reply.Fd fd)))
 ends workers clients (reply.Fd fd) next is = by (nat_lt (taken clients) most_conns) is
   where
@@ -108,22 +108,22 @@ ends workers clients (reply.Fd fd) next is = by (nat_lt (taken clients) most_con
     by false is = inl is
 ends workers clients r next is = inl is
 
--- the server makes no call at its door only if it has the maximum number of connections
-door-full : {A : Type 0} (clients : List (Option A)) → Nothing ≡ door clients → nat_lt (taken clients) most_conns ≡ false
-door-full clients is = by (nat_lt (taken clients) most_conns) is
+-- the server makes no call at its accept step only if it has the maximum number of connections
+accept_step-full : {A : Type 0} (clients : List (Option A)) → Nothing ≡ accept_step clients → nat_lt (taken clients) most_conns ≡ false
+accept_step-full clients is = by (nat_lt (taken clients) most_conns) is
   where
     by : (b : Bool) → Nothing ≡ (if b then Accepting else Nothing) → b ≡ false
     by true is = absurd (cc (is))
     by false is = refl
 
-none-picked : (clients : List (Option Client)) (o : Option ℕ) → Nothing ≡ flight_to clients o → nat_lt (taken clients) most_conns ≡ false
+none-picked : (clients : List (Option Client)) (o : Option ℕ) → Nothing ≡ pending_call_to clients o → nat_lt (taken clients) most_conns ≡ false
 none-picked clients (Some fd) is = absurd (cc (is))
-none-picked clients None is = door-full clients is
+none-picked clients None is = accept_step-full clients is
 
-yields : (workers : ℕ) (clients : List (Option Client)) (was : Flight) (last : Reply) → in_rounds workers clients was last Nothing
+yields : (workers : ℕ) (clients : List (Option Client)) (was : PendingCall) (last : Reply) → in_rounds workers clients was last Nothing
     → (nat_lt (taken clients) most_conns ≡ false) ⊎ ((was ≡ Accepting) × ((fd : ℕ) → last ≡ reply.Fd fd → ⊥))
 yields workers clients Nothing last is = inl (none-picked clients (next_place workers clients 0) is)
-yields workers clients Accepting (reply.Fd fd) is = inl (door-full clients is)
+yields workers clients Accepting (reply.Fd fd) is = inl (accept_step-full clients is)
 yields workers clients Accepting r is = inr (refl, λ gd e. cc (e))
 yields workers clients (At fd) last is =
     inl (none-picked clients (next_place workers clients (place_after fd (in_place clients fd) last)) is)

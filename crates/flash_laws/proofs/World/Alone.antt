@@ -1,4 +1,4 @@
-pub mod Ties
+pub mod Consistencies
 pub mod Sends
 pub mod Files
 pub mod Phases

@@ -1,5 +1,5 @@
--- The pipe ends of a client with a run: the read end of its pipe, and the write end until its worker has it; none is that of a
--- job pipe.
+-- The pipe ends of a client with a run: the read end of its pipe, and the write end until its worker has it; none is
+-- that of a job pipe.
 use Rattle.std.proofs.Common.{inl, inr, ◌≡◌, ◌<◌, ◌⊎◌, ℕ, ◌==◌, List, ap, ◌∙◌, refl, sym, subst, Option, Some, None, true, false, Bool}
 use Rattle.std.specs.Prelude.{◌||◌, ◌&&◌}
 use Rattle.iol_core.specs.State.{State, descriptor}
@@ -7,26 +7,26 @@ use Rattle.iol_core.specs.declared.descriptors.Descriptor.TheVariants as on
 use Rattle.iol_core.specs.declared.events.Call.{Call}
 use Rattle.iol_core.specs.declared.events.Event.TheVariants as event
 use Rattle.iol_laws.specs.Frame.{touches_pipe}
-use Rattle.iol_proc.specs.declared.seat.Seat.{Seat}
+use Rattle.iol_proc.specs.declared.process_slot.ProcessSlot.{ProcessSlot}
 use Rattle.flash_http.specs.Request.{Wanted}
 use Rattle.flash_laws.specs.Client.{uses_fd, job_of, wants}
-use Rattle.flash_laws.specs.Client.Fits.{due_in, made_of, FitsRun, Fits}
+use Rattle.flash_laws.specs.Client.Fits.{expected_in, made_of, FitsRun, Fits}
 use Rattle.flash_laws.specs.Client.Holdings.{has_fd}
 use Rattle.flash_laws.specs.Conn as conn
 use Rattle.flash_laws.specs.Conn.{Conn}
-use Rattle.flash_laws.specs.Workers.Crew.{Crew}
+use Rattle.flash_laws.specs.Workers.WorkerSet.{WorkerSet}
 use Rattle.flash_laws.specs.Run.Fits.{Progress, HasStep, HasLeft}
 use Rattle.flash_laws.specs.Run.Holdings.{has_end}
 use Rattle.flash_laws.specs.Run.{job_pipe, is_reading, step_fd, ends_of, step_wants}
 use Rattle.flash_laws.specs.Run as running
-use Rattle.flash_laws.specs.Shelf.{Shelf}
+use Rattle.flash_laws.specs.SiteContents.{SiteContents}
 use Rattle.flash_laws.specs.Site.{server}
-use Rattle.flash_laws.specs.Run.Stages.{AtDesk, HasWorkerAt}
-use Rattle.flash_laws.specs.declared.phase.Doing.{Doing}
-use Rattle.flash_laws.specs.declared.phase.Doing.TheVariants as doing
+use Rattle.flash_laws.specs.Run.Stages.{AtJobQueue, HasWorkerAt}
+use Rattle.flash_laws.specs.declared.phase.Phase.{Phase}
+use Rattle.flash_laws.specs.declared.phase.Phase.TheVariants as phase
 use Rattle.flash_laws.specs.declared.script_run.Run.{Run}
 use Rattle.flash_laws.specs.declared.script_run.Step.{Step}
-use Rattle.flash_laws.specs.declared.script_run.Step.TheVariants.{Gives, Sending, Hears, Spills, Gathers, Frames, Wraps, Trims, Ended, Unholds, Unframes, Lasts, WrapsLast, TrimsLast, Unwraps, Returns}
+use Rattle.flash_laws.specs.declared.script_run.Step.TheVariants.{Gives, Sending, Receives, Spills, Gathers, Frames, Wraps, Trims, Ended, Unholds, Unframes, Lasts, WrapsLast, TrimsLast, Unwraps, Returns}
 use Rattle.flash_laws.specs.declared.script_run.Running.{Running}
 use Rattle.flash_laws.specs.declared.script_run.Running.TheVariants.{Runs, Leaves}
 use Rattle.flash_laws.proofs.Forms.{of}
@@ -41,7 +41,7 @@ pub reads-from : (job : ℕ → List ℕ) (m : State) (w : Wanted) (o : Progress
 reads-from job m w o run (Gives write) has is = (has.0.pipe, has.0.read_end)
 reads-from job m w o run (Returns write) has is = (has.0.pipe, has.0.read_end)
 reads-from job m w o run (Sending d frame) has is = has.reads
-reads-from job m w o run (Hears held frame) has is = has.reads
+reads-from job m w o run (Receives held frame) has is = has.reads
 reads-from job m w o run (Spills b frame) has is = has.1.reads
 reads-from job m w o run (Gathers held size piece len frame) has is = has.reads
 reads-from job m w o run (Frames held) has is = has.reads
@@ -90,33 +90,33 @@ has-from run s is = by (is_reading s) is
     by true is = ap (λ b. b || step_fd s run.from) (same run.from)
     by false is = absurd (cc (is))
 
-module _ (shelf : Shelf) (crew : Crew) (m : State) (came sent : List ℕ) (fd c : ℕ) (seats : List (Seat crew.Worker)) where
+module _ (site_contents : SiteContents) (worker_set : WorkerSet) (m : State) (came sent : List ℕ) (fd c : ℕ) (process_slots : List (ProcessSlot worker_set.Worker)) where
   -- a call that touches a pipe is one of a run that reads
-  pub touches-from : (conn : Conn) (run : Option Running) (script : List ℕ) → Fits shelf crew m came sent fd c (of conn run script) seats
-      → (v : Run) (s : Step) (q : ℕ) → run ≡ Some (Runs v s) → touches_pipe m (event.Call server (wants shelf.scripts fd (of conn run script))) q ≡ true → is_reading s ≡ true
+  pub touches-from : (conn : Conn) (run : Option Running) (script : List ℕ) → Fits site_contents worker_set m came sent fd c (of conn run script) process_slots
+      → (v : Run) (s : Step) (q : ℕ) → run ≡ Some (Runs v s) → touches_pipe m (event.Call server (wants site_contents.scripts fd (of conn run script))) q ≡ true → is_reading s ≡ true
   touches-from conn None script f v s q is u = absurd (cc (is))
   touches-from conn (Some y) script f v s q is u =
       touches-reading (job_of f.wanted f.script.text) m fd f.wanted v s q
       (subst (λ (k : Call). touches_pipe m (event.Call server k) q ≡ true)
-      (wants-run shelf.scripts fd conn (Some y) script f.script.text y f.wanted refl f.script.asks f.kept
+      (wants-run site_contents.scripts fd conn (Some y) script f.script.text y f.wanted refl f.script.asks f.kept
       ∙ ap (λ (z : Running). running.wants (job_of f.wanted f.script.text) fd f.wanted z) (some-inj y (Runs v s) is)) u)
 
   -- no run gives its pipe back
-  pub no-returns : (conn : Conn) (run : Option Running) (script : List ℕ) → Fits shelf crew m came sent fd c (of conn run script) seats
+  pub no-returns : (conn : Conn) (run : Option Running) (script : List ℕ) → Fits site_contents worker_set m came sent fd c (of conn run script) process_slots
       → (v : Run) (write : ℕ) → run ≡ Some (Runs v (Returns write)) → ⊥
   no-returns conn None script f v write is = absurd (cc (is))
   no-returns conn (Some y) script f v write is =
-      let at : AtDesk crew m seats v (made_of f.wanted f.script.lines f.shown) f.so_far (Returns write) =
-      subst (λ (z : Running). HasWorkerAt crew m seats (made_of f.wanted f.script.lines f.shown) f.so_far z) (some-inj y (Runs v (Returns write)) is) f.desk in
+      let at : AtJobQueue worker_set m process_slots v (made_of f.wanted f.script.lines f.shown) f.so_far (Returns write) =
+      subst (λ (z : Running). HasWorkerAt worker_set m process_slots (made_of f.wanted f.script.lines f.shown) f.so_far z) (some-inj y (Runs v (Returns write)) is) f.job_queue in
       at.stage
 
-  -- a write end that a client has is no desk's
-  write-apart : (conn : Conn) (y : Running) (script : List ℕ) (g k : ℕ) → FitsRun shelf crew m came sent fd c (of conn (Some y) script) y seats → has_end y g ≡ true → k < crew.count
-      → descriptor m server g ≡ Some (on.WriteEnd (crew.desk k)) → ⊥
+  -- a write end that a client has is no job queue's
+  write-apart : (conn : Conn) (y : Running) (script : List ℕ) (g k : ℕ) → FitsRun site_contents worker_set m came sent fd c (of conn (Some y) script) y process_slots → has_end y g ≡ true → k < worker_set.count
+      → descriptor m server g ≡ Some (on.WriteEnd (worker_set.job_queue k)) → ⊥
   write-apart conn (Runs run s) script g k f u lt is = elim (which-end (job_of f.wanted f.script.text) m f.wanted f.so_far run s g f.has.1 u) [
     | inl from ↦ (let there = reads-from (job_of f.wanted f.script.text) m f.wanted f.so_far run s f.has.1 from.0 in
         let here = ap (λ h. descriptor m server h) from.1 in let e = there.1 in absurd (cc (here, e, is)))
-    | inr write ↦ by s f.has.1 f.desk write
+    | inr write ↦ by s f.has.1 f.job_queue write
   ]
     where
       read-inj : (a b : ℕ) → Some (on.ReadEnd a) ≡ Some (on.ReadEnd b) → a ≡ b
@@ -125,33 +125,33 @@ module _ (shelf : Shelf) (crew : Crew) (m : State) (came sent : List ℕ) (fd c 
       write-inj : (a b : ℕ) → Some (on.WriteEnd a) ≡ Some (on.WriteEnd b) → a ≡ b
       write-inj a b e = cc
 
-      by : (s : Step) → HasStep (job_of f.wanted f.script.text) m f.wanted f.so_far run s → AtDesk crew m seats run (made_of f.wanted f.script.lines f.shown) f.so_far s → step_fd s g ≡ true → ⊥
-      by (Gives write) has desk u =
+      by : (s : Step) → HasStep (job_of f.wanted f.script.text) m f.wanted f.so_far run s → AtJobQueue worker_set m process_slots run (made_of f.wanted f.script.lines f.shown) f.so_far s → step_fd s g ≡ true → ⊥
+      by (Gives write) has job_queue u =
           let here = ap (λ h. descriptor m server h) (same-number write g u) in
-          let same : has.0.pipe ≡ crew.desk k = write-inj has.0.pipe (crew.desk k) (sym has.0.write_end ∙ (here ∙ is)) in
-          desk.stage.has.apart k lt (sym same ∙ read-inj has.0.pipe desk.stage.has.pipe (sym has.0.read_end ∙ desk.stage.has.reads))
-      by (Returns write) has desk u = desk.stage
-      by s has desk u = cc (u)
+          let same : has.0.pipe ≡ worker_set.job_queue k = write-inj has.0.pipe (worker_set.job_queue k) (sym has.0.write_end ∙ (here ∙ is)) in
+          job_queue.stage.has.apart k lt (sym same ∙ read-inj has.0.pipe job_queue.stage.has.pipe (sym has.0.read_end ∙ job_queue.stage.has.reads))
+      by (Returns write) has job_queue u = job_queue.stage
+      by s has job_queue u = cc (u)
   write-apart conn y script g k f u lt is = cc (u)
 
-  pub no-desk : (conn : Conn) (run : Option Running) (script : List ℕ) (g k : ℕ) → Fits shelf crew m came sent fd c (of conn run script) seats
-      → has_fd (of conn run script) g ≡ true → k < crew.count → descriptor m server g ≡ Some (on.WriteEnd (crew.desk k)) → ⊥
-  no-desk conn None script g k f u lt is = (let file = (has-fd m conn.q (due_in f.due conn.q conn.doing) conn.doing g u f.has).2 in absurd (cc (file, is)))
-  no-desk conn (Some y) script g k f u lt is = write-apart conn y script g k f u lt is
+  pub no-job_queue : (conn : Conn) (run : Option Running) (script : List ℕ) (g k : ℕ) → Fits site_contents worker_set m came sent fd c (of conn run script) process_slots
+      → has_fd (of conn run script) g ≡ true → k < worker_set.count → descriptor m server g ≡ Some (on.WriteEnd (worker_set.job_queue k)) → ⊥
+  no-job_queue conn None script g k f u lt is = (let file = (has-fd m conn.q (expected_in f.expected conn.q conn.phase) conn.phase g u f.has).2 in absurd (cc (file, is)))
+  no-job_queue conn (Some y) script g k f u lt is = write-apart conn y script g k f u lt is
 
-  -- a descriptor that a client uses it has, or it is that of its worker's desk
-  left-none : (w : Wanted) (o : Progress) (d : Doing) (g : ℕ) → HasLeft m w o d → conn.uses_fd d g ≡ true → ⊥
-  left-none w o (doing.Reads f) g has u = has.sends.0
-  left-none w o (doing.Shuts f k) g has u = has.sends.0
+  -- a descriptor that a client uses it has, or it is that of its worker's job queue
+  left-none : (w : Wanted) (o : Progress) (d : Phase) (g : ℕ) → HasLeft m w o d → conn.uses_fd d g ≡ true → ⊥
+  left-none w o (phase.Reads f) g has u = has.sends.0
+  left-none w o (phase.Shuts f k) g has u = has.sends.0
   left-none w o d g has u = cc (u)
 
-  pub uses-or-desk : (conn : Conn) (run : Option Running) (script : List ℕ) (g : ℕ) → Fits shelf crew m came sent fd c (of conn run script) seats
+  pub uses-or-job_queue : (conn : Conn) (run : Option Running) (script : List ℕ) (g : ℕ) → Fits site_contents worker_set m came sent fd c (of conn run script) process_slots
       → uses_fd (of conn run script) g ≡ true
       → (has_fd (of conn run script) g ≡ true) ⊎ ((v : Run) × (s : Step) × (run ≡ Some (Runs v s)) × (job_pipe v.worker ≡ g))
-  uses-or-desk conn None script g f u = inl u
-  uses-or-desk conn (Some (Leaves d)) script g f u = absurd (left-none f.wanted f.so_far d g f.has u)
-  uses-or-desk conn (Some (Runs v s)) script g f u = elim (one-of (job_pipe v.worker == g) (ends_of v s g) u) [
-    | inl desk ↦ inr (v, s, refl, same-number (job_pipe v.worker) g desk)
+  uses-or-job_queue conn None script g f u = inl u
+  uses-or-job_queue conn (Some (Leaves d)) script g f u = absurd (left-none f.wanted f.so_far d g f.has u)
+  uses-or-job_queue conn (Some (Runs v s)) script g f u = elim (one-of (job_pipe v.worker == g) (ends_of v s g) u) [
+    | inl job_queue ↦ inr (v, s, refl, same-number (job_pipe v.worker) g job_queue)
     | inr ends ↦ inl ends
   ]
-  uses-or-desk conn o script g f u = absurd (cc (u))
+  uses-or-job_queue conn o script g f u = absurd (cc (u))

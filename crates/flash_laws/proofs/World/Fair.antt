@@ -6,13 +6,13 @@ use Rattle.iol_core.specs.declared.events.Reply.{Reply}
 use Rattle.iol_core.specs.declared.events.Reply.TheVariants as reply
 use Rattle.iol_core.specs.declared.refusals.Refusal.{Refusal}
 use Rattle.iol_core.specs.declared.refusals.Refusal.TheVariants as refusal
-use Rattle.iol_laws.specs.Caller.{is_rough}
+use Rattle.iol_laws.specs.Caller.{is_resource_failure}
 use Rattle.iol_proc.specs.declared.choice.Choice.{Choice}
 use Rattle.iol_proc.specs.declared.choice.Choice.TheVariants as choice
-use Rattle.flash_laws.specs.Shelf.{Refusals, IsAmong}
+use Rattle.flash_laws.specs.SiteContents.{Refusals, IsAmong}
 use Rattle.flash_laws.specs.Site.{server}
 use Rattle.flash_laws.specs.World.{AreFair, may_refuse}
-use Rattle.flash_laws.specs.World.Fair.{no_refusal, any_refusal, is_same, refuses_by, refused_in, refusals_in, SmoothIsFair, AnyIsFair, OwnIsFair, OwnIsLeast, NoneRefusesNothing}
+use Rattle.flash_laws.specs.World.Fair.{no_refusal, any_refusal, is_same, refuses_by, refused_in, refusals_in, FailureFreeIsFair, AnyIsFair, OwnIsFair, OwnIsLeast, NoneRefusesNothing}
 use Rattle.flash_laws.proofs.Lists.{clash, not-equal, not-true, self}
 
 -- ---- by which refusals the server's turn may be refused, and a worker's
@@ -29,24 +29,24 @@ pub worker-among : (refuses : Refusals) (by : ℕ) (r : Reply) → by ≢ server
 worker-among refuses by r other among =
     subst (λ (b : Bool). IsAmong (if b then refuses.of_server else refuses.of_workers) r) (not-equal by server other) among
 
--- ---- a smooth run
+-- ---- a failure-free run
 
-none-among : (b : Bool) (r : Reply) → is_rough r ≡ false → IsAmong (if b then no_refusal.of_server else no_refusal.of_workers) r
-none-among b (reply.Refused x) smooth = λ rough. absurd (clash (is_rough (reply.Refused x)) rough smooth)
-none-among b r smooth = tt
+none-among : (b : Bool) (r : Reply) → is_resource_failure r ≡ false → IsAmong (if b then no_refusal.of_server else no_refusal.of_workers) r
+none-among b (reply.Refused x) failure_free = λ resource_failure. absurd (clash (is_resource_failure (reply.Refused x)) resource_failure failure_free)
+none-among b r failure_free = tt
 
-pub smooth_is_fair : SmoothIsFair
-smooth_is_fair [] rs smooth = tt
-smooth_is_fair (choice.Turn by ∷ xs) (r ∷ rs) smooth = (none-among (by == server) r smooth.0, smooth_is_fair xs rs smooth.1)
-smooth_is_fair (choice.Outside e ∷ xs) (r ∷ rs) smooth = smooth_is_fair xs rs smooth
-smooth_is_fair (choice.Turn by ∷ xs) [] smooth = tt
-smooth_is_fair (choice.Outside e ∷ xs) [] smooth = tt
+pub failure_free_is_fair : FailureFreeIsFair
+failure_free_is_fair [] rs failure_free = tt
+failure_free_is_fair (choice.Turn by ∷ xs) (r ∷ rs) failure_free = (none-among (by == server) r failure_free.0, failure_free_is_fair xs rs failure_free.1)
+failure_free_is_fair (choice.Outside e ∷ xs) (r ∷ rs) failure_free = failure_free_is_fair xs rs failure_free
+failure_free_is_fair (choice.Turn by ∷ xs) [] failure_free = tt
+failure_free_is_fair (choice.Outside e ∷ xs) [] failure_free = tt
 
 -- ---- any run
 
 any-among : (b : Bool) (r : Reply) → IsAmong (if b then any_refusal.of_server else any_refusal.of_workers) r
-any-among true (reply.Refused x) = λ rough. rough
-any-among false (reply.Refused x) = λ rough. rough
+any-among true (reply.Refused x) = λ resource_failure. resource_failure
+any-among false (reply.Refused x) = λ resource_failure. resource_failure
 any-among b r = tt
 
 pub any_is_fair : AnyIsFair
@@ -58,12 +58,12 @@ any_is_fair (choice.Outside e ∷ xs) [] = tt
 
 -- ---- with the refusals that it had
 
-same-self : (x : Refusal) → is_rough (reply.Refused x) ≡ true → is_same x x ≡ true
-same-self refusal.TooMany rough = refl
-same-self (refusal.NoRoom p) rough = self p
-same-self (refusal.Fault f) rough = self f
-same-self refusal.Memory rough = refl
-same-self x rough = absurd (cc (rough))
+same-self : (x : Refusal) → is_resource_failure (reply.Refused x) ≡ true → is_same x x ≡ true
+same-self refusal.TooMany resource_failure = refl
+same-self (refusal.NoRoom p) resource_failure = self p
+same-self (refusal.Fault f) resource_failure = self f
+same-self refusal.Memory resource_failure = refl
+same-self x resource_failure = absurd (cc (resource_failure))
 
 -- the refusals of these turns are among those
 record AreIn (refuses : Refusals) (xs : List Choice) (rs : List Reply) : Type 0 where
@@ -83,8 +83,8 @@ later false b c u = u
 among-own : (refuses : Refusals) (by : ℕ) (xs : List Choice) (r : Reply) (rs : List Reply) → AreIn refuses (choice.Turn by ∷ xs) (r ∷ rs)
     → (b : Bool) → (by == server) ≡ b → IsAmong (if b then refuses.of_server else refuses.of_workers) r
 unfolding refused_in
-among-own refuses by xs (reply.Refused x) rs all true is = λ rough. all.of_server x (former (by == server) (is_same x x) (refused_in true xs rs x) is (same-self x rough))
-among-own refuses by xs (reply.Refused x) rs all false is = λ rough. all.of_workers x (former (not (by == server)) (is_same x x) (refused_in false xs rs x) (ap (λ (b : Bool). not b) is) (same-self x rough))
+among-own refuses by xs (reply.Refused x) rs all true is = λ resource_failure. all.of_server x (former (by == server) (is_same x x) (refused_in true xs rs x) is (same-self x resource_failure))
+among-own refuses by xs (reply.Refused x) rs all false is = λ resource_failure. all.of_workers x (former (not (by == server)) (is_same x x) (refused_in false xs rs x) (ap (λ (b : Bool). not b) is) (same-self x resource_failure))
 among-own refuses by xs r rs all b is = tt
 
 rest-own : (refuses : Refusals) (x : Choice) (xs : List Choice) (r : Reply) (rs : List Reply) → AreIn refuses (x ∷ xs) (r ∷ rs) → AreIn refuses xs rs
@@ -125,7 +125,7 @@ own_is_fair xs ys rs ss even = fair-parts (refusals_in (xs ++ ys) (rs ++ ss)) xs
 equal : (a b : ℕ) → (a == b) ≡ true → a ≡ b
 equal a b is = grind (arith, nat_tests, is)
 
-same-is : (y x : Refusal) → is_same y x ≡ true → (y ≡ x) × (is_rough (reply.Refused y) ≡ true)
+same-is : (y x : Refusal) → is_same y x ≡ true → (y ≡ x) × (is_resource_failure (reply.Refused y) ≡ true)
 same-is refusal.TooMany refusal.TooMany is = (refl, refl)
 same-is (refusal.NoRoom p) (refusal.NoRoom q) is = (ap (λ n. refusal.NoRoom n) (equal p q is), refl)
 same-is (refusal.Fault f) (refusal.Fault g) is = (ap (λ n. refusal.Fault n) (equal f g is), refl)
@@ -181,4 +181,4 @@ pub own_is_least : OwnIsLeast
 own_is_least refuses xs rs fair = record { of_server = least-server refuses xs rs fair; of_workers = least-workers refuses xs rs fair }
 
 pub none_refuses_nothing : NoneRefusesNothing
-none_refuses_nothing shelf is = λ x. (ap (λ (l : Refusals). l.of_server x) is, ap (λ (l : Refusals). l.of_workers x) is)
+none_refuses_nothing site_contents is = λ x. (ap (λ (l : Refusals). l.of_server x) is, ap (λ (l : Refusals). l.of_workers x) is)

@@ -16,19 +16,20 @@ use Rattle.iol_laws.specs.Frame.{Leaves, ends, sets_default}
 use Rattle.iol_laws.specs.Order.{IsOrderly}
 use Rattle.flash_cgi.specs.Outcomes.{AreFiles}
 use Rattle.flash_cgi.specs.OutputPools.{HoldFiles}
-use Rattle.flash_laws.specs.Workers.Crew.{Crew, IsFixedFor}
+use Rattle.flash_laws.specs.Workers.WorkerSet.{WorkerSet, IsFixedFor}
 use Rattle.flash_laws.specs.Run.{worker_domain}
-use Rattle.flash_laws.specs.Shelf.{Shelf}
+use Rattle.flash_laws.specs.SiteContents.{SiteContents}
 use Rattle.flash_laws.specs.Site.{server, KeepsSite}
 use Rattle.flash_laws.specs.Site as site
-use Rattle.flash_laws.proofs.Conn.LentBytes.{file-same, content-same}
+use Rattle.flash_laws.proofs.Conn.ReadableBytes.{file-same, content-same}
 use Rattle.flash_laws.proofs.Lists.{not-equal}
 use Rattle.flash_laws.proofs.Site.Others.{fixed-stays, none-listed, called-same}
 use Rattle.flash_laws.proofs.World.AllLaws.{AllLaws}
-use Rattle.flash_laws.proofs.World.Desk.Frame.{files-left}
+use Rattle.flash_laws.proofs.World.JobQueue.Frame.{files-left}
 
--- What a step may be, as far as the rest is concerned: nothing, or an event that leaves the site and the server's domain.
-pub record Mild (m n : State) : Type 0 where
+-- What a step may be, as far as the rest is concerned: nothing, or an event that leaves the site and the server's
+-- domain.
+pub record SitePreserving (m n : State) : Type 0 where
   pub e : Event
   pub r : Reply
   pub step : StepsTo m e r n
@@ -37,7 +38,7 @@ pub record Mild (m n : State) : Type 0 where
   pub default : sets_default e server ≡ false
 
 abbrev pub Goes : State → State → Type 0
-Goes m n = (n ≡ m) ⊎ Mild m n
+Goes m n = (n ≡ m) ⊎ SitePreserving m n
 
 -- what another domain calls sets no default of the server's
 pub other-default : (d : ℕ) (k : Call) → d ≢ server → sets_default (event.Call d k) server ≡ false
@@ -53,55 +54,55 @@ there-pool m d p may = by (is_pool m p) refl
     by true is = is
     by false is = absurd (none-listed m d p is may)
 
-module _ (shelf : Shelf) (crew : Crew) (laws : AllLaws crew) where
-  module _ (m n : State) (mild : Mild m n) (fixed : IsFixedFor shelf crew m) where
-    leaves : Leaves m mild.e n
-    leaves = laws.the.steps.leaves m n mild.e mild.r mild.step
+module _ (site_contents : SiteContents) (worker_set : WorkerSet) (laws : AllLaws worker_set) where
+  module _ (m n : State) (site_preserving : SitePreserving m n) (fixed : IsFixedFor site_contents worker_set m) where
+    leaves : Leaves m site_preserving.e n
+    leaves = laws.the.steps.leaves m n site_preserving.e site_preserving.r site_preserving.step
 
-    still : site.IsFixed shelf.finds n
-    still = fixed-stays shelf.finds laws.the.steps m n mild.e mild.r mild.step mild.site mild.lives fixed.site
+    still : site.IsFixed site_contents.finds n
+    still = fixed-stays site_contents.finds laws.the.steps m n site_preserving.e site_preserving.r site_preserving.step site_preserving.site site_preserving.lives fixed.site
 
     called : (name : List ℕ) (f : ℕ) → file_called n name ≡ Some f → file_called m name ≡ Some f
-    called name f is = sym (called-same m n name mild.site.files) ∙ is
+    called name f is = sym (called-same m n name site_preserving.site.files) ∙ is
 
     files-stay : AreFiles n
     files-stay = record {
-      lengths = λ f there. subst (λ (l : List ℕ). length l ≤ MAX_FILE_BYTES) (sym (content-same m n f mild.site.slots))
-          (fixed.files.lengths f (ap (λ fs. is_numbered fs f) (sym mild.site.files) ∙ there));
+      lengths = λ f there. subst (λ (l : List ℕ). length l ≤ MAX_FILE_BYTES) (sym (content-same m n f site_preserving.site.slots))
+          (fixed.files.lengths f (ap (λ fs. is_numbered fs f) (sym site_preserving.site.files) ∙ there));
       pooled = λ name f is. let some = still.read_by name f is in there-pool n some.0 (file n f).pool some.1;
     }
 
-    holds-stay : (k : ℕ) → k < crew.count → HoldFiles crew.pools n (worker_domain k)
+    holds-stay : (k : ℕ) → k < worker_set.count → HoldFiles worker_set.pools n (worker_domain k)
     holds-stay k lt = record {
       files = λ name f is may.
-          let same : (file n f).pool ≡ (file m f).pool = ap (λ (x : FileEntry). x.pool) (file-same m n f mild.site.files) in
-          ap crew.pools same ∙ (fixed.holds k lt).files name f (called name f is)
-          (sym (mild.site.readers name f (worker_domain k) (called name f is)) ∙ (ap (λ p. may_read n (worker_domain k) p) (sym same) ∙ may));
+          let same : (file n f).pool ≡ (file m f).pool = ap (λ (x : FileEntry). x.pool) (file-same m n f site_preserving.site.files) in
+          ap worker_set.pools same ∙ (fixed.holds k lt).files name f (called name f is)
+          (sym (site_preserving.site.readers name f (worker_domain k) (called name f is)) ∙ (ap (λ p. may_read n (worker_domain k) p) (sym same) ∙ may));
       pauses = (fixed.holds k lt).pauses;
     }
 
     default-stays : default_pool n server ≡ default_pool m server
-    default-stays = ap (λ (o : Option ℕ). unwrap_or o 0) (leaves.defaults server fixed.site.lives mild.default)
+    default-stays = ap (λ (o : Option ℕ). unwrap_or o 0) (leaves.defaults server fixed.site.lives site_preserving.default)
 
-    fixed-mild : IsFixedFor shelf crew n
-    fixed-mild = record {
+    fixed-site_preserving : IsFixedFor site_contents worker_set n
+    fixed-site_preserving = record {
       site = still;
-      access = laws.the.orders.access m n mild.e mild.r fixed.access mild.step;
-      placed = laws.the.orders.places m n mild.e mild.r fixed.placed mild.step;
-      low = laws.numbers.step m n mild.e mild.r fixed.low mild.step;
+      access = laws.the.orders.access m n site_preserving.e site_preserving.r fixed.access site_preserving.step;
+      placed = laws.the.orders.places m n site_preserving.e site_preserving.r fixed.placed site_preserving.step;
+      low = laws.numbers.step m n site_preserving.e site_preserving.r fixed.low site_preserving.step;
       files = files-stay;
       holds = holds-stay;
-      shows = λ k lt name. (files-left m n (worker_domain k) mild.site).outcomes name ∙ fixed.shows k lt name;
+      shows = λ k lt name. (files-left m n (worker_domain k) site_preserving.site).outcomes name ∙ fixed.shows k lt name;
       wide = λ q is. leaves.readers server q (fixed.wide q is);
       read_jobs = λ k lt q is. leaves.readers (worker_domain k) q (fixed.read_jobs k lt q is);
-      default = ap crew.jobs default-stays ∙ fixed.default;
+      default = ap worker_set.jobs default-stays ∙ fixed.default;
       scripts = fixed.scripts;
     }
 
-  pub fixed-on : (m n : State) → Goes m n → IsFixedFor shelf crew m → IsFixedFor shelf crew n
-  fixed-on m n (inl same) fixed = subst (λ (s : State). IsFixedFor shelf crew s) (sym same) fixed
-  fixed-on m n (inr mild) fixed = fixed-mild m n mild fixed
+  pub fixed-on : (m n : State) → Goes m n → IsFixedFor site_contents worker_set m → IsFixedFor site_contents worker_set n
+  fixed-on m n (inl same) fixed = subst (λ (s : State). IsFixedFor site_contents worker_set s) (sym same) fixed
+  fixed-on m n (inr site_preserving) fixed = fixed-site_preserving m n site_preserving fixed
 
   pub order-on : (m n : State) → Goes m n → IsOrderly m → IsOrderly n
   order-on m n (inl same) order = subst (λ (s : State). IsOrderly s) (sym same) order
-  order-on m n (inr mild) order = laws.the.orders.step m n mild.e mild.r order mild.step
+  order-on m n (inr site_preserving) order = laws.the.orders.step m n site_preserving.e site_preserving.r order site_preserving.step

@@ -1,4 +1,4 @@
-pub mod Desks
+pub mod JobQueues
 pub mod Conns
 pub mod Acts
 pub mod Peers

@@ -10,48 +10,48 @@ use Rattle.iol_core.specs.declared.events.Reply.{Reply}
 use Rattle.iol_core.specs.declared.events.Reply.TheVariants as reply
 use Rattle.iol_laws.specs.Order.{IsOrderly}
 use Rattle.iol_laws.proofs.Streams.Remains.{closed-then}
-use Rattle.iol_proc.specs.declared.seat.Seat.{Seat}
+use Rattle.iol_proc.specs.declared.process_slot.ProcessSlot.{ProcessSlot}
 use Rattle.flash_http.specs.declared.windows.Window.{Window}
 use Rattle.flash_http.specs.declared.windows.Window.TheVariants.{Wait, Head, TooLarge}
 use Rattle.flash_http.specs.Window.{window_in, FitsIn}
 use Rattle.flash_http.specs.Request.{Answer, serve, refuse, IsAnswerTo}
 use Rattle.flash_laws.specs.Answers.{Next, NextIn, Reads}
-use Rattle.flash_laws.specs.Client.{Client, wants, Readies, IsAwaiting, is_for_script, told}
-use Rattle.flash_laws.specs.Client.Fits.{IsProper, TieAlone, due_in, Finds, FitsAlone, Fits}
+use Rattle.flash_laws.specs.Client.{Client, wants, Readies, IsAwaiting, is_for_script, after_reply}
+use Rattle.flash_laws.specs.Client.Fits.{IsProper, ConsistencyAlone, expected_in, Finds, FitsAlone, Fits}
 use Rattle.flash_laws.specs.Conn as conn
 use Rattle.flash_laws.specs.Conn.{Conn, begins}
-use Rattle.flash_laws.specs.Workers.Crew.{Crew, IsFixedFor}
+use Rattle.flash_laws.specs.Workers.WorkerSet.{WorkerSet, IsFixedFor}
 use Rattle.flash_laws.specs.Conn.Fits.{Has, asked, quits, is_closing, Names}
-use Rattle.flash_laws.specs.Shelf.{Shelf, due_to, Begins, IsAnswer, IsAmong}
-use Rattle.flash_laws.proofs.Site.Due.{due-may}
+use Rattle.flash_laws.specs.SiteContents.{SiteContents, expected_to, Begins, IsAnswer, IsAmong}
+use Rattle.flash_laws.proofs.Site.Expected.{expected-may}
 use Rattle.flash_laws.specs.Site.{server}
-use Rattle.flash_laws.specs.declared.phase.Doing.{Doing}
-use Rattle.flash_laws.specs.declared.phase.Doing.TheVariants as doing
+use Rattle.flash_laws.specs.declared.phase.Phase.{Phase}
+use Rattle.flash_laws.specs.declared.phase.Phase.TheVariants as phase
 use Rattle.flash_laws.specs.declared.script_run.Running.{Running}
 use Rattle.flash_laws.proofs.Conn.Responses.{reads-more}
 use Rattle.flash_laws.proofs.Conn.ShortHeads.{refused-status}
 use Rattle.flash_laws.proofs.World.AllLaws.{AllLaws}
 use Rattle.flash_laws.proofs.World.Alone.Phases.{alone_phase}
-use Rattle.flash_laws.proofs.World.Alone.Ties.{alone, part_of}
-use Rattle.flash_laws.proofs.World.Responses.{begins-append, begins-tie, finished-whole}
+use Rattle.flash_laws.proofs.World.Alone.Consistencies.{alone, part_of}
+use Rattle.flash_laws.proofs.World.Responses.{begins-append, begins-consistency, finished-whole}
 
 abbrev with_run : Client → Option Running → Client
 with_run x run = record { conn = x.conn; run = run; script = x.script }
 
-module _ (shelf : Shelf) (crew : Crew) (laws : AllLaws crew) where
+module _ (site_contents : SiteContents) (worker_set : WorkerSet) (laws : AllLaws worker_set) where
   -- any call of it but the last: it goes on alone, or its script begins to run
-  pub alone_step : (m n : State) (came sent : List ℕ) (fd c worker : ℕ) (x : Client) (r : Reply) (heard : List ℕ)
-      (seats : List (Seat crew.Worker)) → IsOrderly m → IsFixedFor shelf crew m → x.run ≡ None
-      → FitsAlone shelf m came sent fd c x → IsAwaiting x → is_closing x.conn.doing ≡ false → IsAmong shelf.refuses.of_server r
-      → StepsTo m (event.Call server (wants shelf.scripts fd x)) r n → Names n r heard
-      → Fits shelf crew n came sent fd c (told shelf.scripts worker x r heard) seats
-  alone_step m n came sent fd c worker x r heard seats order fixed none f waits busy calm step names = by x.run none f waits step
+  pub alone_step : (m n : State) (came sent : List ℕ) (fd c worker : ℕ) (x : Client) (r : Reply) (received : List ℕ)
+      (process_slots : List (ProcessSlot worker_set.Worker)) → IsOrderly m → IsFixedFor site_contents worker_set m → x.run ≡ None
+      → FitsAlone site_contents m came sent fd c x → IsAwaiting x → is_closing x.conn.phase ≡ false → IsAmong site_contents.refuses.of_server r
+      → StepsTo m (event.Call server (wants site_contents.scripts fd x)) r n → Names n r received
+      → Fits site_contents worker_set n came sent fd c (after_reply site_contents.scripts worker x r received) process_slots
+  alone_step m n came sent fd c worker x r received process_slots order fixed none f waits busy undisturbed step names = by x.run none f waits step
     where
-      by : (run : Option Running) → run ≡ None → FitsAlone shelf m came sent fd c (with_run x run) → IsAwaiting (with_run x run)
-          → StepsTo m (event.Call server (wants shelf.scripts fd (with_run x run))) r n
-          → Fits shelf crew n came sent fd c (told shelf.scripts worker (with_run x run) r heard) seats
+      by : (run : Option Running) → run ≡ None → FitsAlone site_contents m came sent fd c (with_run x run) → IsAwaiting (with_run x run)
+          → StepsTo m (event.Call server (wants site_contents.scripts fd (with_run x run))) r n
+          → Fits site_contents worker_set n came sent fd c (after_reply site_contents.scripts worker (with_run x run) r received) process_slots
       by None none f waits step =
-          alone_phase shelf crew laws m n came sent fd c x.conn.kept x.script order seats (is_for_script shelf.scripts x.conn.q) x.conn.q x.conn.doing r heard refl fixed.site f waits busy calm step names
+          alone_phase site_contents worker_set laws m n came sent fd c x.conn.kept x.script order process_slots (is_for_script site_contents.scripts x.conn.q) x.conn.q x.conn.phase r received refl fixed.site f waits busy undisturbed step names
       by (Some y) none f waits step = absurd (cc (none))
 
   -- the next request of a stream is proper
@@ -74,26 +74,26 @@ module _ (shelf : Shelf) (crew : Crew) (laws : AllLaws crew) where
 
   -- one that is made ready: with nothing in progress the first request that is kept begins
   pub alone_readies : (m : State) (came sent : List ℕ) (fd c : ℕ) (x y : Client) → x.run ≡ None
-      → FitsAlone shelf m came sent fd c x → Readies x y → (y.run ≡ None) × FitsAlone shelf m came sent fd c y
+      → FitsAlone site_contents m came sent fd c x → Readies x y → (y.run ≡ None) × FitsAlone site_contents m came sent fd c y
   alone_readies m came sent fd c x y none f ready = by x.run none f ready
     where
       begun : (p : Answer) → IsProper p
-          → Has m p (due_in (due_to shelf p) p (begins p)) (begins p) × Finds shelf m p x.script (begins p) × (asked p (begins p) ≡ p ∷ [])
-          × (part_of (due_to shelf p) (begins p) ≡ []) × (quits (begins p) ≡ false)
+          → Has m p (expected_in (expected_to site_contents p) p (begins p)) (begins p) × Finds site_contents m p x.script (begins p) × (asked p (begins p) ≡ p ∷ [])
+          × (part_of (expected_to site_contents p) (begins p) ≡ []) × (quits (begins p) ≡ false)
       begun (serve w) proper = (tt, tt, refl, refl, refl)
       begun (refuse status head_only close) proper = (refl, proper, refl, refl, refl)
 
       -- a request begins
-      starts : (q : Answer) (p : Answer) (rest : List ℕ) → FitsAlone shelf m came sent fd c (alone x.conn.kept x.script q doing.Rests)
-          → Next x.conn.kept p rest → FitsAlone shelf m came sent fd c (alone rest x.script p (begins p))
+      starts : (q : Answer) (p : Answer) (rest : List ℕ) → FitsAlone site_contents m came sent fd c (alone x.conn.kept x.script q phase.Rests)
+          → Next x.conn.kept p rest → FitsAlone site_contents m came sent fd c (alone rest x.script p (begins p))
       starts q p rest f next =
           record {
             open_on = f.open_on;
             took = f.took;
-            due = due_to shelf p;
-            may = due-may shelf p;
+            expected = expected_to site_contents p;
+            may = expected-may site_contents p;
             came_is = f.came_is;
-            tie = ties f.tie;
+            consistency = consistencies f.consistency;
             has = b.0;
             finds = b.1;
             proper = proper;
@@ -102,12 +102,12 @@ module _ (shelf : Shelf) (crew : Crew) (laws : AllLaws crew) where
           proper : IsProper p
           proper = next_proper x.conn.kept p rest next
 
-          b : Has m p (due_in (due_to shelf p) p (begins p)) (begins p) × Finds shelf m p x.script (begins p) × (asked p (begins p) ≡ p ∷ [])
-              × (part_of (due_to shelf p) (begins p) ≡ []) × (quits (begins p) ≡ false)
+          b : Has m p (expected_in (expected_to site_contents p) p (begins p)) (begins p) × Finds site_contents m p x.script (begins p) × (asked p (begins p) ≡ p ∷ [])
+              × (part_of (expected_to site_contents p) (begins p) ≡ []) × (quits (begins p) ≡ false)
           b = begun p proper
 
-          ties : TieAlone shelf f.due (conn_at m c) f.took sent (alone x.conn.kept x.script q doing.Rests) → TieAlone shelf (due_to shelf p) (conn_at m c) f.took sent (alone rest x.script p (begins p))
-          ties (inl owes) = inl (
+          consistencies : ConsistencyAlone site_contents f.expected (conn_at m c) f.took sent (alone x.conn.kept x.script q phase.Rests) → ConsistencyAlone site_contents (expected_to site_contents p) (conn_at m c) f.took sent (alone rest x.script p (begins p))
+          consistencies (inl owes) = inl (
             b.4,
             record {
               done = owes.1.done;
@@ -118,45 +118,46 @@ module _ (shelf : Shelf) (crew : Crew) (laws : AllLaws crew) where
               out_is = owes.1.out_is ∙ ap (λ (l : List ℕ). owes.1.before ++ l) (sym b.3);
             },
           )
-          ties (inr (inl finished)) = absurd (let bad = finished.quits in cc (bad))
-          ties (inr (inr gone)) = inr (inr gone)
+          consistencies (inr (inl finished)) = absurd (let bad = finished.quits in cc (bad))
+          consistencies (inr (inr gone)) = inr (inr gone)
 
-      readied : (q : Answer) (d : Doing) (z : Conn) → FitsAlone shelf m came sent fd c (alone x.conn.kept x.script q d)
-          → conn.Readies (record { kept = x.conn.kept; q = q; doing = d }) z
-          → FitsAlone shelf m came sent fd c (record { conn = z; run = None; script = x.script })
-      readied q doing.Rests z f (inl waits) = subst (λ (u : Conn). FitsAlone shelf m came sent fd c (record { conn = u; run = None; script = x.script })) (sym waits.1) f
-      readied q doing.Rests z f (inr some) =
-          subst (λ (u : Conn). FitsAlone shelf m came sent fd c (record { conn = u; run = None; script = x.script })) (sym some.3) (starts q some.0 some.1 f some.2)
-      readied q d z f ready = subst (λ (u : Conn). FitsAlone shelf m came sent fd c (record { conn = u; run = None; script = x.script })) (sym ready) f
+      readied : (q : Answer) (d : Phase) (z : Conn) → FitsAlone site_contents m came sent fd c (alone x.conn.kept x.script q d)
+          → conn.Readies (record { kept = x.conn.kept; q = q; phase = d }) z
+          → FitsAlone site_contents m came sent fd c (record { conn = z; run = None; script = x.script })
+      readied q phase.Rests z f (inl waits) = subst (λ (u : Conn). FitsAlone site_contents m came sent fd c (record { conn = u; run = None; script = x.script })) (sym waits.1) f
+      readied q phase.Rests z f (inr some) =
+          subst (λ (u : Conn). FitsAlone site_contents m came sent fd c (record { conn = u; run = None; script = x.script })) (sym some.3) (starts q some.0 some.1 f some.2)
+      readied q d z f ready = subst (λ (u : Conn). FitsAlone site_contents m came sent fd c (record { conn = u; run = None; script = x.script })) (sym ready) f
 
-      by : (run : Option Running) → run ≡ None → FitsAlone shelf m came sent fd c (with_run x run) → Readies (with_run x run) y
-          → (y.run ≡ None) × FitsAlone shelf m came sent fd c y
+      by : (run : Option Running) → run ≡ None → FitsAlone site_contents m came sent fd c (with_run x run) → Readies (with_run x run) y
+          → (y.run ≡ None) × FitsAlone site_contents m came sent fd c y
       by None none f ready = (
         ap (λ (z : Client). z.run) ready.2,
-        subst (λ (z : Client). FitsAlone shelf m came sent fd c z) (sym ready.2) (readied x.conn.q x.conn.doing ready.0 f ready.1),
+        subst (λ (z : Client). FitsAlone site_contents m came sent fd c z) (sym ready.2) (readied x.conn.q x.conn.phase ready.0 f ready.1),
       )
       by (Some z) none f ready = absurd (cc (none))
 
-  -- a connection that is closed keeps what was sent, which begins the answer, and is all of it unless the peer left before
-  pub alone_closes : (m n : State) (came sent : List ℕ) (fd c : ℕ) (x : Client) → IsOrderly m → x.conn.doing ≡ doing.Closes
-      → FitsAlone shelf m came sent fd c x → StepsTo m (event.Call server (call.Close fd)) reply.Done n
-      → ((conn_at n c).closed ≡ true) × Begins shelf came (sent ++ bytes_of (conn_at n c).outgoing)
-      × ((is_gone (conn_at m c).peer ≡ true) ⊎ IsAnswer shelf came (sent ++ bytes_of (conn_at n c).outgoing))
+  -- a connection that is closed keeps what was sent, which begins the answer, and is all of it unless the peer left
+  -- before
+  pub alone_closes : (m n : State) (came sent : List ℕ) (fd c : ℕ) (x : Client) → IsOrderly m → x.conn.phase ≡ phase.Closes
+      → FitsAlone site_contents m came sent fd c x → StepsTo m (event.Call server (call.Close fd)) reply.Done n
+      → ((conn_at n c).closed ≡ true) × Begins site_contents came (sent ++ bytes_of (conn_at n c).outgoing)
+      × ((is_gone (conn_at m c).peer ≡ true) ⊎ IsAnswer site_contents came (sent ++ bytes_of (conn_at n c).outgoing))
   alone_closes m n came sent fd c x order closing f step =
       let did = closed-then m n c (laws.the.own.closes_conn m n server fd c reply.Done order f.open_on step) in
-      let begun = begins-append laws.the.windows shelf f.took (bytes_of (conn_at m c).incoming) (sent ++ bytes_of (conn_at m c).outgoing) (begins-tie shelf (conn_at m c) f.took sent x f.due f.may f.tie) in (
+      let begun = begins-append laws.the.windows site_contents f.took (bytes_of (conn_at m c).incoming) (sent ++ bytes_of (conn_at m c).outgoing) (begins-consistency site_contents (conn_at m c) f.took sent x f.expected f.may f.consistency) in (
         did.0,
-        subst (λ (l : List ℕ). Begins shelf l (sent ++ bytes_of (conn_at n c).outgoing)) (sym f.came_is) (subst (λ (t : Text). Begins shelf (f.took ++ bytes_of (conn_at m c).incoming) (sent ++ bytes_of t)) (sym did.1) begun),
-        whole did.1 f.tie,
+        subst (λ (l : List ℕ). Begins site_contents l (sent ++ bytes_of (conn_at n c).outgoing)) (sym f.came_is) (subst (λ (t : Text). Begins site_contents (f.took ++ bytes_of (conn_at m c).incoming) (sent ++ bytes_of t)) (sym did.1) begun),
+        whole did.1 f.consistency,
       )
     where
-      quitting : quits x.conn.doing ≡ true
-      quitting = ap (λ (d : Doing). quits d) closing
+      quitting : quits x.conn.phase ≡ true
+      quitting = ap (λ (d : Phase). quits d) closing
 
       whole : (conn_at n c).outgoing ≡ (conn_at m c).outgoing
-          → TieAlone shelf f.due (conn_at m c) f.took sent x
-          → (is_gone (conn_at m c).peer ≡ true) ⊎ IsAnswer shelf came (sent ++ bytes_of (conn_at n c).outgoing)
+          → ConsistencyAlone site_contents f.expected (conn_at m c) f.took sent x
+          → (is_gone (conn_at m c).peer ≡ true) ⊎ IsAnswer site_contents came (sent ++ bytes_of (conn_at n c).outgoing)
       whole out (inl owes) = absurd (let bad = owes.0 in let quit = quitting in cc (bad, quit))
-      whole out (inr (inl finished)) = inr (subst (λ (l : List ℕ). IsAnswer shelf l (sent ++ bytes_of (conn_at n c).outgoing)) (sym f.came_is)
-          (subst (λ (t : Text). IsAnswer shelf (f.took ++ bytes_of (conn_at m c).incoming) (sent ++ bytes_of t)) (sym out) (finished-whole laws.the.windows shelf (conn_at m c) f.took (sent ++ bytes_of (conn_at m c).outgoing) finished.finished)))
+      whole out (inr (inl finished)) = inr (subst (λ (l : List ℕ). IsAnswer site_contents l (sent ++ bytes_of (conn_at n c).outgoing)) (sym f.came_is)
+          (subst (λ (t : Text). IsAnswer site_contents (f.took ++ bytes_of (conn_at m c).incoming) (sent ++ bytes_of t)) (sym out) (finished-whole laws.the.windows site_contents (conn_at m c) f.took (sent ++ bytes_of (conn_at m c).outgoing) finished.finished)))
       whole out (inr (inr gone)) = inl gone.gone

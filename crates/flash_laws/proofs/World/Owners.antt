@@ -13,50 +13,50 @@ use Rattle.iol_core.specs.declared.events.Reply.{Reply}
 use Rattle.iol_core.specs.declared.events.Reply.TheVariants as reply
 use Rattle.iol_laws.specs.Aggregates.{AggregatesComeAndGo, brings}
 use Rattle.iol_laws.specs.Caller as o
-use Rattle.iol_laws.specs.Caller.{lent_at}
+use Rattle.iol_laws.specs.Caller.{readable_at}
 use Rattle.iol_laws.specs.Order.{IsOrderly}
-use Rattle.iol_proc.specs.declared.seat.Seat.{Seat}
+use Rattle.iol_proc.specs.declared.process_slot.ProcessSlot.{ProcessSlot}
 use Rattle.flash_laws.specs.Client.{Client, new_client, uses_agg, Readies}
 use Rattle.flash_laws.specs.Conn as conn
 use Rattle.flash_laws.specs.Conn.{Conn}
-use Rattle.flash_laws.specs.Workers.Crew.{Crew}
-use Rattle.flash_laws.specs.Conn.Fits.{IsLent}
+use Rattle.flash_laws.specs.Workers.WorkerSet.{WorkerSet}
+use Rattle.flash_laws.specs.Conn.Fits.{IsReadable}
 use Rattle.flash_laws.specs.Site.Past.{Past, given_by, and_then, IsAct}
 use Rattle.flash_laws.specs.Site.Places.{accepted}
-use Rattle.flash_laws.specs.Site.ClientTies.{Held, Aside, AllFit, IsUsed, AreOwned}
-use Rattle.flash_laws.specs.Shelf.{Shelf}
+use Rattle.flash_laws.specs.Site.ClientConsistency.{Held, Aside, AllFit, IsUsed, AreOwned}
+use Rattle.flash_laws.specs.SiteContents.{SiteContents}
 use Rattle.flash_laws.specs.Site.{server}
 use Rattle.flash_laws.specs.Site.OtherConns.{with_at}
-use Rattle.flash_laws.specs.declared.phase.Doing.{Doing}
-use Rattle.flash_laws.specs.declared.phase.Doing.TheVariants as doing
+use Rattle.flash_laws.specs.declared.phase.Phase.{Phase}
+use Rattle.flash_laws.specs.declared.phase.Phase.TheVariants as phase
 use Rattle.flash_laws.specs.declared.script_run.Running.{Running}
 use Rattle.flash_laws.proofs.Forms.{of}
 use Rattle.flash_laws.proofs.Conn.Responses.{some-inj}
 use Rattle.flash_laws.proofs.Site.InPlaces.{at-same, at-other}
 use Rattle.flash_laws.proofs.Lists.{not-equal, later_of, former_of}
-use Rattle.flash_laws.proofs.Site.Pasts.{call_told}
+use Rattle.flash_laws.proofs.Site.Pasts.{call_after_reply}
 use Rattle.flash_laws.proofs.World.AllLaws.{AllLaws}
 use Rattle.flash_laws.proofs.World.Calls.{opens-on}
 
 -- ---- what others do
 
 -- who fits does not see what the server was given
-pub fit-called : (shelf : Shelf) (crew : Crew) (m : State) (p : Past) (clients : List (Option Client)) (seats : List (Seat crew.Worker)) (d : ℕ) (k : Call) (r : Reply)
-    → AllFit shelf crew m p clients seats → AllFit shelf crew m (call_told p d k r) clients seats
-fit-called shelf crew m p clients seats d k r all = record {
+pub fit-called : (site_contents : SiteContents) (worker_set : WorkerSet) (m : State) (p : Past) (clients : List (Option Client)) (process_slots : List (ProcessSlot worker_set.Worker)) (d : ℕ) (k : Call) (r : Reply)
+    → AllFit site_contents worker_set m p clients process_slots → AllFit site_contents worker_set m (call_after_reply p d k r) clients process_slots
+fit-called site_contents worker_set m p clients process_slots d k r all = record {
   each = λ fd x is. let at = all.each fd x is in record { conn = at.conn; fits = at.fits };
   others = λ c. by c (all.others c);
   aggs_apart = all.aggs_apart;
   fds_apart = all.fds_apart;
   left = all.left;
   fresh = all.fresh;
-  untold = all.untold;
+  unreported = all.unreported;
   own = all.own;
   free = all.free;
-  desks = all.desks;
+  job_queues = all.job_queues;
 }
   where
-    by : (c : ℕ) → Held m clients c ⊎ Aside shelf p c (conn_at m c) → Held m clients c ⊎ Aside shelf (call_told p d k r) c (conn_at m c)
+    by : (c : ℕ) → Held m clients c ⊎ Aside site_contents p c (conn_at m c) → Held m clients c ⊎ Aside site_contents (call_after_reply p d k r) c (conn_at m c)
     by c (inl held) = inl held
     by c (inr (inl w)) = inr (inl (record { waits = w.waits; pool_is = w.pool_is; came_is = w.came_is; none_sent = w.none_sent }))
     by c (inr (inr (inl w))) = inr (inr (inl (record { closed = w.closed; begins = w.begins; whole = w.whole })))
@@ -74,26 +74,26 @@ act-brings (event.Call d k) r a act = absurd act
 act-brings e r a act = refl
 
 -- what is there after a step was there before, or the step brought it
-was-there : (come : AggregatesComeAndGo) (m n : State) (e : Event) (r : Reply) (a : ℕ) → StepsTo m e r n → IsLent n a
-    → IsLent m a ⊎ ((lent_at m server a ≡ None) × (brings e r server a ≡ true))
-was-there come m n e r a step lent = by (lent_at m server a) (brings e r server a) refl refl
+was-there : (come : AggregatesComeAndGo) (m n : State) (e : Event) (r : Reply) (a : ℕ) → StepsTo m e r n → IsReadable n a
+    → IsReadable m a ⊎ ((readable_at m server a ≡ None) × (brings e r server a ≡ true))
+was-there come m n e r a step readable = by (readable_at m server a) (brings e r server a) refl refl
   where
-    by : (was : Option (List ℕ)) (b : Bool) → lent_at m server a ≡ was → brings e r server a ≡ b
-        → IsLent m a ⊎ ((lent_at m server a ≡ None) × (brings e r server a ≡ true))
+    by : (was : Option (List ℕ)) (b : Bool) → readable_at m server a ≡ was → brings e r server a ≡ b
+        → IsReadable m a ⊎ ((readable_at m server a ≡ None) × (brings e r server a ≡ true))
     by (Some bytes) b is brought = inl (bytes, is)
     by None true is brought = inr (is, brought)
-    by None false is brought = (let none = come.none m n e r server a step is brought in let some = lent.1 in absurd (cc (none, some)))
+    by None false is brought = (let none = come.none m n e r server a step is brought in let some = readable.1 in absurd (cc (none, some)))
 
 pub owned-outside : (come : AggregatesComeAndGo) (m n : State) (p : Past) (clients : List (Option Client)) (e : Event) (r : Reply) → StepsTo m e r n
     → ((a : ℕ) → brings e r server a ≡ given_by a e r) → AreOwned m p clients → AreOwned n (and_then p e r) clients
-owned-outside come m n p clients e r step tells owned a lent = elim (was-there come m n e r a step lent) [
+owned-outside come m n p clients e r step reports owned a readable = elim (was-there come m n e r a step readable) [
   | inl was ↦ elim (owned a was) [ inl used ↦ inl used | inr given ↦ inr (former_of (p.given a) (given_by a e r) given) ]
-  | inr new ↦ inr (later_of (p.given a) (given_by a e r) (sym (tells a) ∙ new.1))
+  | inr new ↦ inr (later_of (p.given a) (given_by a e r) (sym (reports a) ∙ new.1))
 ]
 
-pub owned-same : (m n : State) (p : Past) (clients : List (Option Client)) → ((a : ℕ) → lent_at n server a ≡ lent_at m server a)
+pub owned-same : (m n : State) (p : Past) (clients : List (Option Client)) → ((a : ℕ) → readable_at n server a ≡ readable_at m server a)
     → AreOwned m p clients → AreOwned n p clients
-owned-same m n p clients same owned a lent = owned a (lent.0, sym (same a) ∙ lent.1)
+owned-same m n p clients same owned a readable = owned a (readable.0, sym (same a) ∙ readable.1)
 
 -- ---- one place changes
 
@@ -115,12 +115,12 @@ used-on clients fd a x y there used here = elim (cases_eq fd used.fd) [
 ]
 
 -- a client that is made ready uses what it used
-conn-keeps : (x y : Conn) (a : ℕ) → conn.Readies x y → conn.uses_agg x.doing a ≡ true → conn.uses_agg y.doing a ≡ true
-conn-keeps x y a ready u = by x.doing refl ready u
+conn-keeps : (x y : Conn) (a : ℕ) → conn.Readies x y → conn.uses_agg x.phase a ≡ true → conn.uses_agg y.phase a ≡ true
+conn-keeps x y a ready u = by x.phase refl ready u
   where
-    by : (d : Doing) → x.doing ≡ d → conn.Readies (record x { doing = d }) y → conn.uses_agg d a ≡ true → conn.uses_agg y.doing a ≡ true
-    by doing.Rests is r u = absurd (cc (u))
-    by d is r u = ap (λ (z : Conn). conn.uses_agg z.doing a) r ∙ u
+    by : (d : Phase) → x.phase ≡ d → conn.Readies (record x { phase = d }) y → conn.uses_agg d a ≡ true → conn.uses_agg y.phase a ≡ true
+    by phase.Rests is r u = absurd (cc (u))
+    by d is r u = ap (λ (z : Conn). conn.uses_agg z.phase a) r ∙ u
 
 client-keeps : (c : Conn) (run : Option Running) (script : List ℕ) (y : Client) (a : ℕ) → Readies (of c run script) y → uses_agg (of c run script) a ≡ true → uses_agg y a ≡ true
 client-keeps c None script y a ready u = ap (λ (z : Client). uses_agg z a) ready.2 ∙ conn-keeps c ready.0 a ready.1 u
@@ -128,25 +128,25 @@ client-keeps c (Some z) script y a ready u = ap (λ (v : Client). uses_agg v a) 
 
 pub owned-ready : (m : State) (p : Past) (clients : List (Option Client)) (fd : ℕ) (x y : Client) → in_place clients fd ≡ Some x → Readies x y
     → AreOwned m p clients → AreOwned m p (with_at clients fd (Some y))
-owned-ready m p clients fd x y there ready owned a lent = elim (owned a lent) [
+owned-ready m p clients fd x y there ready owned a readable = elim (owned a readable) [
   | inl used ↦ inl (used-on clients fd a x (Some y) there used (λ u. used-here clients fd a (Some y) y refl (client-keeps x.conn x.run x.script y a ready u)))
   | inr given ↦ inr given
 ]
 
-module _ (shelf : Shelf) (crew : Crew) (laws : AllLaws crew) where
+module _ (site_contents : SiteContents) (worker_set : WorkerSet) (laws : AllLaws worker_set) where
   -- one more is accepted: a new client uses nothing, and none stood at its place
-  pub owned-accept : (m n : State) (p : Past) (clients : List (Option Client)) (r : Reply) (seats : List (Seat crew.Worker)) → IsOrderly m
-      → AllFit shelf crew m p clients seats → StepsTo m (event.Call server call.Accept) r n
+  pub owned-accept : (m n : State) (p : Past) (clients : List (Option Client)) (r : Reply) (process_slots : List (ProcessSlot worker_set.Worker)) → IsOrderly m
+      → AllFit site_contents worker_set m p clients process_slots → StepsTo m (event.Call server call.Accept) r n
       → AreOwned m p clients → AreOwned n p (accepted clients r)
-  owned-accept m n p clients r seats order all step owned a lent = by r (laws.the.own.accepts m n server r order step) (was-there laws.aggs m n (event.Call server call.Accept) r a step lent)
+  owned-accept m n p clients r process_slots order all step owned a readable = by r (laws.the.own.accepts m n server r order step) (was-there laws.aggs m n (event.Call server call.Accept) r a step readable)
     where
-      by : (r : Reply) → o.Accepts m server r n → IsLent m a ⊎ ((lent_at m server a ≡ None) × (brings (event.Call server call.Accept) r server a ≡ true))
+      by : (r : Reply) → o.Accepts m server r n → IsReadable m a ⊎ ((readable_at m server a ≡ None) × (brings (event.Call server call.Accept) r server a ≡ true))
           → IsUsed (accepted clients r) a ⊎ (p.given a ≡ true)
       by (reply.Fd fd) takes (inr new) = (let b = new.1 in absurd (cc (b)))
       by (reply.Fd fd) takes (inl was) = elim (owned a was) [
         | inl used ↦ inl (used-other clients fd a (Some new_client) used (λ same.
             let at = all.each used.fd used.client used.at in
-            let open_on = opens-on shelf crew laws m (p.came at.conn) (p.sent at.conn) used.fd at.conn seats used.client.conn used.client.run used.client.script at.fits in
+            let open_on = opens-on site_contents worker_set laws m (p.came at.conn) (p.sent at.conn) used.fd at.conn process_slots used.client.conn used.client.run used.client.script at.fits in
             let none = takes.new in
             let moved = ap (λ g. descriptor m server g) same in
             cc (open_on, none, moved)))

@@ -6,25 +6,25 @@ use Rattle.iol_core.specs.declared.descriptors.Descriptor.TheVariants as on
 use Rattle.iol_core.specs.declared.refusals.Refusal.TheVariants as no
 use Rattle.iol_core.specs.declared.events.Reply.{Reply}
 use Rattle.iol_core.specs.declared.events.Reply.TheVariants as reply
-use Rattle.iol_laws.specs.Caller.{lent_at, is_agg}
+use Rattle.iol_laws.specs.Caller.{readable_at, is_agg}
 use Rattle.flash_http.specs.Request.{serve, Wanted}
 use Rattle.flash_laws.specs.Conn as conn
 use Rattle.flash_laws.specs.Conn.{Following, has_followed, count_of}
-use Rattle.flash_laws.specs.Conn.Fits.{IsLent}
+use Rattle.flash_laws.specs.Conn.Fits.{IsReadable}
 use Rattle.flash_laws.specs.Run.Fits.{Progress, HasStep, HasRun, HasLeft, HasFrame, IsHeld, HasOutput, HasPart}
 use Rattle.flash_laws.specs.Run.Holdings.{has_end}
-use Rattle.flash_laws.specs.Run.{has_frame, step_agg, ends_of, is_reading, step_fd, uses_agg, is_again, told_sending, holding, filled, hearing, told_hears, both, finishing, told_step, told}
+use Rattle.flash_laws.specs.Run.{has_frame, step_agg, ends_of, is_reading, step_fd, uses_agg, is_again, after_sending, holding, filled, hearing, after_output, both, finishing, after_step, after_reply}
 use Rattle.flash_laws.specs.Site.{server}
-use Rattle.flash_laws.specs.declared.phase.Doing.{Doing}
-use Rattle.flash_laws.specs.declared.phase.Doing.TheVariants as doing
+use Rattle.flash_laws.specs.declared.phase.Phase.{Phase}
+use Rattle.flash_laws.specs.declared.phase.Phase.TheVariants as phase
 use Rattle.flash_laws.specs.declared.script_run.TheConstants.{CHUNK_BYTES}
 use Rattle.flash_laws.specs.declared.script_run.Run.{Run}
 use Rattle.flash_laws.specs.declared.script_run.Step.{Step}
-use Rattle.flash_laws.specs.declared.script_run.Step.TheVariants.{Gives, Makes, Hands, Lets, Heads, Sending, Hears, Spills, Gathers, Frames, Wraps, Trims, Ended, Unholds, Stops, Unframes, Lasts, WrapsLast, TrimsLast, Unwraps, Returns, Lapses, Fails}
+use Rattle.flash_laws.specs.declared.script_run.Step.TheVariants.{Gives, Makes, Hands, Lets, Heads, Sending, Receives, Spills, Gathers, Frames, Wraps, Trims, Ended, Unholds, Stops, Unframes, Lasts, WrapsLast, TrimsLast, Unwraps, Returns, Lapses, Fails}
 use Rattle.flash_laws.specs.declared.script_run.Running.{Running}
 use Rattle.flash_laws.specs.declared.script_run.Running.TheVariants.{Awaits, Runs, Leaves}
 use Rattle.flash_laws.proofs.Lists.{later_of, bare, former_of, swapped}
-use Rattle.flash_laws.proofs.Conn.Uses.{same-number, uses-told, has-agg, one-of}
+use Rattle.flash_laws.proofs.Conn.Uses.{same-number, uses-after_reply, has-agg, one-of}
 
 -- it was used, or is new
 abbrev New : Reply → (a : ℕ) → (was : Bool) → Type 0
@@ -39,7 +39,7 @@ module _ (worker : ℕ) (w : Wanted) (run : Run) (a : ℕ) where
   abbrev UsesNew : Step → Reply → Running → Type 0
   UsesNew s r z = uses_agg z a ≡ true → New r a (step_agg s a)
 
-  part-new : (d : Doing) (frame : Option ℕ) (r : Reply) (after : Doing)
+  part-new : (d : Phase) (frame : Option ℕ) (r : Reply) (after : Phase)
       → (conn.uses_agg after a ≡ true → (conn.uses_agg d a ≡ true) ⊎ (is_agg r a ≡ true))
       → (conn.uses_agg after a || has_frame frame a) ≡ true → New r a (conn.uses_agg d a || has_frame frame a)
   part-new d frame r after new u = elim (one-of (conn.uses_agg after a) (has_frame frame a) u) [
@@ -47,14 +47,14 @@ module _ (worker : ℕ) (w : Wanted) (run : Run) (a : ℕ) where
     | inr is ↦ inl (later_of (conn.uses_agg d a) (has_frame frame a) is)
   ]
 
-  sending-new : (d : Doing) (frame : Option ℕ) (r : Reply) → UsesNew (Sending d frame) r (told_sending run d frame r)
-  sending-new (doing.Sent b taken None) frame reply.Done u = inl (later_of ((b == a) || false) (has_frame frame a) u)
-  sending-new (doing.Drops b None) frame reply.Done u = inl (later_of ((b == a) || false) (has_frame frame a) u)
-  sending-new (doing.Sends b len taken more) frame r u = part-new (doing.Sends b len taken more) frame r (conn.told_sends b len taken more r) (uses-told [] (serve w) (doing.Sends b len taken more) r [] a) u
-  sending-new (doing.Cuts b from len taken more) frame r u = part-new (doing.Cuts b from len taken more) frame r (conn.told_cuts b from len taken more r) (uses-told [] (serve w) (doing.Cuts b from len taken more) r [] a) u
-  sending-new (doing.Offers b from len piece taken more) frame r u = part-new (doing.Offers b from len piece taken more) frame r (conn.told_offers b from len piece taken more r) (uses-told [] (serve w) (doing.Offers b from len piece taken more) r [] a) u
-  sending-new (doing.Swaps b from len piece taken more) frame r u = part-new (doing.Swaps b from len piece taken more) frame r (conn.told_swaps b from len piece taken more r) (uses-told [] (serve w) (doing.Swaps b from len piece taken more) r [] a) u
-  sending-new (doing.Breaks piece b more) frame r u = part-new (doing.Breaks piece b more) frame r (conn.told_breaks piece b more r) (uses-told [] (serve w) (doing.Breaks piece b more) r [] a) u
+  sending-new : (d : Phase) (frame : Option ℕ) (r : Reply) → UsesNew (Sending d frame) r (after_sending run d frame r)
+  sending-new (phase.Sent b taken None) frame reply.Done u = inl (later_of ((b == a) || false) (has_frame frame a) u)
+  sending-new (phase.Drops b None) frame reply.Done u = inl (later_of ((b == a) || false) (has_frame frame a) u)
+  sending-new (phase.Sends b len taken more) frame r u = part-new (phase.Sends b len taken more) frame r (conn.after_send b len taken more r) (uses-after_reply [] (serve w) (phase.Sends b len taken more) r [] a) u
+  sending-new (phase.Cuts b from len taken more) frame r u = part-new (phase.Cuts b from len taken more) frame r (conn.after_cut b from len taken more r) (uses-after_reply [] (serve w) (phase.Cuts b from len taken more) r [] a) u
+  sending-new (phase.Offers b from len piece taken more) frame r u = part-new (phase.Offers b from len piece taken more) frame r (conn.after_offer b from len piece taken more r) (uses-after_reply [] (serve w) (phase.Offers b from len piece taken more) r [] a) u
+  sending-new (phase.Swaps b from len piece taken more) frame r u = part-new (phase.Swaps b from len piece taken more) frame r (conn.after_swap b from len piece taken more r) (uses-after_reply [] (serve w) (phase.Swaps b from len piece taken more) r [] a) u
+  sending-new (phase.Breaks piece b more) frame r u = part-new (phase.Breaks piece b more) frame r (conn.after_break piece b more r) (uses-after_reply [] (serve w) (phase.Breaks piece b more) r [] a) u
   sending-new d frame r u = inl u
 
   holding-new : (n size : ℕ) (frame : Option ℕ) (r : Reply) (was : Bool) → (n == a ≡ true → is_agg r a ≡ true) → (has_frame frame a ≡ true → was ≡ true)
@@ -65,7 +65,7 @@ module _ (worker : ℕ) (w : Wanted) (run : Run) (a : ℕ) where
       set None old u = inr (made u)
       set (Some f) old u = elim (one-of (n == a) (f == a) u) [ inl is ↦ inr (made is) | inr is ↦ inl (old is) ]
 
-      by : (b : Bool) → step_agg (if b then Hears (Some (n, size)) frame else filled n frame) a ≡ true → New r a was
+      by : (b : Bool) → step_agg (if b then Receives (Some (n, size)) frame else filled n frame) a ≡ true → New r a was
       by true u = elim (one-of (n == a) (has_frame frame a) u) [ inl is ↦ inr (made is) | inr is ↦ inl (old is) ]
       by false u = set frame old u
 
@@ -79,76 +79,76 @@ module _ (worker : ℕ) (w : Wanted) (run : Run) (a : ℕ) where
     | inr is ↦ elim (one-of (n == a) (has_frame frame a) is) [ inl made ↦ inr made | inr old ↦ inl (later_of (x.0 == a) (has_frame frame a) old) ]
   ]
 
-  hears-new : (held : Following) (frame : Option ℕ) (r : Reply) (heard : List ℕ) → UsesNew (Hears held frame) r (told_hears w run held frame r heard)
-  hears-new held frame (reply.Agg n) [] u = elim (one-of (n == a) (has_followed held a || has_frame frame a) u) [ inl is ↦ inr is | inr is ↦ inl is ]
-  hears-new held frame (reply.Agg n) (b ∷ heard) u = hearing-new run.broken w.chunked held frame n (count_of (b ∷ heard)) u
-  hears-new None frame (reply.Refused (no.Denied p)) heard u = inl u
-  hears-new (Some x) frame (reply.Refused (no.Denied p)) heard u = inl u
-  hears-new held frame r heard u = inl u
+  receives-new : (held : Following) (frame : Option ℕ) (r : Reply) (received : List ℕ) → UsesNew (Receives held frame) r (after_output w run held frame r received)
+  receives-new held frame (reply.Agg n) [] u = elim (one-of (n == a) (has_followed held a || has_frame frame a) u) [ inl is ↦ inr is | inr is ↦ inl is ]
+  receives-new held frame (reply.Agg n) (b ∷ received) u = hearing-new run.broken w.chunked held frame n (count_of (b ∷ received)) u
+  receives-new None frame (reply.Refused (no.Denied p)) received u = inl u
+  receives-new (Some x) frame (reply.Refused (no.Denied p)) received u = inl u
+  receives-new held frame r received u = inl u
 
   finishing-new : (b c : Bool) (held : Following) → uses_agg (finishing b c run held) a ≡ true → has_followed held a ≡ true
   finishing-new false true held u = u
   finishing-new false false held u = absurd (cc (u))
   finishing-new true c held u = absurd (cc (u))
 
-  step-new : (s : Step) (r : Reply) (heard : List ℕ) → UsesNew s r (told_step w run s r heard)
-  step-new (Gives write) (reply.Fd f) heard u = absurd (cc (u))
-  step-new (Gives write) (reply.Refused x) heard u = absurd (by (is_again x) u)
+  step-new : (s : Step) (r : Reply) (received : List ℕ) → UsesNew s r (after_step w run s r received)
+  step-new (Gives write) (reply.Fd f) received u = absurd (cc (u))
+  step-new (Gives write) (reply.Refused x) received u = absurd (by (is_again x) u)
     where
       by : (b : Bool) → step_agg (if b then Gives write else Returns write) a ≡ true → ⊥
       by true u = cc (u)
       by false u = cc (u)
-  step-new (Gives write) r heard u = absurd (cc (u))
-  step-new (Makes f) (reply.Agg n) heard u = inr u
-  step-new (Makes f) r heard u = absurd (cc (u))
-  step-new (Hands j f) (reply.Count n) heard u = inl u
-  step-new (Hands j f) (reply.Refused x) heard u = inl (by (is_again x) u)
+  step-new (Gives write) r received u = absurd (cc (u))
+  step-new (Makes f) (reply.Agg n) received u = inr u
+  step-new (Makes f) r received u = absurd (cc (u))
+  step-new (Hands j f) (reply.Count n) received u = inl u
+  step-new (Hands j f) (reply.Refused x) received u = inl (by (is_again x) u)
     where
       by : (b : Bool) → step_agg (if b then Hands j f else Lapses j) a ≡ true → (j == a) ≡ true
       by true u = u
       by false u = u
-  step-new (Lets j) reply.Done heard u = absurd (cc (u))
-  step-new Heads (reply.Agg n) heard u = inr (bare (n == a) (bare ((n == a) || false) u))
-  step-new Heads r heard u = absurd (cc (u))
-  step-new (Sending d frame) r heard u = sending-new d frame r u
-  step-new (Hears held frame) r heard u = hears-new held frame r heard u
-  step-new (Spills b frame) reply.Done heard u = inl (later_of (b == a) (has_frame frame a) u)
-  step-new (Gathers held size piece len frame) (reply.Agg n) heard u = holding-new n (both size len) frame (reply.Agg n) ((held == a) || ((piece == a) || has_frame frame a)) (λ is. is)
+  step-new (Lets j) reply.Done received u = absurd (cc (u))
+  step-new Heads (reply.Agg n) received u = inr (bare (n == a) (bare ((n == a) || false) u))
+  step-new Heads r received u = absurd (cc (u))
+  step-new (Sending d frame) r received u = sending-new d frame r u
+  step-new (Receives held frame) r received u = receives-new held frame r received u
+  step-new (Spills b frame) reply.Done received u = inl (later_of (b == a) (has_frame frame a) u)
+  step-new (Gathers held size piece len frame) (reply.Agg n) received u = holding-new n (both size len) frame (reply.Agg n) ((held == a) || ((piece == a) || has_frame frame a)) (λ is. is)
       (λ is. later_of (held == a) ((piece == a) || has_frame frame a) (later_of (piece == a) (has_frame frame a) is)) u
-  step-new (Frames held) (reply.Agg n) heard u = elim (one-of (held == a) (n == a) u) [ inl is ↦ inl is | inr is ↦ inr is ]
-  step-new (Wraps held frame) (reply.Agg n) heard u = around (held == a) (n == a) (frame == a) u
-  step-new (Trims held chunk len frame) reply.Done heard u = inl (by (held == a) (chunk == a) (frame == a) u)
+  step-new (Frames held) (reply.Agg n) received u = elim (one-of (held == a) (n == a) u) [ inl is ↦ inl is | inr is ↦ inr is ]
+  step-new (Wraps held frame) (reply.Agg n) received u = around (held == a) (n == a) (frame == a) u
+  step-new (Trims held chunk len frame) reply.Done received u = inl (by (held == a) (chunk == a) (frame == a) u)
     where
       by : (x y z : Bool) → (((y || false) || z)) ≡ true → (x || (y || z)) ≡ true
       by x true z u = later_of x true refl
       by x false z u = later_of x z u
-  step-new (Ended b held frame) reply.Done heard u = inl (later_of (b == a) (has_followed held a || has_frame frame a) u)
-  step-new (Unholds held frame) reply.Done heard u = inl (later_of (held == a) (has_frame frame a) u)
-  step-new (Stops held None) reply.Done heard u = inl (former_of (has_followed held a) false (finishing-new run.broken w.chunked held u))
-  step-new (Stops held (Some f)) reply.Done heard u = inl (swapped (f == a) (has_followed held a) u)
-  step-new (Unframes f held) reply.Done heard u = inl (later_of (f == a) (has_followed held a) (finishing-new run.broken w.chunked held u))
-  step-new (Lasts None) (reply.Agg n) heard u = inr (bare (n == a) u)
-  step-new (Lasts (Some x)) (reply.Agg n) heard u = elim (one-of (x.0 == a) (n == a) u) [ inl is ↦ inl is | inr is ↦ inr is ]
-  step-new (WrapsLast held size frame) (reply.Agg n) heard u = around (held == a) (n == a) (frame == a) u
-  step-new (TrimsLast held chunk len frame) reply.Done heard u = inl (by (held == a) (chunk == a) (frame == a) u)
+  step-new (Ended b held frame) reply.Done received u = inl (later_of (b == a) (has_followed held a || has_frame frame a) u)
+  step-new (Unholds held frame) reply.Done received u = inl (later_of (held == a) (has_frame frame a) u)
+  step-new (Stops held None) reply.Done received u = inl (former_of (has_followed held a) false (finishing-new run.broken w.chunked held u))
+  step-new (Stops held (Some f)) reply.Done received u = inl (swapped (f == a) (has_followed held a) u)
+  step-new (Unframes f held) reply.Done received u = inl (later_of (f == a) (has_followed held a) (finishing-new run.broken w.chunked held u))
+  step-new (Lasts None) (reply.Agg n) received u = inr (bare (n == a) u)
+  step-new (Lasts (Some x)) (reply.Agg n) received u = elim (one-of (x.0 == a) (n == a) u) [ inl is ↦ inl is | inr is ↦ inr is ]
+  step-new (WrapsLast held size frame) (reply.Agg n) received u = around (held == a) (n == a) (frame == a) u
+  step-new (TrimsLast held chunk len frame) reply.Done received u = inl (by (held == a) (chunk == a) (frame == a) u)
     where
       by : (x y z : Bool) → (z || y) ≡ true → (x || (y || z)) ≡ true
       by x true z u = later_of x true refl
       by x false z u = later_of x z (bare z u)
-  step-new (Unwraps frame chunk len) reply.Done heard u = inl (later_of (frame == a) (chunk == a) (bare (chunk == a) u))
-  step-new (Returns write) reply.Done heard u = absurd (cc (u))
-  step-new (Returns write) r heard u = absurd (cc (u))
-  step-new (Lapses j) reply.Done heard u = absurd (cc (u))
-  step-new Fails reply.Done heard u = absurd (cc (u))
-  step-new Fails r heard u = absurd (cc (u))
-  step-new s r heard u = inl u
+  step-new (Unwraps frame chunk len) reply.Done received u = inl (later_of (frame == a) (chunk == a) (bare (chunk == a) u))
+  step-new (Returns write) reply.Done received u = absurd (cc (u))
+  step-new (Returns write) r received u = absurd (cc (u))
+  step-new (Lapses j) reply.Done received u = absurd (cc (u))
+  step-new Fails reply.Done received u = absurd (cc (u))
+  step-new Fails r received u = absurd (cc (u))
+  step-new s r received u = inl u
 
-pub run-uses : (worker : ℕ) (w : Wanted) (y : Running) (r : Reply) (heard : List ℕ) (a : ℕ) → uses_agg (told worker w y r heard) a ≡ true
+pub run-uses : (worker : ℕ) (w : Wanted) (y : Running) (r : Reply) (received : List ℕ) (a : ℕ) → uses_agg (after_reply worker w y r received) a ≡ true
     → New r a (uses_agg y a)
-run-uses worker w Awaits (reply.Fds from write) heard a u = absurd (cc (u))
-run-uses worker w (Runs run s) r heard a u = step-new worker w run a s r heard u
-run-uses worker w (Leaves d) r heard a u = uses-told [] (serve w) d r heard a u
-run-uses worker w x r heard a u = absurd (cc (u))
+run-uses worker w Awaits (reply.Fds from write) received a u = absurd (cc (u))
+run-uses worker w (Runs run s) r received a u = step-new worker w run a s r received u
+run-uses worker w (Leaves d) r received a u = uses-after_reply [] (serve w) d r received a u
+run-uses worker w x r received a u = absurd (cc (u))
 
 -- ---- the ends of its pipe
 
@@ -178,7 +178,7 @@ module _ (w : Wanted) (run : Run) (g : ℕ) where
       set None = refl
       set (Some f) = refl
 
-      by : (b : Bool) → step_fd (if b then Hears (Some (n, size)) frame else filled n frame) h ≡ false
+      by : (b : Bool) → step_fd (if b then Receives (Some (n, size)) frame else filled n frame) h ≡ false
       by true = refl
       by false = set frame
 
@@ -188,99 +188,99 @@ module _ (w : Wanted) (run : Run) (g : ℕ) where
   hearing-fd false true None frame n len h = holding-fd n len frame h
   hearing-fd false true (Some x) frame n len h = refl
 
-  sending-has : (d : Doing) (frame : Option ℕ) (r : Reply) → Has (Sending d frame) (told_sending run d frame r)
-  sending-has (doing.Sent b taken None) frame reply.Done u = u
-  sending-has (doing.Drops b None) frame reply.Done u = u
+  sending-has : (d : Phase) (frame : Option ℕ) (r : Reply) → Has (Sending d frame) (after_sending run d frame r)
+  sending-has (phase.Sent b taken None) frame reply.Done u = u
+  sending-has (phase.Drops b None) frame reply.Done u = u
   sending-has d frame r u = u
 
-  hears-has : (held : Following) (frame : Option ℕ) (r : Reply) (heard : List ℕ) → Has (Hears held frame) (told_hears w run held frame r heard)
-  hears-has held frame (reply.Agg n) [] u = u
-  hears-has held frame (reply.Agg n) (b ∷ heard) u = on-reading (Hears held frame) refl
-      (only-from (hearing run.broken w.chunked held frame n (count_of (b ∷ heard))) (hearing-fd run.broken w.chunked held frame n (count_of (b ∷ heard))) u)
-  hears-has None frame (reply.Refused (no.Denied p)) heard u = u
-  hears-has (Some x) frame (reply.Refused (no.Denied p)) heard u = u
-  hears-has held frame r heard u = u
+  receives-has : (held : Following) (frame : Option ℕ) (r : Reply) (received : List ℕ) → Has (Receives held frame) (after_output w run held frame r received)
+  receives-has held frame (reply.Agg n) [] u = u
+  receives-has held frame (reply.Agg n) (b ∷ received) u = on-reading (Receives held frame) refl
+      (only-from (hearing run.broken w.chunked held frame n (count_of (b ∷ received))) (hearing-fd run.broken w.chunked held frame n (count_of (b ∷ received))) u)
+  receives-has None frame (reply.Refused (no.Denied p)) received u = u
+  receives-has (Some x) frame (reply.Refused (no.Denied p)) received u = u
+  receives-has held frame r received u = u
 
   finishing-has : (b c : Bool) (held : Following) → has_end (finishing b c run held) g ≡ true → ⊥
   finishing-has false true held u = cc (u)
   finishing-has false false held u = cc (u)
   finishing-has true c held u = cc (u)
 
-  pub step-has : (s : Step) (r : Reply) (heard : List ℕ) → Has s (told_step w run s r heard)
-  step-has (Gives write) (reply.Fd f) heard u = on-reading (Gives write) refl (only-from (Makes f) (λ h. refl) u)
-  step-has (Gives write) (reply.Refused x) heard u = by (is_again x) u
+  pub step-has : (s : Step) (r : Reply) (received : List ℕ) → Has s (after_step w run s r received)
+  step-has (Gives write) (reply.Fd f) received u = on-reading (Gives write) refl (only-from (Makes f) (λ h. refl) u)
+  step-has (Gives write) (reply.Refused x) received u = by (is_again x) u
     where
       by : (b : Bool) → ends_of run (if b then Gives write else Returns write) g ≡ true → ends_of run (Gives write) g ≡ true
       by true u = u
       by false u = u
-  step-has (Makes f) (reply.Agg n) heard u = u
-  step-has (Hands j f) (reply.Count n) heard u = u
-  step-has (Hands j f) (reply.Refused x) heard u = by (is_again x) u
+  step-has (Makes f) (reply.Agg n) received u = u
+  step-has (Hands j f) (reply.Count n) received u = u
+  step-has (Hands j f) (reply.Refused x) received u = by (is_again x) u
     where
       by : (b : Bool) → ends_of run (if b then Hands j f else Lapses j) g ≡ true → ends_of run (Hands j f) g ≡ true
       by true u = u
       by false u = u
-  step-has Heads (reply.Agg n) heard u = u
-  step-has (Sending d frame) r heard u = sending-has d frame r u
-  step-has (Hears held frame) r heard u = hears-has held frame r heard u
-  step-has (Gathers held size piece len frame) (reply.Agg n) heard u = on-reading (Gathers held size piece len frame) refl (only-from (holding n (both size len) frame) (holding-fd n (both size len) frame) u)
-  step-has (Frames held) (reply.Agg n) heard u = u
-  step-has (Wraps held frame) (reply.Agg n) heard u = u
-  step-has (Stops held None) reply.Done heard u = absurd (finishing-has run.broken w.chunked held u)
-  step-has (Stops held (Some f)) reply.Done heard u = absurd (cc (u))
-  step-has (Unframes f held) reply.Done heard u = absurd (finishing-has run.broken w.chunked held u)
-  step-has (Lasts None) (reply.Agg n) heard u = absurd (cc (u))
-  step-has (Lasts (Some x)) (reply.Agg n) heard u = absurd (cc (u))
-  step-has (WrapsLast held size frame) (reply.Agg n) heard u = u
-  step-has (Unwraps frame chunk len) reply.Done heard u = absurd (cc (u))
-  step-has (Returns write) reply.Done heard u = on-reading (Returns write) refl (only-from Fails (λ h. refl) u)
-  step-has Fails reply.Done heard u = absurd (cc (u))
-  step-has other reply.Done heard u = u
-  step-has s r heard u = u
+  step-has Heads (reply.Agg n) received u = u
+  step-has (Sending d frame) r received u = sending-has d frame r u
+  step-has (Receives held frame) r received u = receives-has held frame r received u
+  step-has (Gathers held size piece len frame) (reply.Agg n) received u = on-reading (Gathers held size piece len frame) refl (only-from (holding n (both size len) frame) (holding-fd n (both size len) frame) u)
+  step-has (Frames held) (reply.Agg n) received u = u
+  step-has (Wraps held frame) (reply.Agg n) received u = u
+  step-has (Stops held None) reply.Done received u = absurd (finishing-has run.broken w.chunked held u)
+  step-has (Stops held (Some f)) reply.Done received u = absurd (cc (u))
+  step-has (Unframes f held) reply.Done received u = absurd (finishing-has run.broken w.chunked held u)
+  step-has (Lasts None) (reply.Agg n) received u = absurd (cc (u))
+  step-has (Lasts (Some x)) (reply.Agg n) received u = absurd (cc (u))
+  step-has (WrapsLast held size frame) (reply.Agg n) received u = u
+  step-has (Unwraps frame chunk len) reply.Done received u = absurd (cc (u))
+  step-has (Returns write) reply.Done received u = on-reading (Returns write) refl (only-from Fails (λ h. refl) u)
+  step-has Fails reply.Done received u = absurd (cc (u))
+  step-has other reply.Done received u = u
+  step-has s r received u = u
 
-pub run-ends : (worker : ℕ) (w : Wanted) (y : Running) (r : Reply) (heard : List ℕ) (g : ℕ) → has_end (told worker w y r heard) g ≡ true
+pub run-ends : (worker : ℕ) (w : Wanted) (y : Running) (r : Reply) (received : List ℕ) (g : ℕ) → has_end (after_reply worker w y r received) g ≡ true
     → (has_end y g ≡ true) ⊎ (is_fds r g ≡ true)
-run-ends worker w Awaits (reply.Fds from write) heard g u = inr u
-run-ends worker w (Runs run s) r heard g u = inl (step-has w run g s r heard u)
-run-ends worker w y r heard g u = absurd (cc (u))
+run-ends worker w Awaits (reply.Fds from write) received g u = inr u
+run-ends worker w (Runs run s) r received g u = inl (step-has w run g s r received u)
+run-ends worker w y r received g u = absurd (cc (u))
 
 -- ---- what it uses is there
 
 module _ (m : State) (a : ℕ) where
-  at : (b : ℕ) → (b == a) ≡ true → (bytes : List ℕ) → lent_at m server b ≡ Some bytes → IsLent m a
-  at b is bytes lent = (bytes, ap (λ n. lent_at m server n) (sym (same-number b a is)) ∙ lent)
+  at : (b : ℕ) → (b == a) ≡ true → (bytes : List ℕ) → readable_at m server b ≡ Some bytes → IsReadable m a
+  at b is bytes readable = (bytes, ap (λ n. readable_at m server n) (sym (same-number b a is)) ∙ readable)
 
-  two : (b : ℕ) (rest : Bool) → ((b == a) || rest) ≡ true → (bytes : List ℕ) → lent_at m server b ≡ Some bytes → (rest ≡ true → IsLent m a) → IsLent m a
-  two b rest u bytes lent other = elim (one-of (b == a) rest u) [ inl is ↦ at b is bytes lent | inr is ↦ other is ]
+  two : (b : ℕ) (rest : Bool) → ((b == a) || rest) ≡ true → (bytes : List ℕ) → readable_at m server b ≡ Some bytes → (rest ≡ true → IsReadable m a) → IsReadable m a
+  two b rest u bytes readable other = elim (one-of (b == a) rest u) [ inl is ↦ at b is bytes readable | inr is ↦ other is ]
 
-  frame-there : (frame : Option ℕ) → has_frame frame a ≡ true → HasFrame m frame → IsLent m a
+  frame-there : (frame : Option ℕ) → has_frame frame a ≡ true → HasFrame m frame → IsReadable m a
   frame-there None u has = absurd (cc (u))
   frame-there (Some f) u has = at f u _ has
 
-  held-there : (w : Wanted) (held : Following) (bytes : List ℕ) → has_followed held a ≡ true → IsHeld m w held bytes → IsLent m a
+  held-there : (w : Wanted) (held : Following) (bytes : List ℕ) → has_followed held a ≡ true → IsHeld m w held bytes → IsReadable m a
   held-there w None bytes u has = absurd (cc (u))
-  held-there w (Some x) bytes u has = at x.0 u bytes has.lends
+  held-there w (Some x) bytes u has = at x.0 u bytes has.is_readable
 
   output-there : (w : Wanted) (held : Following) (frame : Option ℕ) (bytes : List ℕ) → (has_followed held a || has_frame frame a) ≡ true
-      → HasOutput m w held frame bytes → IsLent m a
+      → HasOutput m w held frame bytes → IsReadable m a
   output-there w held frame bytes u has = elim (one-of (has_followed held a) (has_frame frame a) u) [ inl is ↦ held-there w held bytes is has.holds | inr is ↦ frame-there frame is has.frames ]
 
-  part-there : (w : Wanted) (o : Progress) (run : Run) (d : Doing) (frame : Option ℕ) → (conn.uses_agg d a || has_frame frame a) ≡ true
-      → HasPart m w o run d frame → IsLent m a
+  part-there : (w : Wanted) (o : Progress) (run : Run) (d : Phase) (frame : Option ℕ) → (conn.uses_agg d a || has_frame frame a) ≡ true
+      → HasPart m w o run d frame → IsReadable m a
   part-there w o run d frame u has = elim (one-of (conn.uses_agg d a) (has_frame frame a) u) [ inl is ↦ has-agg m (serve w) has.part d a is has.has | inr is ↦ frame-there frame is has.frames ]
 
-  step-there : (job : ℕ → List ℕ) (w : Wanted) (o : Progress) (run : Run) (s : Step) → step_agg s a ≡ true → HasStep job m w o run s → IsLent m a
+  step-there : (job : ℕ → List ℕ) (w : Wanted) (o : Progress) (run : Run) (s : Step) → step_agg s a ≡ true → HasStep job m w o run s → IsReadable m a
   step-there job w o run (Hands j f) u has = at j u (job f) has.1
   step-there job w o run (Lets j) u has = at j u has.1.0 has.1.1
   step-there job w o run (Sending d frame) u has = part-there w o run d frame u has
-  step-there job w o run (Hears held frame) u has = output-there w held frame has.bytes u has.has
+  step-there job w o run (Receives held frame) u has = output-there w held frame has.bytes u has.has
   step-there job w o run (Spills b frame) u has = two b (has_frame frame a) u has.0.0.0 has.0.0.1 (λ is. frame-there frame is has.1.has.frames)
-  step-there job w o run (Gathers held size piece len frame) u has = two held ((piece == a) || has_frame frame a) u has.bytes has.has.holds.lends
-      (λ v. two piece (has_frame frame a) v has.more has.lends (λ is. frame-there frame is has.has.frames))
-  step-there job w o run (Frames held) u has = at held u has.bytes has.lends
-  step-there job w o run (Wraps held frame) u has = two held (frame == a) u has.0.bytes has.0.lends (λ is. at frame is _ has.1)
+  step-there job w o run (Gathers held size piece len frame) u has = two held ((piece == a) || has_frame frame a) u has.bytes has.has.holds.is_readable
+      (λ v. two piece (has_frame frame a) v has.more has.is_readable (λ is. frame-there frame is has.has.frames))
+  step-there job w o run (Frames held) u has = at held u has.bytes has.is_readable
+  step-there job w o run (Wraps held frame) u has = two held (frame == a) u has.0.bytes has.0.is_readable (λ is. at frame is _ has.1)
   step-there job w o run (Trims held chunk len frame) u has = two held ((chunk == a) || (frame == a)) u has.0.0.0 has.0.0.1
-      (λ v. part-there w o run (doing.Sends chunk len 0 None) (Some frame) (widen (chunk == a) (frame == a) v) has.1)
+      (λ v. part-there w o run (phase.Sends chunk len 0 None) (Some frame) (widen (chunk == a) (frame == a) v) has.1)
     where
       widen : (x y : Bool) → (x || y) ≡ true → ((x || false) || y) ≡ true
       widen true y v = refl
@@ -290,19 +290,19 @@ module _ (m : State) (a : ℕ) where
   step-there job w o run (Stops held frame) u has = output-there w held frame has.1.bytes u has.1.has
   step-there job w o run (Unframes f held) u has = elim (one-of (f == a) (has_followed held a) u) [ inl is ↦ at f is _ has.has.frames | inr is ↦ held-there w held has.bytes is has.has.holds ]
   step-there job w o run (Lasts held) u has = held-there w held has.2.bytes u has.2.has.holds
-  step-there job w o run (WrapsLast held size frame) u has = two held (frame == a) u has.bytes has.holds.lends (λ is. at frame is _ has.frames)
+  step-there job w o run (WrapsLast held size frame) u has = two held (frame == a) u has.bytes has.holds.is_readable (λ is. at frame is _ has.frames)
   step-there job w o run (TrimsLast held chunk len frame) u has = two held ((chunk == a) || (frame == a)) u has.0.0.0 has.0.0.1
-      (λ v. two chunk (frame == a) v has.2.bytes has.2.lends (λ is. at frame is has.1.0.0 has.1.0.1))
-  step-there job w o run (Unwraps frame chunk len) u has = two frame (chunk == a) u has.0.0.0 has.0.0.1 (λ is. at chunk is has.1.bytes has.1.lends)
+      (λ v. two chunk (frame == a) v has.2.bytes has.2.is_readable (λ is. at frame is has.1.0.0 has.1.0.1))
+  step-there job w o run (Unwraps frame chunk len) u has = two frame (chunk == a) u has.0.0.0 has.0.0.1 (λ is. at chunk is has.1.bytes has.1.is_readable)
   step-there job w o run (Lapses j) u has = at j u has.1.0 has.1.1
   step-there job w o run s u has = absurd (cc (u))
 
-  left-there : (w : Wanted) (o : Progress) (d : Doing) → conn.uses_agg d a ≡ true → HasLeft m w o d → IsLent m a
-  left-there w o doing.Rests u has = absurd (cc (u))
-  left-there w o doing.Closes u has = absurd (cc (u))
-  left-there w o d u has = has-agg m (serve w) has.due d a u has.has
+  left-there : (w : Wanted) (o : Progress) (d : Phase) → conn.uses_agg d a ≡ true → HasLeft m w o d → IsReadable m a
+  left-there w o phase.Rests u has = absurd (cc (u))
+  left-there w o phase.Closes u has = absurd (cc (u))
+  left-there w o d u has = has-agg m (serve w) has.expected d a u has.has
 
-  pub run-there : (job : ℕ → List ℕ) (w : Wanted) (o : Progress) (y : Running) → uses_agg y a ≡ true → HasRun job m w o y → IsLent m a
+  pub run-there : (job : ℕ → List ℕ) (w : Wanted) (o : Progress) (y : Running) → uses_agg y a ≡ true → HasRun job m w o y → IsReadable m a
   run-there job w o (Runs run s) u has = step-there job w o run s u has.1
   run-there job w o (Leaves d) u has = left-there w o d u has
   run-there job w o x u has = absurd (cc (u))
@@ -329,7 +329,7 @@ module _ (m : State) (g : ℕ) where
   step-end job w o run (Lets j) u has = read-there run.from has.0.0 (of-one (run.from == g) u) has.0.1
   step-end job w o run Heads u has = read-there run.from has.0.0 (of-one (run.from == g) u) has.0.1
   step-end job w o run (Sending d frame) u has = read-there run.from has.reads.0 (of-one (run.from == g) u) has.reads.1
-  step-end job w o run (Hears held frame) u has = read-there run.from has.reads.0 (of-one (run.from == g) u) has.reads.1
+  step-end job w o run (Receives held frame) u has = read-there run.from has.reads.0 (of-one (run.from == g) u) has.reads.1
   step-end job w o run (Spills b frame) u has = read-there run.from has.1.reads.0 (of-one (run.from == g) u) has.1.reads.1
   step-end job w o run (Gathers held size piece len frame) u has = read-there run.from has.reads.0 (of-one (run.from == g) u) has.reads.1
   step-end job w o run (Frames held) u has = read-there run.from has.reads.0 (of-one (run.from == g) u) has.reads.1

@@ -9,16 +9,16 @@ use Rattle.iol_core.specs.declared.events.Call.{Call}
 use Rattle.iol_core.specs.declared.events.Event.TheVariants as event
 use Rattle.iol_laws.specs.Order.{IsOrderly}
 use Rattle.iol_laws.proofs.Places.{lowest-free}
-use Rattle.iol_proc.specs.declared.seat.Seat.{Seat}
+use Rattle.iol_proc.specs.declared.process_slot.ProcessSlot.{ProcessSlot}
 use Rattle.flash_cgi.specs.Beside.{is_call_of}
 use Rattle.flash_laws.specs.Client.{Client, uses_agg}
 use Rattle.flash_laws.specs.Client.Holdings.{has_fd}
-use Rattle.flash_laws.specs.Workers.Crew.{Crew}
+use Rattle.flash_laws.specs.Workers.WorkerSet.{WorkerSet}
 use Rattle.flash_laws.specs.Site.Past.{Past}
 use Rattle.flash_laws.specs.Site.Places.{EachHasItsOwn, is_run_by, is_free}
 use Rattle.flash_laws.specs.Run.{worker_domain, job_pipe}
-use Rattle.flash_laws.specs.Site.ClientTies.{Held, Aside, AreAtDesks, FitsAt, AllFit}
-use Rattle.flash_laws.specs.Shelf.{Shelf}
+use Rattle.flash_laws.specs.Site.ClientConsistency.{Held, Aside, AreAtJobQueues, FitsAt, AllFit}
+use Rattle.flash_laws.specs.SiteContents.{SiteContents}
 use Rattle.flash_laws.specs.Site.{server}
 use Rattle.flash_laws.specs.Site.OtherConns.{with_at}
 use Rattle.flash_laws.specs.declared.script_run.Run.{Run}
@@ -27,29 +27,29 @@ use Rattle.flash_laws.specs.declared.script_run.Step.TheVariants.{Gives, Hands, 
 use Rattle.flash_laws.specs.declared.script_run.Running.{Running}
 use Rattle.flash_laws.specs.declared.script_run.Running.TheVariants.{Awaits, Runs}
 use Rattle.flash_laws.proofs.Site.InPlaces.{at-same, at-other}
-use Rattle.flash_laws.proofs.Site.Peers.{IsTold}
+use Rattle.flash_laws.proofs.Site.Peers.{IsAfterReply}
 use Rattle.flash_laws.proofs.World.AllLaws.{AllLaws}
 use Rattle.flash_laws.proofs.World.Calls.{MayTouchPipe}
 use Rattle.flash_laws.proofs.Lists.{clash}
 use Rattle.flash_laws.proofs.Site.OwnWorkers.{free-runs, runs-for}
-use Rattle.flash_laws.proofs.World.Desk.Jobs.{reads-jobs}
+use Rattle.flash_laws.proofs.World.JobQueue.Jobs.{reads-jobs}
 
 -- ---- one place changes
 
-module _ (shelf : Shelf) (crew : Crew) (m n : State) (p : Past) (clients : List (Option Client)) (fd : ℕ) (o : Option Client) (seats : List (Seat crew.Worker)) where
-  pub replaced : AllFit shelf crew m p clients seats → m.next_conn ≤ n.next_conn
-      → ((y : Client) → o ≡ Some y → FitsAt shelf crew n p fd y seats)
-      → ((gd : ℕ) (y : Client) → fd ≢ gd → in_place clients gd ≡ Some y → FitsAt shelf crew n p gd y seats)
-      → ((c : ℕ) → Held n (with_at clients fd o) c ⊎ Aside shelf p c (conn_at n c))
-      → ((c : ℕ) → IsTold (p.gone c) (conn_at n c))
+module _ (site_contents : SiteContents) (worker_set : WorkerSet) (m n : State) (p : Past) (clients : List (Option Client)) (fd : ℕ) (o : Option Client) (process_slots : List (ProcessSlot worker_set.Worker)) where
+  pub replaced : AllFit site_contents worker_set m p clients process_slots → m.next_conn ≤ n.next_conn
+      → ((y : Client) → o ≡ Some y → FitsAt site_contents worker_set n p fd y process_slots)
+      → ((gd : ℕ) (y : Client) → fd ≢ gd → in_place clients gd ≡ Some y → FitsAt site_contents worker_set n p gd y process_slots)
+      → ((c : ℕ) → Held n (with_at clients fd o) c ⊎ Aside site_contents p c (conn_at n c))
+      → ((c : ℕ) → IsAfterReply (p.gone c) (conn_at n c))
       → ((gd a : ℕ) (y z : Client) → fd ≢ gd → o ≡ Some y → in_place clients gd ≡ Some z → uses_agg y a ≡ true → uses_agg z a ≡ true → ⊥)
       → ((gd a : ℕ) (y z : Client) → fd ≢ gd → o ≡ Some y → in_place clients gd ≡ Some z → has_fd y a ≡ true → has_fd z a ≡ true → ⊥)
-      → EachHasItsOwn crew.count (with_at clients fd o)
-      → ((k : ℕ) (seat : Seat crew.Worker) → slice_get seats k ≡ Some seat → is_free (with_at clients fd o) k ≡ true → crew.Free n (crew.desk k) seat)
-      → AreAtDesks crew n seats → AllFit shelf crew n p (with_at clients fd o) seats
-  replaced all rises here there others left mixed_agg mixed_fd own free desks = record {
+      → EachHasItsOwn worker_set.count (with_at clients fd o)
+      → ((k : ℕ) (process_slot : ProcessSlot worker_set.Worker) → slice_get process_slots k ≡ Some process_slot → is_free (with_at clients fd o) k ≡ true → worker_set.Free n (worker_set.job_queue k) process_slot)
+      → AreAtJobQueues worker_set n process_slots → AllFit site_contents worker_set n p (with_at clients fd o) process_slots
+  replaced all rises here there others left mixed_agg mixed_fd own free job_queues = record {
     each = λ gd y is. elim (cases_eq fd gd) [
-      | inl same ↦ subst (λ g. FitsAt shelf crew n p g y seats) same (here y (mine gd y same is))
+      | inl same ↦ subst (λ g. FitsAt site_contents worker_set n p g y process_slots) same (here y (mine gd y same is))
       | inr differ ↦ there gd y differ (old gd y differ is)
     ];
     others = others;
@@ -57,10 +57,10 @@ module _ (shelf : Shelf) (crew : Crew) (m n : State) (p : Past) (clients : List 
     fds_apart = apart (λ y g. has_fd y g) mixed_fd all.fds_apart;
     left = left;
     fresh = λ c more. all.fresh c (omega (arith, rises, more));
-    untold = λ c more. all.untold c (omega (arith, rises, more));
+    unreported = λ c more. all.unreported c (omega (arith, rises, more));
     own = own;
     free = free;
-    desks = desks;
+    job_queues = job_queues;
   }
     where
       mine : (gd : ℕ) (y : Client) → fd ≡ gd → in_place (with_at clients fd o) gd ≡ Some y → o ≡ Some y
@@ -120,31 +120,31 @@ pub no-reader-there : (m : State) → (pipe_at m (lowest m.pipes)).reading ≡ t
 unfolding pipe_at
 no-reader-there m is = (let none = lowest-free m.pipes in grind (arith, none, is))
 
-module _ (shelf : Shelf) (crew : Crew) (laws : AllLaws crew) (m : State) (p : Past) (clients : List (Option Client)) (seats : List (Seat crew.Worker)) (order : IsOrderly m) (all : AllFit shelf crew m p clients seats) where
-  -- each worker reads its desk, so the server does not
-  pub not-desk : (k g : ℕ) → k < crew.count → descriptor m server g ≡ Some (on.ReadEnd (crew.desk k)) → ⊥
-  not-desk k g lt is =
-      let s = all.desks.seated k lt in
-      let by = all.desks.by k s.0 s.1 in
-      let same = (order.one server s.0.by g 0 (on.ReadEnd (crew.desk k)) refl is (reads-jobs shelf crew laws m p clients seats all k s.0 s.1)).0 in
+module _ (site_contents : SiteContents) (worker_set : WorkerSet) (laws : AllLaws worker_set) (m : State) (p : Past) (clients : List (Option Client)) (process_slots : List (ProcessSlot worker_set.Worker)) (order : IsOrderly m) (all : AllFit site_contents worker_set m p clients process_slots) where
+  -- each worker reads its job queue, so the server does not
+  pub not-job_queue : (k g : ℕ) → k < worker_set.count → descriptor m server g ≡ Some (on.ReadEnd (worker_set.job_queue k)) → ⊥
+  not-job_queue k g lt is =
+      let s = all.job_queues.in_slots k lt in
+      let by = all.job_queues.by k s.0 s.1 in
+      let same = (order.one server s.0.by g 0 (on.ReadEnd (worker_set.job_queue k)) refl is (reads-jobs site_contents worker_set laws m p clients process_slots all k s.0 s.1)).0 in
       absurd (let e = same ∙ by.1 in omega (arith, e))
 
-  desk-writing : (k : ℕ) → k < crew.count → (pipe_at m (crew.desk k)).writing ≡ true
-  desk-writing k lt = order.all_stand server (job_pipe k) (on.WriteEnd (crew.desk k)) (all.desks.desks k lt)
+  job_queue-writing : (k : ℕ) → k < worker_set.count → (pipe_at m (worker_set.job_queue k)).writing ≡ true
+  job_queue-writing k lt = order.all_stand server (job_pipe k) (on.WriteEnd (worker_set.job_queue k)) (all.job_queues.job_queues k lt)
 
-  -- a desk that the call for a client may touch is that of its own worker
-  pub own-desk : (run : Option Running) (k : ℕ) → k < crew.count → ((y : Running) (s : Step) (v : Run) → run ≡ Some (Runs v s) → v.worker < crew.count)
-      → ((v : Run) (write : ℕ) → run ≡ Some (Runs v (Returns write)) → ⊥) → MayTouchPipe m run (crew.desk k)
+  -- a job queue that the call for a client may touch is that of its own worker
+  pub own-job_queue : (run : Option Running) (k : ℕ) → k < worker_set.count → ((y : Running) (s : Step) (v : Run) → run ≡ Some (Runs v s) → v.worker < worker_set.count)
+      → ((v : Run) (write : ℕ) → run ≡ Some (Runs v (Returns write)) → ⊥) → MayTouchPipe m run (worker_set.job_queue k)
       → (v : Run) × (s : Step) × (run ≡ Some (Runs v s)) × (v.worker ≡ k)
-  own-desk (Some Awaits) k lt among no_returns may = absurd (no-pipe-there m (ap (λ j. (pipe_at m j).writing) may ∙ desk-writing k lt))
-  own-desk (Some (Runs v (Hands j f))) k lt among no_returns may =
-      let here = all.desks.desks v.worker (among Awaits (Hands j f) v refl) in
-      let same : crew.desk v.worker ≡ crew.desk k = write-inj (crew.desk v.worker) (crew.desk k) (sym here ∙ may) in
+  own-job_queue (Some Awaits) k lt among no_returns may = absurd (no-pipe-there m (ap (λ j. (pipe_at m j).writing) may ∙ job_queue-writing k lt))
+  own-job_queue (Some (Runs v (Hands j f))) k lt among no_returns may =
+      let here = all.job_queues.job_queues v.worker (among Awaits (Hands j f) v refl) in
+      let same : worker_set.job_queue v.worker ≡ worker_set.job_queue k = write-inj (worker_set.job_queue v.worker) (worker_set.job_queue k) (sym here ∙ may) in
       (v, Hands j f, refl, laws.apart v.worker k (among Awaits (Hands j f) v refl) lt same)
     where
       write-inj : (a b : ℕ) → Some (on.WriteEnd a) ≡ Some (on.WriteEnd b) → a ≡ b
       write-inj a b e = cc
-  own-desk (Some (Runs v (Returns write))) k lt among no_returns may = absurd (no_returns v write refl)
-  own-desk (Some (Runs v (Gives write))) k lt among no_returns may = absurd (not-desk k v.from lt may)
-  own-desk (Some (Runs v s)) k lt among no_returns may = absurd (not-desk k v.from lt may)
-  own-desk run k lt among no_returns may = absurd may
+  own-job_queue (Some (Runs v (Returns write))) k lt among no_returns may = absurd (no_returns v write refl)
+  own-job_queue (Some (Runs v (Gives write))) k lt among no_returns may = absurd (not-job_queue k v.from lt may)
+  own-job_queue (Some (Runs v s)) k lt among no_returns may = absurd (not-job_queue k v.from lt may)
+  own-job_queue run k lt among no_returns may = absurd may

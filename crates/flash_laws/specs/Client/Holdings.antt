@@ -1,7 +1,7 @@
--- The server keeps nothing of a finished response, of a file or of a script: the results of its calls belong to the client for
--- which they are made, and are given up when that client no longer uses them.
+-- The server keeps nothing of a finished response, of a file or of a script: the results of its calls belong to the
+-- client for which they are made, and are given up when that client no longer uses them.
 --
--- As in `Client/OfferedBytes`, the laws are about each call of the server, calm or not.
+-- As in `Client/OfferedBytes`, the laws are about each call of the server, undisturbed or not.
 use Rattle.std.specs.Prelude.{◌≡◌, ℕ, ◌==◌, ◌||◌, ◌&&◌, Bool, true, false, not, List, [], Option, Some, None}
 use Rattle.iol_core.specs.Access.{HasAccess}
 use Rattle.iol_core.specs.State.{State, descriptor, is_live}
@@ -10,9 +10,9 @@ use Rattle.iol_core.specs.declared.descriptors.Descriptor.TheVariants as on
 use Rattle.iol_core.specs.declared.events.Event.TheVariants as event
 use Rattle.iol_core.specs.declared.events.Reply.{Reply}
 use Rattle.iol_core.specs.declared.events.Reply.TheVariants as reply
-use Rattle.iol_laws.specs.Caller.{lent_at}
+use Rattle.iol_laws.specs.Caller.{readable_at}
 use Rattle.iol_laws.specs.Order.{IsOrderly}
-use Rattle.flash_laws.specs.Client.{Client, new_client, uses_agg, is_for_script, wants, Readies, keeps_text, awaits, told}
+use Rattle.flash_laws.specs.Client.{Client, new_client, uses_agg, is_for_script, wants, Readies, keeps_text, awaits, after_reply}
 use Rattle.flash_laws.specs.Client.OfferedBytes.{is_ending}
 use Rattle.flash_laws.specs.Conn as conn
 use Rattle.flash_laws.specs.Conn.{is_head_only}
@@ -26,7 +26,7 @@ abbrev pub has_fd : Client → (g : ℕ) → Bool
 has_fd x g = by x.run
   where
     by : Option Running → Bool
-    by None = conn.uses_fd x.conn.doing g
+    by None = conn.uses_fd x.conn.phase g
     by (Some y) = has_end y g
 
 -- whether a script whose text was read will run for it
@@ -34,7 +34,7 @@ abbrev pub is_to_run : (scripts : Bool) → Client → Bool
 is_to_run scripts x = by x.run
   where
     by : Option Running → Bool
-    by None = is_for_script scripts x.conn.q && (not (is_head_only x.conn.q) && is_read x.conn.doing)
+    by None = is_for_script scripts x.conn.q && (not (is_head_only x.conn.q) && is_read x.conn.phase)
     by (Some y) = keeps_text y
 
 -- no text is held except that of a script that will run
@@ -43,29 +43,29 @@ HoldsNoOther scripts x = is_to_run scripts x ≡ false → x.script ≡ []
 
 pub record ClientKeepsNothing (scripts : Bool) : Type 0 where
   -- an aggregate returned by a call for a client is used by it
-  pub brought : (m n : State) (fd c worker : ℕ) (x : Client) (known : Known) (r : Reply) (heard bytes : List ℕ) (a : ℕ)
+  pub brought : (m n : State) (fd c worker : ℕ) (x : Client) (known : Known) (r : Reply) (received bytes : List ℕ) (a : ℕ)
       → IsOrderly m → HasAccess m → is_live m server ≡ true → descriptor m server fd ≡ Some (on.Connection c)
       → is_ending x ≡ false → HasKnown scripts m x known → StepsTo m (event.Call server (wants scripts fd x)) r n
-      → lent_at m server a ≡ None → lent_at n server a ≡ Some bytes → uses_agg (told scripts worker x r heard) a ≡ true
+      → readable_at m server a ≡ None → readable_at n server a ≡ Some bytes → uses_agg (after_reply scripts worker x r received) a ≡ true
   -- the same for the descriptor of a file, and for both ends of a pipe
-  pub opened : (m n : State) (fd worker f : ℕ) (x : Client) (heard : List ℕ) → x.run ≡ None
+  pub opened : (m n : State) (fd worker f : ℕ) (x : Client) (received : List ℕ) → x.run ≡ None
       → StepsTo m (event.Call server (wants scripts fd x)) (reply.Fd f) n
-      → has_fd (told scripts worker x (reply.Fd f) heard) f ≡ true
-  pub piped : (m : State) (worker from write : ℕ) (x : Client) (known : Known) (heard : List ℕ) (g : ℕ) → awaits x ≡ true
+      → has_fd (after_reply scripts worker x (reply.Fd f) received) f ≡ true
+  pub piped : (m : State) (worker from write : ℕ) (x : Client) (known : Known) (received : List ℕ) (g : ℕ) → awaits x ≡ true
       → HasKnown scripts m x known → ((from == g) || (write == g)) ≡ true
-      → has_fd (told scripts worker x (reply.Fds from write) heard) g ≡ true
+      → has_fd (after_reply scripts worker x (reply.Fds from write) received) g ≡ true
   -- an aggregate that it no longer uses is gone
-  pub left : (m n : State) (fd worker : ℕ) (x : Client) (known : Known) (r : Reply) (heard : List ℕ) (a : ℕ) → IsOrderly m
+  pub left : (m n : State) (fd worker : ℕ) (x : Client) (known : Known) (r : Reply) (received : List ℕ) (a : ℕ) → IsOrderly m
       → HasKnown scripts m x known → StepsTo m (event.Call server (wants scripts fd x)) r n
-      → uses_agg x a ≡ true → uses_agg (told scripts worker x r heard) a ≡ false → lent_at n server a ≡ None
+      → uses_agg x a ≡ true → uses_agg (after_reply scripts worker x r received) a ≡ false → readable_at n server a ≡ None
   -- the same for the descriptor of a file, and for each end of a pipe, which is closed, or given to the worker
-  pub shut : (m n : State) (fd worker : ℕ) (x : Client) (known : Known) (r : Reply) (heard : List ℕ) (g : ℕ)
+  pub shut : (m n : State) (fd worker : ℕ) (x : Client) (known : Known) (r : Reply) (received : List ℕ) (g : ℕ)
       → HasKnown scripts m x known → StepsTo m (event.Call server (wants scripts fd x)) r n
-      → has_fd x g ≡ true → has_fd (told scripts worker x r heard) g ≡ false → descriptor n server g ≡ None
+      → has_fd x g ≡ true → has_fd (after_reply scripts worker x r received) g ≡ false → descriptor n server g ≡ None
   -- no text is held except that of a script that will run: a new client has none, and replies preserve this
   pub fresh : HoldsNoOther scripts new_client
-  pub held : (worker : ℕ) (x : Client) (r : Reply) (heard : List ℕ) → HoldsNoOther scripts x
-      → HoldsNoOther scripts (told scripts worker x r heard)
+  pub held : (worker : ℕ) (x : Client) (r : Reply) (received : List ℕ) → HoldsNoOther scripts x
+      → HoldsNoOther scripts (after_reply scripts worker x r received)
   pub ready : (x y : Client) → HoldsNoOther scripts x → Readies x y → HoldsNoOther scripts y
 
 abbrev pub ClientsLeaveNothing : Type 0

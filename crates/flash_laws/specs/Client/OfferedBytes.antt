@@ -1,7 +1,8 @@
--- The bytes that the server offers a client for a request, of a file or of a script, are the next bytes of the response.
+-- The bytes that the server offers a client for a request, of a file or of a script, are the next bytes of the
+-- response.
 --
--- The laws are about single steps, calm or not: what the machine has of a response remains, unless a call consumes or moves
--- what the client uses. That this holds over a whole run is not stated here.
+-- The laws are about single steps, undisturbed or not: what the machine has of a response remains, unless a call
+-- consumes or moves what the client uses. That this holds over a whole run is not stated here.
 use Rattle.std.specs.Prelude.{◌≡◌, ◌⊎◌, ℕ, ◌+◌, Bool, true, false, not, List, [], ◌++◌, Option, Some, None}
 use Rattle.iol_core.specs.Access.{HasAccess}
 use Rattle.iol_core.specs.State.{State, descriptor, is_live}
@@ -17,7 +18,7 @@ use Rattle.iol_laws.specs.Frame.{touches_fd}
 use Rattle.iol_laws.specs.Order.{IsOrderly}
 use Rattle.flash_http.specs.Request.{Answer, serve, Wanted}
 use Rattle.flash_laws.specs.Answers.{Outcome}
-use Rattle.flash_laws.specs.Client.{Client, uses_agg, uses_fd, job_of, wants, is_for_script, awaits, after_run, told}
+use Rattle.flash_laws.specs.Client.{Client, uses_agg, uses_fd, job_of, wants, is_for_script, awaits, after_run, after_reply}
 use Rattle.flash_laws.specs.Conn as conn
 use Rattle.flash_laws.specs.Conn.{begins, most_read}
 use Rattle.flash_laws.specs.Conn.Fits.{Names, is_closing}
@@ -30,48 +31,48 @@ use Rattle.flash_laws.specs.Run.OfferedBytes as run
 use Rattle.flash_laws.specs.Run as running
 use Rattle.flash_laws.specs.Run.{job_pipe, is_over}
 use Rattle.flash_laws.specs.Site.{server}
-use Rattle.flash_laws.specs.declared.phase.Doing.{Doing}
-use Rattle.flash_laws.specs.declared.phase.Doing.TheVariants as doing
+use Rattle.flash_laws.specs.declared.phase.Phase.{Phase}
+use Rattle.flash_laws.specs.declared.phase.Phase.TheVariants as phase
 use Rattle.flash_laws.specs.declared.script_run.Step.TheVariants.{Hands}
 use Rattle.flash_laws.specs.declared.script_run.Running.{Running}
 use Rattle.flash_laws.specs.declared.script_run.Running.TheVariants.{Runs}
 
 -- a client for which this request begins
 abbrev pub begun : (kept : List ℕ) → Answer → Client
-begun kept q = record { conn = record { kept = kept; q = q; doing = begins q }; run = None; script = [] }
+begun kept q = record { conn = record { kept = kept; q = q; phase = begins q }; run = None; script = [] }
 
 -- whether only the close of its connection is left to do
 abbrev pub is_ending : Client → Bool
 is_ending x = by x.run
   where
     by : Option Running → Bool
-    by None = is_closing x.conn.doing
+    by None = is_closing x.conn.phase
     by (Some y) = is_over y
 
 -- The result of the calls for a file or for the text of a script, after the reply to one.
-abbrev pub ConnLearns : (script : Bool) → Doing → Reply → (heard : List ℕ) → (before after : Known) → Type 0
-ConnLearns true (doing.Reads f) (reply.Agg n) heard before after = after ≡ of_text heard
-ConnLearns script d r heard (OfFile o) after = (p : Outcome) × file.Learns d r heard o p × (after ≡ OfFile p)
-ConnLearns script d r heard (OfScript text o) after = after ≡ OfScript text o
+abbrev pub ConnLearns : (script : Bool) → Phase → Reply → (received : List ℕ) → (before after : Known) → Type 0
+ConnLearns true (phase.Reads f) (reply.Agg n) received before after = after ≡ of_text received
+ConnLearns script d r received (OfFile o) after = (p : Outcome) × file.Learns d r received o p × (after ≡ OfFile p)
+ConnLearns script d r received (OfScript text o) after = after ≡ OfScript text o
 
 -- the result of the calls of a run
-abbrev pub RunLearns : State → Running → Reply → (heard : List ℕ) → (before after : Known) → Type 0
-RunLearns m y r heard (OfScript text o) after = (p : Progress) × run.Learns m y r heard o p × (after ≡ OfScript text p)
-RunLearns m y r heard (OfFile o) after = ⊥
+abbrev pub RunLearns : State → Running → Reply → (received : List ℕ) → (before after : Known) → Type 0
+RunLearns m y r received (OfScript text o) after = (p : Progress) × run.Learns m y r received o p × (after ≡ OfScript text p)
+RunLearns m y r received (OfFile o) after = ⊥
 
-abbrev pub Learns : (scripts : Bool) → State → Client → Reply → (heard : List ℕ) → (before after : Known) → Type 0
-Learns scripts m x r heard before after = by x.run
+abbrev pub Learns : (scripts : Bool) → State → Client → Reply → (received : List ℕ) → (before after : Known) → Type 0
+Learns scripts m x r received before after = by x.run
   where
     by : Option Running → Type 0
-    by None = ConnLearns (is_for_script scripts x.conn.q) x.conn.doing r heard before after
-    by (Some y) = RunLearns m y r heard before after
+    by None = ConnLearns (is_for_script scripts x.conn.q) x.conn.phase r received before after
+    by (Some y) = RunLearns m y r received before after
 
 -- the number of bytes taken of those that are being sent
 abbrev pub taken_by : Client → ℕ
 taken_by x = by x.run
   where
     by : Option Running → ℕ
-    by None = file.taken_of x.conn.doing
+    by None = file.taken_of x.conn.phase
     by (Some y) = run.taken_by y
 
 -- it writes its job into the job pipe of its worker
@@ -87,38 +88,39 @@ abbrev pub is_working : Client → Bool
 is_working x = by x.run
   where
     by : Option Running → Bool
-    by None = is_busy x.conn.doing
+    by None = is_busy x.conn.phase
     by (Some y) = not (is_over y)
 
 -- more of its script's output was read
-abbrev pub HearsMore : Client → Reply → (heard : List ℕ) → Type 0
-HearsMore x r heard = by x.run
+abbrev pub ReceivesMore : Client → Reply → (received : List ℕ) → Type 0
+ReceivesMore x r received = by x.run
   where
     by : Option Running → Type 0
     by None = ⊥
-    by (Some y) = run.HearsMore y r heard
+    by (Some y) = run.ReceivesMore y r received
 
 -- whether its output is dropped
 abbrev pub drops_rest : Client → Bool
 drops_rest x = by x.run
   where
     by : Option Running → Bool
-    by None = is_dropping x.conn.doing
+    by None = is_dropping x.conn.phase
     by (Some y) = run.breaks_off y
 
 -- the buffered stream after a reply: the former one, followed by the bytes of the stream that were read
-abbrev pub kept_by : Client → Reply → (heard : List ℕ) → List ℕ
-kept_by x r heard = by x.run x.conn.doing r
+abbrev pub kept_by : Client → Reply → (received : List ℕ) → List ℕ
+kept_by x r received = by x.run x.conn.phase r
   where
-    by : Option Running → Doing → Reply → List ℕ
-    by None doing.Rests (reply.Agg n) = x.conn.kept ++ heard
+    by : Option Running → Phase → Reply → List ℕ
+    by None phase.Rests (reply.Agg n) = x.conn.kept ++ received
     by y d r = x.conn.kept
 
--- The client advances as its run does, with its connection unchanged; once the run is over, the connection continues its phase.
-pub record GoesOnAs (x : Client) (z : Running) (after : Client) : Type 0 where
+-- The client advances as its run does, with its connection unchanged; once the run is over, the connection continues
+-- its phase.
+pub record ProceedsAs (x : Client) (z : Running) (after : Client) : Type 0 where
   pub going : is_over z ≡ false → (after.run ≡ Some z) × (after.conn ≡ x.conn)
   pub ended : is_over z ≡ true
-      → after ≡ record { conn = record x.conn { doing = after_run z }; run = None; script = [] }
+      → after ≡ record { conn = record x.conn { phase = after_run z }; run = None; script = [] }
 
 -- A client with a run makes the calls of the run, uses and has the same, and advances with it; so the laws of runs
 -- (`Run/OfferedBytes`) apply to it.
@@ -128,33 +130,33 @@ pub record IsAsItsRun (scripts : Bool) (m : State) (x : Client) (w : Wanted) (y 
   pub asks : (fd : ℕ) → wants scripts fd x ≡ running.wants (job_of w text) fd w y
   pub aggs : (a : ℕ) → uses_agg x a ≡ running.uses_agg y a
   pub fds : (g : ℕ) → uses_fd x g ≡ running.uses_fd y g
-  pub tells : (worker : ℕ) (r : Reply) (heard : List ℕ)
-      → GoesOnAs x (running.told worker w y r heard) (told scripts worker x r heard)
+  pub reports : (worker : ℕ) (r : Reply) (received : List ℕ)
+      → ProceedsAs x (running.after_reply worker w y r received) (after_reply scripts worker x r received)
 
 -- A client without a script for its request makes the calls of its connection, uses and has the same, and gets the same
 -- replies; so the laws of connections (`Conn/OfferedBytes`) apply to it.
 pub record IsAsItsConn (scripts : Bool) (m : State) (x : Client) (o : Outcome) : Type 0 where
   pub has : file.HasAnswer m x.conn o
   pub asks : (fd : ℕ) → wants scripts fd x ≡ conn.wants fd x.conn
-  pub aggs : (a : ℕ) → uses_agg x a ≡ conn.uses_agg x.conn.doing a
-  pub fds : (g : ℕ) → uses_fd x g ≡ conn.uses_fd x.conn.doing g
-  pub tells : (worker : ℕ) (r : Reply) (heard : List ℕ)
-      → told scripts worker x r heard ≡ record x { conn = conn.told x.conn r heard }
+  pub aggs : (a : ℕ) → uses_agg x a ≡ conn.uses_agg x.conn.phase a
+  pub fds : (g : ℕ) → uses_fd x g ≡ conn.uses_fd x.conn.phase g
+  pub reports : (worker : ℕ) (r : Reply) (received : List ℕ)
+      → after_reply scripts worker x r received ≡ record x { conn = conn.after_reply x.conn r received }
 
 -- `scripts` is whether scripts are run.
 pub record ClientOffersTheResponse (scripts : Bool) : Type 0 where
   -- when a request begins, nothing is needed
   pub starts : (m : State) (fd : ℕ) (kept : List ℕ) (q : Answer) (o : Outcome)
       → FirstCall q (wants scripts fd (begun kept q)) × HasKnown scripts m (begun kept q) (OfFile o)
-  -- after the reply to its call the result is known or unchanged, and the machine has the data for the next step; the free
-  -- worker is one with a job pipe
-  pub replied : (m n : State) (fd c worker : ℕ) (x : Client) (r : Reply) (heard : List ℕ) (before : Known)
+  -- after the reply to its call the result is known or unchanged, and the machine has the data for the next step; the
+  -- free worker is one with a job pipe
+  pub replied : (m n : State) (fd c worker : ℕ) (x : Client) (r : Reply) (received : List ℕ) (before : Known)
       → IsOrderly m → HasAccess m
       → is_live m server ≡ true → descriptor m server fd ≡ Some (on.Connection c)
       → (awaits x ≡ true → HasJobPipe m worker)
       → is_ending x ≡ false
-      → HasKnown scripts m x before → StepsTo m (event.Call server (wants scripts fd x)) r n → Names n r heard
-      → (after : Known) × Learns scripts m x r heard before after × HasKnown scripts n (told scripts worker x r heard) after
+      → HasKnown scripts m x before → StepsTo m (event.Call server (wants scripts fd x)) r n → Names n r received
+      → (after : Known) × Learns scripts m x r received before after × HasKnown scripts n (after_reply scripts worker x r received) after
   -- the same for any other event that neither consumes nor moves what the client uses
   pub stays : (m n : State) (x : Client) (e : Event) (r : Reply) (known : Known) → StepsTo m e r n
       → ((a : ℕ) → uses_agg x a ≡ true → gives_up e server a ≡ false)
@@ -165,12 +167,12 @@ pub record ClientOffersTheResponse (scripts : Bool) : Type 0 where
       → wants scripts fd x ≡ call.IolWrite g a
       → ((g ≡ fd) × IsNextOf m x.conn.q known a (taken_by x)) ⊎ HandsJob x g a
   -- the bytes that the connection took count as taken, while the response is neither over nor aborted
-  pub takes : (m n : State) (fd c worker : ℕ) (x : Client) (r : Reply) (heard : List ℕ) (before after : Known) → IsOrderly m
+  pub takes : (m n : State) (fd c worker : ℕ) (x : Client) (r : Reply) (received : List ℕ) (before after : Known) → IsOrderly m
       → descriptor m server fd ≡ Some (on.Connection c) → is_ending x ≡ false → HasKnown scripts m x before
-      → StepsTo m (event.Call server (wants scripts fd x)) r n → Learns scripts m x r heard before after
-      → drops_rest x ≡ false → drops_rest (told scripts worker x r heard) ≡ false
-      → is_working (told scripts worker x r heard) ≡ true
-      → taken_before after + taken_by (told scripts worker x r heard)
+      → StepsTo m (event.Call server (wants scripts fd x)) r n → Learns scripts m x r received before after
+      → drops_rest x ≡ false → drops_rest (after_reply scripts worker x r received) ≡ false
+      → is_working (after_reply scripts worker x r received) ≡ true
+      → taken_before after + taken_by (after_reply scripts worker x r received)
       ≡ taken_before before + taken_by x + newly_taken fd (wants scripts fd x) r
   -- for a request that is not for a script the client behaves as its connection
   pub files : (m : State) (x : Client) (o : Outcome) → is_for_script scripts x.conn.q ≡ false → HasKnown scripts m x (OfFile o)
@@ -179,23 +181,24 @@ pub record ClientOffersTheResponse (scripts : Bool) : Type 0 where
   pub runs : (m : State) (x : Client) (w : Wanted) (y : Running) (text : List ℕ) (o : Progress) → x.run ≡ Some y
       → x.conn.q ≡ serve w → is_over y ≡ false → HasKnown scripts m x (OfScript text o) → IsAsItsRun scripts m x w y text o
   -- the text of a script is read whole, also for HEAD
-  pub whole : (fd f : ℕ) (x : Client) → x.run ≡ None → is_for_script scripts x.conn.q ≡ true → x.conn.doing ≡ doing.Reads f
+  pub whole : (fd f : ℕ) (x : Client) → x.run ≡ None → is_for_script scripts x.conn.q ≡ true → x.conn.phase ≡ phase.Reads f
       → wants scripts fd x ≡ call.IolRead f most_read
   -- replies leave its request unchanged, and append the bytes read to its buffered stream
-  pub keeps : (worker : ℕ) (x : Client) (r : Reply) (heard : List ℕ)
-      → ((told scripts worker x r heard).conn.q ≡ x.conn.q)
-      × ((told scripts worker x r heard).conn.kept ≡ kept_by x r heard)
-  -- each reply reduces the rank of its request, unless more of its script's output was read, or its call is retried later
+  pub keeps : (worker : ℕ) (x : Client) (r : Reply) (received : List ℕ)
+      → ((after_reply scripts worker x r received).conn.q ≡ x.conn.q)
+      × ((after_reply scripts worker x r received).conn.kept ≡ kept_by x r received)
+  -- each reply reduces the rank of its request, unless more of its script's output was read, or its call is retried
+  -- later
   pub rank : Client → Rank
-  pub nears : (m n : State) (fd c worker : ℕ) (x : Client) (r : Reply) (heard : List ℕ) (known : Known) → IsOrderly m
+  pub nears : (m n : State) (fd c worker : ℕ) (x : Client) (r : Reply) (received : List ℕ) (known : Known) → IsOrderly m
       → is_live m server ≡ true → descriptor m server fd ≡ Some (on.Connection c) → is_working x ≡ true
       → HasKnown scripts m x known → CanMake m (wants scripts fd x)
-      → StepsTo m (event.Call server (wants scripts fd x)) r n → Names n r heard
-      → Nears rank x r (told scripts worker x r heard) ⊎ HearsMore x r heard
+      → StepsTo m (event.Call server (wants scripts fd x)) r n → Names n r received
+      → Nears rank x r (after_reply scripts worker x r received) ⊎ ReceivesMore x r received
   -- a successful call is not repeated
-  pub moves : (m n : State) (fd worker : ℕ) (x : Client) (r : Reply) (heard : List ℕ) (known : Known) → is_ending x ≡ false
+  pub moves : (m n : State) (fd worker : ℕ) (x : Client) (r : Reply) (received : List ℕ) (known : Known) → is_ending x ≡ false
       → HasKnown scripts m x known → StepsTo m (event.Call server (wants scripts fd x)) r n
-      → told scripts worker x r heard ≡ x → may_repeat (wants scripts fd x) r ≡ true
+      → after_reply scripts worker x r received ≡ x → may_repeat (wants scripts fd x) r ≡ true
 
 abbrev pub ClientsAreOfferedTheResponse : Type 0
 ClientsAreOfferedTheResponse = (scripts : Bool) → ClientOffersTheResponse scripts

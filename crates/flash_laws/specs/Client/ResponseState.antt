@@ -1,7 +1,7 @@
 -- The known part of the response to a request, of a file or of a script, and what the machine has of it.
 use Rattle.std.specs.Prelude.{◌≡◌, ℕ, ◌+◌, Bool, true, false, List, [], ◌++◌, drop, Option, Some, None, if◌then◌else◌}
 use Rattle.iol_core.specs.State.{State}
-use Rattle.iol_laws.specs.Caller.{lent_at}
+use Rattle.iol_laws.specs.Caller.{readable_at}
 use Rattle.flash_http.specs.Request.{Answer, serve, refuse, Wanted}
 use Rattle.flash_laws.specs.Answers.{Outcome, Failed, response, script_text}
 use Rattle.flash_laws.specs.Client.{Client, is_for_script, job_of, can_run, keeps_text}
@@ -10,10 +10,10 @@ use Rattle.flash_laws.specs.Run.Fits as run
 use Rattle.flash_laws.specs.Run.Fits.{Progress, Broken, nothing_yet, IsLeft, HasRun}
 use Rattle.flash_laws.specs.Run.OfferedBytes.{past_of}
 use Rattle.flash_laws.specs.Site.{server}
-use Rattle.flash_laws.specs.declared.phase.Learnt.TheVariants.{Text}
-use Rattle.flash_laws.specs.declared.phase.Content.TheVariants.{Script}
-use Rattle.flash_laws.specs.declared.phase.Doing.{Doing}
-use Rattle.flash_laws.specs.declared.phase.Doing.TheVariants as doing
+use Rattle.flash_laws.specs.declared.phase.FileResult.TheVariants.{Text}
+use Rattle.flash_laws.specs.declared.phase.Payload.TheVariants.{Script}
+use Rattle.flash_laws.specs.declared.phase.Phase.{Phase}
+use Rattle.flash_laws.specs.declared.phase.Phase.TheVariants as phase
 use Rattle.flash_laws.specs.declared.script_run.Running.{Running}
 
 -- The results of the calls for a request so far.
@@ -34,8 +34,8 @@ abbrev pub MayPutOut : (head_only : Bool) → Wanted → Progress → List ℕ �
 MayPutOut true w o r = r ≡ script_text w
 MayPutOut false w o r = run.MayAnswer w o r
 
--- The possible responses with the known results: for a file there is one; for a script it is the response to its output, for
--- every further output.
+-- The possible responses with the known results: for a file there is one; for a script it is the response to its
+-- output, for every further output.
 abbrev pub MayAnswer : Answer → Known → List ℕ → Type 0
 MayAnswer q (OfFile o) r = r ≡ response q o
 MayAnswer (serve w) (OfScript text o) r = MayPutOut w.head_only w o r
@@ -49,30 +49,30 @@ taken_before (OfScript text o) = past_of o
 -- the bytes of an aggregate are the next of each possible response
 pub record IsNextOf (m : State) (q : Answer) (known : Known) (a taken : ℕ) : Type 0 where
   pub bytes : List ℕ
-  pub lends : lent_at m server a ≡ Some bytes
+  pub is_readable : readable_at m server a ≡ Some bytes
   pub next : (r : List ℕ) → MayAnswer q known r → (after : List ℕ) × (bytes ++ after ≡ drop (taken_before known + taken) r)
 
 -- ---- what the machine has of it
 
 -- whether the text of a script is read but has not begun to run
-abbrev pub is_read : Doing → Bool
-is_read (doing.Shuts f (Text a true)) = true
-is_read (doing.Spares a Script) = true
+abbrev pub is_read : Phase → Bool
+is_read (phase.Shuts f (Text a true)) = true
+is_read (phase.Spares a Script) = true
 is_read d = false
 
 -- whether a file, or a script, is still to be opened or read
-abbrev pub is_opening : Doing → Bool
-is_opening doing.Opens = true
-is_opening (doing.Reads f) = true
+abbrev pub is_opening : Phase → Bool
+is_opening phase.Opens = true
+is_opening (phase.Reads f) = true
 is_opening d = false
 
 -- whether nothing of a response is being made or sent
-abbrev pub is_silent : Doing → Bool
-is_silent doing.Rests = true
-is_silent (doing.Got a) = true
-is_silent (doing.Breaks piece a more) = true
-is_silent (doing.Drops a more) = true
-is_silent doing.Closes = true
+abbrev pub is_silent : Phase → Bool
+is_silent phase.Rests = true
+is_silent (phase.Got a) = true
+is_silent (phase.Breaks piece a more) = true
+is_silent (phase.Drops a more) = true
+is_silent phase.Closes = true
 is_silent d = is_read d
 
 -- the run is to begin, with the text that was read
@@ -86,25 +86,25 @@ IsTaken w Broken = Unit {0}
 IsTaken w o = IsLeft w o []
 
 -- After the run the connection is idle if all of the response was taken and permits it; otherwise it is to be closed.
-abbrev pub IsAfter : Wanted → Progress → Doing → Type 0
-IsAfter w o doing.Rests = IsLeft w o [] × (w.keep ≡ true)
-IsAfter w o (doing.Got a) = IsLeft w o [] × (w.keep ≡ true)
+abbrev pub IsAfter : Wanted → Progress → Phase → Type 0
+IsAfter w o phase.Rests = IsLeft w o [] × (w.keep ≡ true)
+IsAfter w o (phase.Got a) = IsLeft w o [] × (w.keep ≡ true)
 IsAfter w o d = IsTaken w o
 
 abbrev pub ReadsOn : (read : Bool) → Wanted → Client → (text : List ℕ) → Progress → Type 0
 ReadsOn true w x text o = IsToRun x text o
-ReadsOn false w x text o = IsAfter w o x.conn.doing
+ReadsOn false w x text o = IsAfter w o x.conn.phase
 
 -- HEAD is answered as for a file; for GET nothing is sent before the run begins, or after it
 abbrev pub Sends : (head_only : Bool) → Wanted → Client → (text : List ℕ) → Progress → Type 0
 Sends true w x text o = o ≡ nothing_yet
-Sends false w x text o = (is_silent x.conn.doing ≡ true) × ReadsOn (is_read x.conn.doing) w x text o
+Sends false w x text o = (is_silent x.conn.phase ≡ true) × ReadsOn (is_read x.conn.phase) w x text o
 
 -- no run has begun, or it is over
 pub record HasNoRun (scripts : Bool) (m : State) (w : Wanted) (x : Client) (text : List ℕ) (o : Progress) : Type 0 where
-  pub script : is_read x.conn.doing ≡ true → is_for_script scripts (serve w) ≡ true
-  pub read : is_opening x.conn.doing ≡ false
-  pub has : Has m (serve w) (script_text w) x.conn.doing
+  pub script : is_read x.conn.phase ≡ true → is_for_script scripts (serve w) ≡ true
+  pub read : is_opening x.conn.phase ≡ false
+  pub has : Has m (serve w) (script_text w) x.conn.phase
   pub sends : Sends w.head_only w x text o
 
 -- a run has the connection
@@ -124,8 +124,8 @@ HasScript scripts m x (refuse status head_only close) text o = ⊥
 -- for a file
 pub record HasFile (m : State) (x : Client) (o : Outcome) : Type 0 where
   pub none : x.run ≡ None
-  pub unread : is_read x.conn.doing ≡ false
-  pub has : Has m x.conn.q (response x.conn.q o) x.conn.doing
+  pub unread : is_read x.conn.phase ≡ false
+  pub has : Has m x.conn.q (response x.conn.q o) x.conn.phase
 
 -- The machine has what the response needs, with the known results.
 abbrev pub HasKnown : (scripts : Bool) → State → Client → Known → Type 0

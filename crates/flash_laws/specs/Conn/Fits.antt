@@ -1,7 +1,7 @@
 -- The invariant of one connection, by its input and output.
 use Rattle.std.specs.Prelude.{◌≡◌, ◌≤◌, ◌<◌, ℕ, ◌+◌, ◌-◌, ◌||◌, ◌==◌, Bool, true, false, List, [], ◌∷◌, ◌++◌, length, drop, slice_range, Some, None}
 use Rattle.iol_core.specs.State.{State, descriptor}
-use Rattle.iol_laws.specs.Caller.{lent_at}
+use Rattle.iol_laws.specs.Caller.{readable_at}
 use Rattle.iol_core.specs.declared.limits.TheConstants.{MAX_AGGREGATE_BYTES}
 use Rattle.iol_core.specs.declared.descriptors.Descriptor.TheVariants as on
 use Rattle.iol_core.specs.declared.descriptors.Mode.TheVariants as modes
@@ -11,103 +11,103 @@ use Rattle.flash_http.specs.Request.{Answer, serve, refuse, Wanted}
 use Rattle.flash_laws.specs.Answers.{Found, response}
 use Rattle.flash_laws.specs.Site.{server}
 use Rattle.flash_laws.specs.Conn.{Following, has_followed, content_agg, piece_end, text_of, put_out}
-use Rattle.flash_laws.specs.declared.phase.Learnt.{Learnt}
-use Rattle.flash_laws.specs.declared.phase.Learnt.TheVariants.{File, Length, Fails, Text}
-use Rattle.flash_laws.specs.declared.phase.Content.{Content}
-use Rattle.flash_laws.specs.declared.phase.Content.TheVariants.{Body, Bare, Error, Script}
-use Rattle.flash_laws.specs.declared.phase.Doing.{Doing}
-use Rattle.flash_laws.specs.declared.phase.Doing.TheVariants.{Rests, Got, Opens, Reads as Reading, Shuts, Picks, Spares, Heads, Joins, Sends, Cuts, Offers, Swaps, Sent, Breaks, Drops, Closes, Over}
+use Rattle.flash_laws.specs.declared.phase.FileResult.{FileResult}
+use Rattle.flash_laws.specs.declared.phase.FileResult.TheVariants.{File, Length, Fails, Text}
+use Rattle.flash_laws.specs.declared.phase.Payload.{Payload}
+use Rattle.flash_laws.specs.declared.phase.Payload.TheVariants.{Body, Bare, Error, Script}
+use Rattle.flash_laws.specs.declared.phase.Phase.{Phase}
+use Rattle.flash_laws.specs.declared.phase.Phase.TheVariants.{Rests, Got, Opens, Reads as Reading, Shuts, Picks, Spares, Heads, Joins, Sends, Cuts, Offers, Swaps, Sent, Breaks, Drops, Closes, Over}
 
--- ---- what the machine has of a response: the server offers the next bytes of the due response
+-- ---- what the machine has of a response: the server offers the next bytes of the expected response
 
-abbrev pub IsLent : State → (a : ℕ) → Type 0
-IsLent m a = (bytes : List ℕ) × (lent_at m server a ≡ Some bytes)
+abbrev pub IsReadable : State → (a : ℕ) → Type 0
+IsReadable m a = (bytes : List ℕ) × (readable_at m server a ≡ Some bytes)
 
-abbrev pub LendsMore : State → Following → List ℕ → Type 0
-LendsMore m None bytes = bytes ≡ []
-LendsMore m (Some x) bytes = (lent_at m server x.0 ≡ Some bytes) × (x.1 ≡ length bytes)
+abbrev pub MoreIsReadable : State → Following → List ℕ → Type 0
+MoreIsReadable m None bytes = bytes ≡ []
+MoreIsReadable m (Some x) bytes = (readable_at m server x.0 ≡ Some bytes) × (x.1 ≡ length bytes)
 
 -- an aggregate, and the one that follows it, are the part of the response that is not yet taken
-pub record HoldsRest (m : State) (due : List ℕ) (a len taken : ℕ) (more : Following) : Type 0 where
+pub record HoldsRest (m : State) (expected : List ℕ) (a len taken : ℕ) (more : Following) : Type 0 where
   pub bytes : List ℕ
   pub after : List ℕ
-  pub lends : lent_at m server a ≡ Some bytes
+  pub is_readable : readable_at m server a ≡ Some bytes
   pub size : len ≡ length bytes
-  pub follows : LendsMore m more after
-  pub next : bytes ++ after ≡ drop taken due
+  pub follows : MoreIsReadable m more after
+  pub next : bytes ++ after ≡ drop taken expected
   pub apart : has_followed more a ≡ false
 
 -- the same, without its bytes before `from`, which are taken
-pub record HoldsRestFrom (m : State) (due : List ℕ) (a from len taken : ℕ) (more : Following) : Type 0 where
+pub record HoldsRestFrom (m : State) (expected : List ℕ) (a from len taken : ℕ) (more : Following) : Type 0 where
   pub bytes : List ℕ
   pub after : List ℕ
-  pub lends : lent_at m server a ≡ Some bytes
+  pub is_readable : readable_at m server a ≡ Some bytes
   pub size : len ≡ length bytes
-  pub follows : LendsMore m more after
-  pub next : drop from bytes ++ after ≡ drop taken due
+  pub follows : MoreIsReadable m more after
+  pub next : drop from bytes ++ after ≡ drop taken expected
   pub apart : has_followed more a ≡ false
 
 -- the same, with some bytes left, and a piece of them as another aggregate
-pub record HoldsPiece (m : State) (due : List ℕ) (a from len piece taken : ℕ) (more : Following) : Type 0 where
-  pub whole : HoldsRestFrom m due a from len taken more
+pub record HoldsPiece (m : State) (expected : List ℕ) (a from len piece taken : ℕ) (more : Following) : Type 0 where
+  pub whole : HoldsRestFrom m expected a from len taken more
   pub some : from < len
-  pub lends : lent_at m server piece ≡ Some (slice_range whole.bytes from (piece_end from len))
+  pub is_readable : readable_at m server piece ≡ Some (slice_range whole.bytes from (piece_end from len))
   pub other : ((a == piece) || has_followed more piece) ≡ false
 
 -- all its bytes are taken
-pub record HoldsMore (m : State) (due : List ℕ) (a taken : ℕ) (more : Following) : Type 0 where
+pub record HoldsMore (m : State) (expected : List ℕ) (a taken : ℕ) (more : Following) : Type 0 where
   pub bytes : List ℕ
   pub after : List ℕ
-  pub lends : lent_at m server a ≡ Some bytes
-  pub follows : LendsMore m more after
-  pub next : after ≡ drop taken due
+  pub is_readable : readable_at m server a ≡ Some bytes
+  pub follows : MoreIsReadable m more after
+  pub next : after ≡ drop taken expected
   pub apart : has_followed more a ≡ false
 
 -- an aggregate, and one that follows it, are to be dropped
 pub record HoldsUnsent (m : State) (a : ℕ) (more : Following) : Type 0 where
   pub after : List ℕ
-  pub lent : IsLent m a
-  pub follows : LendsMore m more after
+  pub readable : IsReadable m a
+  pub follows : MoreIsReadable m more after
   pub apart : has_followed more a ≡ false
 
--- the due response is the text followed by the bytes of an aggregate
-pub record HasBody (m : State) (due text : List ℕ) (a size : ℕ) : Type 0 where
+-- the expected response is the text followed by the bytes of an aggregate
+pub record HasBody (m : State) (expected text : List ℕ) (a size : ℕ) : Type 0 where
   pub bytes : List ℕ
-  pub lends : lent_at m server a ≡ Some bytes
+  pub is_readable : readable_at m server a ≡ Some bytes
   pub count : size ≡ length bytes
-  pub due_is : due ≡ text ++ bytes
+  pub expected_is : expected ≡ text ++ bytes
 
 -- the same, if only these of its bytes are sent, and at least one
-pub record HasPart (m : State) (due text : List ℕ) (a from to : ℕ) : Type 0 where
+pub record HasPart (m : State) (expected text : List ℕ) (a from to : ℕ) : Type 0 where
   pub bytes : List ℕ
-  pub lends : lent_at m server a ≡ Some bytes
+  pub is_readable : readable_at m server a ≡ Some bytes
   pub some : from < to
   pub count : to - from ≡ length (slice_range bytes from to)
-  pub due_is : due ≡ text ++ slice_range bytes from to
+  pub expected_is : expected ≡ text ++ slice_range bytes from to
 
--- the due response has the bytes of an aggregate, which are the whole file
-pub record HasFile (m : State) (w : Wanted) (due : List ℕ) (a len : ℕ) : Type 0 where
+-- the expected response has the bytes of an aggregate, which are the whole file
+pub record HasFile (m : State) (w : Wanted) (expected : List ℕ) (a len : ℕ) : Type 0 where
   pub bytes : List ℕ
-  pub lends : lent_at m server a ≡ Some bytes
+  pub is_readable : readable_at m server a ≡ Some bytes
   pub count : len ≡ length bytes
   pub whole : w.head_only ≡ false
-  pub due_is : due ≡ response (serve w) (Found bytes)
+  pub expected_is : expected ≡ response (serve w) (Found bytes)
 
-abbrev pub HasWhole : State → Answer → (due : List ℕ) → (a len : ℕ) → Type 0
-HasWhole m (serve w) due a len = HasFile m w due a len
-HasWhole m (refuse status head_only close) due a len = ⊥
+abbrev pub HasWhole : State → Answer → (expected : List ℕ) → (a len : ℕ) → Type 0
+HasWhole m (serve w) expected a len = HasFile m w expected a len
+HasWhole m (refuse status head_only close) expected a len = ⊥
 
-abbrev pub HasLearnt : State → Answer → (due : List ℕ) → Learnt → Type 0
-HasLearnt m q due (File a len) = HasWhole m q due a len
-HasLearnt m q due (Length len) = due ≡ text_of q (Bare len)
-HasLearnt m q due (Fails status) = due ≡ text_of q (Error status)
-HasLearnt m q due (Text a runs) = IsLent m a × (due ≡ text_of q (put_out runs))
+abbrev pub HasFileResult : State → Answer → (expected : List ℕ) → FileResult → Type 0
+HasFileResult m q expected (File a len) = HasWhole m q expected a len
+HasFileResult m q expected (Length len) = expected ≡ text_of q (Bare len)
+HasFileResult m q expected (Fails status) = expected ≡ text_of q (Error status)
+HasFileResult m q expected (Text a runs) = IsReadable m a × (expected ≡ text_of q (put_out runs))
 
-abbrev pub HasContent : State → Answer → (due : List ℕ) → Content → Type 0
-HasContent m q due (Body a size len) = HasBody m due (text_of q (Body a size len)) a size
-HasContent m q due (Bare len) = due ≡ text_of q (Bare len)
-HasContent m q due (Error status) = due ≡ text_of q (Error status)
-HasContent m q due Script = due ≡ text_of q Script
+abbrev pub HasContent : State → Answer → (expected : List ℕ) → Payload → Type 0
+HasContent m q expected (Body a size len) = HasBody m expected (text_of q (Body a size len)) a size
+HasContent m q expected (Bare len) = expected ≡ text_of q (Bare len)
+HasContent m q expected (Error status) = expected ≡ text_of q (Error status)
+HasContent m q expected Script = expected ≡ text_of q Script
 
 -- a descriptor of the server that reads a file
 abbrev pub IsFile : State → (fd : ℕ) → Type 0
@@ -117,34 +117,34 @@ abbrev pub IsServed : Answer → Type 0
 IsServed (serve w) = Unit {0}
 IsServed (refuse status head_only close) = ⊥
 
--- The machine has what a phase needs; `due` is the response to the request in progress.
-abbrev pub Has : State → Answer → (due : List ℕ) → Doing → Type 0
-Has m q due Rests = Unit {0}
-Has m q due (Got a) = IsLent m a
-Has m q due Opens = IsServed q
-Has m q due (Reading f) = IsServed q × IsFile m f
-Has m q due (Shuts f k) = IsFile m f × HasLearnt m q due k
-Has m q due (Picks a from to len) = HasPart m due (text_of q (Body a 0 len)) a from to
-Has m q due (Spares a k) = IsLent m a × (content_agg k a ≡ false) × HasContent m q due k
-Has m q due (Heads k) = HasContent m q due k
-Has m q due (Joins a size body len) = HoldsRest m due a size 0 (Some (body, len)) × (size + len ≤ MAX_AGGREGATE_BYTES)
-Has m q due (Sends a len taken more) = HoldsRest m due a len taken more
-Has m q due (Cuts a from len taken more) = HoldsRestFrom m due a from len taken more × (from < len)
-Has m q due (Offers a from len piece taken more) = HoldsPiece m due a from len piece taken more
-Has m q due (Swaps a from len piece taken more) = IsLent m piece
+-- The machine has what a phase needs; `expected` is the response to the request in progress.
+abbrev pub Has : State → Answer → (expected : List ℕ) → Phase → Type 0
+Has m q expected Rests = Unit {0}
+Has m q expected (Got a) = IsReadable m a
+Has m q expected Opens = IsServed q
+Has m q expected (Reading f) = IsServed q × IsFile m f
+Has m q expected (Shuts f k) = IsFile m f × HasFileResult m q expected k
+Has m q expected (Picks a from to len) = HasPart m expected (text_of q (Body a 0 len)) a from to
+Has m q expected (Spares a k) = IsReadable m a × (content_agg k a ≡ false) × HasContent m q expected k
+Has m q expected (Heads k) = HasContent m q expected k
+Has m q expected (Joins a size body len) = HoldsRest m expected a size 0 (Some (body, len)) × (size + len ≤ MAX_AGGREGATE_BYTES)
+Has m q expected (Sends a len taken more) = HoldsRest m expected a len taken more
+Has m q expected (Cuts a from len taken more) = HoldsRestFrom m expected a from len taken more × (from < len)
+Has m q expected (Offers a from len piece taken more) = HoldsPiece m expected a from len piece taken more
+Has m q expected (Swaps a from len piece taken more) = IsReadable m piece
     × (((a == piece) || has_followed more piece) ≡ false)
-    × HoldsRestFrom m due a from len taken more
-Has m q due (Sent a taken more) = HoldsMore m due a taken more
-Has m q due (Breaks piece a more) = IsLent m piece
+    × HoldsRestFrom m expected a from len taken more
+Has m q expected (Sent a taken more) = HoldsMore m expected a taken more
+Has m q expected (Breaks piece a more) = IsReadable m piece
     × (((a == piece) || has_followed more piece) ≡ false) × HoldsUnsent m a more
-Has m q due (Drops a more) = HoldsUnsent m a more
-Has m q due Closes = Unit {0}
-Has m q due Over = ⊥
+Has m q expected (Drops a more) = HoldsUnsent m a more
+Has m q expected Closes = Unit {0}
+Has m q expected Over = ⊥
 
 -- ---- the answered requests
 
 -- whether nothing more is sent
-abbrev pub quits : Doing → Bool
+abbrev pub quits : Phase → Bool
 quits (Breaks piece a more) = true
 quits (Drops a more) = true
 quits Closes = true
@@ -152,18 +152,18 @@ quits Over = true
 quits d = false
 
 -- whether the next call closes its descriptor
-abbrev pub is_closing : Doing → Bool
+abbrev pub is_closing : Phase → Bool
 is_closing Closes = true
 is_closing Over = true
 is_closing d = false
 
 -- the request in progress
-abbrev pub asked : Answer → Doing → List Answer
+abbrev pub asked : Answer → Phase → List Answer
 asked q Rests = []
 asked q (Got a) = []
 asked q d = q ∷ []
 
 -- the contents of the aggregate in a reply
 abbrev pub Names : State → Reply → List ℕ → Type 0
-Names m (reply.Agg a) heard = lent_at m server a ≡ Some heard
-Names m r heard = heard ≡ []
+Names m (reply.Agg a) received = readable_at m server a ≡ Some received
+Names m r received = received ≡ []

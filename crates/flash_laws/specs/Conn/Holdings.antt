@@ -1,7 +1,7 @@
--- The server keeps nothing of a finished response: the results of its calls belong to the connection for which they are made,
--- and are given up when that connection no longer uses them.
+-- The server keeps nothing of a finished response: the results of its calls belong to the connection for which they are
+-- made, and are given up when that connection no longer uses them.
 --
--- As in `Conn/OfferedBytes`, the laws are about each call of the server, calm or not.
+-- As in `Conn/OfferedBytes`, the laws are about each call of the server, undisturbed or not.
 use Rattle.std.specs.Prelude.{◌≡◌, ◌⊎◌, ℕ, true, false, List, Some, None}
 use Rattle.iol_core.specs.Access.{HasAccess}
 use Rattle.iol_core.specs.State.{State, descriptor, is_live}
@@ -12,17 +12,17 @@ use Rattle.iol_core.specs.declared.events.Call.{Call}
 use Rattle.iol_core.specs.declared.events.Event.TheVariants as event
 use Rattle.iol_core.specs.declared.events.Reply.{Reply}
 use Rattle.iol_core.specs.declared.events.Reply.TheVariants as reply
-use Rattle.iol_laws.specs.Caller.{lent_at}
+use Rattle.iol_laws.specs.Caller.{readable_at}
 use Rattle.iol_laws.specs.Frame.{touches_fd, touches_conn, touches_pipe, changes_files, admits_to}
 use Rattle.iol_laws.specs.Order.{IsOrderly}
 use Rattle.flash_laws.specs.Answers.{Outcome}
-use Rattle.flash_laws.specs.Conn.{Conn, uses_agg, uses_fd, wants, told}
-use Rattle.flash_laws.specs.declared.phase.Doing.{Doing}
+use Rattle.flash_laws.specs.Conn.{Conn, uses_agg, uses_fd, wants, after_reply}
+use Rattle.flash_laws.specs.declared.phase.Phase.{Phase}
 use Rattle.flash_laws.specs.Conn.OfferedBytes.{HasAnswer}
 use Rattle.flash_laws.specs.Site.{server}
 
 -- A call that touches only what a connection has: `fd` is its descriptor, on connection c.
-pub record TouchesItsOwn (m : State) (fd c : ℕ) (d : Doing) (k : Call) : Type 0 where
+pub record TouchesItsOwn (m : State) (fd c : ℕ) (d : Phase) (k : Call) : Type 0 where
   -- it consumes only an aggregate that it uses
   pub aggs : (a : ℕ) → gives_up (event.Call server k) server a ≡ true → uses_agg d a ≡ true
   -- it moves or closes only its file's descriptor, or the connection's own
@@ -34,21 +34,21 @@ pub record TouchesItsOwn (m : State) (fd c : ℕ) (d : Doing) (k : Call) : Type 
 
 pub record KeepsNothing : Type 0 where
   -- an aggregate returned by a call for a connection is used by it
-  pub brought : (m n : State) (fd c : ℕ) (x : Conn) (o : Outcome) (r : Reply) (heard bytes : List ℕ) (a : ℕ)
+  pub brought : (m n : State) (fd c : ℕ) (x : Conn) (o : Outcome) (r : Reply) (received bytes : List ℕ) (a : ℕ)
       → IsOrderly m → HasAccess m → is_live m server ≡ true → descriptor m server fd ≡ Some (on.Connection c)
       → HasAnswer m x o → StepsTo m (event.Call server (wants fd x)) r n
-      → lent_at m server a ≡ None → lent_at n server a ≡ Some bytes → uses_agg (told x r heard).doing a ≡ true
+      → readable_at m server a ≡ None → readable_at n server a ≡ Some bytes → uses_agg (after_reply x r received).phase a ≡ true
   -- the same for a descriptor
-  pub opened : (m n : State) (fd f : ℕ) (x : Conn) (heard : List ℕ) → StepsTo m (event.Call server (wants fd x)) (reply.Fd f) n
-      → uses_fd (told x (reply.Fd f) heard).doing f ≡ true
+  pub opened : (m n : State) (fd f : ℕ) (x : Conn) (received : List ℕ) → StepsTo m (event.Call server (wants fd x)) (reply.Fd f) n
+      → uses_fd (after_reply x (reply.Fd f) received).phase f ≡ true
   -- an aggregate that it no longer uses is gone
-  pub left : (m n : State) (fd : ℕ) (x : Conn) (r : Reply) (heard : List ℕ) (a : ℕ) → IsOrderly m
+  pub left : (m n : State) (fd : ℕ) (x : Conn) (r : Reply) (received : List ℕ) (a : ℕ) → IsOrderly m
       → StepsTo m (event.Call server (wants fd x)) r n
-      → uses_agg x.doing a ≡ true → uses_agg (told x r heard).doing a ≡ false → lent_at n server a ≡ None
+      → uses_agg x.phase a ≡ true → uses_agg (after_reply x r received).phase a ≡ false → readable_at n server a ≡ None
   -- the same for the descriptor of a file
-  pub shut : (m n : State) (fd : ℕ) (x : Conn) (r : Reply) (heard : List ℕ) (g : ℕ)
+  pub shut : (m n : State) (fd : ℕ) (x : Conn) (r : Reply) (received : List ℕ) (g : ℕ)
       → StepsTo m (event.Call server (wants fd x)) r n
-      → uses_fd x.doing g ≡ true → uses_fd (told x r heard).doing g ≡ false → descriptor n server g ≡ None
+      → uses_fd x.phase g ≡ true → uses_fd (after_reply x r received).phase g ≡ false → descriptor n server g ≡ None
   -- its calls touch only what it has, including the last, which closes it
   pub alone : (m : State) (fd c : ℕ) (x : Conn) (o : Outcome) → descriptor m server fd ≡ Some (on.Connection c) → HasAnswer m x o
-      → TouchesItsOwn m fd c x.doing (wants fd x)
+      → TouchesItsOwn m fd c x.phase (wants fd x)

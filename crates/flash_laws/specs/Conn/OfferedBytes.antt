@@ -1,8 +1,8 @@
--- The bytes that the server offers for a request are the next bytes of the response to it, for the outcome of the calls made
--- for it.
+-- The bytes that the server offers for a request are the next bytes of the response to it, for the outcome of the calls
+-- made for it.
 --
--- The laws are about single steps, calm or not: what the machine has of a response remains, unless a call consumes or moves
--- what the connection uses. That this holds over a whole run is not stated here.
+-- The laws are about single steps, undisturbed or not: what the machine has of a response remains, unless a call
+-- consumes or moves what the connection uses. That this holds over a whole run is not stated here.
 use Rattle.std.specs.Prelude.{◌≡◌, ◌⊎◌, ℕ, ◌+◌, ◌==◌, Bool, true, false, if◌then◌else◌, List, [], ◌++◌, length, drop, Some, None}
 use Rattle.iol_core.specs.Access.{HasAccess}
 use Rattle.iol_core.specs.State.{State, descriptor, is_live, is_gone, conn_at}
@@ -17,15 +17,15 @@ use Rattle.iol_core.specs.declared.events.Event.{Event}
 use Rattle.iol_core.specs.declared.events.Event.TheVariants as event
 use Rattle.iol_core.specs.declared.events.Reply.{Reply}
 use Rattle.iol_core.specs.declared.events.Reply.TheVariants as reply
-use Rattle.iol_laws.specs.Caller.{lent_at}
+use Rattle.iol_laws.specs.Caller.{readable_at}
 use Rattle.iol_laws.specs.Frame.{touches_fd}
 use Rattle.iol_laws.specs.Order.{IsOrderly}
 use Rattle.iol_laws.specs.Reasons.{IsHidden}
 use Rattle.flash_http.specs.Request.{Answer, serve, refuse}
 use Rattle.flash_laws.specs.Answers.{Outcome, Found, Failed, error_text, response}
-use Rattle.flash_laws.specs.Conn.{Conn, uses_agg, uses_fd, wants, begins, status_of, told}
-use Rattle.flash_laws.specs.declared.phase.Doing.{Doing}
-use Rattle.flash_laws.specs.declared.phase.Doing.TheVariants.{Rests, Opens, Reads, Sends, Cuts, Offers, Swaps, Sent, Breaks, Drops, Closes, Over}
+use Rattle.flash_laws.specs.Conn.{Conn, uses_agg, uses_fd, wants, begins, status_of, after_reply}
+use Rattle.flash_laws.specs.declared.phase.Phase.{Phase}
+use Rattle.flash_laws.specs.declared.phase.Phase.TheVariants.{Rests, Opens, Reads, Sends, Cuts, Offers, Swaps, Sent, Breaks, Drops, Closes, Over}
 use Rattle.flash_laws.specs.Conn.Fits.{Has, Names, is_closing}
 use Rattle.flash_laws.specs.Conn.Progress.{Rank, Nears, CanMake, is_busy}
 use Rattle.flash_laws.specs.Conn.Policy.{is_later}
@@ -33,25 +33,25 @@ use Rattle.flash_laws.specs.Site.{server}
 
 -- the machine has what the response with this outcome needs; before an outcome is known it needs nothing
 abbrev pub HasAnswer : State → Conn → Outcome → Type 0
-HasAnswer m x o = Has m x.q (response x.q o) x.doing
+HasAnswer m x o = Has m x.q (response x.q o) x.phase
 
 -- the first call for a request opens the file of its name; a refused request needs none
 abbrev pub FirstCall : Answer → Call → Type 0
 FirstCall (serve w) k = k ≡ call.OpenFile w.name modes.Read
 FirstCall (refuse status head_only close) k = k ≡ call.AggMake (error_text status head_only close)
 
--- The outcome of the calls, after the reply to one: the file is refused, its bytes are read, or its length is returned, as that
--- of some bytes; other calls leave it unchanged.
-abbrev pub Learns : Doing → Reply → (heard : List ℕ) → (before after : Outcome) → Type 0
-Learns Opens (reply.Refused x) heard before after = after ≡ Failed (status_of x)
-Learns (Reads f) (reply.Agg n) heard before after = after ≡ Found heard
-Learns (Reads f) (reply.Count n) heard before after = (bytes : List ℕ) × (n ≡ length bytes)
+-- The outcome of the calls, after the reply to one: the file is refused, its bytes are read, or its length is returned,
+-- as that of some bytes; other calls leave it unchanged.
+abbrev pub Learns : Phase → Reply → (received : List ℕ) → (before after : Outcome) → Type 0
+Learns Opens (reply.Refused x) received before after = after ≡ Failed (status_of x)
+Learns (Reads f) (reply.Agg n) received before after = after ≡ Found received
+Learns (Reads f) (reply.Count n) received before after = (bytes : List ℕ) × (n ≡ length bytes)
     × (after ≡ Found bytes)
-Learns (Reads f) (reply.Refused x) heard before after = after ≡ Failed (status_of x)
-Learns d r heard before after = after ≡ before
+Learns (Reads f) (reply.Refused x) received before after = after ≡ Failed (status_of x)
+Learns d r received before after = after ≡ before
 
 -- the number of bytes of the response that are taken
-abbrev pub taken_of : Doing → ℕ
+abbrev pub taken_of : Phase → ℕ
 taken_of (Sends a len taken more) = taken
 taken_of (Cuts a from len taken more) = taken
 taken_of (Offers a from len piece taken more) = taken
@@ -65,7 +65,7 @@ newly_taken fd (call.IolWrite g a) (reply.Count k) = if g == fd then k else 0
 newly_taken fd k r = 0
 
 -- whether queued output is dropped
-abbrev pub is_dropping : Doing → Bool
+abbrev pub is_dropping : Phase → Bool
 is_dropping (Breaks piece a more) = true
 is_dropping (Drops a more) = true
 is_dropping d = false
@@ -74,7 +74,7 @@ is_dropping d = false
 pub record IsNextOf (m : State) (q : Answer) (o : Outcome) (a taken : ℕ) : Type 0 where
   pub bytes : List ℕ
   pub after : List ℕ
-  pub lends : lent_at m server a ≡ Some bytes
+  pub is_readable : readable_at m server a ≡ Some bytes
   pub next : bytes ++ after ≡ drop taken (response q o)
 
 -- whether a call with this reply may be retried: it was refused, but not for lack of a reader
@@ -86,52 +86,53 @@ may_repeat k r = false
 pub record OffersTheResponse : Type 0 where
   -- when a request begins, nothing is needed
   pub starts : (m : State) (fd : ℕ) (kept : List ℕ) (q : Answer) (o : Outcome)
-      → FirstCall q (wants fd (record { kept = kept; q = q; doing = begins q }))
-      × HasAnswer m (record { kept = kept; q = q; doing = begins q }) o
-  -- after the reply to its call the outcome is the result of the call, or unchanged, and the machine has the data for the next step
-  pub replied : (m n : State) (fd c : ℕ) (x : Conn) (r : Reply) (heard : List ℕ) (before : Outcome)
+      → FirstCall q (wants fd (record { kept = kept; q = q; phase = begins q }))
+      × HasAnswer m (record { kept = kept; q = q; phase = begins q }) o
+  -- after the reply to its call the outcome is the result of the call, or unchanged, and the machine has the data for
+  -- the next step
+  pub replied : (m n : State) (fd c : ℕ) (x : Conn) (r : Reply) (received : List ℕ) (before : Outcome)
       → IsOrderly m → HasAccess m
       → is_live m server ≡ true → descriptor m server fd ≡ Some (on.Connection c)
-      → is_closing x.doing ≡ false
-      → HasAnswer m x before → StepsTo m (event.Call server (wants fd x)) r n → Names n r heard
-      → (after : Outcome) × Learns x.doing r heard before after × HasAnswer n (told x r heard) after
+      → is_closing x.phase ≡ false
+      → HasAnswer m x before → StepsTo m (event.Call server (wants fd x)) r n → Names n r received
+      → (after : Outcome) × Learns x.phase r received before after × HasAnswer n (after_reply x r received) after
   -- the same for any other event that neither consumes nor moves what the connection uses
   pub stays : (m n : State) (x : Conn) (e : Event) (r : Reply) (o : Outcome) → StepsTo m e r n
-      → ((a : ℕ) → uses_agg x.doing a ≡ true → gives_up e server a ≡ false)
-      → ((g : ℕ) → uses_fd x.doing g ≡ true → touches_fd m e server g ≡ false) → HasAnswer m x o
+      → ((a : ℕ) → uses_agg x.phase a ≡ true → gives_up e server a ≡ false)
+      → ((g : ℕ) → uses_fd x.phase g ≡ true → touches_fd m e server g ≡ false) → HasAnswer m x o
       → HasAnswer n x o
   -- the bytes offered to the connection are the next ones
   pub offers : (m : State) (fd a : ℕ) (x : Conn) (o : Outcome) → HasAnswer m x o
       → wants fd x ≡ call.IolWrite fd a
-      → IsNextOf m x.q o a (taken_of x.doing)
+      → IsNextOf m x.q o a (taken_of x.phase)
   -- the bytes that the connection took count as taken, while the response is neither over nor aborted
-  pub takes : (m n : State) (fd c : ℕ) (x : Conn) (r : Reply) (heard : List ℕ) (o : Outcome) → IsOrderly m
+  pub takes : (m n : State) (fd c : ℕ) (x : Conn) (r : Reply) (received : List ℕ) (o : Outcome) → IsOrderly m
       → descriptor m server fd ≡ Some (on.Connection c) → HasAnswer m x o → StepsTo m (event.Call server (wants fd x)) r n
-      → is_dropping x.doing ≡ false → is_dropping (told x r heard).doing ≡ false → is_busy (told x r heard).doing ≡ true
-      → taken_of (told x r heard).doing ≡ taken_of x.doing + newly_taken fd (wants fd x) r
+      → is_dropping x.phase ≡ false → is_dropping (after_reply x r received).phase ≡ false → is_busy (after_reply x r received).phase ≡ true
+      → taken_of (after_reply x r received).phase ≡ taken_of x.phase + newly_taken fd (wants fd x) r
   -- after it is sent all of it is taken
-  pub whole : (m : State) (x : Conn) (o : Outcome) (a taken : ℕ) → x.doing ≡ Sent a taken None → HasAnswer m x o
+  pub whole : (m : State) (x : Conn) (o : Outcome) (a taken : ℕ) → x.phase ≡ Sent a taken None → HasAnswer m x o
       → drop taken (response x.q o) ≡ []
   -- it is aborted only if its peer is gone
-  pub breaks : (m n : State) (fd c : ℕ) (x : Conn) (r : Reply) (heard : List ℕ) (o : Outcome)
-      → descriptor m server fd ≡ Some (on.Connection c) → is_busy x.doing ≡ true → HasAnswer m x o
-      → StepsTo m (event.Call server (wants fd x)) r n → is_dropping x.doing ≡ false
-      → is_dropping (told x r heard).doing ≡ true → is_gone (conn_at m c).peer ≡ true
+  pub breaks : (m n : State) (fd c : ℕ) (x : Conn) (r : Reply) (received : List ℕ) (o : Outcome)
+      → descriptor m server fd ≡ Some (on.Connection c) → is_busy x.phase ≡ true → HasAnswer m x o
+      → StepsTo m (event.Call server (wants fd x)) r n → is_dropping x.phase ≡ false
+      → is_dropping (after_reply x r received).phase ≡ true → is_gone (conn_at m c).peer ≡ true
   -- a connection that is to be closed is closed by its next call, and then over
-  pub closes : (m n : State) (fd c : ℕ) (x : Conn) (r : Reply) (heard : List ℕ) → IsOrderly m → is_live m server ≡ true
-      → descriptor m server fd ≡ Some (on.Connection c) → x.doing ≡ Closes → StepsTo m (event.Call server (wants fd x)) r n
-      → (r ≡ reply.Done) × ((told x r heard).doing ≡ Over) × ((conn_at n c).closed ≡ true)
+  pub closes : (m n : State) (fd c : ℕ) (x : Conn) (r : Reply) (received : List ℕ) → IsOrderly m → is_live m server ≡ true
+      → descriptor m server fd ≡ Some (on.Connection c) → x.phase ≡ Closes → StepsTo m (event.Call server (wants fd x)) r n
+      → (r ≡ reply.Done) × ((after_reply x r received).phase ≡ Over) × ((conn_at n c).closed ≡ true)
   -- each reply reduces the rank of a request, unless its call is retried later
   pub rank : Conn → Rank
-  pub nears : (m n : State) (fd c : ℕ) (x : Conn) (r : Reply) (heard : List ℕ) (o : Outcome) → IsOrderly m
-      → is_live m server ≡ true → descriptor m server fd ≡ Some (on.Connection c) → is_busy x.doing ≡ true
-      → HasAnswer m x o → CanMake m (wants fd x) → StepsTo m (event.Call server (wants fd x)) r n → Names n r heard
-      → Nears rank x r (told x r heard)
+  pub nears : (m n : State) (fd c : ℕ) (x : Conn) (r : Reply) (received : List ℕ) (o : Outcome) → IsOrderly m
+      → is_live m server ≡ true → descriptor m server fd ≡ Some (on.Connection c) → is_busy x.phase ≡ true
+      → HasAnswer m x o → CanMake m (wants fd x) → StepsTo m (event.Call server (wants fd x)) r n → Names n r received
+      → Nears rank x r (after_reply x r received)
   -- a connection that reads the stream retries only later, or if the bytes are not for the server
-  pub reads : (m n : State) (fd c : ℕ) (x : Conn) (r : Reply) (heard : List ℕ) → is_live m server ≡ true
-      → descriptor m server fd ≡ Some (on.Connection c) → x.doing ≡ Rests
-      → StepsTo m (event.Call server (wants fd x)) r n → told x r heard ≡ x
+  pub reads : (m n : State) (fd c : ℕ) (x : Conn) (r : Reply) (received : List ℕ) → is_live m server ≡ true
+      → descriptor m server fd ≡ Some (on.Connection c) → x.phase ≡ Rests
+      → StepsTo m (event.Call server (wants fd x)) r n → after_reply x r received ≡ x
       → (is_later r ≡ true) ⊎ ((p : ℕ) × IsHidden m server p (conn_at m c).incoming)
   -- a successful call is not repeated
-  pub moves : (m n : State) (fd : ℕ) (x : Conn) (r : Reply) (heard : List ℕ) → is_closing x.doing ≡ false
-      → StepsTo m (event.Call server (wants fd x)) r n → told x r heard ≡ x → may_repeat (wants fd x) r ≡ true
+  pub moves : (m n : State) (fd : ℕ) (x : Conn) (r : Reply) (received : List ℕ) → is_closing x.phase ≡ false
+      → StepsTo m (event.Call server (wants fd x)) r n → after_reply x r received ≡ x → may_repeat (wants fd x) r ≡ true

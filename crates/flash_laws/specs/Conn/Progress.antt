@@ -1,7 +1,7 @@
 -- Each reply brings a request nearer to its end, unless its call is to be retried later.
 --
--- The rank, a pair of numbers, is the distance from the end: each such reply reduces the first, or the second and leaves the
--- first. So the number of such replies is finite.
+-- The rank, a pair of numbers, is the distance from the end: each such reply reduces the first, or the second and
+-- leaves the first. So the number of such replies is finite.
 use Rattle.std.specs.Prelude.{◌≡◌, ◌≤◌, ◌<◌, ◌⊎◌, ℕ, Bool, true, false, List, length, Some}
 use Rattle.iol_core.specs.State.{State, domain, pool}
 use Rattle.iol_core.specs.declared.limits.TheConstants.{MAX_AGGREGATE_BYTES}
@@ -10,8 +10,8 @@ use Rattle.iol_core.specs.declared.events.Call.TheVariants as call
 use Rattle.iol_core.specs.declared.events.Reply.{Reply}
 use Rattle.flash_laws.specs.Conn.Policy.{is_later}
 use Rattle.flash_laws.specs.Site.{server}
-use Rattle.flash_laws.specs.declared.phase.Doing.{Doing}
-use Rattle.flash_laws.specs.declared.phase.Doing.TheVariants.{Rests, Closes, Over}
+use Rattle.flash_laws.specs.declared.phase.Phase.{Phase}
+use Rattle.flash_laws.specs.declared.phase.Phase.TheVariants.{Rests, Closes, Over}
 
 abbrev pub Rank : Type 0
 Rank = ℕ × ℕ
@@ -36,7 +36,7 @@ CanMake m (call.AggMake bytes) = HasPlaceFor m bytes
 CanMake m k = Unit {0}
 
 -- whether a phase that ends is in progress: not reading of the stream, or the end of the connection
-abbrev pub is_busy : Doing → Bool
+abbrev pub is_busy : Phase → Bool
 is_busy Rests = false
 is_busy Closes = false
 is_busy Over = false

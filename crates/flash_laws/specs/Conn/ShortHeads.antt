@@ -1,24 +1,24 @@
--- The contents of the head of a response, before it is made: a file within the limit of one read of the server, and an error
--- status of this server. So each head is short.
+-- The contents of the head of a response, before it is made: a file within the limit of one read of the server, and an
+-- error status of this server. So each head is short.
 use Rattle.std.specs.Prelude.{◌≡◌, ◌≤◌, ◌==◌, ℕ, Bool, true, [], ◌∷◌}
 use Rattle.std.specs.List.{list_any}
 use Rattle.flash_laws.specs.Conn.{most_read}
-use Rattle.flash_laws.specs.declared.phase.Learnt.{Learnt}
-use Rattle.flash_laws.specs.declared.phase.Learnt.TheVariants.{File, Length, Fails, Text}
-use Rattle.flash_laws.specs.declared.phase.Content.{Content}
-use Rattle.flash_laws.specs.declared.phase.Content.TheVariants.{Body, Bare, Error, Script}
+use Rattle.flash_laws.specs.declared.phase.FileResult.{FileResult}
+use Rattle.flash_laws.specs.declared.phase.FileResult.TheVariants.{File, Length, Fails, Text}
+use Rattle.flash_laws.specs.declared.phase.Payload.{Payload}
+use Rattle.flash_laws.specs.declared.phase.Payload.TheVariants.{Body, Bare, Error, Script}
 
 -- the statuses of errors (RFC 9110, sections 15.5 and 15.6; RFC 6585, section 5)
 abbrev pub is_error_status : (status : ℕ) → Bool
 is_error_status status = list_any (λ s. s == status) (400 ∷ 403 ∷ 404 ∷ 405 ∷ 416 ∷ 431 ∷ 500 ∷ 501 ∷ 503 ∷ [])
 
-abbrev pub LearntIsShort : Learnt → Type 0
-LearntIsShort (File a len) = len ≤ most_read
-LearntIsShort (Length len) = len ≤ most_read
-LearntIsShort (Fails status) = is_error_status status ≡ true
-LearntIsShort (Text a runs) = Unit {0}
+abbrev pub FileResultIsShort : FileResult → Type 0
+FileResultIsShort (File a len) = len ≤ most_read
+FileResultIsShort (Length len) = len ≤ most_read
+FileResultIsShort (Fails status) = is_error_status status ≡ true
+FileResultIsShort (Text a runs) = Unit {0}
 
-abbrev pub ContentIsShort : Content → Type 0
+abbrev pub ContentIsShort : Payload → Type 0
 ContentIsShort (Body a size len) = len ≤ most_read
 ContentIsShort (Bare len) = len ≤ most_read
 ContentIsShort (Error status) = is_error_status status ≡ true

@@ -5,14 +5,14 @@ use Rattle.iol_core.specs.declared.events.Reply.TheVariants as reply
 use Rattle.flash_http.specs.Window.{window_in}
 use Rattle.flash_http.specs.declared.windows.Window.{Window}
 use Rattle.flash_http.specs.declared.windows.Window.TheVariants.{Wait}
-use Rattle.flash_laws.specs.Conn.{Conn, told}
+use Rattle.flash_laws.specs.Conn.{Conn, after_reply}
 use Rattle.flash_laws.specs.Conn.Policy.{leaves_off}
 use Rattle.flash_laws.specs.Site.OtherConns.{left_over}
-use Rattle.flash_laws.specs.declared.phase.Doing.{Doing}
-use Rattle.flash_laws.specs.declared.phase.Doing.TheVariants.{Rests, Opens, Heads}
+use Rattle.flash_laws.specs.declared.phase.Phase.{Phase}
+use Rattle.flash_laws.specs.declared.phase.Phase.TheVariants.{Rests, Opens, Heads}
 
 -- whether the call of a phase has bytes of its own: a name, or a head
-abbrev pub has_bytes : Doing → Bool
+abbrev pub has_bytes : Phase → Bool
 has_bytes Opens = true
 has_bytes (Heads k) = true
 has_bytes d = false
@@ -24,20 +24,20 @@ can_begin w = true
 
 -- whether a connection that continues at once begins a request, or makes such a call
 abbrev pub needs_memory : Conn → Bool
-needs_memory x = by x.doing
+needs_memory x = by x.phase
   where
-    by : Doing → Bool
+    by : Phase → Bool
     by Rests = can_begin (window_in x.kept)
     by d = has_bytes d
 
 -- it was reading, and a byte arrived
-abbrev pub Hears : Doing → Reply → (heard : List ℕ) → Type 0
-Hears Rests (reply.Agg n) heard = 0 < length heard
-Hears d r heard = ⊥
+abbrev pub Receives : Phase → Reply → (received : List ℕ) → Type 0
+Receives Rests (reply.Agg n) received = 0 < length received
+Receives d r received = ⊥
 
 -- a connection needs memory after a reply: to buffer bytes, or to continue at once
-abbrev pub WantsOn : Conn → Reply → (heard : List ℕ) → Type 0
-WantsOn x r heard =
-    Hears x.doing r heard
-    ⊎ ((leaves_off (left_over (told x r heard)) r ≡ false)
-    × (needs_memory (told x r heard) ≡ true))
+abbrev pub WantsOn : Conn → Reply → (received : List ℕ) → Type 0
+WantsOn x r received =
+    Receives x.phase r received
+    ⊎ ((leaves_off (left_over (after_reply x r received)) r ≡ false)
+    × (needs_memory (after_reply x r received) ≡ true))

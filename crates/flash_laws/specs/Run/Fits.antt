@@ -2,32 +2,33 @@
 use Rattle.std.specs.Prelude.{◌≡◌, ◌≤◌, ◌<◌, ℕ, ◌+◌, ◌==◌, ◌⊎◌, not, Bool, true, false, List, [], ◌++◌, length, Option, Some, None}
 use Rattle.iol_core.specs.State.{State, descriptor}
 use Rattle.iol_core.specs.declared.descriptors.Descriptor.TheVariants as on
-use Rattle.iol_laws.specs.Caller.{lent_at}
+use Rattle.iol_laws.specs.Caller.{readable_at}
 use Rattle.flash_http.specs.Chunk.{chunk}
 use Rattle.flash_http.specs.Request.{serve, Wanted}
 use Rattle.flash_laws.specs.Answers.{error_text}
 use Rattle.flash_laws.specs.Conn as conn
 use Rattle.flash_laws.specs.Conn.{Following}
-use Rattle.flash_laws.specs.Conn.Fits.{IsLent, Has}
+use Rattle.flash_laws.specs.Conn.Fits.{IsReadable, Has}
 use Rattle.flash_laws.specs.Conn.OfferedBytes.{taken_of}
 use Rattle.flash_laws.specs.Run.{has_frame, job_pipe, step_agg}
 use Rattle.flash_laws.specs.Answers.Scripts.{script_body, script_response, frame_of, end_around}
 use Rattle.flash_laws.specs.Site.{server}
-use Rattle.flash_laws.specs.declared.phase.Content.TheVariants.{Error}
-use Rattle.flash_laws.specs.declared.phase.Doing.{Doing}
-use Rattle.flash_laws.specs.declared.phase.Doing.TheVariants as doing
+use Rattle.flash_laws.specs.declared.phase.Payload.TheVariants.{Error}
+use Rattle.flash_laws.specs.declared.phase.Phase.{Phase}
+use Rattle.flash_laws.specs.declared.phase.Phase.TheVariants as phase
 use Rattle.flash_laws.specs.declared.script_run.TheConstants.{CHUNK_BYTES}
 use Rattle.flash_laws.specs.declared.script_run.Run.{Run}
 use Rattle.flash_laws.specs.declared.script_run.Step.{Step}
-use Rattle.flash_laws.specs.declared.script_run.Step.TheVariants.{Gives, Makes, Hands, Lets, Heads, Sending, Hears, Spills, Gathers, Frames, Wraps, Trims, Ended, Unholds, Stops, Unframes, Lasts, WrapsLast, TrimsLast, Unwraps, Returns, Lapses, Fails}
+use Rattle.flash_laws.specs.declared.script_run.Step.TheVariants.{Gives, Makes, Hands, Lets, Heads, Sending, Receives, Spills, Gathers, Frames, Wraps, Trims, Ended, Unholds, Stops, Unframes, Lasts, WrapsLast, TrimsLast, Unwraps, Returns, Lapses, Fails}
 use Rattle.flash_laws.specs.declared.script_run.Running.{Running}
 use Rattle.flash_laws.specs.declared.script_run.Running.TheVariants.{Awaits, Runs, Leaves, Closes}
 
 -- ---- the results of the calls of a run so far
 
 pub data Progress : Type 0 where
-  -- the output that was read, whether its end was read, and the bytes of the response in aggregates that were taken whole
-  Ran : (heard : List ℕ) → (ended : Bool) → (past : List ℕ) → Progress
+  -- the output that was read, whether its end was read, and the bytes of the response in aggregates that were taken
+  -- whole
+  Ran : (received : List ℕ) → (ended : Bool) → (past : List ℕ) → Progress
   -- the response is aborted, or the output may not be read: no more of it is sent
   Broken : Progress
   -- the script could not be run; these bytes of the error response were taken
@@ -43,26 +44,26 @@ Follows false more = Unit {0}
 
 -- The possible responses, for every further output; once its end was read, the response to the output.
 abbrev pub MayAnswer : Wanted → Progress → List ℕ → Type 0
-MayAnswer w (Ran heard ended past) r = (more : List ℕ) × Follows ended more × (r ≡ script_response w (heard ++ more))
+MayAnswer w (Ran received ended past) r = (more : List ℕ) × Follows ended more × (r ≡ script_response w (received ++ more))
 MayAnswer w Broken r = ⊥
 MayAnswer w (NotRun status past) r = r ≡ error_text status w.head_only (not w.keep)
 
--- All output that was read is taken, except for the buffered part: for every further output, the response is the taken bytes,
--- followed by the body of the buffered part and the further output.
+-- All output that was read is taken, except for the buffered part: for every further output, the response is the taken
+-- bytes, followed by the body of the buffered part and the further output.
 abbrev pub HoldsBack : Wanted → Progress → (held : List ℕ) → Type 0
-HoldsBack w (Ran heard ended past) held =
-    (more : List ℕ) → script_response w (heard ++ more) ≡ past ++ script_body w.chunked (held ++ more)
+HoldsBack w (Ran received ended past) held =
+    (more : List ℕ) → script_response w (received ++ more) ≡ past ++ script_body w.chunked (held ++ more)
 HoldsBack w o held = ⊥
 
 -- the same with these bytes of the response before the buffered part
 abbrev pub Continues : Wanted → Progress → (part held : List ℕ) → Type 0
-Continues w (Ran heard ended past) part held = HoldsBack w (Ran heard ended (past ++ part)) held
+Continues w (Ran received ended past) part held = HoldsBack w (Ran received ended (past ++ part)) held
 Continues w o part held = ⊥
 
--- all of the response is known, since the end of the output was read, or it is an error; and these bytes of it are not yet
--- taken
+-- all of the response is known, since the end of the output was read, or it is an error; and these bytes of it are not
+-- yet taken
 abbrev pub IsLeft : Wanted → Progress → (rest : List ℕ) → Type 0
-IsLeft w (Ran heard ended past) rest = (ended ≡ true) × (script_response w heard ≡ past ++ rest)
+IsLeft w (Ran received ended past) rest = (ended ≡ true) × (script_response w received ≡ past ++ rest)
 IsLeft w Broken rest = ⊥
 IsLeft w (NotRun status past) rest = error_text status w.head_only (not w.keep) ≡ past ++ rest
 
@@ -96,7 +97,7 @@ IsFresh run o = (run.broken ≡ false) × (o ≡ nothing_yet)
 
 -- An aggregate of these bytes, at least one and fewer than a chunk has; a body that is not in chunks buffers none.
 pub record HoldsOutput (m : State) (w : Wanted) (a size : ℕ) (bytes : List ℕ) : Type 0 where
-  pub lends : lent_at m server a ≡ Some bytes
+  pub is_readable : readable_at m server a ≡ Some bytes
   pub count : size ≡ length bytes
   pub some : 0 < size
   pub few : size < CHUNK_BYTES
@@ -108,7 +109,7 @@ IsHeld m w (Some x) bytes = HoldsOutput m w x.0 x.1 bytes
 
 abbrev pub HasFrame : State → Option ℕ → Type 0
 HasFrame m None = Unit {0}
-HasFrame m (Some f) = lent_at m server f ≡ Some (frame_of CHUNK_BYTES)
+HasFrame m (Some f) = readable_at m server f ≡ Some (frame_of CHUNK_BYTES)
 
 -- the buffered output is not the frame
 abbrev pub meets : Following → (frame : Option ℕ) → Bool
@@ -121,7 +122,7 @@ pub record HasOutput (m : State) (w : Wanted) (held : Following) (frame : Option
   pub apart : meets held frame ≡ false
 
 -- output is read
-pub record HasHeard (m : State) (w : Wanted) (o : Progress) (run : Run) (held : Following) (frame : Option ℕ) : Type 0 where
+pub record HasReceived (m : State) (w : Wanted) (o : Progress) (run : Run) (held : Following) (frame : Option ℕ) : Type 0 where
   pub reads : IsReading m run
   pub bytes : List ℕ
   pub has : HasOutput m w held frame bytes
@@ -134,27 +135,27 @@ pub record HasAll (m : State) (w : Wanted) (o : Progress) (run : Run) (held : Fo
   pub ends : Ends run.broken w o bytes
 
 -- the aggregate that is being sent, with none to follow it
-abbrev pub sent_agg : Doing → Option ℕ
-sent_agg (doing.Sends a len taken None) = Some a
-sent_agg (doing.Cuts a from len taken None) = Some a
-sent_agg (doing.Offers a from len piece taken None) = Some a
-sent_agg (doing.Swaps a from len piece taken None) = Some a
-sent_agg (doing.Sent a taken None) = Some a
-sent_agg (doing.Breaks piece a None) = Some a
-sent_agg (doing.Drops a None) = Some a
+abbrev pub sent_agg : Phase → Option ℕ
+sent_agg (phase.Sends a len taken None) = Some a
+sent_agg (phase.Cuts a from len taken None) = Some a
+sent_agg (phase.Offers a from len piece taken None) = Some a
+sent_agg (phase.Swaps a from len piece taken None) = Some a
+sent_agg (phase.Sent a taken None) = Some a
+sent_agg (phase.Breaks piece a None) = Some a
+sent_agg (phase.Drops a None) = Some a
 sent_agg d = None
 
 -- it has these bytes
 abbrev pub IsPart : State → Option ℕ → List ℕ → Type 0
 IsPart m None part = ⊥
-IsPart m (Some a) part = lent_at m server a ≡ Some part
+IsPart m (Some a) part = readable_at m server a ≡ Some part
 
-abbrev pub sends_frame : Doing → (frame : Option ℕ) → Bool
+abbrev pub sends_frame : Phase → (frame : Option ℕ) → Bool
 sends_frame d None = false
 sends_frame d (Some f) = conn.uses_agg d f
 
--- A part of the response is being sent: for the phases of any response it is the whole due response.
-pub record HasPart (m : State) (w : Wanted) (o : Progress) (run : Run) (d : Doing) (frame : Option ℕ) : Type 0 where
+-- A part of the response is being sent: for the phases of any response it is the whole expected response.
+pub record HasPart (m : State) (w : Wanted) (o : Progress) (run : Run) (d : Phase) (frame : Option ℕ) : Type 0 where
   pub reads : IsReading m run
   pub frames : HasFrame m frame
   pub part : List ℕ
@@ -172,7 +173,7 @@ pub record HasPiece (m : State) (w : Wanted) (o : Progress) (run : Run) (held si
   pub bytes : List ℕ
   pub more : List ℕ
   pub has : HasOutput m w (Some (held, size)) frame bytes
-  pub lends : lent_at m server piece ≡ Some more
+  pub is_readable : readable_at m server piece ≡ Some more
   pub count : len ≡ length more
   pub within : size + len ≤ CHUNK_BYTES
   pub other : (held == piece) ≡ false
@@ -184,7 +185,7 @@ pub record HasPiece (m : State) (w : Wanted) (o : Progress) (run : Run) (held si
 pub record HasChunk (m : State) (w : Wanted) (o : Progress) (run : Run) (held : ℕ) : Type 0 where
   pub reads : IsReading m run
   pub bytes : List ℕ
-  pub lends : lent_at m server held ≡ Some bytes
+  pub is_readable : readable_at m server held ≡ Some bytes
   pub count : length bytes ≡ CHUNK_BYTES
   pub chunked : w.chunked ≡ true
   pub whole : run.broken ≡ false
@@ -194,42 +195,43 @@ pub record HasChunk (m : State) (w : Wanted) (o : Progress) (run : Run) (held : 
 pub record HasLast (m : State) (w : Wanted) (o : Progress) (held size frame : ℕ) : Type 0 where
   pub bytes : List ℕ
   pub holds : HoldsOutput m w held size bytes
-  pub frames : lent_at m server frame ≡ Some (end_around (Some (held, size)))
+  pub frames : readable_at m server frame ≡ Some (end_around (Some (held, size)))
   pub apart : (frame == held) ≡ false
   pub left : IsLeft w o (script_body true bytes)
 
 -- these bytes of the response are in an aggregate, and no more follow
 pub record HasEnd (m : State) (w : Wanted) (o : Progress) (a len : ℕ) : Type 0 where
   pub bytes : List ℕ
-  pub lends : lent_at m server a ≡ Some bytes
+  pub is_readable : readable_at m server a ≡ Some bytes
   pub count : len ≡ length bytes
   pub left : IsLeft w o bytes
 
 -- an aggregate is to be dropped, and is not used afterwards
 abbrev pub IsSpare : State → (a : ℕ) → (next : Step) → Type 0
-IsSpare m a next = IsLent m a × (step_agg next a ≡ false)
+IsSpare m a next = IsReadable m a × (step_agg next a ≡ false)
 
--- an error is to be made, or the whole due response is being sent, with nothing after it
-abbrev pub IsSending : State → (due : List ℕ) → Doing → Type 0
-IsSending m due (doing.Heads (Error status)) = Unit {0}
-IsSending m due d = IsPart m (sent_agg d) due × (taken_of d ≤ length due)
+-- an error is to be made, or the whole expected response is being sent, with nothing after it
+abbrev pub IsSending : State → (expected : List ℕ) → Phase → Type 0
+IsSending m expected (phase.Heads (Error status)) = Unit {0}
+IsSending m expected d = IsPart m (sent_agg d) expected × (taken_of d ≤ length expected)
 
--- The rest of the response is sent: for the phases of any response it is the whole due response.
-pub record HasRest (m : State) (w : Wanted) (o : Progress) (d : Doing) : Type 0 where
-  pub due : List ℕ
-  pub left : IsLeft w o due
-  pub has : Has m (serve w) due d
-  pub sends : IsSending m due d
+-- The rest of the response is sent: for the phases of any response it is the whole expected response.
+pub record HasRest (m : State) (w : Wanted) (o : Progress) (d : Phase) : Type 0 where
+  pub expected : List ℕ
+  pub left : IsLeft w o expected
+  pub has : Has m (serve w) expected d
+  pub sends : IsSending m expected d
 
 -- nothing of it is left, and it ends with the connection; or it is aborted
 abbrev pub HasNone : Wanted → Progress → Type 0
 HasNone w Broken = Unit {0}
 HasNone w o = IsLeft w o [] × ((w.keep ≡ false) ⊎ (w.chunked ≡ false))
 
--- the rest is sent; or nothing is left, and the connection continues if the response permits it, and is closed otherwise
-abbrev pub HasLeft : State → Wanted → Progress → Doing → Type 0
-HasLeft m w o doing.Rests = IsLeft w o [] × (w.keep ≡ true)
-HasLeft m w o doing.Closes = HasNone w o
+-- the rest is sent; or nothing is left, and the connection continues if the response permits it, and is closed
+-- otherwise
+abbrev pub HasLeft : State → Wanted → Progress → Phase → Type 0
+HasLeft m w o phase.Rests = IsLeft w o [] × (w.keep ≡ true)
+HasLeft m w o phase.Closes = HasNone w o
 HasLeft m w o d = HasRest m w o d
 
 -- `job` is the text of the job, by the descriptor that it names.
@@ -237,17 +239,17 @@ module _ (job : (fd : ℕ) → List ℕ) where
   abbrev pub HasStep : State → Wanted → Progress → Run → Step → Type 0
   HasStep m w o run (Gives write) = HasPipe m run write × IsFresh run o
   HasStep m w o run (Makes f) = IsReading m run × IsFresh run o
-  HasStep m w o run (Hands j f) = IsReading m run × (lent_at m server j ≡ Some (job f)) × IsFresh run o
-  HasStep m w o run (Lets j) = IsReading m run × IsLent m j × IsFresh run o
+  HasStep m w o run (Hands j f) = IsReading m run × (readable_at m server j ≡ Some (job f)) × IsFresh run o
+  HasStep m w o run (Lets j) = IsReading m run × IsReadable m j × IsFresh run o
   HasStep m w o run Heads = IsReading m run × IsFresh run o
   HasStep m w o run (Sending d frame) = HasPart m w o run d frame
-  HasStep m w o run (Hears held frame) = HasHeard m w o run held frame
-  HasStep m w o run (Spills a frame) = IsSpare m a (Hears None frame) × HasHeard m w o run None frame
+  HasStep m w o run (Receives held frame) = HasReceived m w o run held frame
+  HasStep m w o run (Spills a frame) = IsSpare m a (Receives None frame) × HasReceived m w o run None frame
   HasStep m w o run (Gathers held size piece len frame) = HasPiece m w o run held size piece len frame
   HasStep m w o run (Frames held) = HasChunk m w o run held
   HasStep m w o run (Wraps held frame) = HasChunk m w o run held × HasFrame m (Some frame) × ((frame == held) ≡ false)
-  HasStep m w o run (Trims held chunk len frame) = IsSpare m held (Sending (doing.Sends chunk len 0 None) (Some frame))
-      × HasPart m w o run (doing.Sends chunk len 0 None) (Some frame)
+  HasStep m w o run (Trims held chunk len frame) = IsSpare m held (Sending (phase.Sends chunk len 0 None) (Some frame))
+      × HasPart m w o run (phase.Sends chunk len 0 None) (Some frame)
   HasStep m w o run (Ended a held frame) = IsSpare m a (Stops held frame) × IsReading m run × HasAll m w o run held frame
   HasStep m w o run (Unholds held frame) = IsSpare m held (Stops None frame) × IsReading m run × HasAll m w o run None frame
   HasStep m w o run (Stops held frame) = IsReading m run × HasAll m w o run held frame
@@ -258,7 +260,7 @@ module _ (job : (fd : ℕ) → List ℕ) where
       × HasEnd m w o chunk len
   HasStep m w o run (Unwraps frame chunk len) = IsSpare m frame (Lapses chunk) × HasEnd m w o chunk len
   HasStep m w o run (Returns write) = HasPipe m run write × IsFresh run o
-  HasStep m w o run (Lapses j) = IsReading m run × IsLent m j × IsFresh run o
+  HasStep m w o run (Lapses j) = IsReading m run × IsReadable m j × IsFresh run o
   HasStep m w o run Fails = IsReading m run × IsFresh run o
 
   -- The machine has what a run needs, with these results of its calls.

@@ -1,7 +1,7 @@
--- A run keeps only what it uses: the results of its calls belong to it, and are given up when it no longer uses them. Its calls
--- touch only what it has.
+-- A run keeps only what it uses: the results of its calls belong to it, and are given up when it no longer uses them.
+-- Its calls touch only what it has.
 --
--- As in `Run/OfferedBytes`, the laws are about each call of the server, calm or not.
+-- As in `Run/OfferedBytes`, the laws are about each call of the server, undisturbed or not.
 use Rattle.std.specs.Prelude.{◌≡◌, ℕ, ◌==◌, ◌||◌, Bool, true, false, List, Some, None}
 use Rattle.iol_core.specs.NumberedLists.{lowest}
 use Rattle.iol_core.specs.State.{State, descriptor}
@@ -13,12 +13,12 @@ use Rattle.iol_core.specs.declared.events.Call.TheVariants as call
 use Rattle.iol_core.specs.declared.events.Event.TheVariants as event
 use Rattle.iol_core.specs.declared.events.Reply.{Reply}
 use Rattle.iol_core.specs.declared.events.Reply.TheVariants as reply
-use Rattle.iol_laws.specs.Caller.{lent_at}
+use Rattle.iol_laws.specs.Caller.{readable_at}
 use Rattle.iol_laws.specs.Frame.{touches_conn, touches_pipe, touches_fd, changes_files}
 use Rattle.iol_laws.specs.Order.{IsOrderly}
 use Rattle.flash_http.specs.Request.{Wanted}
 use Rattle.flash_laws.specs.Run.Fits.{Progress, HasRun}
-use Rattle.flash_laws.specs.Run.{job_pipe, uses_agg, ends_of, wants, told, is_over}
+use Rattle.flash_laws.specs.Run.{job_pipe, uses_agg, ends_of, wants, after_reply, is_over}
 use Rattle.flash_laws.specs.Site.{server}
 use Rattle.flash_laws.specs.declared.script_run.Step.TheVariants.{Hands, Returns}
 use Rattle.flash_laws.specs.declared.script_run.Running.{Running}
@@ -66,23 +66,23 @@ pub record KeepsToItself (m : State) (fd c : ℕ) (x : Running) (k : Call) : Typ
 pub record RunKeepsNothing (job : ℕ → List ℕ) : Type 0 where
   -- an aggregate returned by a call for it is used by it
   pub brought : (m n : State) (fd c worker : ℕ) (w : Wanted) (x : Running) (o : Progress) (r : Reply)
-      (heard bytes : List ℕ) (a : ℕ)
+      (received bytes : List ℕ) (a : ℕ)
       → IsOrderly m → descriptor m server fd ≡ Some (on.Connection c) → is_over x ≡ false → HasRun job m w o x
       → StepsTo m (event.Call server (wants job fd w x)) r n
-      → lent_at m server a ≡ None → lent_at n server a ≡ Some bytes → uses_agg (told worker w x r heard) a ≡ true
+      → readable_at m server a ≡ None → readable_at n server a ≡ Some bytes → uses_agg (after_reply worker w x r received) a ≡ true
   -- both ends of a pipe returned by a call for it belong to it
-  pub opened : (m n : State) (fd worker : ℕ) (w : Wanted) (x : Running) (o : Progress) (from write : ℕ) (heard : List ℕ) (g : ℕ)
+  pub opened : (m n : State) (fd worker : ℕ) (w : Wanted) (x : Running) (o : Progress) (from write : ℕ) (received : List ℕ) (g : ℕ)
       → is_over x ≡ false → HasRun job m w o x
       → StepsTo m (event.Call server (wants job fd w x)) (reply.Fds from write) n
-      → ((from == g) || (write == g)) ≡ true → has_end (told worker w x (reply.Fds from write) heard) g ≡ true
+      → ((from == g) || (write == g)) ≡ true → has_end (after_reply worker w x (reply.Fds from write) received) g ≡ true
   -- an aggregate that it no longer uses is gone
-  pub left : (m n : State) (fd worker : ℕ) (w : Wanted) (x : Running) (o : Progress) (r : Reply) (heard : List ℕ) (a : ℕ)
+  pub left : (m n : State) (fd worker : ℕ) (w : Wanted) (x : Running) (o : Progress) (r : Reply) (received : List ℕ) (a : ℕ)
       → IsOrderly m → HasRun job m w o x → StepsTo m (event.Call server (wants job fd w x)) r n
-      → uses_agg x a ≡ true → uses_agg (told worker w x r heard) a ≡ false → lent_at n server a ≡ None
+      → uses_agg x a ≡ true → uses_agg (after_reply worker w x r received) a ≡ false → readable_at n server a ≡ None
   -- the same for an end of its pipe, which is closed, or given to the worker
-  pub shut : (m n : State) (fd worker : ℕ) (w : Wanted) (x : Running) (o : Progress) (r : Reply) (heard : List ℕ) (g : ℕ)
+  pub shut : (m n : State) (fd worker : ℕ) (w : Wanted) (x : Running) (o : Progress) (r : Reply) (received : List ℕ) (g : ℕ)
       → HasRun job m w o x → StepsTo m (event.Call server (wants job fd w x)) r n
-      → has_end x g ≡ true → has_end (told worker w x r heard) g ≡ false → descriptor n server g ≡ None
+      → has_end x g ≡ true → has_end (after_reply worker w x r received) g ≡ false → descriptor n server g ≡ None
   -- its calls touch only what it has
   pub alone : (m : State) (fd c : ℕ) (w : Wanted) (x : Running) (o : Progress) → descriptor m server fd ≡ Some (on.Connection c)
       → is_over x ≡ false → HasRun job m w o x → KeepsToItself m fd c x (wants job fd w x)

@@ -1,8 +1,8 @@
--- The bytes that the server offers for a script are the next bytes of the response, for every further output; once the end of
--- the output was read, of the response to that output.
+-- The bytes that the server offers for a script are the next bytes of the response, for every further output; once the
+-- end of the output was read, of the response to that output.
 --
--- The laws are about single steps, calm or not: what a run has remains, unless a call consumes or moves what it uses. That this
--- holds over a whole run is not stated here, and neither is what a worker writes.
+-- The laws are about single steps, undisturbed or not: what a run has remains, unless a call consumes or moves what it
+-- uses. That this holds over a whole run is not stated here, and neither is what a worker writes.
 use Rattle.std.specs.Prelude.{◌≡◌, ◌<◌, ℕ, ◌+◌, ◌-◌, ◌⊎◌, Bool, true, false, List, [], ◌∷◌, ◌++◌, length, drop, Option, Some, None}
 use Rattle.iol_core.specs.State.{State, descriptor, is_live, pipe_at, conn_at, new_pipe, is_gone}
 use Rattle.iol_core.specs.Run.{StepsTo}
@@ -14,7 +14,7 @@ use Rattle.iol_core.specs.declared.events.Event.{Event}
 use Rattle.iol_core.specs.declared.events.Event.TheVariants as event
 use Rattle.iol_core.specs.declared.events.Reply.{Reply}
 use Rattle.iol_core.specs.declared.events.Reply.TheVariants as reply
-use Rattle.iol_laws.specs.Caller.{lent_at, ReadsPipe, WritesPipe}
+use Rattle.iol_laws.specs.Caller.{readable_at, ReadsPipe, WritesPipe}
 use Rattle.iol_laws.specs.Frame.{touches_fd}
 use Rattle.iol_laws.specs.Order.{IsOrderly}
 use Rattle.iol_laws.specs.Reasons.{IsHidden}
@@ -23,48 +23,48 @@ use Rattle.flash_laws.specs.Conn.Fits.{Names}
 use Rattle.flash_laws.specs.Conn.Progress.{Rank, Nears, CanMake}
 use Rattle.flash_laws.specs.Conn.OfferedBytes.{taken_of, newly_taken, is_dropping, may_repeat}
 use Rattle.flash_laws.specs.Run.Fits.{Progress, Ran, Broken, NotRun, nothing_yet, MayAnswer, HasRun, HasJobPipe}
-use Rattle.flash_laws.specs.Run.{uses_agg, uses_fd, worker_domain, job_pipe, held_size, wants, told, is_over}
+use Rattle.flash_laws.specs.Run.{uses_agg, uses_fd, worker_domain, job_pipe, held_size, wants, after_reply, is_over}
 use Rattle.flash_laws.specs.Site.{server}
-use Rattle.flash_laws.specs.declared.phase.Doing.{Doing}
-use Rattle.flash_laws.specs.declared.phase.Doing.TheVariants as doing
+use Rattle.flash_laws.specs.declared.phase.Phase.{Phase}
+use Rattle.flash_laws.specs.declared.phase.Phase.TheVariants as phase
 use Rattle.flash_laws.specs.declared.script_run.TheConstants.{CHUNK_BYTES}
 use Rattle.flash_laws.specs.declared.script_run.Run.{Run}
 use Rattle.flash_laws.specs.declared.script_run.Step.{Step}
-use Rattle.flash_laws.specs.declared.script_run.Step.TheVariants.{Gives, Makes, Hands, Lets, Heads, Sending, Hears, Ended, Unholds, Stops, Unframes, Lasts, WrapsLast, TrimsLast, Unwraps, Returns, Lapses, Fails}
+use Rattle.flash_laws.specs.declared.script_run.Step.TheVariants.{Gives, Makes, Hands, Lets, Heads, Sending, Receives, Ended, Unholds, Stops, Unframes, Lasts, WrapsLast, TrimsLast, Unwraps, Returns, Lapses, Fails}
 use Rattle.flash_laws.specs.declared.script_run.Running.{Running}
 use Rattle.flash_laws.specs.declared.script_run.Running.TheVariants.{Awaits, Runs, Leaves}
 
 -- more output was read, or its end: no bytes
-abbrev pub hears_on : Progress → (heard : List ℕ) → Progress
-hears_on (Ran was ended past) [] = Ran was true past
-hears_on (Ran was ended past) (b ∷ heard) = Ran (was ++ (b ∷ heard)) ended past
-hears_on o heard = o
+abbrev pub receives_on : Progress → (received : List ℕ) → Progress
+receives_on (Ran was ended past) [] = Ran was true past
+receives_on (Ran was ended past) (b ∷ received) = Ran (was ++ (b ∷ received)) ended past
+receives_on o received = o
 
 -- the bytes of an aggregate were taken whole
 abbrev pub takes_on : Progress → (part : List ℕ) → Progress
-takes_on (Ran heard ended past) part = Ran heard ended (past ++ part)
+takes_on (Ran received ended past) part = Ran received ended (past ++ part)
 takes_on Broken part = Broken
 takes_on (NotRun status past) part = NotRun status (past ++ part)
 
 -- The results of the calls that send a part: all its bytes are taken after it is sent, or it is aborted.
-abbrev pub PartLearns : State → Doing → Reply → (before after : Progress) → Type 0
-PartLearns m (doing.Sent a taken None) reply.Done before after = (part : List ℕ)
-    × (lent_at m server a ≡ Some part) × (after ≡ takes_on before part)
-PartLearns m (doing.Drops a None) reply.Done before after = after ≡ Broken
+abbrev pub PartLearns : State → Phase → Reply → (before after : Progress) → Type 0
+PartLearns m (phase.Sent a taken None) reply.Done before after = (part : List ℕ)
+    × (readable_at m server a ≡ Some part) × (after ≡ takes_on before part)
+PartLearns m (phase.Drops a None) reply.Done before after = after ≡ Broken
 PartLearns m d r before after = after ≡ before
 
 -- The results of the calls, after the reply to one.
-abbrev pub StepLearns : State → Step → Reply → (heard : List ℕ) → (before after : Progress) → Type 0
-StepLearns m (Sending d frame) r heard before after = PartLearns m d r before after
-StepLearns m (Hears held frame) (reply.Agg n) heard before after = after ≡ hears_on before heard
-StepLearns m (Hears held frame) (reply.Refused (no.Denied p)) heard before after = after ≡ Broken
-StepLearns m Fails reply.Done heard before after = after ≡ NotRun 503 []
-StepLearns m s r heard before after = after ≡ before
+abbrev pub StepLearns : State → Step → Reply → (received : List ℕ) → (before after : Progress) → Type 0
+StepLearns m (Sending d frame) r received before after = PartLearns m d r before after
+StepLearns m (Receives held frame) (reply.Agg n) received before after = after ≡ receives_on before received
+StepLearns m (Receives held frame) (reply.Refused (no.Denied p)) received before after = after ≡ Broken
+StepLearns m Fails reply.Done received before after = after ≡ NotRun 503 []
+StepLearns m s r received before after = after ≡ before
 
-abbrev pub Learns : State → Running → Reply → (heard : List ℕ) → (before after : Progress) → Type 0
-Learns m (Runs run step) r heard before after = StepLearns m step r heard before after
-Learns m (Leaves d) r heard before after = PartLearns m d r before after
-Learns m x r heard before after = after ≡ before
+abbrev pub Learns : State → Running → Reply → (received : List ℕ) → (before after : Progress) → Type 0
+Learns m (Runs run step) r received before after = StepLearns m step r received before after
+Learns m (Leaves d) r received before after = PartLearns m d r before after
+Learns m x r received before after = after ≡ before
 
 -- the number of bytes taken of the part that is being sent
 abbrev pub taken_by : Running → ℕ
@@ -74,14 +74,14 @@ taken_by x = 0
 
 -- the number of bytes of the response that were taken before that part
 abbrev pub past_of : Progress → ℕ
-past_of (Ran heard ended past) = length past
+past_of (Ran received ended past) = length past
 past_of Broken = 0
 past_of (NotRun status past) = length past
 
 -- the bytes of an aggregate are the next of each possible response
 pub record IsNextOf (m : State) (w : Wanted) (o : Progress) (a taken : ℕ) : Type 0 where
   pub bytes : List ℕ
-  pub lends : lent_at m server a ≡ Some bytes
+  pub is_readable : readable_at m server a ≡ Some bytes
   pub next : (r : List ℕ) → MayAnswer w o r → (after : List ℕ) × (bytes ++ after ≡ drop (past_of o + taken) r)
 
 -- a run that continues has this worker
@@ -133,17 +133,17 @@ is_stopping (Runs run (Unwraps frame chunk len)) = true
 is_stopping x = false
 
 -- the end of the output was read, or the server may not read it
-abbrev pub StopsBy : Running → Reply → (heard : List ℕ) → Type 0
-StopsBy (Runs run (Hears held frame)) (reply.Agg n) heard = heard ≡ []
-StopsBy (Runs run (Hears held frame)) (reply.Refused (no.Denied p)) heard = Unit {0}
-StopsBy x r heard = ⊥
+abbrev pub StopsBy : Running → Reply → (received : List ℕ) → Type 0
+StopsBy (Runs run (Receives held frame)) (reply.Agg n) received = received ≡ []
+StopsBy (Runs run (Receives held frame)) (reply.Refused (no.Denied p)) received = Unit {0}
+StopsBy x r received = ⊥
 
 -- ---- its rank
 
 -- more of the output was read
-abbrev pub HearsMore : Running → Reply → (heard : List ℕ) → Type 0
-HearsMore (Runs run (Hears held frame)) (reply.Agg n) (b ∷ heard) = Unit {0}
-HearsMore x r heard = ⊥
+abbrev pub ReceivesMore : Running → Reply → (received : List ℕ) → Type 0
+ReceivesMore (Runs run (Receives held frame)) (reply.Agg n) (b ∷ received) = Unit {0}
+ReceivesMore x r received = ⊥
 
 -- ---- the order of handing over the job
 
@@ -156,8 +156,8 @@ is_handing (Runs run (Hands j f)) = true
 is_handing (Runs run (Lets j)) = true
 is_handing x = false
 
--- the pipe is given, the job made, written and dropped, and the head made: each only after the call before it succeeded; and
--- nothing of the response is sent before
+-- the pipe is given, the job made, written and dropped, and the head made: each only after the call before it
+-- succeeded; and nothing of the response is sent before
 abbrev pub ComesAfter : Running → Reply → Running → Type 0
 ComesAfter x r (Runs run (Makes f)) = (write : ℕ) × (x ≡ Runs run (Gives write)) × (r ≡ reply.Fd f)
 ComesAfter x r (Runs run (Hands j f)) = (x ≡ Runs run (Makes f)) × (r ≡ reply.Agg j)
@@ -171,11 +171,11 @@ pub record RunOffersTheResponse (job : ℕ → List ℕ) : Type 0 where
   -- the beginning of a run
   pub starts : (m : State) (w : Wanted) → HasRun job m w nothing_yet Awaits
   -- after the reply to its call the machine has what is needed next; the worker that it gets is one with a job pipe
-  pub replied : (m n : State) (fd c worker : ℕ) (w : Wanted) (x : Running) (r : Reply) (heard : List ℕ) (before : Progress)
+  pub replied : (m n : State) (fd c worker : ℕ) (w : Wanted) (x : Running) (r : Reply) (received : List ℕ) (before : Progress)
       → IsOrderly m → descriptor m server fd ≡ Some (on.Connection c) → (x ≡ Awaits → HasJobPipe m worker)
       → is_over x ≡ false → HasRun job m w before x
-      → StepsTo m (event.Call server (wants job fd w x)) r n → Names n r heard
-      → (after : Progress) × Learns m x r heard before after × HasRun job n w after (told worker w x r heard)
+      → StepsTo m (event.Call server (wants job fd w x)) r n → Names n r received
+      → (after : Progress) × Learns m x r received before after × HasRun job n w after (after_reply worker w x r received)
   -- the same for any other event that neither consumes nor moves what the run uses
   pub stays : (m n : State) (w : Wanted) (x : Running) (e : Event) (r : Reply) (o : Progress) → StepsTo m e r n
       → ((a : ℕ) → uses_agg x a ≡ true → gives_up e server a ≡ false)
@@ -189,55 +189,55 @@ pub record RunOffersTheResponse (job : ℕ → List ℕ) : Type 0 where
   pub silent : (m : State) (fd a : ℕ) (w : Wanted) (x : Running) → HasRun job m w Broken x
       → wants job fd w x ≡ call.IolWrite fd a → ⊥
   -- the bytes that the connection took count as taken, while the response is not aborted
-  pub takes : (m n : State) (fd c worker : ℕ) (w : Wanted) (x : Running) (r : Reply) (heard : List ℕ) (before after : Progress)
+  pub takes : (m n : State) (fd c worker : ℕ) (w : Wanted) (x : Running) (r : Reply) (received : List ℕ) (before after : Progress)
       → IsOrderly m → descriptor m server fd ≡ Some (on.Connection c) → is_over x ≡ false → HasRun job m w before x
-      → StepsTo m (event.Call server (wants job fd w x)) r n → Learns m x r heard before after
-      → breaks_off x ≡ false → breaks_off (told worker w x r heard) ≡ false
-      → past_of after + taken_by (told worker w x r heard) ≡ past_of before + taken_by x + newly_taken fd (wants job fd w x) r
+      → StepsTo m (event.Call server (wants job fd w x)) r n → Learns m x r received before after
+      → breaks_off x ≡ false → breaks_off (after_reply worker w x r received) ≡ false
+      → past_of after + taken_by (after_reply worker w x r received) ≡ past_of before + taken_by x + newly_taken fd (wants job fd w x) r
   -- it is aborted only if the peer is gone, or the server may not read the output
-  pub breaks : (m n : State) (fd c worker : ℕ) (w : Wanted) (x : Running) (r : Reply) (heard : List ℕ) (o : Progress)
+  pub breaks : (m n : State) (fd c worker : ℕ) (w : Wanted) (x : Running) (r : Reply) (received : List ℕ) (o : Progress)
       → descriptor m server fd ≡ Some (on.Connection c) → is_over x ≡ false → HasRun job m w o x
       → StepsTo m (event.Call server (wants job fd w x)) r n
-      → breaks_off x ≡ false → breaks_off (told worker w x r heard) ≡ true → IsCutOff m c x
+      → breaks_off x ≡ false → breaks_off (after_reply worker w x r received) ≡ true → IsCutOff m c x
   -- a script is given up only if its worker's domain has ended, or its job pipe has no reader
-  pub fails : (m n : State) (fd worker : ℕ) (w : Wanted) (x : Running) (r : Reply) (heard : List ℕ) (o : Progress)
+  pub fails : (m n : State) (fd worker : ℕ) (w : Wanted) (x : Running) (r : Reply) (received : List ℕ) (o : Progress)
       → is_live m server ≡ true → HasRun job m w o x → StepsTo m (event.Call server (wants job fd w x)) r n
-      → is_failing x ≡ false → is_failing (told worker w x r heard) ≡ true → IsLost m x
+      → is_failing x ≡ false → is_failing (after_reply worker w x r received) ≡ true → IsLost m x
   -- each reply reduces the rank, unless more of the output was read, or the call is retried later
   pub rank : Wanted → Running → Rank
-  pub nears : (m n : State) (fd c worker : ℕ) (w : Wanted) (x : Running) (r : Reply) (heard : List ℕ) (o : Progress)
+  pub nears : (m n : State) (fd c worker : ℕ) (w : Wanted) (x : Running) (r : Reply) (received : List ℕ) (o : Progress)
       → IsOrderly m → is_live m server ≡ true → descriptor m server fd ≡ Some (on.Connection c) → is_over x ≡ false
       → HasRun job m w o x → CanMake m (wants job fd w x) → StepsTo m (event.Call server (wants job fd w x)) r n
-      → Names n r heard → Nears (rank w) x r (told worker w x r heard) ⊎ HearsMore x r heard
+      → Names n r received → Nears (rank w) x r (after_reply worker w x r received) ⊎ ReceivesMore x r received
   -- a successful call is not repeated
-  pub moves : (m n : State) (fd worker : ℕ) (w : Wanted) (x : Running) (r : Reply) (heard : List ℕ) (o : Progress)
+  pub moves : (m n : State) (fd worker : ℕ) (w : Wanted) (x : Running) (r : Reply) (received : List ℕ) (o : Progress)
       → is_over x ≡ false → HasRun job m w o x → StepsTo m (event.Call server (wants job fd w x)) r n
-      → told worker w x r heard ≡ x → may_repeat (wants job fd w x) r ≡ true
+      → after_reply worker w x r received ≡ x → may_repeat (wants job fd w x) r ≡ true
   -- no output is read while the bytes of a whole chunk are buffered
   pub reads : (m : State) (w : Wanted) (o : Progress) (run : Run) (held : Option (ℕ × ℕ)) (frame : Option ℕ)
-      → HasRun job m w o (Runs run (Hears held frame)) → held_size held < CHUNK_BYTES
-  -- a read gives the first bytes of the pipe, at most as many as are missing from a chunk, and no bytes only if the pipe has no
-  -- writer any more
-  pub hears : (m n : State) (fd : ℕ) (w : Wanted) (o : Progress) (run : Run) (held : Option (ℕ × ℕ))
+      → HasRun job m w o (Runs run (Receives held frame)) → held_size held < CHUNK_BYTES
+  -- a read gives the first bytes of the pipe, at most as many as are missing from a chunk, and no bytes only if the
+  -- pipe has no writer any more
+  pub receives : (m n : State) (fd : ℕ) (w : Wanted) (o : Progress) (run : Run) (held : Option (ℕ × ℕ))
       (frame : Option ℕ) (r : Reply)
-      → IsOrderly m → HasRun job m w o (Runs run (Hears held frame))
-      → StepsTo m (event.Call server (wants job fd w (Runs run (Hears held frame)))) r n
+      → IsOrderly m → HasRun job m w o (Runs run (Receives held frame))
+      → StepsTo m (event.Call server (wants job fd w (Runs run (Receives held frame)))) r n
       → (p : ℕ) × (descriptor m server run.from ≡ Some (on.ReadEnd p)) × ReadsPipe m server p (CHUNK_BYTES - held_size held) r n
   -- it reads until the end of the output, or until it may not read, also after the response is aborted
-  pub reads_on : (worker : ℕ) (w : Wanted) (x : Running) (r : Reply) (heard : List ℕ) → is_stopping x ≡ false
-      → is_stopping (told worker w x r heard) ≡ true → StopsBy x r heard
+  pub reads_on : (worker : ℕ) (w : Wanted) (x : Running) (r : Reply) (received : List ℕ) → is_stopping x ≡ false
+      → is_stopping (after_reply worker w x r received) ≡ true → StopsBy x r received
   -- a run begins with a new pipe, which is empty, and with its worker
-  pub opens : (m n : State) (fd worker : ℕ) (w : Wanted) (from write : ℕ) (heard : List ℕ)
+  pub opens : (m n : State) (fd worker : ℕ) (w : Wanted) (from write : ℕ) (received : List ℕ)
       → StepsTo m (event.Call server (wants job fd w Awaits)) (reply.Fds from write) n
-      → (told worker w Awaits (reply.Fds from write) heard
+      → (after_reply worker w Awaits (reply.Fds from write) received
       ≡ Runs (record { worker = worker; from = from; broken = false }) (Gives write))
       × ((p : ℕ) × (pipe_at n p ≡ new_pipe) × (descriptor n server from ≡ Some (on.ReadEnd p))
       × (descriptor n server write ≡ Some (on.WriteEnd p)))
   -- the worker gets the write end of the pipe that the server reads, and the job names its descriptor of it
-  pub gives : (m n : State) (fd worker : ℕ) (w : Wanted) (o : Progress) (run : Run) (write f : ℕ) (heard : List ℕ)
+  pub gives : (m n : State) (fd worker : ℕ) (w : Wanted) (o : Progress) (run : Run) (write f : ℕ) (received : List ℕ)
       → HasRun job m w o (Runs run (Gives write))
       → StepsTo m (event.Call server (wants job fd w (Runs run (Gives write)))) (reply.Fd f) n
-      → (told worker w (Runs run (Gives write)) (reply.Fd f) heard ≡ Runs run (Makes f))
+      → (after_reply worker w (Runs run (Gives write)) (reply.Fd f) received ≡ Runs run (Makes f))
       × ((p : ℕ) × (descriptor n server run.from ≡ Some (on.ReadEnd p))
       × (descriptor n (worker_domain run.worker) f ≡ Some (on.WriteEnd p)))
   -- the job is appended to that worker's job pipe, as much of it as fits
@@ -246,11 +246,11 @@ pub record RunOffersTheResponse (job : ℕ → List ℕ) : Type 0 where
       → StepsTo m (event.Call server (wants job fd w (Runs run (Hands j f)))) r n
       → (p : ℕ) × (descriptor m server (job_pipe run.worker) ≡ Some (on.WriteEnd p)) × WritesPipe m p (job f) r n
   -- nothing of the response is made or sent before that
-  pub in_turn : (worker : ℕ) (w : Wanted) (x : Running) (r : Reply) (heard : List ℕ)
-      → (told worker w x r heard ≡ x) ⊎ ComesAfter x r (told worker w x r heard)
+  pub in_turn : (worker : ℕ) (w : Wanted) (x : Running) (r : Reply) (received : List ℕ)
+      → (after_reply worker w x r received ≡ x) ⊎ ComesAfter x r (after_reply worker w x r received)
   -- a run keeps its worker
-  pub keeps : (worker : ℕ) (w : Wanted) (run : Run) (step : Step) (r : Reply) (heard : List ℕ)
-      → HasWorker run.worker (told worker w (Runs run step) r heard)
+  pub keeps : (worker : ℕ) (w : Wanted) (run : Run) (step : Step) (r : Reply) (received : List ℕ)
+      → HasWorker run.worker (after_reply worker w (Runs run step) r received)
 
 abbrev pub RunsOfferTheResponse : Type 0
 RunsOfferTheResponse = (job : ℕ → List ℕ) → RunOffersTheResponse job

@@ -8,27 +8,27 @@ use Rattle.flash_laws.specs.Conn.{begins}
 use Rattle.flash_laws.specs.Site.Places.{has_free}
 use Rattle.flash_laws.specs.Serves.{Server, filed_in, server_turns}
 use Rattle.flash_laws.specs.Serves.Rounds.{goes_in, in_rounds}
-use Rattle.flash_laws.specs.declared.phase.Doing.{Doing}
-use Rattle.flash_laws.specs.declared.phase.Doing.TheVariants.{Sent}
-use Rattle.flash_laws.specs.declared.phase.Flight.TheVariants.{At}
+use Rattle.flash_laws.specs.declared.phase.Phase.{Phase}
+use Rattle.flash_laws.specs.declared.phase.Phase.TheVariants.{Sent}
+use Rattle.flash_laws.specs.declared.phase.PendingCall.TheVariants.{At}
 use Rattle.flash_laws.specs.declared.script_run.Running.{Running}
 use Rattle.flash_laws.specs.declared.script_run.Running.TheVariants.{Leaves}
 
 -- one turn of the server: the reply to its last call, the bytes that it may read, its action, and the server after it
 pub record OneTurn : Type 0 where
   pub last : Reply
-  pub lent : ℕ → Option (List ℕ)
+  pub readable : ℕ → Option (List ℕ)
   pub made : Turn
   pub after : Server
 
 -- its clients after that reply
 abbrev pub clients_in : Server → OneTurn → List (Option Client)
-clients_in s x = filed_in s x.last x.lent
+clients_in s x = filed_in s x.last x.readable
 
 -- consecutive turns
 abbrev pub Follow : Server → List OneTurn → Type 0
 Follow s [] = Unit {0}
-Follow s (x ∷ xs) = server_turns in_rounds s x.last x.lent x.made x.after × Follow x.after xs
+Follow s (x ∷ xs) = server_turns in_rounds s x.last x.readable x.made x.after × Follow x.after xs
 
 -- at each of them there is a client at this index that may take a turn
 abbrev pub GoesThroughout : (gd : ℕ) → Server → List OneTurn → Type 0
@@ -39,10 +39,10 @@ GoesThroughout gd s (x ∷ xs) = (goes_in (has_free s.workers (clients_in s x)) 
 -- one of them is of the client at this index
 abbrev pub HasATurn : (gd : ℕ) → List OneTurn → Type 0
 HasATurn gd [] = ⊥
-HasATurn gd (x ∷ xs) = (x.after.flight ≡ At gd) ⊎ HasATurn gd xs
+HasATurn gd (x ∷ xs) = (x.after.pending_call ≡ At gd) ⊎ HasATurn gd xs
 
 -- whether the response is taken whole
-abbrev pub is_taken : Doing → Bool
+abbrev pub is_taken : Phase → Bool
 is_taken (Sent a taken None) = true
 is_taken d = false
 
@@ -50,27 +50,27 @@ abbrev pub is_answered : Client → Bool
 is_answered x = by x.run
   where
     by : Option Running → Bool
-    by None = is_taken x.conn.doing
+    by None = is_taken x.conn.phase
     by (Some (Leaves d)) = is_taken d
     by (Some y) = false
 
 -- with this reply the response to the client at an index is taken whole
 pub record Answers (fd : ℕ) (s : Server) (x : OneTurn) : Type 0 where
   pub client : Client
-  pub turn : s.flight ≡ At fd
+  pub turn : s.pending_call ≡ At fd
   pub there : in_place (clients_in s x) fd ≡ Some client
   pub answered : is_answered client ≡ true
 
 -- the client at an index makes the first call for a request
 pub record BeginsAt (fd : ℕ) (s : Server) : Type 0 where
   pub client : Client
-  pub turn : s.flight ≡ At fd
+  pub turn : s.pending_call ≡ At fd
   pub there : in_place s.clients fd ≡ Some client
-  pub begins : client.conn.doing ≡ begins client.conn.q
+  pub begins : client.conn.phase ≡ begins client.conn.q
   pub no_script : client.run ≡ None
 
--- From the turn with whose reply a response is taken whole, to the turn in which the same client begins a request, each other
--- client that may take a turn at all of them takes one.
+-- From the turn with whose reply a response is taken whole, to the turn in which the same client begins a request, each
+-- other client that may take a turn at all of them takes one.
 abbrev pub TurnsAreFair : Type 0
 TurnsAreFair = (s : Server) (x : OneTurn) (xs : List OneTurn) (y : OneTurn) (fd gd : ℕ) → Follow s (x ∷ xs ++ y ∷ [])
     → Answers fd s x → BeginsAt fd y.after → fd ≢ gd → GoesThroughout gd s (x ∷ xs ++ y ∷ []) → HasATurn gd (x ∷ xs)

@@ -1,21 +1,21 @@
--- The uses of memory by the server in a turn: to buffer bytes that it reads, for a new index, to begin a request, and for the
--- bytes of a call.
+-- The uses of memory by the server in a turn: to buffer bytes that it reads, for a new index, to begin a request, and
+-- for the bytes of a call.
 use Rattle.std.specs.Prelude.{◌≡◌, ◌⊎◌, ◌≤◌, ℕ, ◌+◌, Bool, true, false, List, length, Option, Some, None}
 use Rattle.iol_core.specs.NumberedLists.{in_place}
 use Rattle.iol_core.specs.declared.events.Reply.{Reply}
 use Rattle.iol_core.specs.declared.events.Reply.TheVariants as reply
-use Rattle.flash_laws.specs.Client.{Client, told}
+use Rattle.flash_laws.specs.Client.{Client, after_reply}
 use Rattle.flash_laws.specs.Client.Wants.{WantsOn, makes_bytes}
 use Rattle.flash_laws.specs.Site.Places.{first_free, has_free, runs_scripts, filed}
 use Rattle.flash_laws.specs.Serves.Rounds.{leaves_off, next_in}
-use Rattle.flash_laws.specs.Serves.{Server, heard_of}
-use Rattle.flash_laws.specs.declared.phase.Flight.{Flight}
-use Rattle.flash_laws.specs.declared.phase.Flight.TheVariants.{Nothing, Accepting, At}
+use Rattle.flash_laws.specs.Serves.{Server, received_of}
+use Rattle.flash_laws.specs.declared.phase.PendingCall.{PendingCall}
+use Rattle.flash_laws.specs.declared.phase.PendingCall.TheVariants.{Nothing, Accepting, At}
 
 -- the client at an index needs it after a reply; `worker` is a free worker
-abbrev pub WantsHere : (scripts : Bool) → (worker : ℕ) → Option Client → Reply → (heard : List ℕ) → Type 0
-WantsHere scripts worker None r heard = ⊥
-WantsHere scripts worker (Some x) r heard = WantsOn scripts (told scripts worker x r heard) x r heard
+abbrev pub WantsHere : (scripts : Bool) → (worker : ℕ) → Option Client → Reply → (received : List ℕ) → Type 0
+WantsHere scripts worker None r received = ⊥
+WantsHere scripts worker (Some x) r received = WantsOn scripts (after_reply scripts worker x r received) x r received
 
 -- a client that is picked needs it for the bytes of its call
 abbrev pub wants_there : Option Client → Bool
@@ -40,13 +40,13 @@ abbrev pub WantsPast : (workers : ℕ) → (filed : List (Option Client)) → (f
 WantsPast workers filed fd r = (leaves_off (in_place filed fd) r ≡ true) × WantsFrom (has_free workers filed) filed (fd + 1)
 
 -- after the reply to the pending call
-abbrev pub MayWant : (workers : ℕ) → List (Option Client) → Flight → Reply → (heard : List ℕ) → Type 0
-MayWant workers clients Nothing r heard = WantsFrom (has_free workers clients) clients 0
-MayWant workers clients Accepting r heard = WantsPlace clients r
-MayWant workers clients (At fd) r heard =
-    WantsHere (runs_scripts workers) (first_free workers clients) (in_place clients fd) r heard
-    ⊎ WantsPast workers (filed workers clients (At fd) r heard) fd r
+abbrev pub MayWant : (workers : ℕ) → List (Option Client) → PendingCall → Reply → (received : List ℕ) → Type 0
+MayWant workers clients Nothing r received = WantsFrom (has_free workers clients) clients 0
+MayWant workers clients Accepting r received = WantsPlace clients r
+MayWant workers clients (At fd) r received =
+    WantsHere (runs_scripts workers) (first_free workers clients) (in_place clients fd) r received
+    ⊎ WantsPast workers (filed workers clients (At fd) r received) fd r
 
 -- the server, in a turn
-abbrev pub server_wants : Server → Reply → (lent : ℕ → Option (List ℕ)) → Type 0
-server_wants s r lent = MayWant s.workers s.clients s.flight r (heard_of r lent)
+abbrev pub server_wants : Server → Reply → (readable : ℕ → Option (List ℕ)) → Type 0
+server_wants s r readable = MayWant s.workers s.clients s.pending_call r (received_of r readable)

@@ -1,11 +1,11 @@
--- A slot for each descriptor of the server, and the connections that it does not have: those that wait for it, and those of
--- others.
+-- A slot for each descriptor of the server, and the connections that it does not have: those that wait for it, and
+-- those of others.
 use Rattle.std.specs.Prelude.{◌≡◌, ℕ, ◌+◌, ◌-◌, true, false, List, [], ◌++◌, length, replicate, slice_set, Option, Some, None}
 use Rattle.iol_core.specs.Text.{bytes_of}
 use Rattle.iol_core.specs.State.{Connection}
 use Rattle.flash_laws.specs.Conn.{Conn}
-use Rattle.flash_laws.specs.declared.phase.Doing.{Doing}
-use Rattle.flash_laws.specs.declared.phase.Doing.TheVariants.{Over}
+use Rattle.flash_laws.specs.declared.phase.Phase.{Phase}
+use Rattle.flash_laws.specs.declared.phase.Phase.TheVariants.{Over}
 use Rattle.flash_laws.specs.Site.Past.{Past}
 use Rattle.flash_laws.specs.Site.{net_pool}
 
@@ -17,12 +17,12 @@ abbrev pub with_at : {A : Type 0} → List (Option A) → (fd : ℕ) → Option 
 with_at conns fd x = slice_set (grown conns fd) fd x
 
 -- a connection that is over is removed
-abbrev pub left_by : {A : Type 0} → Doing → A → Option A
+abbrev pub left_by : {A : Type 0} → Phase → A → Option A
 left_by Over x = None
 left_by d x = Some x
 
 abbrev pub left_over : Conn → Option Conn
-left_over x = left_by x.doing x
+left_over x = left_by x.phase x
 
 -- a connection that waits for the server
 pub record Waits (p : Past) (c : ℕ) (k : Connection) : Type 0 where

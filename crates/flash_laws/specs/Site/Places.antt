@@ -4,10 +4,10 @@ use Rattle.std.specs.List.{list_any, position_or_len, range_with_len}
 use Rattle.iol_core.specs.NumberedLists.{in_place}
 use Rattle.iol_core.specs.declared.events.Reply.{Reply}
 use Rattle.iol_core.specs.declared.events.Reply.TheVariants as reply
-use Rattle.flash_laws.specs.Client.{Client, new_client, told, left_over, awaits}
+use Rattle.flash_laws.specs.Client.{Client, new_client, after_reply, left_over, awaits}
 use Rattle.flash_laws.specs.Site.OtherConns.{with_at}
-use Rattle.flash_laws.specs.declared.phase.Flight.{Flight}
-use Rattle.flash_laws.specs.declared.phase.Flight.TheVariants.{Nothing, Accepting, At}
+use Rattle.flash_laws.specs.declared.phase.PendingCall.{PendingCall}
+use Rattle.flash_laws.specs.declared.phase.PendingCall.TheVariants.{Nothing, Accepting, At}
 use Rattle.flash_laws.specs.declared.script_run.Running.{Running}
 use Rattle.flash_laws.specs.declared.script_run.Running.TheVariants.{Runs}
 
@@ -60,18 +60,18 @@ pub record EachHasItsOwn (workers : ℕ) (clients : List (Option Client)) : Type
 abbrev pub runs_scripts : (workers : ℕ) → Bool
 runs_scripts workers = nat_lt 0 workers
 
-abbrev pub told_at : (workers : ℕ) → List (Option Client) → (fd : ℕ) → Option Client → Reply → (heard : List ℕ)
+abbrev pub after_reply_at : (workers : ℕ) → List (Option Client) → (fd : ℕ) → Option Client → Reply → (received : List ℕ)
     → List (Option Client)
-told_at workers clients fd None r heard = clients
-told_at workers clients fd (Some x) r heard =
-    with_at clients fd (left_over (told (runs_scripts workers) (first_free workers clients) x r heard))
+after_reply_at workers clients fd None r received = clients
+after_reply_at workers clients fd (Some x) r received =
+    with_at clients fd (left_over (after_reply (runs_scripts workers) (first_free workers clients) x r received))
 
 abbrev pub accepted : List (Option Client) → Reply → List (Option Client)
 accepted clients (reply.Fd fd) = with_at clients fd (Some new_client)
 accepted clients r = clients
 
 -- the clients after the reply to the pending call is processed
-abbrev pub filed : (workers : ℕ) → List (Option Client) → Flight → Reply → (heard : List ℕ) → List (Option Client)
-filed workers clients Nothing r heard = clients
-filed workers clients Accepting r heard = accepted clients r
-filed workers clients (At fd) r heard = told_at workers clients fd (in_place clients fd) r heard
+abbrev pub filed : (workers : ℕ) → List (Option Client) → PendingCall → Reply → (received : List ℕ) → List (Option Client)
+filed workers clients Nothing r received = clients
+filed workers clients Accepting r received = accepted clients r
+filed workers clients (At fd) r received = after_reply_at workers clients fd (in_place clients fd) r received

@@ -10,18 +10,18 @@ use Rattle.iol_proc.specs.Idle.{Idles}
 use Rattle.iol_proc.specs.World.{Stage, copying}
 use Rattle.iol_proc.specs.declared.choice.Choice.{Choice}
 use Rattle.flash_laws.specs.Client.{Client, uses_agg, awaits}
-use Rattle.flash_laws.specs.Workers.Crew.{Crew}
+use Rattle.flash_laws.specs.Workers.WorkerSet.{WorkerSet}
 use Rattle.flash_laws.specs.World.Remains.{IsFull, StaysOpen, AnswersScript}
-use Rattle.flash_laws.specs.Conn.Fits.{IsLent}
-use Rattle.flash_laws.specs.World.Settles.{ActorsAreSettled}
+use Rattle.flash_laws.specs.Conn.Fits.{IsReadable}
+use Rattle.flash_laws.specs.World.Quiesces.{ActorsAreQuiescent}
 use Rattle.flash_laws.specs.Site.Past.{Past}
 use Rattle.flash_laws.specs.Site.Places.{is_run_by}
 use Rattle.flash_laws.specs.Serves.Rounds.{in_rounds}
-use Rattle.flash_laws.specs.Site.ClientTies.{IsUsed}
-use Rattle.flash_laws.specs.Shelf.{Shelf, IsAnswer}
+use Rattle.flash_laws.specs.Site.ClientConsistency.{IsUsed}
+use Rattle.flash_laws.specs.SiteContents.{SiteContents, IsAnswer}
 use Rattle.flash_laws.specs.Site.{server}
-use Rattle.flash_laws.specs.World.Tie.{past_of, Actor, actor_turns}
-use Rattle.flash_laws.specs.World.{Tied}
+use Rattle.flash_laws.specs.World.Consistency.{past_of, Actor, actor_turns}
+use Rattle.flash_laws.specs.World.{Consistent}
 
 -- the output queue is full
 abbrev pub IsHeldUp : State → (c : ℕ) → Type 0
@@ -32,12 +32,12 @@ abbrev pub IsHeldUpAt : State → (fd : ℕ) → Type 0
 IsHeldUpAt m fd = (c : ℕ) × (descriptor m server fd ≡ Some (on.Connection c)) × IsHeldUp m c
 
 -- The request in progress on this connection is for a script, and this part of the response is made; or its peer left.
-abbrev pub AsksForScript : Shelf → State → Past → (c : ℕ) → (part : List ℕ) → Type 0
-AsksForScript shelf m p c part = (p.gone c ≡ true)
-    ⊎ AnswersScript shelf (p.came c) (p.sent c ++ bytes_of (conn_at m c).outgoing) part
+abbrev pub AsksForScript : SiteContents → State → Past → (c : ℕ) → (part : List ℕ) → Type 0
+AsksForScript site_contents m p c part = (p.gone c ≡ true)
+    ⊎ AnswersScript site_contents (p.came c) (p.sent c ++ bytes_of (conn_at m c).outgoing) part
 
 -- this worker runs the script that was requested on a connection with a full output queue
-pub record RunsForHeldUp (shelf : Shelf) (m : State) (p : Past) (clients : List (Option Client)) (k : ℕ) : Type 0 where
+pub record RunsForHeldUp (site_contents : SiteContents) (m : State) (p : Past) (clients : List (Option Client)) (k : ℕ) : Type 0 where
   pub place : ℕ
   pub client : Client
   pub there : in_place clients place ≡ Some client
@@ -46,42 +46,42 @@ pub record RunsForHeldUp (shelf : Shelf) (m : State) (p : Past) (clients : List 
   pub open_on : descriptor m server place ≡ Some (on.Connection conn)
   pub held : IsHeldUp m conn
   pub part : List ℕ
-  pub asks : AsksForScript shelf m p conn part
+  pub asks : AsksForScript site_contents m p conn part
 
--- The client of this connection requested a script, and none of the response is made yet: it waits for a worker, while each
--- runs the script of a client with a full output queue.
-pub record AwaitsWorker (shelf : Shelf) (workers : ℕ) (m : State) (p : Past) (clients : List (Option Client))
+-- The client of this connection requested a script, and none of the response is made yet: it waits for a worker, while
+-- each runs the script of a client with a full output queue.
+pub record AwaitsWorker (site_contents : SiteContents) (workers : ℕ) (m : State) (p : Past) (clients : List (Option Client))
     (c : ℕ) : Type 0 where
   pub place : ℕ
   pub client : Client
   pub there : in_place clients place ≡ Some client
   pub open_on : descriptor m server place ≡ Some (on.Connection c)
   pub waits : awaits client ≡ true
-  pub asks : AsksForScript shelf m p c []
+  pub asks : AsksForScript site_contents m p c []
   pub some : 0 < workers
-  pub busy : (k : ℕ) → k < workers → RunsForHeldUp shelf m p clients k
+  pub busy : (k : ℕ) → k < workers → RunsForHeldUp site_contents m p clients k
 
-pub record IsDone (shelf : Shelf) (workers : ℕ) (m : State) (p : Past) (clients : List (Option Client)) : Type 0 where
+pub record IsDone (site_contents : SiteContents) (workers : ℕ) (m : State) (p : Past) (clients : List (Option Client)) : Type 0 where
   -- each connection of the net is accepted, unless the server has the maximum number open
   pub accepted : (c : ℕ) → p.net c ≡ true → ((conn_at m c).accepted ≡ true) ⊎ IsFull m clients
-  -- each accepted connection whose peer did not leave, closed or not, has its whole answer, or its output queue is full, or it
-  -- waits for a worker
+  -- each accepted connection whose peer did not leave, closed or not, has its whole answer, or its output queue is
+  -- full, or it waits for a worker
   pub answered : (c : ℕ) → p.net c ≡ true → (conn_at m c).accepted ≡ true → p.gone c ≡ false
-      → IsAnswer shelf (p.came c) (p.sent c ++ bytes_of (conn_at m c).outgoing)
-      ⊎ IsHeldUp m c ⊎ AwaitsWorker shelf workers m p clients c
-  -- each accepted connection is closed, or has a full output queue, or waits for a worker, or its peer exists and may send more
-  -- requests
+      → IsAnswer site_contents (p.came c) (p.sent c ++ bytes_of (conn_at m c).outgoing)
+      ⊎ IsHeldUp m c ⊎ AwaitsWorker site_contents workers m p clients c
+  -- each accepted connection is closed, or has a full output queue, or waits for a worker, or its peer exists and may
+  -- send more requests
   pub closes : (c : ℕ) → p.net c ≡ true → (conn_at m c).accepted ≡ true
-      → ((conn_at m c).closed ≡ true) ⊎ IsHeldUp m c ⊎ AwaitsWorker shelf workers m p clients c
+      → ((conn_at m c).closed ≡ true) ⊎ IsHeldUp m c ⊎ AwaitsWorker site_contents workers m p clients c
       ⊎ (((conn_at m c).peer ≡ None) × StaysOpen (p.came c))
   -- a client that uses an aggregate is blocked by a full output queue
-  pub lends : (fd a : ℕ) (x : Client) → in_place clients fd ≡ Some x → uses_agg x a ≡ true → IsHeldUpAt m fd
+  pub is_readable : (fd a : ℕ) (x : Client) → in_place clients fd ≡ Some x → uses_agg x a ≡ true → IsHeldUpAt m fd
   -- and each aggregate of the server is used by such a client, or an external call gave it
-  pub owned : (a : ℕ) → IsLent m a → ((used : IsUsed clients a) × IsHeldUpAt m used.fd) ⊎ (p.given a ≡ true)
+  pub owned : (a : ℕ) → IsReadable m a → ((used : IsUsed clients a) × IsHeldUpAt m used.fd) ⊎ (p.given a ≡ true)
 
 -- When all are idle in a world with the invariant, nothing is left to do.
-abbrev pub IdleIsDone : Crew → Type 0
-IdleIsDone crew = ActorsAreSettled crew.turns crew.settled
-    → (shelf : Shelf) (xs : List Choice) (rs : List Reply) (w after : Stage State (Actor crew.Worker)) (most : ℕ)
-    → Idles copying (actor_turns in_rounds crew.turns) w most true after → (tied : Tied shelf crew xs rs after)
-    → IsDone shelf crew.count after.machine (past_of xs rs) tied.seated.state.clients
+abbrev pub IdleIsDone : WorkerSet → Type 0
+IdleIsDone worker_set = ActorsAreQuiescent worker_set.turns worker_set.quiescent
+    → (site_contents : SiteContents) (xs : List Choice) (rs : List Reply) (w after : Stage State (Actor worker_set.Worker)) (most : ℕ)
+    → Idles copying (actor_turns in_rounds worker_set.turns) w most true after → (consistent : Consistent site_contents worker_set xs rs after)
+    → IsDone site_contents worker_set.count after.machine (past_of xs rs) consistent.in_slots.state.clients

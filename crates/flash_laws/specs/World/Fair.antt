@@ -1,16 +1,16 @@
--- Sufficient conditions for fair runs: no refusal occurred; any refusal is allowed; or the refusals that the turns got are
--- allowed, which are the least set with which a run is fair.
+-- Sufficient conditions for fair runs: no refusal occurred; any refusal is allowed; or the refusals that the turns got
+-- are allowed, which are the least set with which a run is fair.
 use Rattle.std.specs.Prelude.{◌≡◌, ◌==◌, ◌&&◌, ◌||◌, not, Bool, true, false, List, ◌∷◌, ◌++◌, length}
 use Rattle.iol_core.specs.declared.events.Reply.{Reply}
 use Rattle.iol_core.specs.declared.events.Reply.TheVariants as reply
 use Rattle.iol_core.specs.declared.refusals.Refusal.{Refusal}
 use Rattle.iol_core.specs.declared.refusals.Refusal.TheVariants as refusal
-use Rattle.iol_laws.specs.Caller.{is_rough}
-use Rattle.iol_proc.specs.Smooth.{AreSmooth}
+use Rattle.iol_laws.specs.Caller.{is_resource_failure}
+use Rattle.iol_proc.specs.FailureFree.{AreFailureFree}
 use Rattle.iol_proc.specs.declared.choice.Choice.{Choice}
 use Rattle.iol_proc.specs.declared.choice.Choice.TheVariants as choice
-use Rattle.flash_laws.specs.Shelf.{Refusals, Shelf}
-use Rattle.flash_laws.specs.Shelf.OneAnswer.{RefusesNothing}
+use Rattle.flash_laws.specs.SiteContents.{Refusals, SiteContents}
+use Rattle.flash_laws.specs.SiteContents.OneAnswer.{RefusesNothing}
 use Rattle.flash_laws.specs.Site.{server}
 use Rattle.flash_laws.specs.World.{AreFair}
 
@@ -20,7 +20,7 @@ no_refusal = record { of_server = λ x. false; of_workers = λ x. false }
 
 -- TooMany, NoRoom, Fault and Memory
 abbrev pub any_refusal : Refusals
-any_refusal = record { of_server = λ x. is_rough (reply.Refused x); of_workers = λ x. is_rough (reply.Refused x) }
+any_refusal = record { of_server = λ x. is_resource_failure (reply.Refused x); of_workers = λ x. is_resource_failure (reply.Refused x) }
 
 -- whether both are the same of TooMany, NoRoom of a pool, Fault of a file and Memory
 abbrev pub is_same : Refusal → Refusal → Bool
@@ -52,8 +52,8 @@ pub record IsWithin (these those : Refusals) : Type 0 where
   pub of_workers : (x : Refusal) → these.of_workers x ≡ true → those.of_workers x ≡ true
 
 -- Choices without a resource refusal are fair if no refusal is allowed.
-abbrev pub SmoothIsFair : Type 0
-SmoothIsFair = (xs : List Choice) (rs : List Reply) → AreSmooth xs rs → AreFair no_refusal xs rs
+abbrev pub FailureFreeIsFair : Type 0
+FailureFreeIsFair = (xs : List Choice) (rs : List Reply) → AreFailureFree xs rs → AreFair no_refusal xs rs
 
 -- All choices are fair if TooMany, NoRoom, Fault and Memory are allowed.
 abbrev pub AnyIsFair : Type 0
@@ -70,4 +70,4 @@ OwnIsLeast = (refuses : Refusals) (xs : List Choice) (rs : List Reply) → AreFa
 
 -- With no refusal allowed, nothing is refused: so each request has one response.
 abbrev pub NoneRefusesNothing : Type 0
-NoneRefusesNothing = (shelf : Shelf) → shelf.refuses ≡ no_refusal → RefusesNothing shelf
+NoneRefusesNothing = (site_contents : SiteContents) → site_contents.refuses ≡ no_refusal → RefusesNothing site_contents

@@ -10,7 +10,7 @@ use Rattle.flash_http.specs.Request.{Answer}
 use Rattle.flash_laws.specs.Answers.{Reads, keeps}
 use Rattle.flash_laws.specs.Client.{is_for_script}
 use Rattle.flash_laws.specs.Conn.Policy.{most_conns}
-use Rattle.flash_laws.specs.Shelf.{Shelf, MayBeDue, Responds}
+use Rattle.flash_laws.specs.SiteContents.{SiteContents, MayBeExpected, Responds}
 use Rattle.flash_laws.specs.Site.{server}
 
 -- The server has the maximum number of connections: that many are kept, and each of these is open.
@@ -18,8 +18,8 @@ pub record IsFull {A : Type 0} (m : State) (kept : List (Option A)) : Type 0 whe
   pub most : nat_lt (taken kept) most_conns ≡ false
   pub each : (fd : ℕ) (x : A) → in_place kept fd ≡ Some x → (c : ℕ) × (descriptor m server fd ≡ Some (on.Connection c))
 
--- No input of the stream asks for the connection to be closed: after each of its requests it stays open, and there is no
--- further request (RFC 9112, section 9.3).
+-- No input of the stream asks for the connection to be closed: after each of its requests it stays open, and there is
+-- no further request (RFC 9112, section 9.3).
 pub record StaysOpen (s : List ℕ) : Type 0 where
   pub qs : List Answer
   pub rest : List ℕ
@@ -27,17 +27,17 @@ pub record StaysOpen (s : List ℕ) : Type 0 where
   pub open_yet : list_all (λ q. keeps q) qs ≡ true
   pub no_more : window_in rest ≡ Wait
 
--- The first request of the stream without whole response is for a script: these bytes answer the requests before it, and it up
--- to this part of its response.
-pub record AnswersScript (shelf : Shelf) (s bytes part : List ℕ) : Type 0 where
+-- The first request of the stream without whole response is for a script: these bytes answer the requests before it,
+-- and it up to this part of its response.
+pub record AnswersScript (site_contents : SiteContents) (s bytes part : List ℕ) : Type 0 where
   pub qs : List Answer
   pub q : Answer
   pub rest : List ℕ
   pub reads : Reads s (qs ++ q ∷ []) rest
   pub open_yet : list_all (λ p. keeps p) qs ≡ true
-  pub script : is_for_script shelf.scripts q ≡ true
+  pub script : is_for_script site_contents.scripts q ≡ true
   pub before : List ℕ
-  pub responds : Responds shelf qs before
+  pub responds : Responds site_contents qs before
   pub so_far : bytes ≡ before ++ part
   pub after : List ℕ
-  pub may : MayBeDue shelf q (part ++ after)
+  pub may : MayBeExpected site_contents q (part ++ after)

@@ -11,9 +11,9 @@ use Rattle.iol_system.specs.Machine.{SystemState, machine_of}
 use Rattle.iol_system.specs.Prelude.{read_of, state_view, with_slots}
 use Rattle.iol_system.specs.Promises.{Chain}
 use Rattle.flash_lite.specs.Setup.{IsMade, calls, first_refusal, is_in_range}
-use Rattle.flash_lite.specs.SiteState.{HasDesk, LeavesSite, state_of}
+use Rattle.flash_lite.specs.SiteState.{HasJobQueue, LeavesSite, state_of}
 use Rattle.flash_lite.specs.declared.site.Site.{Site}
-use Rattle.flash_lite.proofs.World.Desks.{has_desk}
+use Rattle.flash_lite.proofs.World.JobQueues.{has_job_queue}
 use Rattle.flash_lite.proofs.Calls.Outcome.{led}
 use Rattle.flash_lite.proofs.Calls.PassedRuns.{Passes, over, first_passed}
 
@@ -54,7 +54,7 @@ leaves_by s old new rs fits chain none slots is =
     record {
       state = state;
       named = λ i f at. ap (λ (m : State). file_called m f.name.items) state ∙ ap (λ (o : Option ℕ). option_map (λ k. k + 1) o) (l.named i f at);
-      desks = λ k within. subst (λ (m : State). HasDesk m k) (sym state) (has_desk s (machine_of new).slots k within);
+      job_queues = λ k within. subst (λ (m : State). HasJobQueue m k) (sym state) (has_job_queue s (machine_of new).slots k within);
     }
 
 pub made_by : (s : Site) (old new : SystemState) (es : List Event) (rs : List Reply) → es ≡ calls s → Chain old es rs new → first_refusal rs ≡ None → IsMade s old new

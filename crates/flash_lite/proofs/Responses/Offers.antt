@@ -8,16 +8,16 @@ use Rattle.flash_laws.specs.Client.{Client, wants}
 use Rattle.flash_laws.specs.Client.OfferedBytes.{ClientsAreOfferedTheResponse}
 use Rattle.flash_laws.specs.Site.Places.{runs_scripts}
 use Rattle.flash_laws.specs.Serves.{Server, Picks, PicksAt}
-use Rattle.flash_laws.specs.declared.phase.Flight.{Flight}
-use Rattle.flash_laws.specs.declared.phase.Flight.TheVariants.{At}
+use Rattle.flash_laws.specs.declared.phase.PendingCall.{PendingCall}
+use Rattle.flash_laws.specs.declared.phase.PendingCall.TheVariants.{At}
 use Rattle.flash_laws.proofs.Site.InPlaces.{at-same}
 use Rattle.flash_lite.specs.Offers.{OffersNext}
 
 -- whatever is picked
 pub offers_next : ClientsAreOfferedTheResponse → (workers : ℕ) (clients : List (Option Client)) (t : Server) (made : Turn) → t.workers ≡ workers
-    → Picks workers clients t.flight made t.clients → OffersNext t made
+    → Picks workers clients t.pending_call made t.clients → OffersNext t made
 offers_next law workers clients t made hired p m fd g a x known flies there writes has =
-    let picked : PicksAt workers clients fd made t.clients = subst (λ (f : Flight). Picks workers clients f made t.clients) flies p in
+    let picked : PicksAt workers clients fd made t.clients = subst (λ (f : PendingCall). Picks workers clients f made t.clients) flies p in
     let same : Some picked.ready ≡ Some x = sym (at-same clients fd (Some picked.ready)) ∙ (ap (λ (l : List (Option Client)). in_place l fd) (sym picked.after_is) ∙ there) in
     let ready : picked.ready ≡ x = cc in
     let scripts : runs_scripts workers ≡ runs_scripts t.workers = ap (λ k. runs_scripts k) (sym hired) in

@@ -8,7 +8,7 @@ use Rattle.iol_core.specs.declared.refusals.Refusal.TheVariants as no
 use Rattle.flash_http.specs.Request.{Answer, serve, refuse, Wanted}
 use Rattle.flash_laws.proofs.Conn.Responses.{some-inj}
 use Rattle.flash_laws.proofs.Run.OfferedBytes.{keeps}
-use Rattle.flash_laws.specs.Client.{Client, has_answered, is_bare, keeps_text, text_on, after_run, goes_on, run_told, run_wants, wants, left_over, awaits}
+use Rattle.flash_laws.specs.Client.{Client, has_answered, is_bare, keeps_text, text_on, after_run, proceeds, run_after_reply, run_wants, wants, left_over, awaits}
 use Rattle.flash_laws.specs.Client.Wants.{needs_memory, WantsOn}
 use Rattle.flash_laws.specs.Conn as conn
 use Rattle.flash_laws.specs.Conn.Policy.{is_later}
@@ -16,15 +16,15 @@ use Rattle.flash_laws.specs.Run.OfferedBytes.{HasWorker}
 use Rattle.flash_laws.specs.Serves.Rounds.{leaves_off}
 use Rattle.flash_laws.specs.Run.Wants.{makes_any}
 use Rattle.flash_laws.specs.Run as running
-use Rattle.flash_laws.specs.Run.{is_over, is_left, in_phase, told_awaits, told_sending, told_step}
-use Rattle.flash_laws.specs.declared.phase.Doing.{Doing}
-use Rattle.flash_laws.specs.declared.phase.Doing.TheVariants.{Heads, Sends, Cuts, Offers, Swaps, Sent, Breaks, Drops}
+use Rattle.flash_laws.specs.Run.{is_over, is_left, in_phase, after_wait, after_sending, after_step}
+use Rattle.flash_laws.specs.declared.phase.Phase.{Phase}
+use Rattle.flash_laws.specs.declared.phase.Phase.TheVariants.{Heads, Sends, Cuts, Offers, Swaps, Sent, Breaks, Drops}
 use Rattle.flash_laws.specs.declared.script_run.Run.{Run}
 use Rattle.flash_laws.specs.declared.script_run.Step.{Step}
 use Rattle.flash_laws.specs.declared.script_run.Step.TheVariants as act
 use Rattle.flash_laws.specs.declared.script_run.Running.{Running}
 use Rattle.flash_laws.specs.declared.script_run.Running.TheVariants.{Awaits, Runs, Leaves, Closes as Finished}
-use Rattle.flash_lite.specs.Course.{has_answered_by, left_with, run_after, ended, GoesOn, IsLeft, IsCourse}
+use Rattle.flash_lite.specs.Course.{has_answered_by, left_with, run_after, ended, Proceeds, IsLeft, IsCourse}
 use Rattle.flash_lite.specs.Runs.{IsSmallRunning, waits}
 use Rattle.flash_lite.specs.declared.client.Course.{Course}
 use Rattle.flash_lite.specs.declared.client.Left.TheVariants.{Continues, Stays}
@@ -45,44 +45,44 @@ by-later f a (reply.Refused (no.NoRoom p)) same is = same.3 p
 by-later f a (reply.Refused no.Memory) same is = same.4
 by-later f a r same is = absurd (cc (is))
 
-part-later : (run : Run) (d : Doing) (frame : Option ℕ) → Later (λ r. told_sending run d frame r) (Runs run (act.Sending d frame))
+part-later : (run : Run) (d : Phase) (frame : Option ℕ) → Later (λ r. after_sending run d frame r) (Runs run (act.Sending d frame))
 part-later run (Sent a taken None) frame = (refl, refl, λ p. refl, λ p. refl, refl)
 part-later run (Sent a taken (Some x)) frame = (refl, refl, λ p. refl, λ p. refl, refl)
 part-later run (Drops a None) frame = (refl, refl, λ p. refl, λ p. refl, refl)
 part-later run (Drops a (Some x)) frame = (refl, refl, λ p. refl, λ p. refl, refl)
 part-later run d frame = (refl, refl, λ p. refl, λ p. refl, refl)
 
-step-later : (w : Wanted) (run : Run) (s : Step) (heard : List ℕ) → Later (λ r. told_step w run s r heard) (Runs run s)
-step-later w run (act.Sending d frame) heard = part-later run d frame
-step-later w run s heard = (refl, refl, λ p. refl, λ p. refl, refl)
+step-later : (w : Wanted) (run : Run) (s : Step) (received : List ℕ) → Later (λ r. after_step w run s r received) (Runs run s)
+step-later w run (act.Sending d frame) received = part-later run d frame
+step-later w run s received = (refl, refl, λ p. refl, λ p. refl, refl)
 
-left-later : (w : Wanted) (d : Doing) (heard : List ℕ) → is_left d ≡ true → Later (λ r. Leaves (conn.told (in_phase w d) r heard).doing) (Leaves d)
-left-later w (Heads k) heard left = (refl, refl, λ p. refl, λ p. refl, refl)
-left-later w (Sends a len taken more) heard left = (refl, refl, λ p. refl, λ p. refl, refl)
-left-later w (Cuts a from len taken more) heard left = (refl, refl, λ p. refl, λ p. refl, refl)
-left-later w (Offers a from len piece taken more) heard left = (refl, refl, λ p. refl, λ p. refl, refl)
-left-later w (Swaps a from len piece taken more) heard left = (refl, refl, λ p. refl, λ p. refl, refl)
-left-later w (Sent a taken more) heard left = (refl, refl, λ p. refl, λ p. refl, refl)
-left-later w (Breaks piece a more) heard left = (refl, refl, λ p. refl, λ p. refl, refl)
-left-later w (Drops a more) heard left = (refl, refl, λ p. refl, λ p. refl, refl)
-left-later w d heard left = absurd (cc (left))
+left-later : (w : Wanted) (d : Phase) (received : List ℕ) → is_left d ≡ true → Later (λ r. Leaves (conn.after_reply (in_phase w d) r received).phase) (Leaves d)
+left-later w (Heads k) received left = (refl, refl, λ p. refl, λ p. refl, refl)
+left-later w (Sends a len taken more) received left = (refl, refl, λ p. refl, λ p. refl, refl)
+left-later w (Cuts a from len taken more) received left = (refl, refl, λ p. refl, λ p. refl, refl)
+left-later w (Offers a from len piece taken more) received left = (refl, refl, λ p. refl, λ p. refl, refl)
+left-later w (Swaps a from len piece taken more) received left = (refl, refl, λ p. refl, λ p. refl, refl)
+left-later w (Sent a taken more) received left = (refl, refl, λ p. refl, λ p. refl, refl)
+left-later w (Breaks piece a more) received left = (refl, refl, λ p. refl, λ p. refl, refl)
+left-later w (Drops a more) received left = (refl, refl, λ p. refl, λ p. refl, refl)
+left-later w d received left = absurd (cc (left))
 
-still-left : (d : Doing) → not (is_left d) ≡ false → is_left d ≡ true
+still-left : (d : Phase) → not (is_left d) ≡ false → is_left d ≡ true
 still-left d is = by (is_left d) is
   where
     by : (b : Bool) → not b ≡ false → b ≡ true
     by true is = refl
     by false is = absurd (cc (is))
 
-run-later : (worker : ℕ) (w : Wanted) (y : Running) (heard : List ℕ) → is_over y ≡ false → Later (λ r. running.told worker w y r heard) y
-run-later worker w Awaits heard going = (refl, refl, λ p. refl, λ p. refl, refl)
-run-later worker w (Runs run s) heard going = step-later w run s heard
-run-later worker w (Leaves d) heard going = left-later w d heard (still-left d going)
-run-later worker w Finished heard going = absurd (cc (going))
+run-later : (worker : ℕ) (w : Wanted) (y : Running) (received : List ℕ) → is_over y ≡ false → Later (λ r. running.after_reply worker w y r received) y
+run-later worker w Awaits received going = (refl, refl, λ p. refl, λ p. refl, refl)
+run-later worker w (Runs run s) received going = step-later w run s received
+run-later worker w (Leaves d) received going = left-later w d received (still-left d going)
+run-later worker w Finished received going = absurd (cc (going))
 
-after-later : (worker : ℕ) (q : Answer) (y : Running) (r : Reply) (heard : List ℕ) → is_over y ≡ false → is_later r ≡ true → run_after worker q y r heard ≡ y
-after-later worker (serve w) y r heard going later = by-later (λ z. running.told worker w y z heard) y r (run-later worker w y heard going) later
-after-later worker (refuse status head_only close) y r heard going later = refl
+after-later : (worker : ℕ) (q : Answer) (y : Running) (r : Reply) (received : List ℕ) → is_over y ≡ false → is_later r ≡ true → run_after worker q y r received ≡ y
+after-later worker (serve w) y r received going later = by-later (λ z. running.after_reply worker w y z received) y r (run-later worker w y received going) later
+after-later worker (refuse status head_only close) y r received going later = refl
 
 -- ---- it goes on, or is over
 
@@ -91,15 +91,15 @@ text-same true text = refl
 text-same false text = refl
 
 -- one that stands still is as it was
-stands : (x : Client) (y : Running) → x.run ≡ Some y → goes_on false false x y y ≡ x
+stands : (x : Client) (y : Running) → x.run ≡ Some y → proceeds false false x y y ≡ x
 stands x y is =
     ap (λ (l : List ℕ). record { conn = x.conn; run = Some y; script = l }) (text-same (keeps_text y) x.script)
     ∙ ap (λ (o : Option Running). record { conn = x.conn; run = o; script = x.script }) (sym is)
 
-told-is : (worker : ℕ) (q : Answer) (x : Client) (y : Running) (r : Reply) (heard : List ℕ) → x.run ≡ Some y → is_over y ≡ false
-    → run_told worker q x y r heard ≡ goes_on false (is_over (run_after worker q y r heard)) x y (run_after worker q y r heard)
-told-is worker (serve w) x y r heard is going = ap (λ b. goes_on b (is_over (running.told worker w y r heard)) x y (running.told worker w y r heard)) going
-told-is worker (refuse status head_only close) x y r heard is going = sym (ap (λ b. goes_on false b x y y) going ∙ stands x y is)
+after_reply-is : (worker : ℕ) (q : Answer) (x : Client) (y : Running) (r : Reply) (received : List ℕ) → x.run ≡ Some y → is_over y ≡ false
+    → run_after_reply worker q x y r received ≡ proceeds false (is_over (run_after worker q y r received)) x y (run_after worker q y r received)
+after_reply-is worker (serve w) x y r received is going = ap (λ b. proceeds b (is_over (running.after_reply worker w y r received)) x y (running.after_reply worker w y r received)) going
+after_reply-is worker (refuse status head_only close) x y r received is going = sym (ap (λ b. proceeds false b x y y) going ∙ stands x y is)
 
 -- ---- it waits for a worker
 
@@ -122,17 +122,17 @@ kept-runs worker (Leaves d) has = refl
 kept-runs worker Finished has = refl
 
 -- one that waits after a reply waited before, and is as it was
-still-waits : (worker : ℕ) (q : Answer) (y : Running) (r : Reply) (heard : List ℕ) → waits (run_after worker q y r heard) ≡ true → run_after worker q y r heard ≡ y
-still-waits worker (serve w) Awaits r heard is = by r is
+still-waits : (worker : ℕ) (q : Answer) (y : Running) (r : Reply) (received : List ℕ) → waits (run_after worker q y r received) ≡ true → run_after worker q y r received ≡ y
+still-waits worker (serve w) Awaits r received is = by r is
   where
-    by : (r : Reply) → waits (told_awaits worker r) ≡ true → told_awaits worker r ≡ Awaits
+    by : (r : Reply) → waits (after_wait worker r) ≡ true → after_wait worker r ≡ Awaits
     by (reply.Fds from write) is = absurd (cc (is))
     by r is = refl
-still-waits worker (serve w) (Runs run s) r heard is =
-    absurd (let no : waits (told_step w run s r heard) ≡ false = kept-runs run.worker (told_step w run s r heard) (keeps worker w run s r heard) in let never : false ≡ true = sym no ∙ is in cc (never))
-still-waits worker (serve w) (Leaves d) r heard is = absurd (cc (is))
-still-waits worker (serve w) Finished r heard is = absurd (cc (is))
-still-waits worker (refuse status head_only close) y r heard is = refl
+still-waits worker (serve w) (Runs run s) r received is =
+    absurd (let no : waits (after_step w run s r received) ≡ false = kept-runs run.worker (after_step w run s r received) (keeps worker w run s r received) in let never : false ≡ true = sym no ∙ is in cc (never))
+still-waits worker (serve w) (Leaves d) r received is = absurd (cc (is))
+still-waits worker (serve w) Finished r received is = absurd (cc (is))
+still-waits worker (refuse status head_only close) y r received is = refl
 
 leaves-run : (c : conn.Conn) (run : Option Running) (script : List ℕ) (y : Running) (r : Reply) → run ≡ Some y
     → leaves_off (left_over (record { conn = c; run = run; script = script })) r ≡ is_later r || (waits y || (has_answered_by c y || false))
@@ -155,84 +155,84 @@ or-after : (b : Bool) → (b || true) ≡ true
 or-after true = refl
 or-after false = refl
 
-stays-as : (worker : ℕ) (x : Client) (y : Running) (r : Reply) (heard : List ℕ) → x.run ≡ Some y → is_over y ≡ false
-    → run_after worker x.conn.q y r heard ≡ y → (is_later r || (waits y || (has_answered_by x.conn y || false))) ≡ true → IsLeft (run_told worker x.conn.q x y r heard) x r Stays x
-stays-as worker x y r heard is going z passes =
-    let same : run_told worker x.conn.q x y r heard ≡ x = told-is worker x.conn.q x y r heard is going
-    ∙ (ap (λ (v : Running). goes_on false (is_over v) x y v) z ∙ (ap (λ b. goes_on false b x y y) going ∙ stands x y is)) in
+stays-as : (worker : ℕ) (x : Client) (y : Running) (r : Reply) (received : List ℕ) → x.run ≡ Some y → is_over y ≡ false
+    → run_after worker x.conn.q y r received ≡ y → (is_later r || (waits y || (has_answered_by x.conn y || false))) ≡ true → IsLeft (run_after_reply worker x.conn.q x y r received) x r Stays x
+stays-as worker x y r received is going z passes =
+    let same : run_after_reply worker x.conn.q x y r received ≡ x = after_reply-is worker x.conn.q x y r received is going
+    ∙ (ap (λ (v : Running). proceeds false (is_over v) x y v) z ∙ (ap (λ b. proceeds false b x y y) going ∙ stands x y is)) in
     record {
       passed = ap (λ (t : Client). leaves_off (left_over t) r) same ∙ (leaves-run x.conn x.run x.script y r is ∙ passes);
-      told_is = same;
+      after_reply_is = same;
       remains_is = ap (λ (t : Client). left_over t) same ∙ (runs-on x.conn x.run x.script y is ∙ ap (λ (t : Client). Some t) (sym same));
       can_rest = tt;
       as_it_was = refl;
     }
 
-pub run_stays : (worker : ℕ) (x : Client) (y : Running) (r : Reply) (heard : List ℕ) → x.run ≡ Some y → is_over y ≡ false → is_later r ≡ true
-    → IsLeft (run_told worker x.conn.q x y r heard) x r Stays x
-run_stays worker x y r heard is going later =
-    stays-as worker x y r heard is going (after-later worker x.conn.q y r heard going later) (or-true (is_later r) (waits y || (has_answered_by x.conn y || false)) later)
+pub run_stays : (worker : ℕ) (x : Client) (y : Running) (r : Reply) (received : List ℕ) → x.run ≡ Some y → is_over y ≡ false → is_later r ≡ true
+    → IsLeft (run_after_reply worker x.conn.q x y r received) x r Stays x
+run_stays worker x y r received is going later =
+    stays-as worker x y r received is going (after-later worker x.conn.q y r received going later) (or-true (is_later r) (waits y || (has_answered_by x.conn y || false)) later)
 
-on-told : (worker : ℕ) (x : Client) (y z : Running) (r : Reply) (heard : List ℕ) → x.run ≡ Some y → is_over y ≡ false
-    → z ≡ run_after worker x.conn.q y r heard → is_over z ≡ false → run_told worker x.conn.q x y r heard ≡ goes_on false false x y z
-on-told worker x y z r heard is going z_is on =
-    told-is worker x.conn.q x y r heard is going ∙ (ap (λ (v : Running). goes_on false (is_over v) x y v) (sym z_is) ∙ ap (λ b. goes_on false b x y z) on)
+on-after_reply : (worker : ℕ) (x : Client) (y z : Running) (r : Reply) (received : List ℕ) → x.run ≡ Some y → is_over y ≡ false
+    → z ≡ run_after worker x.conn.q y r received → is_over z ≡ false → run_after_reply worker x.conn.q x y r received ≡ proceeds false false x y z
+on-after_reply worker x y z r received is going z_is on =
+    after_reply-is worker x.conn.q x y r received is going ∙ (ap (λ (v : Running). proceeds false (is_over v) x y v) (sym z_is) ∙ ap (λ b. proceeds false b x y z) on)
 
-over-told : (worker : ℕ) (x : Client) (y z : Running) (r : Reply) (heard : List ℕ) → x.run ≡ Some y → is_over y ≡ false
-    → z ≡ run_after worker x.conn.q y r heard → is_over z ≡ true → run_told worker x.conn.q x y r heard ≡ ended x (after_run z)
-over-told worker x y z r heard is going z_is over =
-    told-is worker x.conn.q x y r heard is going ∙ (ap (λ (v : Running). goes_on false (is_over v) x y v) (sym z_is) ∙ ap (λ b. goes_on false b x y z) over)
+over-after_reply : (worker : ℕ) (x : Client) (y z : Running) (r : Reply) (received : List ℕ) → x.run ≡ Some y → is_over y ≡ false
+    → z ≡ run_after worker x.conn.q y r received → is_over z ≡ true → run_after_reply worker x.conn.q x y r received ≡ ended x (after_run z)
+over-after_reply worker x y z r received is going z_is over =
+    after_reply-is worker x.conn.q x y r received is going ∙ (ap (λ (v : Running). proceeds false (is_over v) x y v) (sym z_is) ∙ ap (λ b. proceeds false b x y z) over)
 
-pub run_waits : (worker : ℕ) (x : Client) (y z : Running) (r : Reply) (heard : List ℕ) → x.run ≡ Some y → is_over y ≡ false
-    → z ≡ run_after worker x.conn.q y r heard → waits z ≡ true → IsLeft (run_told worker x.conn.q x y r heard) x r Stays x
-run_waits worker x y z r heard is going z_is waiting =
-    let still : run_after worker x.conn.q y r heard ≡ y = still-waits worker x.conn.q y r heard (ap (λ (v : Running). waits v) (sym z_is) ∙ waiting) in
+pub run_waits : (worker : ℕ) (x : Client) (y z : Running) (r : Reply) (received : List ℕ) → x.run ≡ Some y → is_over y ≡ false
+    → z ≡ run_after worker x.conn.q y r received → waits z ≡ true → IsLeft (run_after_reply worker x.conn.q x y r received) x r Stays x
+run_waits worker x y z r received is going z_is waiting =
+    let still : run_after worker x.conn.q y r received ≡ y = still-waits worker x.conn.q y r received (ap (λ (v : Running). waits v) (sym z_is) ∙ waiting) in
     let waited : waits y ≡ true = ap (λ (v : Running). waits v) (sym (z_is ∙ still)) ∙ waiting in
-    stays-as worker x y r heard is going still (ap (λ b. is_later r || (b || (has_answered_by x.conn y || false))) waited ∙ or-after (is_later r))
+    stays-as worker x y r received is going still (ap (λ b. is_later r || (b || (has_answered_by x.conn y || false))) waited ∙ or-after (is_later r))
 
 -- ---- all of its response is taken, and more of the stream is kept
 
 -- its job was made long before
-no-text : (worker : ℕ) (q : Answer) (y : Running) (r : Reply) (heard : List ℕ) (d : Doing) → run_after worker q y r heard ≡ Leaves d → keeps_text y ≡ false
-no-text worker (serve w) Awaits r heard d is = by r is
+no-text : (worker : ℕ) (q : Answer) (y : Running) (r : Reply) (received : List ℕ) (d : Phase) → run_after worker q y r received ≡ Leaves d → keeps_text y ≡ false
+no-text worker (serve w) Awaits r received d is = by r is
   where
-    by : (r : Reply) → told_awaits worker r ≡ Leaves d → true ≡ false
+    by : (r : Reply) → after_wait worker r ≡ Leaves d → true ≡ false
     by (reply.Fds from write) is = absurd (cc (is))
     by r is = absurd (cc (is))
-no-text worker (serve w) (Runs run (act.Gives write)) r heard d is = absurd (cc (is))
-no-text worker (serve w) (Runs run (act.Makes f)) r heard d is = absurd (cc (is))
-no-text worker (serve w) (Runs run s) r heard d is = refl
-no-text worker (serve w) (Leaves e) r heard d is = refl
-no-text worker (serve w) Finished r heard d is = refl
-no-text worker (refuse status head_only close) y r heard d is = ap (λ (v : Running). keeps_text v) is
+no-text worker (serve w) (Runs run (act.Gives write)) r received d is = absurd (cc (is))
+no-text worker (serve w) (Runs run (act.Makes f)) r received d is = absurd (cc (is))
+no-text worker (serve w) (Runs run s) r received d is = refl
+no-text worker (serve w) (Leaves e) r received d is = refl
+no-text worker (serve w) Finished r received d is = refl
+no-text worker (refuse status head_only close) y r received d is = ap (λ (v : Running). keeps_text v) is
 
 -- what is sent is left of a response
-answered-left : (c : conn.Conn) (d : Doing) → has_answered_by c (Leaves d) ≡ true → is_left d ≡ true
+answered-left : (c : conn.Conn) (d : Phase) → has_answered_by c (Leaves d) ≡ true → is_left d ≡ true
 answered-left c (Sent a taken more) has = refl
 answered-left c d has = absurd (cc (has))
 
-pub run_answers : (worker : ℕ) (x : Client) (y z : Running) (d : Doing) (r : Reply) (heard : List ℕ) → x.run ≡ Some y → is_over y ≡ false
-    → z ≡ run_after worker x.conn.q y r heard → IsSmallRunning z → z ≡ Leaves d → has_answered_by x.conn z ≡ true
-    → IsLeft (run_told worker x.conn.q x y r heard) x r (Continues d) x
-run_answers worker x y z d r heard is going z_is small phase has =
+pub run_answers : (worker : ℕ) (x : Client) (y z : Running) (d : Phase) (r : Reply) (received : List ℕ) → x.run ≡ Some y → is_over y ≡ false
+    → z ≡ run_after worker x.conn.q y r received → IsSmallRunning z → z ≡ Leaves d → has_answered_by x.conn z ≡ true
+    → IsLeft (run_after_reply worker x.conn.q x y r received) x r (Continues d) x
+run_answers worker x y z d r received is going z_is small phase has =
     let now : has_answered_by x.conn (Leaves d) ≡ true = ap (λ (v : Running). has_answered_by x.conn v) (sym phase) ∙ has in
     let on : is_over (Leaves d) ≡ false = ap (λ b. not b) (answered-left x.conn d now) in
-    let text : keeps_text y ≡ false = no-text worker x.conn.q y r heard d (sym z_is ∙ phase) in
-    let same : run_told worker x.conn.q x y r heard ≡ left_with x (Continues d) =
-    on-told worker x y z r heard is going z_is (ap (λ (v : Running). is_over v) phase ∙ on)
-    ∙ (ap (λ (v : Running). goes_on false false x y v) phase ∙ ap (λ b. record { conn = x.conn; run = Some (Leaves d); script = text_on b false x.script }) text) in
+    let text : keeps_text y ≡ false = no-text worker x.conn.q y r received d (sym z_is ∙ phase) in
+    let same : run_after_reply worker x.conn.q x y r received ≡ left_with x (Continues d) =
+    on-after_reply worker x y z r received is going z_is (ap (λ (v : Running). is_over v) phase ∙ on)
+    ∙ (ap (λ (v : Running). proceeds false false x y v) phase ∙ ap (λ b. record { conn = x.conn; run = Some (Leaves d); script = text_on b false x.script }) text) in
     record {
       passed = ap (λ (t : Client). leaves_off (left_over t) r) same
           ∙ (leaves-run x.conn (Some (Leaves d)) x.script (Leaves d) r refl ∙ (ap (λ b. is_later r || (b || false)) now ∙ or-after (is_later r)));
-      told_is = same;
+      after_reply_is = same;
       remains_is = ap (λ (t : Client). left_over t) same ∙ ap (λ (t : Client). Some t) (sym same);
       can_rest = (subst (λ (v : Running). IsSmallRunning v) phase small, on);
       as_it_was = refl;
     }
 
-goes-on : (x : Client) (y z : Running) (r : Reply) → is_later r ≡ false → waits z ≡ false → has_answered_by x.conn z ≡ false
-    → GoesOn (goes_on false false x y z) r (goes_on false false x y z)
-goes-on x y z r now going more = record {
+proceeds-on : (x : Client) (y z : Running) (r : Reply) → is_later r ≡ false → waits z ≡ false → has_answered_by x.conn z ≡ false
+    → Proceeds (proceeds false false x y z) r (proceeds false false x y z)
+proceeds-on x y z r now going more = record {
   on = leaves-run x.conn (Some z) (text_on (keeps_text y) (keeps_text z) x.script) z r refl
       ∙ (ap (λ b. b || (waits z || (has_answered_by x.conn z || false))) now
       ∙ (ap (λ b. b || (has_answered_by x.conn z || false)) going ∙ ap (λ b. b || false) more));
@@ -240,21 +240,21 @@ goes-on x y z r now going more = record {
   readies = refl;
 }
 
-pub run_goes : (scripts : Bool) (fd worker : ℕ) (x n : Client) (y z : Running) (r : Reply) (heard : List ℕ) (k : Call) → x.run ≡ Some y → is_over y ≡ false
-    → is_later r ≡ false → z ≡ run_after worker x.conn.q y r heard → waits z ≡ false → has_answered_by x.conn z ≡ false → is_over z ≡ false → n ≡ goes_on false false x y z
-    → k ≡ run_wants fd n.conn.q n.script z → GoesOn (run_told worker x.conn.q x y r heard) r n × (k ≡ wants scripts fd n)
-run_goes scripts fd worker x n y z r heard k is going now z_is runs more on n_is asks =
-    let told = on-told worker x y z r heard is going z_is on in (
-      subst (λ (t : Client). GoesOn t r n) (sym told) (subst (λ (v : Client). GoesOn (goes_on false false x y z) r v) (sym n_is) (goes-on x y z r now runs more)),
+pub run_goes : (scripts : Bool) (fd worker : ℕ) (x n : Client) (y z : Running) (r : Reply) (received : List ℕ) (k : Call) → x.run ≡ Some y → is_over y ≡ false
+    → is_later r ≡ false → z ≡ run_after worker x.conn.q y r received → waits z ≡ false → has_answered_by x.conn z ≡ false → is_over z ≡ false → n ≡ proceeds false false x y z
+    → k ≡ run_wants fd n.conn.q n.script z → Proceeds (run_after_reply worker x.conn.q x y r received) r n × (k ≡ wants scripts fd n)
+run_goes scripts fd worker x n y z r received k is going now z_is runs more on n_is asks =
+    let after_reply = on-after_reply worker x y z r received is going z_is on in (
+      subst (λ (t : Client). Proceeds t r n) (sym after_reply) (subst (λ (v : Client). Proceeds (proceeds false false x y z) r v) (sym n_is) (proceeds-on x y z r now runs more)),
       asks ∙ (ap (λ (v : Client). run_wants fd v.conn.q v.script z) n_is ∙ ap (λ (v : Client). wants scripts fd v) (sym n_is)),
     )
 
-pub run_ends : (scripts : Bool) (fd worker : ℕ) (x n : Client) (y z : Running) (d : Doing) (r : Reply) (heard : List ℕ) (o : Course) → x.run ≡ Some y → is_over y ≡ false
-    → is_later r ≡ false → z ≡ run_after worker x.conn.q y r heard → is_over z ≡ true → d ≡ after_run z
-    → IsCourse scripts fd (ended x d) x reply.Done o n → IsCourse scripts fd (run_told worker x.conn.q x y r heard) x r o n
-run_ends scripts fd worker x n y z d r heard o is going now z_is over d_is course =
-    let told : run_told worker x.conn.q x y r heard ≡ ended x d = over-told worker x y z r heard is going z_is over ∙ ap (λ (e : Doing). ended x e) (sym d_is) in
-    subst (λ (t : Client). IsCourse scripts fd t x r o n) (sym told) (course_reply scripts fd (ended x d) x r o n now course)
+pub run_ends : (scripts : Bool) (fd worker : ℕ) (x n : Client) (y z : Running) (d : Phase) (r : Reply) (received : List ℕ) (o : Course) → x.run ≡ Some y → is_over y ≡ false
+    → is_later r ≡ false → z ≡ run_after worker x.conn.q y r received → is_over z ≡ true → d ≡ after_run z
+    → IsCourse scripts fd (ended x d) x reply.Done o n → IsCourse scripts fd (run_after_reply worker x.conn.q x y r received) x r o n
+run_ends scripts fd worker x n y z d r received o is going now z_is over d_is course =
+    let after_reply : run_after_reply worker x.conn.q x y r received ≡ ended x d = over-after_reply worker x y z r received is going z_is over ∙ ap (λ (e : Phase). ended x e) (sym d_is) in
+    subst (λ (t : Client). IsCourse scripts fd t x r o n) (sym after_reply) (course_reply scripts fd (ended x d) x r o n now course)
 
 -- ---- memory
 
@@ -262,23 +262,23 @@ pub on_err : {T E : Type 0} (r : Result T E) (P : Type 0) → P → OnErr r P
 on_err (Ok x) P p = tt
 on_err (Err e) P p = p
 
-pub goes_wants : (scripts : Bool) (worker : ℕ) (x : Client) (y z : Running) (r : Reply) (heard : List ℕ) → x.run ≡ Some y → is_over y ≡ false
-    → is_later r ≡ false → z ≡ run_after worker x.conn.q y r heard → waits z ≡ false → has_answered_by x.conn z ≡ false → is_over z ≡ false → makes_any z ≡ true
-    → WantsOn scripts (run_told worker x.conn.q x y r heard) x r heard
-goes_wants scripts worker x y z r heard is going now z_is runs more on makes =
-    let told = on-told worker x y z r heard is going z_is on in
-    inr (ap (λ (t : Client). leaves_off (left_over t) r) told ∙ (goes-on x y z r now runs more).on, ap (λ (t : Client). needs_memory t) told ∙ makes)
+pub goes_wants : (scripts : Bool) (worker : ℕ) (x : Client) (y z : Running) (r : Reply) (received : List ℕ) → x.run ≡ Some y → is_over y ≡ false
+    → is_later r ≡ false → z ≡ run_after worker x.conn.q y r received → waits z ≡ false → has_answered_by x.conn z ≡ false → is_over z ≡ false → makes_any z ≡ true
+    → WantsOn scripts (run_after_reply worker x.conn.q x y r received) x r received
+goes_wants scripts worker x y z r received is going now z_is runs more on makes =
+    let after_reply = on-after_reply worker x y z r received is going z_is on in
+    inr (ap (λ (t : Client). leaves_off (left_over t) r) after_reply ∙ (proceeds-on x y z r now runs more).on, ap (λ (t : Client). needs_memory t) after_reply ∙ makes)
 
 leaves-now : (o : Option Client) (r : Reply) → is_later r ≡ false → leaves_off o r ≡ leaves_off o reply.Done
 leaves-now None r now = refl
 leaves-now (Some x) r now = ap (λ (b : Bool). b || (awaits x || (has_answered x || is_bare x))) now
 
-pub run_wants_on : (scripts : Bool) (worker : ℕ) (x : Client) (y z : Running) (d : Doing) (r : Reply) (heard : List ℕ) → x.run ≡ Some y → is_over y ≡ false
-    → is_later r ≡ false → z ≡ run_after worker x.conn.q y r heard → is_over z ≡ true → d ≡ after_run z
+pub run_wants_on : (scripts : Bool) (worker : ℕ) (x : Client) (y z : Running) (d : Phase) (r : Reply) (received : List ℕ) → x.run ≡ Some y → is_over y ≡ false
+    → is_later r ≡ false → z ≡ run_after worker x.conn.q y r received → is_over z ≡ true → d ≡ after_run z
     → (leaves_off (left_over (ended x d)) reply.Done ≡ false) × (needs_memory (ended x d) ≡ true)
-    → WantsOn scripts (run_told worker x.conn.q x y r heard) x r heard
-run_wants_on scripts worker x y z d r heard is going now z_is over d_is wants =
-    let told : run_told worker x.conn.q x y r heard ≡ ended x d = over-told worker x y z r heard is going z_is over ∙ ap (λ (e : Doing). ended x e) (sym d_is) in
-    inr (ap (λ (t : Client). leaves_off (left_over t) r) told ∙ (leaves-now (left_over (ended x d)) r now ∙ wants.0), ap (λ (t : Client). needs_memory t) told ∙ wants.1)
+    → WantsOn scripts (run_after_reply worker x.conn.q x y r received) x r received
+run_wants_on scripts worker x y z d r received is going now z_is over d_is wants =
+    let after_reply : run_after_reply worker x.conn.q x y r received ≡ ended x d = over-after_reply worker x y z r received is going z_is over ∙ ap (λ (e : Phase). ended x e) (sym d_is) in
+    inr (ap (λ (t : Client). leaves_off (left_over t) r) after_reply ∙ (leaves-now (left_over (ended x d)) r now ∙ wants.0), ap (λ (t : Client). needs_memory t) after_reply ∙ wants.1)
 
 pub ruleset run_rules = (run_stays, run_waits, run_answers, run_goes, run_ends, goes_wants, run_wants_on)

@@ -10,19 +10,19 @@ use Rattle.std.proofs.lemmas.List.Sums.{position_or_len_is, prefix_len-le-length
 use Rattle.iol_core.specs.NumberedLists.{in_place}
 use Rattle.iol_core.specs.declared.events.Reply.{Reply}
 use Rattle.flash_http.specs.Request.{Answer, serve, refuse}
-use Rattle.flash_laws.specs.Client.{Client, Readies, told, run_told, left_over, awaits}
+use Rattle.flash_laws.specs.Client.{Client, Readies, after_reply, run_after_reply, left_over, awaits}
 use Rattle.flash_laws.specs.Conn.{Conn}
 use Rattle.flash_laws.specs.Site.Places.{is_run_by, runs_at, is_free, first_free, has_free, may_go, EachHasItsOwn}
-use Rattle.flash_laws.specs.Workers.OwnWorkers.{FlightGoes}
+use Rattle.flash_laws.specs.Workers.OwnWorkers.{PendingCallGoes}
 use Rattle.flash_laws.specs.Site.OtherConns.{left_by, with_at}
-use Rattle.flash_laws.specs.declared.phase.Doing.{Doing}
-use Rattle.flash_laws.specs.declared.phase.Flight.TheVariants.{At}
+use Rattle.flash_laws.specs.declared.phase.Phase.{Phase}
+use Rattle.flash_laws.specs.declared.phase.PendingCall.TheVariants.{At}
 use Rattle.flash_laws.specs.declared.script_run.Running.{Running}
 use Rattle.flash_laws.specs.declared.script_run.Running.TheVariants.{Awaits, Runs, Leaves, Closes as Finished}
 use Rattle.flash_laws.proofs.Site.InPlaces.{at-same, at-other, left-map}
 use Rattle.flash_laws.proofs.Lists.{clash}
 use Rattle.flash_lite.specs.Course.{left_with, worker_of}
-use Rattle.flash_lite.specs.Table.{TellsFree}
+use Rattle.flash_lite.specs.Table.{ReportsFree}
 use Rattle.flash_lite.specs.ServerTurn.{TurnsFree, first_in, has_in, is_worker, worker_at, worker_in, worker_left}
 use Rattle.flash_lite.specs.declared.client.Left.{Left}
 use Rattle.flash_lite.specs.declared.client.Left.TheVariants.{Goes, Ends, Begins, Continues, Stays}
@@ -124,15 +124,15 @@ runs-in None k = refl
 runs-in (Some x) k = runs-worker x.conn x.run x.script k
 
 -- it goes on telling, once one client has another worker, or none
-pub tells_turned : (workers : ℕ) (clients : List (Option Client)) (free after : List Bool) (fd : ℕ) (o : Option Client) (now : Option ℕ) → EachHasItsOwn workers clients
-    → TellsFree free clients → TurnsFree free (worker_at clients fd) now after → ((k : ℕ) → runs_at k o ≡ is_worker now k) → TellsFree after (with_at clients fd o)
-tells_turned workers clients free after fd o now own tells turned runs = record {
-  long = turned.long ∙ tells.long;
+pub reports_turned : (workers : ℕ) (clients : List (Option Client)) (free after : List Bool) (fd : ℕ) (o : Option Client) (now : Option ℕ) → EachHasItsOwn workers clients
+    → ReportsFree free clients → TurnsFree free (worker_at clients fd) now after → ((k : ℕ) → runs_at k o ≡ is_worker now k) → ReportsFree after (with_at clients fd o)
+reports_turned workers clients free after fd o now own reports turned runs = record {
+  long = turned.long ∙ reports.long;
   each = λ k lt.
       turned.each k lt
       ∙ (ap (λ b. not b && (is_worker (worker_at clients fd) k || get_or free k false)) (sym (runs k))
       ∙ (ap (λ b. not (runs_at k o) && (b || get_or free k false)) (sym (runs-in (in_place clients fd) k))
-      ∙ (ap (λ b. not (runs_at k o) && (runs_at k (in_place clients fd) || b)) (tells.each k lt) ∙ sym (free-with workers clients own fd o k))));
+      ∙ (ap (λ b. not (runs_at k o) && (runs_at k (in_place clients fd) || b)) (reports.each k lt) ∙ sym (free-with workers clients own fd o k))));
 }
 
 -- what a client has, and has once it is left
@@ -140,20 +140,20 @@ pub runs-some : (x : Client) (k : ℕ) → runs_at k (Some x) ≡ is_worker (wor
 runs-some x k = runs-worker x.conn x.run x.script k
 
 with-left : (l : Left) (x : Client) (k : ℕ) → is_run_by (left_with x l) k ≡ is_worker (worker_left l (worker_of x)) k
-with-left (Goes d) x k = runs-worker (record x.conn { doing = d }) x.run x.script k
+with-left (Goes d) x k = runs-worker (record x.conn { phase = d }) x.run x.script k
 with-left (Ends d) x k = refl
 with-left Begins x k = refl
 with-left (Continues d) x k = refl
 with-left Stays x k = runs-worker x.conn x.run x.script k
 
 over-runs : (c : Conn) (run : Option Running) (script : List ℕ) (k : ℕ) → runs_at k (left_over (of c run script)) ≡ is_run_by (of c run script) k
-over-runs c None script k = by c.doing
+over-runs c None script k = by c.phase
   where
     none : (o : Option Conn) → runs_at k (option_map (λ (z : Conn). of z None script) o) ≡ false
     none None = refl
     none (Some z) = refl
 
-    by : (d : Doing) → runs_at k (left_by d (of c None script)) ≡ false
+    by : (d : Phase) → runs_at k (left_by d (of c None script)) ≡ false
     by d = ap (λ (o : Option Client). runs_at k o) (sym (left-map (λ (z : Conn). of z None script) d c)) ∙ none (left_by d c)
 over-runs c (Some y) script k = refl
 
@@ -162,10 +162,10 @@ left-runs l t x k is = over-runs t.conn t.run t.script k ∙ (ap (λ (z : Client
 
 -- ---- the first that is free
 
-pub first_is : (workers : ℕ) (free : List Bool) (clients : List (Option Client)) → TellsFree free clients → workers ≤ MAX_WORKERS
+pub first_is : (workers : ℕ) (free : List Bool) (clients : List (Option Client)) → ReportsFree free clients → workers ≤ MAX_WORKERS
     → first_in workers free ≡ first_free workers clients
-first_is workers free clients tells few =
-    let long = tells.long in
+first_is workers free clients reports few =
+    let long = reports.long in
     let all : length (range_with_len 0 workers) ≡ workers = length-range_with_len 0 workers in
     let short = prefix_len-le-length (λ j. not (is_free clients j)) (range_with_len 0 workers) in
     let within : first_free workers clients ≤ workers = omega (arith, all, short) in
@@ -175,41 +175,41 @@ first_is workers free clients tells few =
     (λ k lt.
     let le : k < workers = omega (arith, within, lt) in
     get_or-take workers free k false le
-    ∙ (tells.each k (omega (arith, le, few))
+    ∙ (reports.each k (omega (arith, le, few))
     ∙ (ap (λ j. is_free clients j) (sym (at k le)) ∙ fails_before_first (λ j. is_free clients j) (range_with_len 0 workers) k 0 lt)))
     (λ lt.
     let le : first_free workers clients < workers = omega (arith, lt, taken) in
     get_or-take workers free (first_free workers clients) false le
-    ∙ (tells.each (first_free workers clients) (omega (arith, le, few))
+    ∙ (reports.each (first_free workers clients) (omega (arith, le, few))
     ∙ (ap (λ j. is_free clients j) (sym (at (first_free workers clients) le))
     ∙ passes_at_first (λ j. is_free clients j) (range_with_len 0 workers) 0 (omega (arith, le, all)))))
   where
     at : (k : ℕ) → k < workers → get_or (range_with_len 0 workers) k 0 ≡ k
     at k lt = get_or-range_with_len 0 workers k 0 lt ∙ zero-add k
 
-pub has_is : (workers : ℕ) (free : List Bool) (clients : List (Option Client)) → TellsFree free clients → workers ≤ MAX_WORKERS
+pub has_is : (workers : ℕ) (free : List Bool) (clients : List (Option Client)) → ReportsFree free clients → workers ≤ MAX_WORKERS
     → has_in workers free ≡ has_free workers clients
-has_is workers free clients tells few = ap (λ k. nat_lt k workers) (first_is workers free clients tells few)
+has_is workers free clients reports few = ap (λ k. nat_lt k workers) (first_is workers free clients reports few)
 
 -- ---- a worker is looked at only where one is free
 
-told-same : (scripts : Bool) (a b : ℕ) (c : Conn) (run : Option Running) (script : List ℕ) (r : Reply) (heard : List ℕ) → awaits (of c run script) ≡ false
-    → told scripts a (of c run script) r heard ≡ told scripts b (of c run script) r heard
-told-same scripts a b c None script r heard idle = refl
-told-same scripts a b c (Some Awaits) script r heard idle = absurd (cc (idle))
-told-same scripts a b c (Some (Runs run s)) script r heard idle = by c.q
+after_reply-same : (scripts : Bool) (a b : ℕ) (c : Conn) (run : Option Running) (script : List ℕ) (r : Reply) (received : List ℕ) → awaits (of c run script) ≡ false
+    → after_reply scripts a (of c run script) r received ≡ after_reply scripts b (of c run script) r received
+after_reply-same scripts a b c None script r received idle = refl
+after_reply-same scripts a b c (Some Awaits) script r received idle = absurd (cc (idle))
+after_reply-same scripts a b c (Some (Runs run s)) script r received idle = by c.q
   where
-    by : (q : Answer) → run_told a q (of c (Some (Runs run s)) script) (Runs run s) r heard ≡ run_told b q (of c (Some (Runs run s)) script) (Runs run s) r heard
+    by : (q : Answer) → run_after_reply a q (of c (Some (Runs run s)) script) (Runs run s) r received ≡ run_after_reply b q (of c (Some (Runs run s)) script) (Runs run s) r received
     by (serve w) = refl
     by (refuse status head_only close) = refl
-told-same scripts a b c (Some (Leaves d)) script r heard idle = by c.q
+after_reply-same scripts a b c (Some (Leaves d)) script r received idle = by c.q
   where
-    by : (q : Answer) → run_told a q (of c (Some (Leaves d)) script) (Leaves d) r heard ≡ run_told b q (of c (Some (Leaves d)) script) (Leaves d) r heard
+    by : (q : Answer) → run_after_reply a q (of c (Some (Leaves d)) script) (Leaves d) r received ≡ run_after_reply b q (of c (Some (Leaves d)) script) (Leaves d) r received
     by (serve w) = refl
     by (refuse status head_only close) = refl
-told-same scripts a b c (Some Finished) script r heard idle = by c.q
+after_reply-same scripts a b c (Some Finished) script r received idle = by c.q
   where
-    by : (q : Answer) → run_told a q (of c (Some Finished) script) Finished r heard ≡ run_told b q (of c (Some Finished) script) Finished r heard
+    by : (q : Answer) → run_after_reply a q (of c (Some Finished) script) Finished r received ≡ run_after_reply b q (of c (Some Finished) script) Finished r received
     by (serve w) = refl
     by (refuse status head_only close) = refl
 
@@ -217,16 +217,16 @@ not-waits : (b : Bool) → (false || not b) ≡ true → b ≡ false
 not-waits true may = absurd (cc (may))
 not-waits false may = refl
 
-pub told_by_worker : (scripts : Bool) (workers a : ℕ) (clients : List (Option Client)) (fd : ℕ) (x : Client) (r : Reply) (heard : List ℕ)
-    → FlightGoes workers clients (At fd) → in_place clients fd ≡ Some x → workers ≤ MAX_WORKERS → a ≡ min (first_free workers clients) 7
-    → told scripts a x r heard ≡ told scripts (first_free workers clients) x r heard
-told_by_worker scripts workers a clients fd x r heard goes there few is =
+pub after_reply_by_worker : (scripts : Bool) (workers a : ℕ) (clients : List (Option Client)) (fd : ℕ) (x : Client) (r : Reply) (received : List ℕ)
+    → PendingCallGoes workers clients (At fd) → in_place clients fd ≡ Some x → workers ≤ MAX_WORKERS → a ≡ min (first_free workers clients) 7
+    → after_reply scripts a x r received ≡ after_reply scripts (first_free workers clients) x r received
+after_reply_by_worker scripts workers a clients fd x r received goes there few is =
     either (has_free workers clients)
     (λ free.
     let lt : first_free workers clients < workers = grind (arith, nat_tests, free) in
     let same : a ≡ first_free workers clients = omega (arith, lt, few, is) in
-    ap (λ k. told scripts k x r heard) same)
-    (λ none. told-same scripts a (first_free workers clients) x.conn x.run x.script r heard
+    ap (λ k. after_reply scripts k x r received) same)
+    (λ none. after_reply-same scripts a (first_free workers clients) x.conn x.run x.script r received
     (not-waits (awaits x) (ap (λ b. b || not (awaits x)) (sym none) ∙ goes x there)))
 
 -- ---- whether one that goes on has its turn

@@ -2,7 +2,7 @@
 use Rattle.std.proofs.Common.{ℕ, Bool, true, false, List, Option, Some, None, sym, subst, if◌then◌else◌}
 use Rattle.iol_core.specs.declared.events.Call.TheVariants as call
 use Rattle.iol_core.specs.declared.events.Reply.{Reply}
-use Rattle.iol_proc.specs.Quiet.{IsQuiet, IsQuietCall}
+use Rattle.iol_proc.specs.Quiet.{IsCopyFree, IsCopyFreeCall}
 use Rattle.iol_proc.specs.declared.process.Turn.{Turn}
 use Rattle.iol_proc.specs.declared.process.Turn.TheVariants as turn
 use Rattle.flash_http.specs.Request.{Answer, serve, refuse, Wanted}
@@ -13,10 +13,10 @@ use Rattle.flash_laws.specs.Site.Places.{runs_scripts}
 use Rattle.flash_laws.specs.Run as running
 use Rattle.flash_laws.specs.Run.{in_phase, step_wants}
 use Rattle.flash_laws.specs.Serves.{Picks}
-use Rattle.flash_laws.specs.declared.phase.Doing.{Doing}
-use Rattle.flash_laws.specs.declared.phase.Doing.TheVariants.{Reads}
-use Rattle.flash_laws.specs.declared.phase.Flight.{Flight}
-use Rattle.flash_laws.specs.declared.phase.Flight.TheVariants.{Nothing, Accepting, At}
+use Rattle.flash_laws.specs.declared.phase.Phase.{Phase}
+use Rattle.flash_laws.specs.declared.phase.Phase.TheVariants.{Reads}
+use Rattle.flash_laws.specs.declared.phase.PendingCall.{PendingCall}
+use Rattle.flash_laws.specs.declared.phase.PendingCall.TheVariants.{Nothing, Accepting, At}
 use Rattle.flash_laws.specs.declared.script_run.Run.{Run}
 use Rattle.flash_laws.specs.declared.script_run.Step.{Step}
 use Rattle.flash_laws.specs.declared.script_run.Step.TheVariants as act
@@ -25,42 +25,42 @@ use Rattle.flash_laws.specs.declared.script_run.Running.TheVariants.{Awaits, Run
 use Rattle.flash_lite.specs.ServerTurn.{Turns, filed_by}
 use Rattle.flash_lite.specs.Table.{Table}
 
-reading : (head_only : Bool) (f : ℕ) → IsQuietCall (if head_only then call.Length f else call.IolRead f most_read)
+reading : (head_only : Bool) (f : ℕ) → IsCopyFreeCall (if head_only then call.Length f else call.IolRead f most_read)
 reading true f = tt
 reading false f = tt
 
-phase : (fd : ℕ) (kept : List ℕ) (q : Answer) (d : Doing) → IsQuietCall (conn.wants fd (record { kept = kept; q = q; doing = d }))
+phase : (fd : ℕ) (kept : List ℕ) (q : Answer) (d : Phase) → IsCopyFreeCall (conn.wants fd (record { kept = kept; q = q; phase = d }))
 phase fd kept q (Reads f) = reading (is_head_only q) f
 phase fd kept q d = tt
 
-script-phase : (script : Bool) (fd : ℕ) (kept : List ℕ) (q : Answer) (d : Doing) → IsQuietCall (conn_wants script fd (record { kept = kept; q = q; doing = d }))
+script-phase : (script : Bool) (fd : ℕ) (kept : List ℕ) (q : Answer) (d : Phase) → IsCopyFreeCall (conn_wants script fd (record { kept = kept; q = q; phase = d }))
 script-phase true fd kept q (Reads f) = tt
 script-phase true fd kept q d = tt
 script-phase false fd kept q d = phase fd kept q d
 
-step : (job : ℕ → List ℕ) (fd : ℕ) (w : Wanted) (run : Run) (s : Step) → IsQuietCall (step_wants job fd w run s)
+step : (job : ℕ → List ℕ) (fd : ℕ) (w : Wanted) (run : Run) (s : Step) → IsCopyFreeCall (step_wants job fd w run s)
 step job fd w run (act.Sending d frame) = phase fd (in_phase w d).kept (in_phase w d).q d
 step job fd w run s = tt
 
-run : (job : ℕ → List ℕ) (fd : ℕ) (w : Wanted) (y : Running) → IsQuietCall (running.wants job fd w y)
+run : (job : ℕ → List ℕ) (fd : ℕ) (w : Wanted) (y : Running) → IsCopyFreeCall (running.wants job fd w y)
 run job fd w Awaits = tt
 run job fd w (Runs r s) = step job fd w r s
 run job fd w (Leaves d) = phase fd (in_phase w d).kept (in_phase w d).q d
 run job fd w Finished = tt
 
-quiet-wants : (scripts : Bool) (fd : ℕ) (c : Conn) (r : Option Running) (script : List ℕ) → IsQuietCall (wants scripts fd (record { conn = c; run = r; script = script }))
-quiet-wants scripts fd c None script = script-phase (is_for_script scripts c.q) fd c.kept c.q c.doing
+quiet-wants : (scripts : Bool) (fd : ℕ) (c : Conn) (r : Option Running) (script : List ℕ) → IsCopyFreeCall (wants scripts fd (record { conn = c; run = r; script = script }))
+quiet-wants scripts fd c None script = script-phase (is_for_script scripts c.q) fd c.kept c.q c.phase
 quiet-wants scripts fd c (Some y) script = by c.q
   where
-    by : (q : Answer) → IsQuietCall (run_wants fd q script y)
+    by : (q : Answer) → IsCopyFreeCall (run_wants fd q script y)
     by (serve w) = run (λ g. job_of w script g) fd w y
     by (refuse status head_only close) = tt
 
-quiet-picks : (workers : ℕ) (l : List (Option Client)) (flight : Flight) (made : Turn) (after : List (Option Client)) → Picks workers l flight made after → IsQuiet made
-quiet-picks workers l Nothing made after p = subst (λ (t : Turn). IsQuiet t) (sym p.1) tt
-quiet-picks workers l Accepting made after p = subst (λ (t : Turn). IsQuiet t) (sym p.1) tt
+quiet-picks : (workers : ℕ) (l : List (Option Client)) (pending_call : PendingCall) (made : Turn) (after : List (Option Client)) → Picks workers l pending_call made after → IsCopyFree made
+quiet-picks workers l Nothing made after p = subst (λ (t : Turn). IsCopyFree t) (sym p.1) tt
+quiet-picks workers l Accepting made after p = subst (λ (t : Turn). IsCopyFree t) (sym p.1) tt
 quiet-picks workers l (At fd) made after p =
-    subst (λ (t : Turn). IsQuiet t) (sym p.call_is) (quiet-wants (runs_scripts workers) fd p.ready.conn p.ready.run p.ready.script)
+    subst (λ (t : Turn). IsCopyFree t) (sym p.call_is) (quiet-wants (runs_scripts workers) fd p.ready.conn p.ready.run p.ready.script)
 
-pub quiet_turn : (s t : Table) (r : Reply) (heard : List ℕ) (made : Turn) → Turns s r heard made t → IsQuiet made
-quiet_turn s t r heard made turns = quiet-picks s.workers (filed_by s r heard) t.flight made t.clients turns.picks
+pub quiet_turn : (s t : Table) (r : Reply) (received : List ℕ) (made : Turn) → Turns s r received made t → IsCopyFree made
+quiet_turn s t r received made turns = quiet-picks s.workers (filed_by s r received) t.pending_call made t.clients turns.picks

@@ -5,7 +5,7 @@ use Rattle.std.proofs.lemmas.Bool.Decides.{nat_tests}
 use Rattle.std.proofs.lemmas.List.{length-append}
 use Rattle.iol_proc.specs.World.{IsRising}
 use Rattle.flash_cgi.specs.declared.worker.Worker.{Worker}
-use Rattle.flash_laws.specs.World.Tie.{Actor, Serving, Working}
+use Rattle.flash_laws.specs.World.Consistency.{Actor, Serving, Working}
 use Rattle.flash_lite.specs.Setup.{AreActors, HasWorkers, IsWorkerAt, workers_used}
 use Rattle.flash_lite.specs.declared.site.Site.{Site}
 

@@ -1,5 +1,5 @@
--- The machine of a site that was set up meets the fixed conditions: its files are those of the site contents, and only the
--- server may read the net.
+-- The machine of a site that was set up meets the fixed conditions: its files are those of the site contents, and only
+-- the server may read the net.
 use Rattle.std.proofs.Common.{◌≡◌, ◌≢◌, ℕ, zero, suc, ◌+◌, ◌==◌, ◌≤◌, ◌<◌, List, [], ◌∷◌, length, map, get_or, refl, sym, subst, ap, ◌∙◌, arith, Option, Some, None, true, false, Bool}
 use Rattle.std.specs.Prelude.{◌||◌, not, bytes_eq, position, option_map, slice_index_or, if◌then◌else◌}
 use Rattle.std.specs.List.{range_with_len, slice_get, list_any}
@@ -17,7 +17,7 @@ use Rattle.flash_lite.specs.SiteState.{pools_of, file_of, state_of}
 use Rattle.flash_laws.specs.Answers.{Found, Failed}
 use Rattle.flash_laws.specs.Conn.{most_read}
 use Rattle.flash_laws.specs.Site.{found_in, outcome_in, IsFixed}
-use Rattle.flash_lite.specs.Shelf.{shown, shown_at, shelf_of}
+use Rattle.flash_lite.specs.SiteContents.{shown, shown_at, site_contents_of}
 use Rattle.flash_lite.specs.declared.site.Site.{Site}
 use Rattle.flash_lite.specs.declared.site.SiteFile.{SiteFile}
 use Rattle.flash_lite.proofs.Calls.FileCalls.{position-cons, slice_get-first, slice_get-later}
@@ -129,7 +129,7 @@ module _ (s : Site) (slots : List (List ℕ)) where
   pub called_there : (name : List ℕ) → file_called (state_of s slots) name ≡ option_map (λ i. i + 1) (position (λ f. bytes_eq f.name.items name) s.files.items)
   called_there name = ap (λ (o : Option ℕ). option_map (λ i. i + 1) o) (position-named name s.files.items)
 
-  outcomes_are : (name : List ℕ) → outcome_in (state_of s slots) name ≡ shelf_of s slots name
+  outcomes_are : (name : List ℕ) → outcome_in (state_of s slots) name ≡ site_contents_of s slots name
   outcomes_are name = ap (λ (o : Option ℕ). found_in (state_of s slots) o) (called_there name) ∙ by (position (λ f. bytes_eq f.name.items name) s.files.items) refl
     where
       by : (o : Option ℕ) → position (λ f. bytes_eq f.name.items name) s.files.items ≡ o → found_in (state_of s slots) (option_map (λ i. i + 1) o) ≡ shown_at s slots o
@@ -163,7 +163,7 @@ module _ (s : Site) (slots : List (List ℕ)) where
       let pool_is : (file_of at.file) ≡ file (state_of s slots) f = sym (file_there c.place at.file at.there at.within) ∙ ap (λ (k : ℕ). file (state_of s slots) k) (sym c.number) in
       (r.0, subst (λ (g : File). may_read (state_of s slots) r.0 g.pool ≡ true) pool_is r.1)
 
-  pub fixed : ((i : ℕ) → i < length s.files.items → length (content (state_of s slots) (i + 1)) ≤ MAX_FILE_BYTES) → IsFixed (shelf_of s slots) (state_of s slots)
+  pub fixed : ((i : ℕ) → i < length s.files.items → length (content (state_of s slots) (i + 1)) ≤ MAX_FILE_BYTES) → IsFixed (site_contents_of s slots) (state_of s slots)
   unfolding domain pool
   fixed short = record {
     lives = refl;

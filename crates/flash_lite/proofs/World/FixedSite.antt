@@ -1,5 +1,5 @@
--- The machine of a site that was set up meets the fixed conditions of the law over whole worlds: for the server and for each
--- worker.
+-- The machine of a site that was set up meets the fixed conditions of the law over whole worlds: for the server and for
+-- each worker.
 use Rattle.std.proofs.Common.{◌≡◌, ℕ, zero, suc, ◌+◌, ◌-◌, ◌==◌, ◌≤◌, ◌<◌, List, [], length, map, refl, sym, subst, ap, ◌∙◌, arith, Option, Some, None, true, false, Bool}
 use Rattle.std.specs.Prelude.{◌||◌, not, bytes_eq, nat_lt, option_map, position, slice_index_or, if◌then◌else◌}
 use Rattle.std.specs.List.{list_any, range_with_len, slice_get}
@@ -17,9 +17,9 @@ use Rattle.iol_laws.specs.DescriptorNumbers.{AreLow}
 use Rattle.flash_cgi.specs.Outcomes.{AreFiles, outcome_in, outcome_of}
 use Rattle.flash_cgi.specs.Output.{Found, Failed}
 use Rattle.flash_cgi.specs.OutputPools.{HoldFiles}
-use Rattle.flash_laws.specs.Shelf.{Refusals}
-use Rattle.flash_laws.specs.Workers.Crew.{IsFixedFor}
-use Rattle.flash_lite.specs.Crew.{crew_of, is_shown, is_work}
+use Rattle.flash_laws.specs.SiteContents.{Refusals}
+use Rattle.flash_laws.specs.Workers.WorkerSet.{IsFixedFor}
+use Rattle.flash_lite.specs.WorkerSet.{worker_set_of, is_shown, is_work}
 use Rattle.flash_lite.specs.Library.{library_of, seen, seen_at, seen_of}
 use Rattle.flash_lite.specs.Setup.{has_script, is_in_range, is_private, workers_used}
 use Rattle.flash_lite.specs.SiteState.{file_of, pools_of, state_of}
@@ -187,7 +187,7 @@ module _ (s : Site) (slots : List (List ℕ)) where
 
   pub fixed_for : (refuses : Refusals) → is_in_range s ≡ true → HasAccess (state_of s slots) → ArePlaced (state_of s slots) → AreLow (state_of s slots)
       → ((i : ℕ) → i < length s.files.items → length (content (state_of s slots) (i + 1)) ≤ MAX_FILE_BYTES)
-      → IsFixedFor (library_of s slots refuses) (crew_of s) (state_of s slots)
+      → IsFixedFor (library_of s slots refuses) (worker_set_of s) (state_of s slots)
   unfolding domain
   fixed_for refuses fits access placed low short = record {
     site = fixed s slots short;

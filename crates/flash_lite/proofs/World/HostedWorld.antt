@@ -4,35 +4,35 @@ use Rattle.iol_core.specs.Positions.{ArePlaced}
 use Rattle.iol_core.specs.State.{State, new_state}
 use Rattle.iol_core.specs.declared.events.Reply.{Reply}
 use Rattle.iol_proc.specs.Idle.{Idles}
-use Rattle.iol_proc.specs.World.{IsRising, Stage, copied, copying, domains_of, seat_of, WorldRun}
+use Rattle.iol_proc.specs.World.{IsRising, Stage, copied, copying, domains_of, process_slot_of, WorldRun}
 use Rattle.iol_proc.specs.declared.choice.Choice.{Choice}
 use Rattle.iol_system.specs.Machine.{SystemState, machine_of}
 use Rattle.flash_cgi.specs.declared.worker.Worker.{Worker}
 use Rattle.flash_laws.specs.Serves.Rounds.{in_rounds}
-use Rattle.flash_laws.specs.World.Tie.{Actor, actor_turns}
+use Rattle.flash_laws.specs.World.Consistency.{Actor, actor_turns}
 use Rattle.flash_lite.specs.HostedSite.{Hosts, IsNewWorld}
 use Rattle.flash_lite.specs.Setup.{AreActors}
 use Rattle.flash_lite.specs.SiteState.{LeavesSite, state_of}
 use Rattle.flash_lite.specs.SiteWorld.{IsNewAt}
 use Rattle.flash_lite.specs.Workers.{worker_turns}
 use Rattle.flash_lite.specs.declared.site.Site.{Site}
-use Rattle.flash_lite.proofs.World.Seats.{seated_by}
+use Rattle.flash_lite.proofs.World.ProcessSlots.{in_slots_by}
 
 pub world_new : (s : Site) (slots : List (List ℕ)) (old sys : SystemState) (w : Stage SystemState (Actor Worker))
     (ps : List (ℕ × Actor Worker)) → machine_of old ≡ new_state slots → ArePlaced (machine_of old)
     → LeavesSite s (machine_of old) (machine_of sys)
     → (machine_of sys).slots ≡ (machine_of old).slots
     → IsNewAt s (machine_of old) (machine_of sys)
-    → AreActors s ps → w.machine ≡ sys → IsPermutation (map seat_of ps) w.seats → IsRising (domains_of w.seats) → w.rough ≡ false
+    → AreActors s ps → w.machine ≡ sys → IsPermutation (map process_slot_of ps) w.process_slots → IsRising (domains_of w.process_slots) → w.resource_failure ≡ false
     → IsNewWorld s slots (copied w)
-world_new s slots old sys w ps begins placed leaves same new procs machine seats rises smooth =
+world_new s slots old sys w ps begins placed leaves same new procs machine process_slots rises failure_free =
     let kept : (machine_of sys).slots ≡ slots = same ∙ ap (λ (m : State). m.slots) begins in
     let is : machine_of w.machine ≡ machine_of sys = ap (λ (x : SystemState). machine_of x) machine in
-    let seated = seated_by s ps w.seats procs seats rises in record {
+    let in_slots = in_slots_by s ps w.process_slots procs process_slots rises in record {
       machine = is ∙ ((leaves slots begins).state ∙ ap (λ (l : List (List ℕ)). state_of s l) kept);
-      seats = seated;
-      smooth = smooth;
-      new = λ refuses. new (copied w) is seated slots refuses begins (subst (λ (m : State). ArePlaced m) begins placed).slots;
+      process_slots = in_slots;
+      failure_free = failure_free;
+      new = λ refuses. new (copied w) is in_slots slots refuses begins (subst (λ (m : State). ArePlaced m) begins placed).slots;
     }
 
 pub hosted : (s : Site) (slots : List (List ℕ)) (xs : List Choice) (rs : List Reply) (turns : ℕ) (idle : Bool)

@@ -1,4 +1,5 @@
--- The start of the world of a site over any store, the reasons for its refusal, and its run as a chain of the system's steps.
+-- The start of the world of a site over any store, the reasons for its refusal, and its run as a chain of the system's
+-- steps.
 use Rattle.std.proofs.Common.{◌≡◌, ◌∙◌, inl, inr, ℕ, List, [], ◌∷◌, ◌++◌, map, sym, ap, subst, Bool, false, IsPermutation}
 use Rattle.std.specs.Prelude.{◌*◌, replicate}
 use Rattle.iol_back.specs.Disk.{Disk}
@@ -11,7 +12,7 @@ use Rattle.iol_core.specs.declared.refusals.Refusal.{Refusal}
 use Rattle.iol_system.specs.Prelude.{no_entry, slots_of}
 use Rattle.iol_proc.specs.Idle.{Idles}
 use Rattle.iol_proc.specs.Laws.{HasEvents}
-use Rattle.iol_proc.specs.World.{IsRising, Stage, domains_of, sharing, seat_of, WorldRun}
+use Rattle.iol_proc.specs.World.{IsRising, Stage, domains_of, sharing, process_slot_of, WorldRun}
 use Rattle.iol_proc.specs.declared.choice.Choice.{Choice}
 use Rattle.iol_proc.proofs.Chains.{honesty_kept}
 use Rattle.iol_system.specs.Machine.{SystemState, machine_of}
@@ -19,14 +20,14 @@ use Rattle.iol_system.specs.Promises.{Chain}
 use Rattle.iol_system.specs.Safe.{IsSafe}
 use Rattle.flash_cgi.specs.declared.worker.Worker.{Worker}
 use Rattle.flash_laws.specs.Serves.Rounds.{in_rounds}
-use Rattle.flash_laws.specs.World.Tie.{Actor, actor_turns}
+use Rattle.flash_laws.specs.World.Consistency.{Actor, actor_turns}
 use Rattle.flash_lite.specs.HostedSite.{HostsOver}
 use Rattle.flash_lite.specs.Setup.{AreActors, IsMade, WhyRefused, calls}
 use Rattle.flash_lite.specs.SiteState.{IsSetUp, LeavesSite}
 use Rattle.flash_lite.specs.SiteStart.{IsNewSystem, Starts, WhyNone}
 use Rattle.flash_lite.specs.Workers.{worker_turns}
 use Rattle.flash_lite.specs.declared.site.Site.{Site}
-use Rattle.flash_lite.proofs.World.Seats.{seated_by}
+use Rattle.flash_lite.proofs.World.ProcessSlots.{in_slots_by}
 
 -- ---- a new system
 
@@ -52,14 +53,14 @@ begun_by config store s machine disk entries taken limit sums sum_limit orders s
 pub starts_by : (config : Config) (store : Disk) (s : Site) (begun sys : SystemState) (w : Stage SystemState (Actor Worker))
     (ps : List (ℕ × Actor Worker)) → IsNewSystem config store begun → IsMade s begun sys
     → LeavesSite s (machine_of begun) (machine_of sys) → AreActors s ps → w.machine ≡ sys
-    → IsPermutation (map seat_of ps) w.seats → IsRising (domains_of w.seats) → w.rough ≡ false → Starts config store s w
-starts_by config store s begun sys w ps new made leaves procs machine seats rises smooth = record {
+    → IsPermutation (map process_slot_of ps) w.process_slots → IsRising (domains_of w.process_slots) → w.resource_failure ≡ false → Starts config store s w
+starts_by config store s begun sys w ps new made leaves procs machine process_slots rises failure_free = record {
   begun = begun;
   new = new;
   made = subst (λ (x : SystemState). IsMade s begun x) (sym machine) made;
   site = subst (λ (x : SystemState). IsSetUp s (machine_of x)) (sym machine) (leaves (slots_of store.slots) new.machine);
-  seats = seated_by s ps w.seats procs seats rises;
-  smooth = smooth;
+  process_slots = in_slots_by s ps w.process_slots procs process_slots rises;
+  failure_free = failure_free;
 }
 
 -- ---- none, since a call of the site was refused

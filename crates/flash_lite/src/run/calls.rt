@@ -125,8 +125,8 @@ pub(crate) fn step_call(
         Step::Makes { fd } => job_call(alloc, request, script, fd)?,
         Step::Hands { job, .. } => hand_call(run, job),
         Step::Heads => head_call(alloc, request)?,
-        Step::Sending { doing, .. } => part_call(alloc, fd, request, doing)?,
-        Step::Hears { held, .. } => Call::IolRead {
+        Step::Sending { phase, .. } => part_call(alloc, fd, request, phase)?,
+        Step::Receives { held, .. } => Call::IolRead {
             fd: run.from,
             count: most_read(held),
         },

@@ -2,19 +2,19 @@
 //! is inserted into it.
 ghost use Rattle.std.specs.Prelude.{◌≡◌};
 ghost use Rattle.flash_laws.specs.Run as spec;
-ghost use Rattle.flash_lite.specs.HeardBytes.{heard};
+ghost use Rattle.flash_lite.specs.ReceivedBytes.{received};
 ghost use Rattle.flash_lite.specs.Runs.{IsSmallStep};
 
-use crate::heard::count;
-use flash_laws::phase::Doing;
+use crate::received::count;
+use flash_laws::phase::Phase;
 use flash_laws::script_run::Step;
 use iol_agg::Parts;
 use iol_core::events::Reply;
 use iol_core::numbers::AggId;
 
 /// After making the frame.
-pub(crate) fn told_frames(held: AggId, last: &Reply) -> Step
-    ensures told { result ≡ spec.told_frames held last.now }
+pub(crate) fn after_frame(held: AggId, last: &Reply) -> Step
+    ensures after_reply { result ≡ spec.after_frame held last.now }
     ensures small { IsSmallStep result }
 {
     match last {
@@ -27,8 +27,8 @@ pub(crate) fn told_frames(held: AggId, last: &Reply) -> Step
 }
 
 /// After inserting the buffered output into the frame.
-pub(crate) fn told_wraps(held: AggId, frame: AggId, last: &Reply, parts: Option<Parts<'_>>) -> Step
-    ensures told { result ≡ spec.told_wraps held frame last.now (heard parts.entry) }
+pub(crate) fn after_wrap(held: AggId, frame: AggId, last: &Reply, parts: Option<Parts<'_>>) -> Step
+    ensures after_reply { result ≡ spec.after_wrap held frame last.now (received parts.entry) }
     ensures small { IsSmallStep result }
 {
     match last {
@@ -43,13 +43,13 @@ pub(crate) fn told_wraps(held: AggId, frame: AggId, last: &Reply, parts: Option<
 }
 
 /// After dropping the buffered output.
-pub(crate) fn told_trims(held: AggId, chunk: AggId, len: u32, frame: AggId, last: &Reply) -> Step
-    ensures told { result ≡ spec.told_trims held chunk len frame last.now }
+pub(crate) fn after_trim(held: AggId, chunk: AggId, len: u32, frame: AggId, last: &Reply) -> Step
+    ensures after_reply { result ≡ spec.after_trim held chunk len frame last.now }
     ensures small { IsSmallStep result }
 {
     match last {
         Reply::Done => Step::Sending {
-            doing: Doing::Sends {
+            phase: Phase::Sends {
                 agg: chunk,
                 len,
                 taken: 0,

@@ -2,22 +2,22 @@
 ghost use Rattle.std.specs.Prelude.{◌≡◌, Some};
 ghost use Rattle.flash_http.specs.Prelude.{wanted};
 ghost use Rattle.flash_laws.specs.Run as spec;
-ghost use Rattle.flash_lite.specs.HeardBytes.{heard};
+ghost use Rattle.flash_lite.specs.ReceivedBytes.{received};
 ghost use Rattle.flash_lite.specs.Runs.{IsPiece, IsSmallRun, IsSmallStep, IsSmallRunning};
 
-use crate::heard::count;
+use crate::received::count;
 use crate::send::Following;
 use flash_http::Request;
-use flash_laws::phase::Doing;
+use flash_laws::phase::Phase;
 use flash_laws::script_run::{Run, Running, Step};
 use iol_agg::Parts;
 use iol_core::events::Reply;
 use iol_core::numbers::AggId;
 
 /// After dropping the empty aggregate of the last read.
-pub(crate) fn told_ended(agg: AggId, held: Following, frame: Option<AggId>, last: &Reply) -> Step
+pub(crate) fn after_ended(agg: AggId, held: Following, frame: Option<AggId>, last: &Reply) -> Step
     requires { IsPiece held }
-    ensures told { result ≡ spec.told_ended agg held frame last.now }
+    ensures after_reply { result ≡ spec.after_ended agg held frame last.now }
     ensures small { IsSmallStep result }
 {
     match last {
@@ -27,8 +27,8 @@ pub(crate) fn told_ended(agg: AggId, held: Following, frame: Option<AggId>, last
 }
 
 /// After dropping buffered output that is not sent.
-pub(crate) fn told_unholds(held: AggId, frame: Option<AggId>, last: &Reply) -> Step
-    ensures told { result ≡ spec.told_unholds held frame last.now }
+pub(crate) fn after_release_held(held: AggId, frame: Option<AggId>, last: &Reply) -> Step
+    ensures after_reply { result ≡ spec.after_release_held held frame last.now }
     ensures small { IsSmallStep result }
 {
     match last {
@@ -71,7 +71,7 @@ fn stopped(request: &Request, run: Run, held: Following, frame: Option<AggId>) -
 }
 
 /// After closing the read end.
-pub(crate) fn told_stops(
+pub(crate) fn after_stop(
     request: &Request,
     run: Run,
     held: Following,
@@ -79,7 +79,7 @@ pub(crate) fn told_stops(
     last: &Reply,
 ) -> Running
     requires { IsSmallRun run × IsPiece held }
-    ensures told { result ≡ spec.told_stops (wanted request.now) run held frame last.now }
+    ensures after_reply { result ≡ spec.after_stop (wanted request.now) run held frame last.now }
     ensures small { IsSmallRunning result }
 {
     match last {
@@ -92,7 +92,7 @@ pub(crate) fn told_stops(
 }
 
 /// After dropping the frame.
-pub(crate) fn told_unframes(
+pub(crate) fn after_release_frame(
     request: &Request,
     run: Run,
     frame: AggId,
@@ -100,7 +100,7 @@ pub(crate) fn told_unframes(
     last: &Reply,
 ) -> Running
     requires { IsSmallRun run × IsPiece held }
-    ensures told { result ≡ spec.told_unframes (wanted request.now) run frame held last.now }
+    ensures after_reply { result ≡ spec.after_release_frame (wanted request.now) run frame held last.now }
     ensures small { IsSmallRunning result }
 {
     match last {
@@ -128,7 +128,7 @@ fn ending(run: Run, held: Following, agg: AggId, len: u32) -> Running
             },
         },
         None => Running::Leaves {
-            doing: Doing::Sends {
+            phase: Phase::Sends {
                 agg,
                 len,
                 taken: 0,
@@ -139,14 +139,14 @@ fn ending(run: Run, held: Following, agg: AggId, len: u32) -> Running
 }
 
 /// After making the end of the body.
-pub(crate) fn told_lasts(
+pub(crate) fn after_last(
     run: Run,
     held: Following,
     last: &Reply,
     parts: Option<Parts<'_>>,
 ) -> Running
     requires { IsSmallRun run × IsPiece held }
-    ensures told { result ≡ spec.told_lasts run held last.now (heard parts.entry) }
+    ensures after_reply { result ≡ spec.after_last run held last.now (received parts.entry) }
     ensures small { IsSmallRunning result }
 {
     match last {
@@ -159,7 +159,7 @@ pub(crate) fn told_lasts(
 }
 
 /// After inserting the buffered output into that end.
-pub(crate) fn told_wraps_last(
+pub(crate) fn after_wrap_last(
     held: AggId,
     size: u32,
     frame: AggId,
@@ -167,7 +167,7 @@ pub(crate) fn told_wraps_last(
     parts: Option<Parts<'_>>,
 ) -> Step
     requires { IsPiece (Some (held, size)) }
-    ensures told { result ≡ spec.told_wraps_last held size frame last.now (heard parts.entry) }
+    ensures after_reply { result ≡ spec.after_wrap_last held size frame last.now (received parts.entry) }
     ensures small { IsSmallStep result }
 {
     match last {
@@ -182,14 +182,14 @@ pub(crate) fn told_wraps_last(
 }
 
 /// After dropping the buffered output.
-pub(crate) fn told_trims_last(
+pub(crate) fn after_trim_last(
     held: AggId,
     chunk: AggId,
     len: u32,
     frame: AggId,
     last: &Reply,
 ) -> Step
-    ensures told { result ≡ spec.told_trims_last held chunk len frame last.now }
+    ensures after_reply { result ≡ spec.after_trim_last held chunk len frame last.now }
     ensures small { IsSmallStep result }
 {
     match last {
@@ -204,14 +204,14 @@ pub(crate) fn told_trims_last(
 }
 
 /// After dropping the end, which is not needed without buffered output.
-pub(crate) fn told_unwraps(run: Run, frame: AggId, chunk: AggId, len: u32, last: &Reply) -> Running
+pub(crate) fn after_unwrap(run: Run, frame: AggId, chunk: AggId, len: u32, last: &Reply) -> Running
     requires { IsSmallRun run }
-    ensures told { result ≡ spec.told_unwraps run frame chunk len last.now }
+    ensures after_reply { result ≡ spec.after_unwrap run frame chunk len last.now }
     ensures small { IsSmallRunning result }
 {
     match last {
         Reply::Done => Running::Leaves {
-            doing: Doing::Sends {
+            phase: Phase::Sends {
                 agg: chunk,
                 len,
                 taken: 0,

@@ -2,14 +2,14 @@
 ghost use Rattle.std.specs.Prelude.{◌≡◌, ◌<◌, Some, false, true};
 ghost use Rattle.flash_http.specs.Prelude.{wanted};
 ghost use Rattle.flash_laws.specs.Run as spec;
-ghost use Rattle.flash_lite.specs.HeardBytes.{heard};
+ghost use Rattle.flash_lite.specs.ReceivedBytes.{received};
 ghost use Rattle.flash_lite.specs.Runs.{IsPiece, IsSmallRun, IsSmallStep, IsSmallRunning, reading};
 
-use crate::heard::count;
+use crate::received::count;
 use crate::run::parts::broken;
 use crate::send::Following;
 use flash_http::Request;
-use flash_laws::phase::Doing;
+use flash_laws::phase::Phase;
 use flash_laws::script_run::{CHUNK_BYTES, Run, Running, Step};
 use iol_agg::Parts;
 use iol_core::events::Reply;
@@ -34,7 +34,7 @@ fn holding(held: AggId, size: u32, frame: Option<AggId>) -> Step
     ensures small { IsSmallStep result }
 {
     if size < CHUNK_BYTES {
-        Step::Hears {
+        Step::Receives {
             held: Some((held, size)),
             frame,
         }
@@ -82,7 +82,7 @@ fn reading(
         gathering(held, frame, agg, len)
     } else {
         Step::Sending {
-            doing: Doing::Sends {
+            phase: Phase::Sends {
                 agg,
                 len,
                 taken: 0,
@@ -105,8 +105,8 @@ fn unread(held: Following, frame: Option<AggId>) -> Step
 }
 
 /// After reading output.
-#[tactic(auto, using(crate::proofs::Responses::Output::hears_read))]
-pub(crate) fn told_hears(
+#[tactic(auto, using(crate::proofs::Responses::Output::receives_read))]
+pub(crate) fn after_output(
     request: &Request,
     run: Run,
     held: Following,
@@ -115,8 +115,8 @@ pub(crate) fn told_hears(
     parts: Option<Parts<'_>>,
 ) -> Running
     requires { IsSmallRun run × IsPiece held }
-    ensures told { result
-        ≡ spec.told_hears (wanted request.now) run held frame last.now (heard parts.entry) }
+    ensures after_reply { result
+        ≡ spec.after_output (wanted request.now) run held frame last.now (received parts.entry) }
     ensures small { IsSmallRunning result }
 {
     match last {
@@ -130,24 +130,24 @@ pub(crate) fn told_hears(
         },
         _ => Running::Runs {
             run,
-            step: Step::Hears { held, frame },
+            step: Step::Receives { held, frame },
         },
     }
 }
 
 /// After dropping output that is not sent.
-pub(crate) fn told_spills(agg: AggId, frame: Option<AggId>, last: &Reply) -> Step
-    ensures told { result ≡ spec.told_spills agg frame last.now }
+pub(crate) fn after_spill(agg: AggId, frame: Option<AggId>, last: &Reply) -> Step
+    ensures after_reply { result ≡ spec.after_spill agg frame last.now }
     ensures small { IsSmallStep result }
 {
     match last {
-        Reply::Done => Step::Hears { held: None, frame },
+        Reply::Done => Step::Receives { held: None, frame },
         _ => Step::Spills { agg, frame },
     }
 }
 
 /// After joining output to the buffered output.
-pub(crate) fn told_gathers(
+pub(crate) fn after_gather(
     held: AggId,
     size: u32,
     piece: AggId,
@@ -156,7 +156,7 @@ pub(crate) fn told_gathers(
     last: &Reply,
 ) -> Step
     requires { IsPiece (Some (held, size)) }
-    ensures told { result ≡ spec.told_gathers held size piece len frame last.now }
+    ensures after_reply { result ≡ spec.after_gather held size piece len frame last.now }
     ensures small { IsSmallStep result }
 {
     match last {

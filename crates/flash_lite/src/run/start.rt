@@ -2,12 +2,12 @@
 //! gets the write end and the job.
 ghost use Rattle.std.specs.Prelude.{◌≡◌, ◌<◌};
 ghost use Rattle.flash_laws.specs.Run as spec;
-ghost use Rattle.flash_lite.specs.HeardBytes.{heard};
+ghost use Rattle.flash_lite.specs.ReceivedBytes.{received};
 ghost use Rattle.flash_lite.specs.Runs.{IsSmallRun, IsSmallStep, IsSmallRunning};
 ghost use Rattle.flash_lite.specs.declared.site.TheConstants.{MAX_WORKERS};
 
-use crate::heard::count;
-use flash_laws::phase::{Content, Doing};
+use crate::received::count;
+use flash_laws::phase::{Payload, Phase};
 use flash_laws::script_run::{Run, Running, Step};
 use http::StatusCode;
 use iol_agg::Parts;
@@ -30,9 +30,9 @@ fn is_again(refusal: Refusal) -> bool
 }
 
 /// After making a pipe, with a free worker.
-pub(crate) fn told_awaits(worker: u32, last: &Reply) -> Running
+pub(crate) fn after_wait(worker: u32, last: &Reply) -> Running
     requires { worker < MAX_WORKERS }
-    ensures told { result ≡ spec.told_awaits worker last.now }
+    ensures after_reply { result ≡ spec.after_wait worker last.now }
     ensures small { IsSmallRunning result }
 {
     match last {
@@ -49,8 +49,8 @@ pub(crate) fn told_awaits(worker: u32, last: &Reply) -> Running
 }
 
 /// After giving the write end.
-pub(crate) fn told_gives(write: Fd, last: &Reply) -> Step
-    ensures told { result ≡ spec.told_gives write last.now }
+pub(crate) fn after_give(write: Fd, last: &Reply) -> Step
+    ensures after_reply { result ≡ spec.after_give write last.now }
     ensures small { IsSmallStep result }
 {
     match last {
@@ -67,8 +67,8 @@ pub(crate) fn told_gives(write: Fd, last: &Reply) -> Step
 }
 
 /// After making the job.
-pub(crate) fn told_makes(fd: Fd, last: &Reply) -> Step
-    ensures told { result ≡ spec.told_makes fd last.now }
+pub(crate) fn after_make(fd: Fd, last: &Reply) -> Step
+    ensures after_reply { result ≡ spec.after_make fd last.now }
     ensures small { IsSmallStep result }
 {
     match last {
@@ -78,8 +78,8 @@ pub(crate) fn told_makes(fd: Fd, last: &Reply) -> Step
 }
 
 /// After writing the job.
-pub(crate) fn told_hands(job: AggId, fd: Fd, last: &Reply) -> Step
-    ensures told { result ≡ spec.told_hands job fd last.now }
+pub(crate) fn after_hand(job: AggId, fd: Fd, last: &Reply) -> Step
+    ensures after_reply { result ≡ spec.after_hand job fd last.now }
     ensures small { IsSmallStep result }
 {
     match last {
@@ -96,8 +96,8 @@ pub(crate) fn told_hands(job: AggId, fd: Fd, last: &Reply) -> Step
 }
 
 /// After dropping the job.
-pub(crate) fn told_lets(job: AggId, last: &Reply) -> Step
-    ensures told { result ≡ spec.told_lets job last.now }
+pub(crate) fn after_release_job(job: AggId, last: &Reply) -> Step
+    ensures after_reply { result ≡ spec.after_release_job job last.now }
     ensures small { IsSmallStep result }
 {
     match last {
@@ -107,13 +107,13 @@ pub(crate) fn told_lets(job: AggId, last: &Reply) -> Step
 }
 
 /// After making the head.
-pub(crate) fn told_heads(last: &Reply, parts: Option<Parts<'_>>) -> Step
-    ensures told { result ≡ spec.told_heads last.now (heard parts.entry) }
+pub(crate) fn after_head(last: &Reply, parts: Option<Parts<'_>>) -> Step
+    ensures after_reply { result ≡ spec.after_head last.now (received parts.entry) }
     ensures small { IsSmallStep result }
 {
     match last {
         Reply::Agg(agg) => Step::Sending {
-            doing: Doing::Sends {
+            phase: Phase::Sends {
                 agg: *agg,
                 len: count(parts),
                 taken: 0,
@@ -126,8 +126,8 @@ pub(crate) fn told_heads(last: &Reply, parts: Option<Parts<'_>>) -> Step
 }
 
 /// After closing a write end that could not be given to the worker.
-pub(crate) fn told_returns(write: Fd, last: &Reply) -> Step
-    ensures told { result ≡ spec.told_returns write last.now }
+pub(crate) fn after_return(write: Fd, last: &Reply) -> Step
+    ensures after_reply { result ≡ spec.after_return write last.now }
     ensures small { IsSmallStep result }
 {
     match last {
@@ -137,8 +137,8 @@ pub(crate) fn told_returns(write: Fd, last: &Reply) -> Step
 }
 
 /// After dropping a job that could not be written.
-pub(crate) fn told_lapses(job: AggId, last: &Reply) -> Step
-    ensures told { result ≡ spec.told_lapses job last.now }
+pub(crate) fn after_lapse(job: AggId, last: &Reply) -> Step
+    ensures after_reply { result ≡ spec.after_lapse job last.now }
     ensures small { IsSmallStep result }
 {
     match last {
@@ -148,15 +148,15 @@ pub(crate) fn told_lapses(job: AggId, last: &Reply) -> Step
 }
 
 /// After closing the pipe of a script that cannot run.
-pub(crate) fn told_fails(run: Run, last: &Reply) -> Running
+pub(crate) fn after_fail(run: Run, last: &Reply) -> Running
     requires { IsSmallRun run }
-    ensures told { result ≡ spec.told_fails run last.now }
+    ensures after_reply { result ≡ spec.after_fail run last.now }
     ensures small { IsSmallRunning result }
 {
     match last {
         Reply::Done => Running::Leaves {
-            doing: Doing::Heads {
-                content: Content::Error {
+            phase: Phase::Heads {
+                content: Payload::Error {
                     status: StatusCode::SERVICE_UNAVAILABLE,
                 },
             },

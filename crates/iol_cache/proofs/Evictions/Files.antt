@@ -206,7 +206,7 @@ gives_up_trans a b c m n = record {
   fewer = λ x. omega (arith, m.fewer x, n.fewer x);
   frees = frees_then m.frees n.frees n.fewer;
   lists = n.lists ∙ m.lists;
-  settles = λ h. n.settles (m.settles h);
+  reclaims = λ h. n.reclaims (m.reclaims h);
   mirrors = λ slots h. n.mirrors slots (m.mirrors slots h);
   files = λ slots h. record { each = λ f. (n.files slots (m.mirrors slots h)).each f ∙ (m.files slots h).each f };
   keeps = keeps_trans a.cache b.cache c.cache m.keeps n.keeps;
@@ -221,7 +221,7 @@ gives_up_none h = record {
   fewer = λ b. omega arith;
   frees = frees_none h.store h.store refl refl refl;
   lists = refl;
-  settles = λ x. x;
+  reclaims = λ x. x;
   mirrors = λ slots m. m;
   files = λ slots m. record { each = λ f. refl };
   keeps = keeps_none h.cache;
@@ -247,7 +247,7 @@ gives_up_more a b c f at m sound gone =
       fewer = λ x. omega (arith, m.fewer x, moves.counts.each x, tally_none x);
       frees = frees_trans m.frees gone.frees moves.counts;
       lists = gone.lists ∙ m.lists;
-      settles = λ h. gone.settles (m.settles h);
+      reclaims = λ h. gone.reclaims (m.reclaims h);
       mirrors = λ slots h. record { each = λ g. (slot slots h g).mirrors };
       files = λ slots h. record { each = λ g. (slot slots h g).bytes ∙ (m.files slots h).each g };
       keeps = keeps_trans a.cache b.cache c.cache m.keeps (keeps_evicted b c f at sound gone);

@@ -28,9 +28,9 @@ free_is (Head n) e = cc
 free_is (Tail p) e = cc
 
 -- what may be used is not pinned
-usable_loose : (s : Stored) (clean : List BufId) (q : ℕ) → usable s.arena q ≡ true → is_pinned s clean q ≡ false
+usable_reclaimable : (s : Stored) (clean : List BufId) (q : ℕ) → usable s.arena q ≡ true → is_pinned s clean q ≡ false
 unfolding is_pinned
-usable_loose s clean q can = parts (kind_free (entry_at s.arena q).kind) (nat_lt (generation_at s.arena q) s.arena.limit) refl refl can
+usable_reclaimable s clean q can = parts (kind_free (entry_at s.arena q).kind) (nat_lt (generation_at s.arena q) s.arena.limit) refl refl can
   where
     parts : (f l : Bool) → kind_free (entry_at s.arena q).kind ≡ f → nat_lt (generation_at s.arena q) s.arena.limit ≡ l → (f && l) ≡ true → (not (nat_lt (generation_at s.arena q) s.arena.limit) || is_begun s clean (first_on (entry_at s.arena q).kind q)) ≡ false
     parts true true f l can = ap (λ b. not b || is_begun s clean (first_on (entry_at s.arena q).kind q)) l ∙ ap (λ (k : kind.PageKind). is_begun s clean (first_on k q)) (free_is (entry_at s.arena q).kind f)
@@ -39,7 +39,7 @@ usable_loose s clean q can = parts (kind_free (entry_at s.arena q).kind) (nat_lt
 
 pub at_most : (s : Stored) (clean : List BufId) (qs : List ℕ) → length (filter (usable s.arena) qs) + length (filter (is_pinned s clean) qs) ≤ length qs
 at_most s clean [] = omega arith
-at_most s clean (q ∷ qs) = one (usable s.arena q) (is_pinned s clean q) (usable_loose s clean q) (at_most s clean qs)
+at_most s clean (q ∷ qs) = one (usable s.arena q) (is_pinned s clean q) (usable_reclaimable s clean q) (at_most s clean qs)
   where
     one : (u p : Bool) → (u ≡ true → p ≡ false) → length (filter (usable s.arena) qs) + length (filter (is_pinned s clean) qs) ≤ length qs → length (cond u (q ∷ filter (usable s.arena) qs) (filter (usable s.arena) qs)) + length (cond p (q ∷ filter (is_pinned s clean) qs) (filter (is_pinned s clean) qs)) ≤ suc (length qs)
     one true true h ih = absurd (let e : ◌≡◌ {A = Bool} true false = h refl in cc)
@@ -86,7 +86,7 @@ busy_pinned s clean q tidy still beside no_use = parts (kind_free (entry_at s.ar
 -- where clean extents hold no buffer there, what may not be used is pinned
 pub all_of : (s : Stored) (clean : List BufId) (qs : List ℕ) → IsTidy s → IsStill s.arena → ((q : ℕ) → In qs q → IsBeside s clean q) → length (filter (usable s.arena) qs) + length (filter (is_pinned s clean) qs) ≡ length qs
 all_of s clean [] tidy still beside = refl
-all_of s clean (q ∷ qs) tidy still beside = one (usable s.arena q) (is_pinned s clean q) (usable_loose s clean q) (busy_pinned s clean q tidy still (beside q (inl refl))) (all_of s clean qs tidy still (λ x h. beside x (inr h)))
+all_of s clean (q ∷ qs) tidy still beside = one (usable s.arena q) (is_pinned s clean q) (usable_reclaimable s clean q) (busy_pinned s clean q tidy still (beside q (inl refl))) (all_of s clean qs tidy still (λ x h. beside x (inr h)))
   where
     one : (u p : Bool) → (u ≡ true → p ≡ false) → (u ≡ false → p ≡ true) → length (filter (usable s.arena) qs) + length (filter (is_pinned s clean) qs) ≡ length qs → length (cond u (q ∷ filter (usable s.arena) qs) (filter (usable s.arena) qs)) + length (cond p (q ∷ filter (is_pinned s clean) qs) (filter (is_pinned s clean) qs)) ≡ suc (length qs)
     one true true h k ih = absurd (let e : ◌≡◌ {A = Bool} true false = h refl in cc)

@@ -15,7 +15,7 @@ use Rattle.iol_pool.specs.Owners.{AreOwned}
 use Rattle.iol_pool.specs.Pools.{pool_in}
 use Rattle.iol_hold.specs.Moves.{tally, same}
 use Rattle.iol_hold.specs.Room.{pages_of}
-use Rattle.iol_hold.specs.StoreState.{Stored, IsHome}
+use Rattle.iol_hold.specs.StoreState.{Stored, IsInPool}
 use Rattle.iol_hold.specs.Texts.{bufs_of, AllReadable}
 use Rattle.iol_hold.specs.declared.slices.Slice.{Slice}
 use Rattle.iol_hold.proofs.Counts.{tally-append, tally_none, other_page, bufs-append}
@@ -32,7 +32,7 @@ unfolding tally
 tally_cons b c bs h k = omega (arith, h, k)
 
 -- slices of another pool hold no buffer of this one
-not_held : (s : Stored) (p q : ℕ) (b : BufId) (xs : List Slice) → AreOwned s.arena s.pools → IsHome s p b → (q ≡ p → ⊥) → AllReadable s xs → All (λ (x : Slice). x.hold.pool ≡ q) xs → tally b (bufs_of xs) ≡ 0
+not_held : (s : Stored) (p q : ℕ) (b : BufId) (xs : List Slice) → AreOwned s.arena s.pools → IsInPool s p b → (q ≡ p → ⊥) → AllReadable s xs → All (λ (x : Slice). x.hold.pool ≡ q) xs → tally b (bufs_of xs) ≡ 0
 not_held s p q b [] owned home ne readable all = tally_none b
 not_held s p q b (x ∷ xs) owned home ne readable all =
     let rest = not_held s p q b xs owned home ne (readable_later x xs readable) (All-tail (λ (y : Slice). y.hold.pool ≡ q) x xs all) in
@@ -46,7 +46,7 @@ not_held s p q b (x ∷ xs) owned home ne readable all =
 joined : (b : BufId) (xs ys : List Slice) → tally b (bufs_of xs) ≡ 0 → tally b (bufs_of ys) ≡ 0 → tally b (bufs_of (xs ++ ys)) ≡ 0
 joined b xs ys h k = ap (tally b) (bufs-append xs ys) ∙ tally-append b (bufs_of xs) (bufs_of ys) ∙ omega (arith, h, k)
 
-other_file : (s : Stored) (p q : ℕ) (b : BufId) (es : List Extent) → AreOwned s.arena s.pools → IsHome s p b → (q ≡ p → ⊥) → Each (IsLaid s q) es → tally b (bufs_of (clean_in es)) ≡ 0
+other_file : (s : Stored) (p q : ℕ) (b : BufId) (es : List Extent) → AreOwned s.arena s.pools → IsInPool s p b → (q ≡ p → ⊥) → Each (IsLaid s q) es → tally b (bufs_of (clean_in es)) ≡ 0
 other_file s p q b [] owned home ne laid = tally_none b
 other_file s p q b (x ∷ xs) owned home ne laid = joined b (clean_parts x) (clean_in xs) (pick x.dirty) (other_file s p q b xs owned home ne laid.1)
   where
@@ -74,7 +74,7 @@ unfolding file_in
 file_next fs i = let nz : i + 1 ≡ 0 → ⊥ = λ e. absurd (omega (arith, e)) in let back : i + 1 - 1 ≡ i = omega arith in grind (arith, nat_tests, nz, back)
 
 -- the order of the pool is empty
-pub none_held : (s : Stored) (c : Cached) (p : ℕ) (b : BufId) → IsSound s c → (order_in c.orders p).entries ≡ [] → IsHome s p b → tally b (clean_held c.files) ≡ 0
+pub none_held : (s : Stored) (c : Cached) (p : ℕ) (b : BufId) → IsSound s c → (order_in c.orders p).entries ≡ [] → IsInPool s p b → tally b (clean_held c.files) ≡ 0
 unfolding clean_held
 none_held s c p b sound none home =
     let w : CachedFile → ℕ = λ x. tally b (bufs_of (clean_in x.extents.extents)) in

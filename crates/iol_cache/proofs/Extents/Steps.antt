@@ -4,7 +4,7 @@ use Rattle.iol_arena.specs.State.{page_count}
 use Rattle.iol_back.specs.Disk.{Disk, content}
 use Rattle.iol_core.specs.declared.numbers.BufId.{BufId}
 use Rattle.iol_hold.specs.Moves.{tally, Moves, Covers, SameLists}
-use Rattle.iol_hold.specs.StoreState.{Stored, AllSettled}
+use Rattle.iol_hold.specs.StoreState.{Stored, AllReclaimed}
 use Rattle.iol_hold.proofs.Counts.{tally-append}
 use Rattle.iol_hold.proofs.Moves.{stays_trans, moves_none}
 use Rattle.iol_cache.specs.CacheState.{Cached, file_in, extents_in, order_in, held}
@@ -29,7 +29,7 @@ goes_trans d xs ys zs a b c m n = record {
     tidy = λ h. n.moves.tidy (m.moves.tidy h);
   };
   lists = n.lists ∙ m.lists;
-  settles = λ h. n.settles (m.settles h);
+  reclaims = λ h. n.reclaims (m.reclaims h);
   pages = n.pages ∙ m.pages;
   count = n.count ∙ m.count;
   pools = λ f. n.pools f ∙ m.pools f;
@@ -47,7 +47,7 @@ goes_less d own a b m = record {
     tidy = m.moves.tidy;
   };
   lists = m.lists;
-  settles = m.settles;
+  reclaims = m.reclaims;
   pages = m.frees.count;
   count = m.keeps.count;
   pools = m.keeps.pools;
@@ -65,7 +65,7 @@ goes_cache d own s c e count pools extents same = record {
     tidy = λ h. h;
   };
   lists = refl;
-  settles = λ h. h;
+  reclaims = λ h. h;
   pages = refl;
   count = count;
   pools = pools;
@@ -74,8 +74,8 @@ goes_cache d own s c e count pools extents same = record {
 }
 
 -- only the store went on: of what others hold, some went and some came
-pub goes_moved : (d : Disk) (own more gone come : List BufId) (s t : Stored) (c : Cached) → ((x : BufId) → tally x own + tally x come ≡ tally x gone + tally x more) → IsSound s c → Moves s t gone come → Covers t (held c.files) → SameLists s t → (AllSettled s → AllSettled t) → page_count t.arena ≡ page_count s.arena → Goes d own more (record { store = s; cache = c }) (record { store = t; cache = c })
-goes_moved d own more gone come s t c split sound m covers lists settles pages = record {
+pub goes_moved : (d : Disk) (own more gone come : List BufId) (s t : Stored) (c : Cached) → ((x : BufId) → tally x own + tally x come ≡ tally x gone + tally x more) → IsSound s c → Moves s t gone come → Covers t (held c.files) → SameLists s t → (AllReclaimed s → AllReclaimed t) → page_count t.arena ≡ page_count s.arena → Goes d own more (record { store = s; cache = c }) (record { store = t; cache = c })
+goes_moved d own more gone come s t c split sound m covers lists reclaims pages = record {
   moves = record {
     counts = record { each = λ x. omega (arith, m.counts.each x, split x, tally-append x (held c.files) own, tally-append x (held c.files) more) };
     stays = m.stays;
@@ -83,7 +83,7 @@ goes_moved d own more gone come s t c split sound m covers lists settles pages =
     tidy = m.tidy;
   };
   lists = lists;
-  settles = settles;
+  reclaims = reclaims;
   pages = pages;
   count = refl;
   pools = λ f. refl;
@@ -91,7 +91,7 @@ goes_moved d own more gone come s t c split sound m covers lists settles pages =
   files = λ honest h. files_stay d.slots c.files sound.files m.stays covers;
 }
 
-pub goes_store : (d : Disk) (xs ys : List BufId) (s t : Stored) (c : Cached) → IsSound s c → Moves s t xs ys → Covers t (held c.files) → SameLists s t → (AllSettled s → AllSettled t) → page_count t.arena ≡ page_count s.arena → Goes d xs ys (record { store = s; cache = c }) (record { store = t; cache = c })
+pub goes_store : (d : Disk) (xs ys : List BufId) (s t : Stored) (c : Cached) → IsSound s c → Moves s t xs ys → Covers t (held c.files) → SameLists s t → (AllReclaimed s → AllReclaimed t) → page_count t.arena ≡ page_count s.arena → Goes d xs ys (record { store = s; cache = c }) (record { store = t; cache = c })
 goes_store d xs ys s t c = goes_moved d xs ys xs ys s t c (λ x. refl)
 
 pub goes_covers : (d : Disk) (xs ys : List BufId) (a b : Holding) → Goes d xs ys a b → Covers a.store (held a.cache.files ++ xs) → Covers b.store (held b.cache.files ++ ys)

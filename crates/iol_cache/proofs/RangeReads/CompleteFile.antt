@@ -14,7 +14,7 @@ use Rattle.iol_back.specs.Disk.{Disk, content}
 use Rattle.iol_pool.specs.Pools.{pool_in}
 use Rattle.iol_hold.specs.Moves.{tally, pool_meant, Covers, Stays, SameLists}
 use Rattle.iol_hold.specs.Places.{Place}
-use Rattle.iol_hold.specs.StoreState.{Stored, AllSettled}
+use Rattle.iol_hold.specs.StoreState.{Stored, AllReclaimed}
 use Rattle.iol_hold.specs.Texts.{bufs_of}
 use Rattle.iol_hold.specs.declared.slices.Slice.{Slice}
 use Rattle.iol_hold.proofs.Counts.{tally_none, tally-append}
@@ -205,8 +205,8 @@ module _ (old new : Holding) (f from to : ℕ) (beside : List Place) (gs : List 
           let last = file_stays pool stored (all_put es made) stays_new (subst (λ l. Covers new.store (bufs_of (all_parts l))) extents_are (covers_of f)) laid_put put in
           subst (StaysFile old.store new.store stored es) (sym extents_are) (record { mirrors = last.mirrors; bytes = last.bytes ∙ bytes ∙ first.bytes })
 
-  pub goes_filled : (own : List BufId) → SameLists old.store new.store → (AllSettled old.store → AllSettled new.store) → Goes disk own (own ++ bufs_of xs) old new
-  goes_filled own lists settles = record {
+  pub goes_filled : (own : List BufId) → SameLists old.store new.store → (AllReclaimed old.store → AllReclaimed new.store) → Goes disk own (own ++ bufs_of xs) old new
+  goes_filled own lists reclaims = record {
     moves = record {
       counts = record { each = λ b. omega (arith, held_is b, filled.range.fills.moves.counts.each b, filled.range.shares.counts.each b, tally_none b, tally-append b (held old.cache.files) own, tally-append b (held new.cache.files) (own ++ bufs_of xs), tally-append b own (bufs_of xs)) };
       stays = stays_trans stays_mid stays_new;
@@ -214,7 +214,7 @@ module _ (old new : Holding) (f from to : ℕ) (beside : List Place) (gs : List 
       tidy = λ h. filled.range.shares.tidy (filled.range.fills.moves.tidy h);
     };
     lists = lists;
-    settles = settles;
+    reclaims = reclaims;
     pages = pages_are;
     count = changed.count_same old before f [] sound there changes none_own;
     pools = changed.pool_same old before f [] sound there changes none_own;

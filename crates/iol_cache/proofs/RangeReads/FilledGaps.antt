@@ -24,7 +24,7 @@ use Rattle.iol_hold.specs.Moves.{Covers, Moves, SameLists, Stays, tally}
 use Rattle.iol_hold.specs.Pages.{KeepsPages}
 use Rattle.iol_hold.specs.Releases.{FreesOnly}
 use Rattle.iol_hold.specs.Room.{free_of}
-use Rattle.iol_hold.specs.StoreState.{AllSettled, Stored}
+use Rattle.iol_hold.specs.StoreState.{AllReclaimed, Stored}
 use Rattle.iol_hold.specs.Texts.{AllReadable, bufs_of}
 use Rattle.iol_hold.specs.declared.slices.Slice.{Slice}
 use Rattle.iol_hold.proofs.Counts.{bufs-append, tally-append, tally_none}
@@ -300,7 +300,7 @@ leaves_as {p = p} {n = n} {s = s} {t = t} pool pages h = record {
   none = h.none;
   given_back = subst (λ k. PlacesSome s t k n) pool (subst (PlacesSome s t p) pages h.given_back);
   lists = h.lists;
-  settles = h.settles;
+  reclaims = h.reclaims;
   no_room = λ r is. omega (arith, h.no_room r is, pages, ap (λ k. length (free_of s k)) pool);
 }
 
@@ -338,15 +338,15 @@ same_map m n e r = λ i. record { extents = e i; room = r i }
 
 -- Gaps that were filled were taken back, after a step that left nothing.
 pub taken_back : {A : Type 0} {s t u v : Stored} {old mid new : ExtentMap} {p file : ℕ} {gs : List Span} {d e : Disk} (all : List Span) (x : Refusal) (f : FillsGaps s t old mid p gs d file) → CanTakeBack t old.extents mid.extents gs (bufs_of (all_parts f.made)) → Moves t u [] []
-    → SameLists s u → (AllSettled s → AllSettled u) → TakesBack u v mid new gs → PlacesSome s v p (gap_pages all) → ((q : ℕ) → x ≡ NoRoom q → length (free_of s p) < gap_pages all) → Asks {A = A} (length all) d e (Err x) → WantOfRoomOrFault p file x
+    → SameLists s u → (AllReclaimed s → AllReclaimed u) → TakesBack u v mid new gs → PlacesSome s v p (gap_pages all) → ((q : ℕ) → x ≡ NoRoom q → length (free_of s p) < gap_pages all) → Asks {A = A} (length all) d e (Err x) → WantOfRoomOrFault p file x
     → ReadsAllGaps {A = A} p file all (new ≡ old) d e s v (Err x)
-taken_back {old = old} {mid = mid} {new = new} {gs = gs} all x f can none lists settles taken left no_room asks late = record {
+taken_back {old = old} {mid = mid} {new = new} {gs = gs} all x f can none lists reclaims taken left no_room asks late = record {
   same = same_map new old (taken.extents ∙ can.without) (omega (arith, taken.room, f.room));
   leaves = record {
     none = moved_back f.moves none taken.moves can.same;
     given_back = left;
     lists = taken.lists ∙ lists;
-    settles = λ h. taken.settles (readable_stays (parts_back mid.extents gs) none.stays (covers_back f.moves none can.same) can.readable) (settles h);
+    reclaims = λ h. taken.reclaims (readable_stays (parts_back mid.extents gs) none.stays (covers_back f.moves none can.same) can.readable) (reclaims h);
     no_room = no_room;
   };
   asks = asks;

@@ -28,7 +28,7 @@ use Rattle.iol_cache.specs.ReadSteps.{Goes}
 use Rattle.iol_cache.specs.PinnedPages.{pinned_beside}
 use Rattle.iol_cache.specs.Ranges.{CompletesRange, FillsAfter, PinsRange}
 use Rattle.iol_cache.specs.RangeReads.{CanFill, MayFill}
-use Rattle.iol_cache.specs.ReadResults.{FillsPinned, NoRoomToRead, Range, ReadsFile, RefusesRead, RoomToRead, TellsRoom}
+use Rattle.iol_cache.specs.ReadResults.{FillsPinned, NoRoomToRead, Range, ReadsFile, RefusesRead, RoomToRead, ReportsRoom}
 use Rattle.iol_cache.specs.SharedBytes.{CountsBelow, places_over}
 use Rattle.iol_cache.specs.Sound.{IsSound}
 use Rattle.iol_cache.specs.Weave.{IsCoveredBeside, len_beside, places_beside, places_read, slices_read, woven}
@@ -36,8 +36,8 @@ use Rattle.iol_cache.proofs.Extents.FileEntries.{numbered_bounds, numbered_yes}
 use Rattle.iol_cache.proofs.Evictions.FreePages.{at_most}
 use Rattle.iol_cache.proofs.RangeReads.LackOfPages.{has_hit, lacks_hit}
 use Rattle.iol_cache.proofs.RangeReads.WholeRange.{laid_readable, tally_len}
-use Rattle.iol_cache.proofs.RangeReads.RangeHolds.{asks_ok, extents_filled, ok_both, some_lacked, tells_more, told_late}
-use Rattle.iol_cache.proofs.RangeReads.SharedBytes.{over_there, readable_of, readable_same, settles_shares}
+use Rattle.iol_cache.proofs.RangeReads.RangeHolds.{asks_ok, extents_filled, ok_both, some_lacked, reports_more, reported_late}
+use Rattle.iol_cache.proofs.RangeReads.SharedBytes.{over_there, readable_of, readable_same, reclaims_shares}
 use Rattle.iol_cache.proofs.Extents.Steps.{goes_cache, goes_store, goes_trans, numbered_same}
 use Rattle.iol_cache.proofs.RangeReads.CoveredBytes.{tile_beside}
 use Rattle.iol_cache.proofs.RangeReads.SliceCounts.{meeting_few, read_long, same_count, woven_few}
@@ -126,7 +126,7 @@ module _ {f at n : ℕ} {d : Disk} {a b : Holding} {pins : List Slice} {gs : Lis
   goes_hit =
       let m = h.pinned.shares in
       let mid : Holding = record { store = b.store; cache = a.cache } in
-      let shared = goes_store d [] (bufs_of pins) a.store b.store a.cache h.sound (shares_move m) (still_covers h.sound.covered m) (ap (map pool_meant) m.pools) (settles_shares m) (ap page_count m.arena) in
+      let shared = goes_store d [] (bufs_of pins) a.store b.store a.cache h.sound (shares_move m) (still_covers h.sound.covered m) (ap (map pool_meant) m.pools) (reclaims_shares m) (ap page_count m.arena) in
       goes_trans d [] (bufs_of pins) (bufs_of pins) a mid b shared (goes_cache d (bufs_of pins) b.store a.cache b.cache (ap length h.pinned.counted.files ∙ h.pinned.rooms.files) pool_same extents_same held_same)
 
   -- where the bytes of the range lie in the end
@@ -147,10 +147,10 @@ module _ {f at n : ℕ} {d : Disk} {a b : Holding} {pins : List Slice} {gs : Lis
       omega (arith, same_count xs _ filled.parts, woven_few pins new 0 from to gs, meeting_few 0 (0 + len_beside from to gs) pins, same_count pins _ h.pinned.parts, read_long es new from to gs)
 
   -- The room that there is while these are held.
-  pub room_hit : (r : Result (List Slice) Refusal) → TellsRoom (wanted ≤ pages) (pages < wanted) r → TellsRoom (RoomToRead f at n d a) (NoRoomToRead f at n d a) r
-  room_hit r told =
-      tells_more _ _ (RoomToRead f at n d a) (NoRoomToRead f at n d a) r
-      (λ k. record { range = h.range; room = has_hit f from to a b pins gs h.pinned k }) (λ k. record { range = h.range; lacks = lacks_hit f from to a b pins gs h.pinned k }) told
+  pub room_hit : (r : Result (List Slice) Refusal) → ReportsRoom (wanted ≤ pages) (pages < wanted) r → ReportsRoom (RoomToRead f at n d a) (NoRoomToRead f at n d a) r
+  room_hit r reported =
+      reports_more _ _ (RoomToRead f at n d a) (NoRoomToRead f at n d a) r
+      (λ k. record { range = h.range; room = has_hit f from to a b pins gs h.pinned k }) (λ k. record { range = h.range; lacks = lacks_hit f from to a b pins gs h.pinned k }) reported
 
   -- Without gaps.
 
@@ -174,7 +174,7 @@ module _ {f at n : ℕ} {d : Disk} {a b : Holding} {pins : List Slice} {gs : Lis
         }) (ok_both fills answers r filled.filled (asks_ok (length gs) d e r filled.asks.counts))
 
     pub refused_filled : IfErr r (RefusesRead f at n d a c)
-    refused_filled = told_late (length gs) d e (wanted ≤ pages) (pages < wanted) r (RefusesRead f at n d a c) filled.asks.counts filled.room (λ y faults roomy u. record {
+    refused_filled = reported_late (length gs) d e (wanted ≤ pages) (pages < wanted) r (RefusesRead f at n d a c) filled.asks.counts filled.room (λ y faults roomy u. record {
       range = h.range;
       leaves = inr (record {
         pins = pins;

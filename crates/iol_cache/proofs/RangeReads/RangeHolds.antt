@@ -18,7 +18,7 @@ use Rattle.iol_hold.specs.Moves.{tally, Moves, Covers, SameLists}
 use Rattle.iol_hold.specs.Places.{Place, places}
 use Rattle.iol_hold.specs.Releases.{FreesOnly}
 use Rattle.iol_hold.specs.Room.{free_of, pages_of}
-use Rattle.iol_hold.specs.StoreState.{Stored, AllSettled}
+use Rattle.iol_hold.specs.StoreState.{Stored, AllReclaimed}
 use Rattle.iol_hold.specs.Texts.{AllReadable, IsThere, bufs_of}
 use Rattle.iol_hold.specs.declared.slices.Slice.{Slice}
 use Rattle.iol_hold.proofs.Counts.{tally-append, tally_none}
@@ -33,7 +33,7 @@ use Rattle.iol_cache.specs.Loads.{AskCounts, Asks, PlacesSome}
 use Rattle.iol_cache.specs.PinnedPages.{pinned_beside}
 use Rattle.iol_cache.specs.Ranges.{IsCleanSpan}
 use Rattle.iol_cache.specs.RangeReads.{MayFill, SameButRoom}
-use Rattle.iol_cache.specs.ReadResults.{FaultCounts, FillsPinned, TellsFault, TellsRoom}
+use Rattle.iol_cache.specs.ReadResults.{FaultCounts, FillsPinned, ReportsFault, ReportsRoom}
 use Rattle.iol_cache.specs.SharedBytes.{IsCoveredSpan, places_over}
 use Rattle.iol_cache.specs.Sound.{IsSound}
 use Rattle.iol_cache.specs.Weave.{woven}
@@ -55,9 +55,9 @@ either_way P Q F (Ok x) f e g h = g x f
 either_way P Q F (Err y) f e g h = h e
 
 -- the same, where what an error leaves depends on it
-pub either_told : {A E P : Type 0} (F : A → Type 0) (Q : E → Type 0) (r : Result A E) → IfOk r F → IfErr r Q → ((x : A) → F x → P) → ((y : E) → Q y → P) → P
-either_told F Q (Ok x) f e g h = g x f
-either_told F Q (Err y) f e g h = h y e
+pub either_reported : {A E P : Type 0} (F : A → Type 0) (Q : E → Type 0) (r : Result A E) → IfOk r F → IfErr r Q → ((x : A) → F x → P) → ((y : E) → Q y → P) → P
+either_reported F Q (Ok x) f e g h = g x f
+either_reported F Q (Err y) f e g h = h y e
 
 -- what an error leaves that is want of memory
 pub on_memory : {A : Type 0} (r : Result A Refusal) (P : Refusal → Type 0) → IsErrAnd r (λ y. y ≡ refusal.Memory) → P refusal.Memory → IfErr r P
@@ -97,13 +97,13 @@ faults_counted n old new (Err (refusal.Fault f)) h = h.0
 faults_counted n old new (Err refusal.Memory) h = h
 
 -- what an error leaves, that a fault comes of a range that was asked for, and want of room where room is lacking
-pub told_late : {A : Type 0} {U : Refusal → Type 0} (n : ℕ) (old new : Disk) (has lacks : Type 0) (r : Result A Refusal) (P : Refusal → Type 0) → AskCounts n old new r → TellsRoom has lacks r
+pub reported_late : {A : Type 0} {U : Refusal → Type 0} (n : ℕ) (old new : Disk) (has lacks : Type 0) (r : Result A Refusal) (P : Refusal → Type 0) → AskCounts n old new r → ReportsRoom has lacks r
     → ((y : Refusal) → ((g : ℕ) → y ≡ refusal.Fault g → 0 < n) → ((p : ℕ) → y ≡ refusal.NoRoom p → lacks) → U y → P y) → IfErr r U → IfErr r P
-told_late n old new has lacks (Ok x) P counts room f u = tt
-told_late {A = A} n old new has lacks (Err y) P counts room f u = f y (λ g is. (subst (λ z. AskCounts {A = A} n old new (Err z)) is counts).1) (λ p is. subst (λ z. TellsRoom {A = A} has lacks (Err z)) is room) u
+reported_late n old new has lacks (Ok x) P counts room f u = tt
+reported_late {A = A} n old new has lacks (Err y) P counts room f u = f y (λ g is. (subst (λ z. AskCounts {A = A} n old new (Err z)) is counts).1) (λ p is. subst (λ z. ReportsRoom {A = A} has lacks (Err z)) is room) u
 
-pub tells_fault : {A : Type 0} (n : ℕ) (old new : Disk) (r : Result A Refusal) → Asks n old new r → TellsFault old new r
-tells_fault n old new r h = record { honest = h.honest; slots = h.slots; counts = faults_counted n old new r h.counts }
+pub reports_fault : {A : Type 0} (n : ℕ) (old new : Disk) (r : Result A Refusal) → Asks n old new r → ReportsFault old new r
+reports_fault n old new r h = record { honest = h.honest; slots = h.slots; counts = faults_counted n old new r h.counts }
 
 -- Room.
 
@@ -112,45 +112,45 @@ pub some_lacked : (s : Stored) (clean : List BufId) (p : ℕ) (gaps : List Span)
 some_lacked s clean p [] lacks = absurd (omega (arith, lacks, at_most s clean (pages_of s p)))
 some_lacked s clean p (g ∷ gs) lacks = omega arith
 
-pub tells_has : {A : Type 0} (has lacks : Type 0) (r : Result A Refusal) → has → ((p : ℕ) → r ≡ Err (refusal.NoRoom p) → ⊥) → TellsRoom has lacks r
-tells_has has lacks (Ok x) h none = h
-tells_has has lacks (Err refusal.NoDomain) h none = tt
-tells_has has lacks (Err refusal.BadFd) h none = tt
-tells_has has lacks (Err refusal.BadAgg) h none = tt
-tells_has has lacks (Err refusal.NoPool) h none = tt
-tells_has has lacks (Err refusal.NoFile) h none = tt
-tells_has has lacks (Err refusal.WrongMode) h none = tt
-tells_has has lacks (Err refusal.BadRange) h none = tt
-tells_has has lacks (Err refusal.TooLong) h none = tt
-tells_has has lacks (Err refusal.TooMany) h none = tt
-tells_has has lacks (Err (refusal.Denied p)) h none = tt
-tells_has has lacks (Err (refusal.PoolClosed p)) h none = tt
-tells_has has lacks (Err (refusal.PoolBusy p)) h none = tt
-tells_has has lacks (Err refusal.BrokenPipe) h none = tt
-tells_has has lacks (Err refusal.WouldBlock) h none = tt
-tells_has has lacks (Err (refusal.NoRoom p)) h none = absurd (none p refl)
-tells_has has lacks (Err (refusal.Fault f)) h none = h
-tells_has has lacks (Err refusal.Memory) h none = tt
+pub reports_has : {A : Type 0} (has lacks : Type 0) (r : Result A Refusal) → has → ((p : ℕ) → r ≡ Err (refusal.NoRoom p) → ⊥) → ReportsRoom has lacks r
+reports_has has lacks (Ok x) h none = h
+reports_has has lacks (Err refusal.NoDomain) h none = tt
+reports_has has lacks (Err refusal.BadFd) h none = tt
+reports_has has lacks (Err refusal.BadAgg) h none = tt
+reports_has has lacks (Err refusal.NoPool) h none = tt
+reports_has has lacks (Err refusal.NoFile) h none = tt
+reports_has has lacks (Err refusal.WrongMode) h none = tt
+reports_has has lacks (Err refusal.BadRange) h none = tt
+reports_has has lacks (Err refusal.TooLong) h none = tt
+reports_has has lacks (Err refusal.TooMany) h none = tt
+reports_has has lacks (Err (refusal.Denied p)) h none = tt
+reports_has has lacks (Err (refusal.PoolClosed p)) h none = tt
+reports_has has lacks (Err (refusal.PoolBusy p)) h none = tt
+reports_has has lacks (Err refusal.BrokenPipe) h none = tt
+reports_has has lacks (Err refusal.WouldBlock) h none = tt
+reports_has has lacks (Err (refusal.NoRoom p)) h none = absurd (none p refl)
+reports_has has lacks (Err (refusal.Fault f)) h none = h
+reports_has has lacks (Err refusal.Memory) h none = tt
 
-pub tells_more : {A : Type 0} (has lacks more less : Type 0) (r : Result A Refusal) → (has → more) → (lacks → less) → TellsRoom has lacks r → TellsRoom more less r
-tells_more has lacks more less (Ok x) g k h = g h
-tells_more has lacks more less (Err refusal.NoDomain) g k h = tt
-tells_more has lacks more less (Err refusal.BadFd) g k h = tt
-tells_more has lacks more less (Err refusal.BadAgg) g k h = tt
-tells_more has lacks more less (Err refusal.NoPool) g k h = tt
-tells_more has lacks more less (Err refusal.NoFile) g k h = tt
-tells_more has lacks more less (Err refusal.WrongMode) g k h = tt
-tells_more has lacks more less (Err refusal.BadRange) g k h = tt
-tells_more has lacks more less (Err refusal.TooLong) g k h = tt
-tells_more has lacks more less (Err refusal.TooMany) g k h = tt
-tells_more has lacks more less (Err (refusal.Denied p)) g k h = tt
-tells_more has lacks more less (Err (refusal.PoolClosed p)) g k h = tt
-tells_more has lacks more less (Err (refusal.PoolBusy p)) g k h = tt
-tells_more has lacks more less (Err refusal.BrokenPipe) g k h = tt
-tells_more has lacks more less (Err refusal.WouldBlock) g k h = tt
-tells_more has lacks more less (Err (refusal.NoRoom p)) g k h = k h
-tells_more has lacks more less (Err (refusal.Fault f)) g k h = g h
-tells_more has lacks more less (Err refusal.Memory) g k h = tt
+pub reports_more : {A : Type 0} (has lacks more less : Type 0) (r : Result A Refusal) → (has → more) → (lacks → less) → ReportsRoom has lacks r → ReportsRoom more less r
+reports_more has lacks more less (Ok x) g k h = g h
+reports_more has lacks more less (Err refusal.NoDomain) g k h = tt
+reports_more has lacks more less (Err refusal.BadFd) g k h = tt
+reports_more has lacks more less (Err refusal.BadAgg) g k h = tt
+reports_more has lacks more less (Err refusal.NoPool) g k h = tt
+reports_more has lacks more less (Err refusal.NoFile) g k h = tt
+reports_more has lacks more less (Err refusal.WrongMode) g k h = tt
+reports_more has lacks more less (Err refusal.BadRange) g k h = tt
+reports_more has lacks more less (Err refusal.TooLong) g k h = tt
+reports_more has lacks more less (Err refusal.TooMany) g k h = tt
+reports_more has lacks more less (Err (refusal.Denied p)) g k h = tt
+reports_more has lacks more less (Err (refusal.PoolClosed p)) g k h = tt
+reports_more has lacks more less (Err (refusal.PoolBusy p)) g k h = tt
+reports_more has lacks more less (Err refusal.BrokenPipe) g k h = tt
+reports_more has lacks more less (Err refusal.WouldBlock) g k h = tt
+reports_more has lacks more less (Err (refusal.NoRoom p)) g k h = k h
+reports_more has lacks more less (Err (refusal.Fault f)) g k h = g h
+reports_more has lacks more less (Err refusal.Memory) g k h = tt
 
 -- Nothing changes.
 
@@ -203,17 +203,17 @@ extents_filled f from to b c beside gs d xs there filled =
     ap (λ (l : List CachedFile). extents_in l f) filled.files ∙ ap (λ (y : CachedFile). y.extents.extents) (file_same b.cache.files f x n.0 n.1)
 
 -- Some holds are released, and others stay.
-pub goes_released : (d : Disk) (own gone more : List BufId) (s t : Stored) (c : Cached) → ((x : BufId) → tally x own ≡ tally x gone + tally x more) → IsSound s c → Covers s (held c.files ++ own) → Moves s t gone [] → SameLists s t → (AllSettled s → AllSettled t) → page_count t.arena ≡ page_count s.arena → Goes d own more (record { store = s; cache = c }) (record { store = t; cache = c })
-goes_released d own gone more s t c split sound covers m lists settles pages =
+pub goes_released : (d : Disk) (own gone more : List BufId) (s t : Stored) (c : Cached) → ((x : BufId) → tally x own ≡ tally x gone + tally x more) → IsSound s c → Covers s (held c.files ++ own) → Moves s t gone [] → SameLists s t → (AllReclaimed s → AllReclaimed t) → page_count t.arena ≡ page_count s.arena → Goes d own more (record { store = s; cache = c }) (record { store = t; cache = c })
+goes_released d own gone more s t c split sound covers m lists reclaims pages =
     let left : Covers t (held c.files) = record { each = λ x. omega (arith, covers.each x, m.counts.each x, tally_none x, tally-append x (held c.files) own, split x) } in
-    goes_moved d own more gone [] s t c (λ x. omega (arith, split x, tally_none x)) sound m left lists settles pages
+    goes_moved d own more gone [] s t c (λ x. omega (arith, split x, tally_none x)) sound m left lists reclaims pages
 
 -- only room changed
-pub goes_reserved : (d : Disk) (a b : Holding) → IsSound a.store a.cache → SameButRoom a.cache b.cache → Moves a.store b.store [] [] → SameLists a.store b.store → (AllSettled a.store → AllSettled b.store) → page_count b.store.arena ≡ page_count a.store.arena → Goes d [] [] a b
-goes_reserved d a b sound same moves lists settles pages =
+pub goes_reserved : (d : Disk) (a b : Holding) → IsSound a.store a.cache → SameButRoom a.cache b.cache → Moves a.store b.store [] [] → SameLists a.store b.store → (AllReclaimed a.store → AllReclaimed b.store) → page_count b.store.arena ≡ page_count a.store.arena → Goes d [] [] a b
+goes_reserved d a b sound same moves lists reclaims pages =
     let mid : Holding = record { store = b.store; cache = a.cache } in
     let covers : Covers a.store (held a.cache.files ++ []) = record { each = λ x. omega (arith, sound.covered.each x, tally-append x (held a.cache.files) [], tally_none x) } in
-    goes_trans d [] [] [] a mid b (goes_released d [] [] [] a.store b.store a.cache (λ x. omega (arith, tally_none x)) sound covers moves lists settles pages) (goes_cache d [] b.store a.cache b.cache same.files same.pools same.extents same.held)
+    goes_trans d [] [] [] a mid b (goes_released d [] [] [] a.store b.store a.cache (λ x. omega (arith, tally_none x)) sound covers moves lists reclaims pages) (goes_cache d [] b.store a.cache b.cache same.files same.pools same.extents same.held)
 
 -- The holds of what was shared are held still, beside others that came.
 pub record Went (d : Disk) (a c : Holding) (pins more : List BufId) : Type 0 where
@@ -267,14 +267,14 @@ module _ (d : Disk) {f from to : ℕ} {a b : Holding} {pins : List Slice} {gs : 
     own = bufs_of pins ++ bufs_of xs;
     split = λ x. tally-append x (bufs_of pins) (bufs_of xs);
     goes = goes_trans d (bufs_of pins) (bufs_of pins) (bufs_of pins ++ bufs_of xs) a b c (goes_less d (bufs_of pins) a b less)
-        (goes_filled b c f from to (places pins) gs d xs sound there_b may.range.in_order gaps_b h.filled (bufs_of pins) h.reads.leaves.lists h.reads.leaves.settles);
+        (goes_filled b c f from to (places pins) gs d xs sound there_b may.range.in_order gaps_b h.filled (bufs_of pins) h.reads.leaves.lists h.reads.leaves.reclaims);
   }
   went {c = c} (Err y) h =
       let own = bufs_of pins in
       let left = h.reads.leaves in
       let same = h.reads.same in
       let mid : Holding = record { store = c.store; cache = b.cache } in
-      let first = goes_released d own [] own b.store c.store b.cache (λ x. omega (arith, tally_none x)) sound covers_b left.none left.lists left.settles left.given_back.pages.count in
+      let first = goes_released d own [] own b.store c.store b.cache (λ x. omega (arith, tally_none x)) sound covers_b left.none left.lists left.reclaims left.given_back.pages.count in
       let last = goes_cache d own c.store b.cache c.cache same.files same.pools same.extents same.held in
       record { own = own; split = λ x. omega (arith, tally_none x); goes = goes_trans d own own own a b c (goes_less d own a b less) (goes_trans d own own own b mid c first last) }
 
@@ -306,10 +306,10 @@ module _ (d : Disk) {f from to : ℕ} {a c : Holding} {pins : List Slice} {gs : 
   readable_c = readable_stays pins went.goes.moves.stays pins_held may.readable
 
   module _ {t : Stored} (sound : IsSound c.store c.cache) (m : Moves c.store t (bufs_of pins) []) where
-    pub goes_out : SameLists c.store t → (AllReadable c.store pins → AllSettled c.store → AllSettled t) → page_count t.arena ≡ page_count c.store.arena → Goes d (bufs_of pins) more a (record { store = t; cache = c.cache })
-    goes_out lists settles pages =
+    pub goes_out : SameLists c.store t → (AllReadable c.store pins → AllReclaimed c.store → AllReclaimed t) → page_count t.arena ≡ page_count c.store.arena → Goes d (bufs_of pins) more a (record { store = t; cache = c.cache })
+    goes_out lists reclaims pages =
         goes_trans d (bufs_of pins) went.own more a c (record { store = t; cache = c.cache }) went.goes
-        (goes_released d went.own (bufs_of pins) more c.store t c.cache went.split sound covers_c m lists (settles readable_c) pages)
+        (goes_released d went.own (bufs_of pins) more c.store t c.cache went.split sound covers_c m lists (reclaims readable_c) pages)
 
     pub sound_out : SameLists c.store t → page_count t.arena ≡ page_count c.store.arena → IsSound t c.cache
     sound_out lists pages =
@@ -326,8 +326,8 @@ err_is x y e = cc
 
 -- The whole, where there was room.
 pub pinned_filled : {d e : Disk} {f from to : ℕ} {a b c : Holding} {t : Stored} {pins : List Slice} {gs : List Span} {ok : Bool} (r : Result (List Slice) Refusal) → MayFill f from to gs pins a → MakesFree (file_in a.cache.files f).pool (gap_pages gs) a b ok → IsTrue ok → IsSound b.store b.cache → FillsAllOf f from to gs pins d e b c r
-    → Moves c.store t (bufs_of pins) [] → FreesOnly c.store t → SameLists c.store t → (AllReadable c.store pins → AllSettled c.store → AllSettled t) → FillsPinned f from to pins gs d e a (record { store = t; cache = c.cache }) r
-pinned_filled {d = d} {b = b} {c = c} (Ok xs) may made has sound h m frees lists settles =
+    → Moves c.store t (bufs_of pins) [] → FreesOnly c.store t → SameLists c.store t → (AllReadable c.store pins → AllReclaimed c.store → AllReclaimed t) → FillsPinned f from to pins gs d e a (record { store = t; cache = c.cache }) r
+pinned_filled {d = d} {b = b} {c = c} (Ok xs) may made has sound h m frees lists reclaims =
     let less = made.gives_up in
     let gone = went d may less sound (Ok xs) h in
     let here = readable_filled d may less sound h.filled h.sound (readable_c d may gone) in
@@ -335,14 +335,14 @@ pinned_filled {d = d} {b = b} {c = c} (Ok xs) may made has sound h m frees lists
       filled = record { mid = b; victims = made.victims; less = less; full = c; fills = h.filled; parts = h.parts; stand = stand_filled d may less sound h.filled; cache = refl; released = m; frees = frees };
       undone = tt;
       readable = readable_out d may gone h.sound m xs refl here;
-      goes = goes_out d may gone h.sound m lists settles frees.count;
+      goes = goes_out d may gone h.sound m lists reclaims frees.count;
       gone = tt;
       sound = sound_out d may gone h.sound m lists frees.count;
       room = made.room.0 has;
       asks = h.reads.asks;
       late = tt;
     }
-pinned_filled {d = d} {f = f} {b = b} {c = c} {gs = gs} (Err y) may made has sound h m frees lists settles =
+pinned_filled {d = d} {f = f} {b = b} {c = c} {gs = gs} (Err y) may made has sound h m frees lists reclaims =
     let less = made.gives_up in
     let pool = less.keeps.pools f in
     let gone = went d may less sound (Err y) h in
@@ -367,9 +367,9 @@ pinned_filled {d = d} {f = f} {b = b} {c = c} {gs = gs} (Err y) may made has sou
       };
       readable = tt;
       goes = tt;
-      gone = goes_out d may gone h.sound m lists settles frees.count;
+      gone = goes_out d may gone h.sound m lists reclaims frees.count;
       sound = sound_out d may gone h.sound m lists frees.count;
-      room = tells_has {A = List Slice} _ _ (Err y) (made.room.0 has) (λ p is. roomy p (err_is y (refusal.NoRoom p) is));
+      room = reports_has {A = List Slice} _ _ (Err y) (made.room.0 has) (λ p is. roomy p (err_is y (refusal.NoRoom p) is));
       asks = h.reads.asks;
       late = subst (λ q. WantOfRoomOrFault q f y) pool h.reads.late;
     }

@@ -12,11 +12,11 @@ use Rattle.iol_extent.proofs.Cover.{cover_no, cover_yes}
 use Rattle.iol_hold.specs.Moves.{Covers, Moves, SameLists, Shares, pool_meant, tally}
 use Rattle.iol_hold.specs.Places.{Place, byte_len, places}
 use Rattle.iol_hold.specs.Releases.{FreesOnly}
-use Rattle.iol_hold.specs.StoreState.{Stored, AllSettled}
+use Rattle.iol_hold.specs.StoreState.{Stored, AllReclaimed}
 use Rattle.iol_hold.specs.Texts.{AllReadable, IsThere, bufs_of}
 use Rattle.iol_hold.specs.declared.slices.Slice.{Slice}
 use Rattle.iol_hold.proofs.Counts.{bufs-append, tally-append, tally_none}
-use Rattle.iol_hold.proofs.EmptyPools.{all_settled_same}
+use Rattle.iol_hold.proofs.EmptyPools.{all_reclaimed_same}
 use Rattle.iol_hold.proofs.Moves.{stays_trans, shares_move}
 use Rattle.iol_hold.proofs.ReadSlices.{readable_taken, readable_rest}
 use Rattle.iol_hold.proofs.Releases.{frees_trans}
@@ -126,8 +126,8 @@ readable_same s t xs arena pools h = record {
 pub readable_on : {s t : Stored} {xs ys : List BufId} (zs : List Slice) → Shares s t xs ys → AllReadable s zs → AllReadable t zs
 readable_on {s = s} {t = t} zs m h = readable_same s t zs m.arena m.pools h
 
-pub settles_shares : {s t : Stored} {xs ys : List BufId} → Shares s t xs ys → AllSettled s → AllSettled t
-settles_shares {s = s} {t = t} m all = all_settled_same s t m.arena m.pools all
+pub reclaims_shares : {s t : Stored} {xs ys : List BufId} → Shares s t xs ys → AllReclaimed s → AllReclaimed t
+reclaims_shares {s = s} {t = t} m all = all_reclaimed_same s t m.arena m.pools all
 
 pub covers_part : {a b c : Stored} {xs ys : List BufId} → Covers a xs → Shares a b [] ys → Moves b c xs [] → Covers c ys
 covers_part c m n = record { each = λ x. omega (arith, c.each x, m.counts.each x, n.counts.each x, tally_none x) }
@@ -185,15 +185,15 @@ shared_gone m n = record {
 
 -- all was shared
 pub all_shared : {A E : Type 0} {s t : Stored} {xs : List Slice} {given : A → List Slice} (a : A) → Shares s t (bufs_of xs) (bufs_of (given a)) → SharesOrReleases {A = A} {E = E} xs given s t (Ok a)
-all_shared a m = record { shares = m; gone = tt; frees = frees_shares m; lists = ap (map pool_meant) m.pools; settles = settles_shares m }
+all_shared a m = record { shares = m; gone = tt; frees = frees_shares m; lists = ap (map pool_meant) m.pools; reclaims = reclaims_shares m }
 
 -- some was, and then all of it was released
-pub released_then : {B E : Type 0} {s t u : Stored} {xs : List Slice} {ys : List BufId} {more : B → List Slice} {e : E} → Shares s t (bufs_of xs) ys → Moves t u ys [] → SameLists t u → FreesOnly t u → (AllSettled t → AllSettled u) → SharesOrReleases {A = B} xs more s u (Err e)
-released_then m gone lists frees settles = record { shares = tt; gone = shared_gone m gone; frees = frees_trans (frees_shares m) frees gone.counts; lists = lists ∙ ap (map pool_meant) m.pools; settles = λ all. settles (settles_shares m all) }
+pub released_then : {B E : Type 0} {s t u : Stored} {xs : List Slice} {ys : List BufId} {more : B → List Slice} {e : E} → Shares s t (bufs_of xs) ys → Moves t u ys [] → SameLists t u → FreesOnly t u → (AllReclaimed t → AllReclaimed u) → SharesOrReleases {A = B} xs more s u (Err e)
+released_then m gone lists frees reclaims = record { shares = tt; gone = shared_gone m gone; frees = frees_trans (frees_shares m) frees gone.counts; lists = lists ∙ ap (map pool_meant) m.pools; reclaims = λ all. reclaims (reclaims_shares m all) }
 
 -- some was, and then no more
 pub refused_then : {A B E : Type 0} {s t u : Stored} {xs ys : List Slice} {given : A → List Slice} {more : B → List Slice} {e : E} → Shares s t (bufs_of xs) (bufs_of ys) → SharesOrReleases {A = A} ys given t u (Err e) → SharesOrReleases {A = B} xs more s u (Err e)
-refused_then m h = released_then m h.gone h.lists h.frees h.settles
+refused_then m h = released_then m h.gone h.lists h.frees h.reclaims
 
 -- what is shared already is held beside what was held
 pub held_beside : {a b : Stored} {xs ys : List BufId} → Covers a ys → Shares a b [] xs → Covers b (xs ++ ys)

@@ -19,7 +19,7 @@ use Rattle.iol_cache.specs.ReadResults.{IsBacked, IsEnd, Range, ReadsFile, Refus
 use Rattle.iol_cache.specs.Sound.{IsSound}
 use Rattle.iol_cache.proofs.Extents.FileEntries.{numbered_bounds, numbered_yes}
 use Rattle.iol_cache.proofs.RangeReads.PageChanges.{read_pages, refused_pages}
-use Rattle.iol_cache.proofs.RangeReads.RangeHolds.{either_told, either_way, ok_both}
+use Rattle.iol_cache.proofs.RangeReads.RangeHolds.{either_reported, either_way, ok_both}
 use Rattle.iol_cache.proofs.RangeReads.Texts.{long_read, pooled_read, text_read}
 
 -- the range that the code computes
@@ -47,7 +47,7 @@ module _ (f at n : ℕ) (d : Disk) (a c : Holding) (r : Result (List Slice) Refu
   file_short = IfOk-weaker r (ReadsFile f at n d a c) (λ xs. byte_len xs ≤ n) (λ xs h. long_read f at n d a c xs h) reads
 
   pub file_pages : IfErr r (RefusesRead f at n d a c) → FillsLowest (file_in a.cache.files f).pool a.store c.store
-  file_pages refused = either_told (ReadsFile f at n d a c) (RefusesRead f at n d a c) r reads refused (λ xs h. read_pages f at n d a c xs h) (λ y h. refused_pages f at n d a c y h)
+  file_pages refused = either_reported (ReadsFile f at n d a c) (RefusesRead f at n d a c) r reads refused (λ xs h. read_pages f at n d a c xs h) (λ y h. refused_pages f at n d a c y h)
 
   pub file_pool : IsSound a.store a.cache → IsSound c.store c.cache → IfOk r (λ xs. Goes d [] (bufs_of xs) a c) → IfOk r (AreOf (file_in a.cache.files f).pool)
   file_pool sound after goes =

@@ -22,7 +22,7 @@ use Rattle.iol_hold.specs.Moves.{Covers, Moves, Shares, pool_meant, tally}
 use Rattle.iol_hold.proofs.Counts.{bufs-append, tally-append, tally_none}
 use Rattle.iol_hold.specs.Places.{Place, byte_len, place_in, places, slice_places}
 use Rattle.iol_hold.specs.Room.{free_of, has_room, lowest_of, others_of}
-use Rattle.iol_hold.specs.StoreState.{AllSettled, IsTidy, Stored}
+use Rattle.iol_hold.specs.StoreState.{AllReclaimed, IsTidy, Stored}
 use Rattle.iol_hold.specs.Texts.{AllReadable, IsReadable, IsThere, bufs_of, byte_at, slice_bytes, text_of}
 use Rattle.iol_hold.proofs.PageChanges.{keeps_pages_made, keeps_pages_shares}
 use Rattle.iol_hold.proofs.Moves.{moves_none, moves_trans, shares_move, stays_trans}
@@ -35,7 +35,7 @@ use Rattle.iol_cache.proofs.RangeReads.FilledGaps.{places_none, places_then}
 use Rattle.iol_cache.specs.Loads.{PlacesOrReleases, PlacesPages}
 use Rattle.iol_cache.proofs.RangeReads.PageSteps.{made_stands}
 use Rattle.iol_cache.proofs.RangeReads.OnePool.{length-labelled}
-use Rattle.iol_cache.proofs.RangeReads.SharedBytes.{readable_same, settles_shares}
+use Rattle.iol_cache.proofs.RangeReads.SharedBytes.{readable_same, reclaims_shares}
 
 -- Pages.
 
@@ -147,8 +147,8 @@ length-bytes s xs = length-map (text_of s xs) (λ (x : ℕ × ℕ). x.0) ∙ len
 
 pub composes_copied : {s t : Stored} {p : ℕ} {run out : List Slice} (n : ℕ) → n ≡ byte_len run → All (λ (x : Slice). (x.hold.pool == p) ≡ false) run → IsTidy s → Moves s t [] (bufs_of out)
     → text_of t out ≡ text.labelled p (text.bytes_of (text_of s run)) → AllReadable t out → MadeOn s.arena t.arena (bufs_of out) (lowest_of s p n) → IsSameBut (lowest_of s p n) s.arena t.arena → Grows s.arena t.arena
-    → t.pools ≡ s.pools → free_pages t.arena (pool_in s.pools p).chunks ≡ others_of s p n → has_room s p n ≡ true → (AllSettled s → AllSettled t) → Composes s t p (pages_for (byte_len run)) run out
-composes_copied {s} {t} {p} {run} {out} n long others tidy moves is readable made but grows pools free room settles =
+    → t.pools ≡ s.pools → free_pages t.arena (pool_in s.pools p).chunks ≡ others_of s p n → has_room s p n ≡ true → (AllReclaimed s → AllReclaimed t) → Composes s t p (pages_for (byte_len run)) run out
+composes_copied {s} {t} {p} {run} {out} n long others tidy moves is readable made but grows pools free room reclaims =
     let same : byte_len out ≡ byte_len run = sym (length-text_of t out) ∙ ap length is ∙ length-labelled p (text.bytes_of (text_of s run)) ∙ length-bytes s run in
     record {
       moves = moves;
@@ -163,7 +163,7 @@ composes_copied {s} {t} {p} {run} {out} n long others tidy moves is readable mad
         free = ap (λ (ps : List Pool). free_pages t.arena (pool_in ps p).chunks) pools ∙ free;
         pools = pools;
       });
-      settles = settles;
+      reclaims = reclaims;
     }
 
 -- slices that were shared
@@ -183,7 +183,7 @@ composes_shared {s} {t} {p} {run} {out} own same shares readable =
         free = ap (λ (ps : List Pool). free_pages t.arena (pool_in ps p).chunks) shares.pools ∙ ap (λ (a : State). free_pages a (pool_in s.pools p).chunks) shares.arena;
         pools = shares.pools;
       };
-      settles = settles_shares shares;
+      reclaims = reclaims_shares shares;
     }
   where
     byte_in : State → Place → ℕ × ℕ
@@ -295,7 +295,7 @@ composes_none s p = record {
   own = own_none p;
   readable = readable_none s;
   pages = places_none s p;
-  settles = λ h. h;
+  reclaims = λ h. h;
 }
 
 labelled-append : (p : ℕ) (a b : List ℕ) → text.labelled p (a ++ b) ≡ text.labelled p a ++ text.labelled p b
@@ -316,7 +316,7 @@ composes_then {s} {t} {u} {p} {k} {n} {xs} {ys} {out} {more} a b readable held =
       own = subst (λ (l : List Place). KeepsOwn p l (places (out ++ more))) (sym (places-append xs ys)) (subst (λ (l : List Place). KeepsOwn p (places xs ++ places ys) l) (sym (places-append out more)) (own_append p (places xs) (places out) (places ys) (places more) a.own b.own));
       readable = readable_joined {s = u} (readable_stays {old = t} {new = u} out b.moves.stays kept a.readable) b.readable;
       pages = places_then a.pages b.pages;
-      settles = λ h. b.settles (a.settles h);
+      reclaims = λ h. b.reclaims (a.reclaims h);
     }
 
 parts_both : {s : Stored} (xs ys : List Slice) → Covers s (bufs_of (xs ++ ys)) → Covers s (bufs_of ys)
@@ -378,8 +378,8 @@ covers_source c a = record { each = λ x. omega (arith, c.each x, a.counts.each 
 
 -- The source, after the first of its runs.
 
-pub may_go_on : {s t : Stored} {p : ℕ} {xs left out : List Slice} → MayCompose s (2 ^ 62) p xs → ComposesRun s t p xs left out → MayCompose t (2 ^ 62 + 2 ^ 32) p xs
-may_go_on {s} {t} {p} {xs} {left} {out} may m =
+pub may_advance : {s t : Stored} {p : ℕ} {xs left out : List Slice} → MayCompose s (2 ^ 62) p xs → ComposesRun s t p xs left out → MayCompose t (2 ^ 62 + 2 ^ 32) p xs
+may_advance {s} {t} {p} {xs} {left} {out} may m =
     let moves = m.composes.moves in
     let held = covers_source may.covered moves in
     let long : byte_len out ≤ byte_len xs = omega (arith, composed_long m.composes, ap byte_len m.splits, byte_len-append m.run left) in
@@ -394,4 +394,4 @@ may_go_on {s} {t} {p} {xs} {left} {out} may m =
 
 -- all of it is placed
 pub composed : {A : Type 0} {s t : Stored} {p n : ℕ} {xs out : List Slice} {a : A} → Composes s t p n xs out → PlacesOrReleases p n s t (Ok a)
-composed m = record { none = tt; given_back = tt; lists = ap (map pool_meant) m.pages.pools; settles = m.settles; no_room = tt }
+composed m = record { none = tt; given_back = tt; lists = ap (map pool_meant) m.pages.pools; reclaims = m.reclaims; no_room = tt }

@@ -11,7 +11,7 @@ use Rattle.iol_cache.specs.CacheState.{begins_clean, clean_at, parts_in}
 use Rattle.iol_cache.specs.Entries.{Enters, MayEnter}
 use Rattle.iol_cache.specs.Marks.{Marks}
 use Rattle.iol_cache.specs.Replacement.{Reindexes}
-use Rattle.iol_cache.specs.WriteBack.{MaySettle, Settles}
+use Rattle.iol_cache.specs.WriteBack.{MayReclaim, Reclaims}
 use Rattle.iol_cache.proofs.Evictions.Ready.{some_kept}
 use Rattle.iol_cache.proofs.Evictions.Orders.{is_some}
 use Rattle.iol_cache.proofs.RangeWrites.CleanExtents.{cleaned_put, first_dirty}
@@ -44,7 +44,7 @@ none_clean low (x ∷ xs) e a h = pick x.dirty refl h (λ k. none_clean (end_of 
         let r = (first_dirty (end_of x) xs e a.2 h).2 in
         omega (arith, sum_by-cons (begins_clean e.at) x xs, ih h, ap (λ b. cond {A = ℕ} (b && not x.dirty) 1 0) (other x.at e.at (omega (arith, r, a.1))))
 
-module _ {f at : ℕ} {old : ExtentMap} {r : Ranking} {marks : List ℕ} (m : MaySettle f at old r marks) where
+module _ {f at : ℕ} {old : ExtentMap} {r : Ranking} {marks : List ℕ} (m : MayReclaim f at old r marks) where
   abbrev es : List Extent
   es = old.extents
 
@@ -67,8 +67,8 @@ module _ {f at : ℕ} {old : ExtentMap} {r : Ranking} {marks : List ℕ} (m : Ma
     few = m.few;
   }
 
-  pub settled : (later : ExtentMap) (t : Ranking) (new : List ℕ) → later.extents ≡ cleaned_at es at → IsApart 0 later.extents → Enters f at es (with_one_given_back r) t marks new → Settles f at old later r t marks new
-  settled later t new is apart e =
+  pub reclaimed : (later : ExtentMap) (t : Ranking) (new : List ℕ) → later.extents ≡ cleaned_at es at → IsApart 0 later.extents → Enters f at es (with_one_given_back r) t marks new → Reclaims f at old later r t marks new
+  reclaimed later t new is apart e =
       let low = with_one_given_back r in
       let parts : parts_in (begins_at es at) ≡ first.parts = ap parts_in begins in
       let order : t ≡ entered low f first.at (byte_len first.parts) 1 = e.order ∙ ap (λ (xs : List Slice). entered low f at (byte_len xs) 1) parts ∙ ap (λ n. entered low f n (byte_len first.parts) 1) (sym m.dirty.begins) in

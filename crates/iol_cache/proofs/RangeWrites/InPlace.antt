@@ -29,9 +29,9 @@ use Rattle.iol_cache.proofs.RangeWrites.Replacement.{covers_moved, marked_after,
 indexed_after : {f : ℕ} {es fs : List Extent} {r t : Ranking} {marks new : List ℕ} → Reindexes f es fs r t marks new → IsApart 0 fs → IsIndexed f es r marks → IsIndexed f fs t new
 indexed_after m apart h = record { apart = apart; ranked = m.ranked h.ranked; ready = ready_after m h.ready; marked = marked_after m h.marked }
 
-pub may_go_on : {f : ℕ} {s t : Stored} {a b : Indexing} → MayGo f s a → Reindexes f a.extents.extents b.extents.extents a.order b.order a.marks b.marks → Moves s t (bufs_of (all_parts a.extents.extents)) (bufs_of (all_parts b.extents.extents)) → FreesOnly s t
+pub may_advance : {f : ℕ} {s t : Stored} {a b : Indexing} → MayGo f s a → Reindexes f a.extents.extents b.extents.extents a.order b.order a.marks b.marks → Moves s t (bufs_of (all_parts a.extents.extents)) (bufs_of (all_parts b.extents.extents)) → FreesOnly s t
     → IsApart 0 b.extents.extents → AllReadable s (all_parts b.extents.extents) → MayGo f t b
-may_go_on {b = b} may follows moves frees apart all =
+may_advance {b = b} may follows moves frees apart all =
     let held = covers_moved may.held moves in
     record {
       indexed = indexed_after follows apart may.indexed;
@@ -49,7 +49,7 @@ gone_on m n counts = record {
   moves = moves_on m.moves n.moves;
   frees = frees_trans m.frees n.frees counts;
   lists = n.lists ∙ m.lists;
-  settles = λ h. n.settles (m.settles h);
+  reclaims = λ h. n.reclaims (m.reclaims h);
   left = n.left;
 }
 
@@ -161,5 +161,5 @@ module _ {f : ℕ} {range : Span} {put : Replacement} {s t : Stored} {o : Indexi
             };
             frees = clears.gone.frees;
             lists = clears.gone.lists;
-            settles = clears.gone.settles;
+            reclaims = clears.gone.reclaims;
           }

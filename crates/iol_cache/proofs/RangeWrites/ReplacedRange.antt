@@ -99,9 +99,9 @@ over_end (x ∷ xs) i e h = here (is_over x i) h (over_end xs i e)
 
 -- The parts lie where their extents do.
 
-slices_home : (p : ℕ) (xs : List Slice) → All (λ (l : Place). l.pool ≡ p) (places xs) → All (λ (x : Slice). x.hold.pool ≡ p) xs
-slices_home p [] h = All-nil (λ (x : Slice). x.hold.pool ≡ p)
-slices_home p (x ∷ xs) h =
+slices_in_pool : (p : ℕ) (xs : List Slice) → All (λ (l : Place). l.pool ≡ p) (places xs) → All (λ (x : Slice). x.hold.pool ≡ p) xs
+slices_in_pool p [] h = All-nil (λ (x : Slice). x.hold.pool ≡ p)
+slices_in_pool p (x ∷ xs) h =
     let home : Place → Type 0 = λ (l : Place). l.pool ≡ p in
     let n = length (slice_places x) in
     let head : take n (places (x ∷ xs)) ≡ slice_places x = take_at (slice_places x) (places xs) _ refl in
@@ -109,7 +109,7 @@ slices_home p (x ∷ xs) h =
     let mine = All-same home _ _ (sym head) (All-take home n (places (x ∷ xs)) h) in
     let d : Place = place_in x 0 in
     let first = subst home (get_or-map-range_with_len (place_in x) x.from x.len 0 (x.from + 0) d x.some refl) (mine 0 d (omega (arith, length-slice_places x, x.some))) in
-    All-cons (λ (y : Slice). y.hold.pool ≡ p) x xs first (slices_home p xs (All-same home _ _ (sym rest) (All-drop home n (places (x ∷ xs)) h)))
+    All-cons (λ (y : Slice). y.hold.pool ≡ p) x xs first (slices_in_pool p xs (All-same home _ _ (sym rest) (All-drop home n (places (x ∷ xs)) h)))
 
 left_laid : (s : Stored) (p : ℕ) (es : List Extent) (from : ℕ) (x : Extent) → Each (IsLaid s p) es → CutsLeft es from x → 0 < byte_len x.parts → IsLaid s p x
 left_laid s p es from x all cut some =
@@ -119,7 +119,7 @@ left_laid s p es from x all cut some =
     let home : Place → Type 0 = λ (q : Place). q.pool ≡ p in
     record {
       readable = record { each = All-same (IsThere s) _ _ l.before.is (All-take (IsThere s) (from - e.at) (places e.parts) laid.readable.each) };
-      home = slices_home p x.parts (All-same home _ _ l.before.is (All-take home (from - e.at) (places e.parts) (pools_of (λ n. n ≡ p) e.parts laid.home)));
+      home = slices_in_pool p x.parts (All-same home _ _ l.before.is (All-take home (from - e.at) (places e.parts) (pools_of (λ n. n ≡ p) e.parts laid.home)));
     }
 
 right_laid : (s : Stored) (p : ℕ) (es : List Extent) (to : ℕ) (x : Extent) → Each (IsLaid s p) es → 0 < to → CutsRight es to x → 0 < byte_len x.parts → IsLaid s p x
@@ -130,7 +130,7 @@ right_laid s p es to x all pos cut some =
     let home : Place → Type 0 = λ (q : Place). q.pool ≡ p in
     record {
       readable = record { each = All-same (IsThere s) _ _ l.after.is (All-drop (IsThere s) (to - e.at) (places e.parts) laid.readable.each) };
-      home = slices_home p x.parts (All-same home _ _ l.after.is (All-drop home (to - e.at) (places e.parts) (pools_of (λ n. n ≡ p) e.parts laid.home)));
+      home = slices_in_pool p x.parts (All-same home _ _ l.after.is (All-drop home (to - e.at) (places e.parts) (pools_of (λ n. n ≡ p) e.parts laid.home)));
     }
 
 -- What replacing the range of a file needs.

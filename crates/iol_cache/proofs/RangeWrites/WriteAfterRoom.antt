@@ -6,7 +6,7 @@ use Rattle.iol_core.specs.Text as text
 use Rattle.iol_core.specs.declared.numbers.BufId.{BufId}
 use Rattle.iol_hold.specs.Moves.{Covers, Moves, SameLists}
 use Rattle.iol_hold.specs.Places.{byte_len}
-use Rattle.iol_hold.specs.StoreState.{AllSettled, Stored}
+use Rattle.iol_hold.specs.StoreState.{AllReclaimed, Stored}
 use Rattle.iol_hold.specs.Texts.{AllReadable, bufs_of, text_of}
 use Rattle.iol_hold.specs.declared.slices.Slice.{Slice}
 use Rattle.iol_hold.proofs.Counts.{tally-append, tally_none}
@@ -24,7 +24,7 @@ use Rattle.iol_cache.proofs.Extents.Steps.{covers_right, goes_cache, goes_covers
 
 -- an honest store of these bytes
 abbrev honest_of : List (List ℕ) → Disk
-honest_of slots = record { slots = slots; failures = 0; honest = true; told = [] }
+honest_of slots = record { slots = slots; failures = 0; honest = true; reported = [] }
 
 pub goes_room : (d : Disk) (own : List BufId) (p n : ℕ) (old new : Holding) → MakesRoom p n old new → Goes d own own old new
 goes_room d own p n old new m =
@@ -56,10 +56,10 @@ goes_all f old new g =
 
 -- A write that was refused after room was made.
 
-pub goes_refused : (d : Disk) (p n : ℕ) (old mid : Holding) (t : Stored) → MakesRoom p n old mid → IsSound mid.store mid.cache → Moves mid.store t [] [] → SameLists mid.store t → (AllSettled mid.store → AllSettled t) → page_count t.arena ≡ page_count mid.store.arena → Goes d [] [] old (record { store = t; cache = mid.cache })
-goes_refused d p n old mid t m sound none lists settles pages =
+pub goes_refused : (d : Disk) (p n : ℕ) (old mid : Holding) (t : Stored) → MakesRoom p n old mid → IsSound mid.store mid.cache → Moves mid.store t [] [] → SameLists mid.store t → (AllReclaimed mid.store → AllReclaimed t) → page_count t.arena ≡ page_count mid.store.arena → Goes d [] [] old (record { store = t; cache = mid.cache })
+goes_refused d p n old mid t m sound none lists reclaims pages =
     let covers : Covers t (held mid.cache.files) = record { each = λ b. omega (arith, sound.covered.each b, none.counts.each b, tally_none b) } in
-    goes_trans d [] [] [] old mid _ (goes_room d [] p n old mid m) (goes_store d [] [] mid.store t mid.cache sound none covers lists settles pages)
+    goes_trans d [] [] [] old mid _ (goes_room d [] p n old mid m) (goes_store d [] [] mid.store t mid.cache sound none covers lists reclaims pages)
 
 -- What the write needs of the room that was made.
 

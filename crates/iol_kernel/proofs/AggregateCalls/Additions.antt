@@ -1,4 +1,5 @@
--- A domain gets an aggregate of bytes that lie there already: for the machine, for the layout, and that all stays sound.
+-- A domain gets an aggregate of bytes that lie there already: for the machine, for the layout, and that all stays
+-- sound.
 use Rattle.std.proofs.Common.{[], refl, ◌≡◌, ℕ, ◌-◌, ◌<◌, ◌≤◌, List, ◌++◌, length, length-append, take, drop, slice_range, ap, ◌∙◌, sym, arith, true}
 use Rattle.std.proofs.lemmas.List.Elements.{All-append, All-take, All-drop, All-same}
 use Rattle.std.proofs.lemmas.List.{take_all, length-take, length-drop}
@@ -15,7 +16,7 @@ use Rattle.iol_kernel.specs.Readings.{Reading, read, bytes_over}
 use Rattle.iol_hold.specs.Texts.{AllReadable, IsThere}
 use Rattle.iol_hold.specs.declared.slices.Slice.{Slice}
 use Rattle.iol_hold.proofs.AtPlaces.{read_cut, read_replaced}
-use Rattle.iol_hold.proofs.EmptyPools.{all_settled_same}
+use Rattle.iol_hold.proofs.EmptyPools.{all_reclaimed_same}
 use Rattle.iol_hold.proofs.Moves.{shares_move, covers_given}
 use Rattle.iol_hold.proofs.ReadSlices.{readable_stays}
 use Rattle.iol_desc.specs.Tables.{domain_in, live_aggs_in}
@@ -42,7 +43,7 @@ module _ (h : KernelState) (t : Stored) (ds : List (Domain (List Slice))) (d : �
   added-sound : IsSound h → (domain_in h.domains d).live ≡ true → live_aggs_in h.domains < MAX_AGGREGATES → AllReadable h.store adds.slices → byte_len adds.slices ≤ MAX_AGGREGATE_BYTES → IsSound (record h { store = t; domains = ds })
   added-sound sound live few readable small =
       gained-sound h t ds d adds.slices sound live few small (readable_stays adds.slices (shares_move adds.shares).stays (covers_given adds.shares.counts) readable) (shares_move adds.shares)
-      (all_settled_same h.store t adds.shares.arena adds.shares.pools sound.settled) adds.shares.pools (ap page_count adds.shares.arena) adds.added
+      (all_reclaimed_same h.store t adds.shares.arena adds.shares.pools sound.reclaimed) adds.shares.pools (ap page_count adds.shares.arena) adds.added
 
   -- a call that adds these bytes and does nothing else is answered
   added_answers : (m : State → Meaning ℕ) (n : ℕ) → ((f : Reading) → n ≡ (m (read_of f h)).answer) → ((f : Reading) → aggs.with_agg (read_of f h) d (read f adds.slices) ≡ (m (read_of f h)).after) → IsSound (record h { store = t; domains = ds }) → Answers m h n (record h { store = t; domains = ds })

@@ -119,7 +119,7 @@ module _ (h : KernelState) (t : Stored) (ds : Domains) (d : ℕ) (es : List (ℕ
 
   emptied-sound : IsSound (record h { store = t; domains = ds })
   emptied-sound = subst (λ (ys : Domains). IsSound (record h { store = t; domains = ys })) (sym rest)
-      (moved-sound h.store (record h { store = t; domains = with_domain_in h.domains d emptied }) released.moves.stays emptied_counted (released.moves.tidy sound.tidy) (released.moves.still sound.still) (released.settles (subst (λ (l : List (ℕ × List Slice)). Each (λ e. AllReadable h.store e.1) l) (sym all) (aggs_readable h d sound)) sound.settled) emptied_good sound.objects
+      (moved-sound h.store (record h { store = t; domains = with_domain_in h.domains d emptied }) released.moves.stays emptied_counted (released.moves.tidy sound.tidy) (released.moves.still sound.still) (released.reclaims (subst (λ (l : List (ℕ × List Slice)). Each (λ e. AllReadable h.store e.1) l) (sym all) (aggs_readable h d sound)) sound.reclaimed) emptied_good sound.objects
       (fds_stay (objects_of h) h.domains d emptied sound.fds refl) (once_same h.domains d emptied live refl sound.once) emptied_limits (same_pooled h.store t h.conns h.cache.files released.lists sound.pooled) sound.sums sound.filed sound.cached (keeps_pages_frees released.frees).count)
 
   pub aggs_dropped : Leaves (λ s. machine.with_domain s d (record (machine.domain s d) { aggs = [] })) h (record h { store = t; domains = ds })

@@ -106,7 +106,7 @@ module _ (h : KernelState) (ds : List (Domain (List Slice))) (d a e : ℕ) (may 
       subst (λ (ys : List (Domain (List Slice))). IsSound (record h { domains = ys })) (sym moved)
       (moved-sound h.store (record h { domains = with_agg_in rest e xs }) (stays_here h.store)
       (record { each = λ b. omega (arith, sound.counted.each b, uses-without_agg b h.domains d a xs live found, uses-with_agg b rest e xs live') })
-      sound.tidy sound.still sound.settled (add_readable h.store rest e xs (drop_readable h d a sound) (agg_readable h d a xs sound found)) sound.objects
+      sound.tidy sound.still sound.reclaimed (add_readable h.store rest e xs (drop_readable h d a sound) (agg_readable h d a xs sound found)) sound.objects
       (fds_stay (objects_of h) rest e y (fds_stay (objects_of h) h.domains d x sound.fds refl) refl) (once_same rest e y live' refl (once_same h.domains d x live refl sound.once))
       (limits_agg rest (objects_of h) e xs (limits_drop h.domains (objects_of h) d a xs sound.limits live found) live' (agg_small h d a xs sound found) few) sound.pooled sound.sums sound.filed sound.cached refl)
 

@@ -18,7 +18,7 @@ use Rattle.iol_hold.specs.Texts.{bufs_of, AllReadable}
 use Rattle.iol_hold.specs.declared.slices.Slice.{Slice}
 use Rattle.iol_hold.proofs.AtPlaces.{read_taken, read_rest, read-append}
 use Rattle.iol_hold.proofs.Counts.{tally-append, bufs-append}
-use Rattle.iol_hold.proofs.EmptyPools.{all_settled_same}
+use Rattle.iol_hold.proofs.EmptyPools.{all_reclaimed_same}
 use Rattle.iol_hold.proofs.Moves.{shares_move, shares_none}
 use Rattle.iol_hold.proofs.ReadSlices.{readable_taken, readable_rest, readable_joined}
 use Rattle.iol_hold.proofs.SlicePlaces.{byte_len-append}
@@ -49,7 +49,7 @@ regrouped-sound : (h : KernelState) (t : Stored) (d : ℕ) (x : Domain (List Sli
 regrouped-sound h t d x given taken sound live same shares readable counts small few =
     moved-sound h.store (record h { store = t; domains = with_domain_in h.domains d x }) (shares_move shares).stays
     (record { each = λ b. (let s = sum-with_domain (domain_uses b) h.domains d x live in omega (arith, sound.counted.each b, shares.counts.each b, counts b, s)) })
-    (shares.tidy sound.tidy) ((shares_move shares).still sound.still) (all_settled_same h.store t shares.arena shares.pools sound.settled)
+    (shares.tidy sound.tidy) ((shares_move shares).still sound.still) (all_reclaimed_same h.store t shares.arena shares.pools sound.reclaimed)
     (each-with_domain_in (IsDomainReadable h.store) h.domains d x sound.domains readable) sound.objects (fds_stay (objects_of h) h.domains d x sound.fds same) (once_same h.domains d x live same sound.once)
     (record {
       aggs = each-with_domain_in (λ (y : Domain (List Slice)). Each (λ e. byte_len e.1 ≤ MAX_AGGREGATE_BYTES) y.aggs) h.domains d x sound.limits.aggs small;

@@ -113,7 +113,7 @@ module _ (h : KernelState) (d c : ℕ) (sound : IsSound h) (first' : fds.waiting
   limit = let was = conn_limit h c waiter.conn sound waiter.found in record { incoming = was.incoming; outgoing = was.outgoing; waits = λ i. still_open }
 
   now_sound : IsSound now
-  now_sound = turned-sound h h.store c waiter.conn accepted sound waiter.found (λ b. refl) (stays_here h.store) sound.tidy sound.still sound.settled refl refl (conn_readable h c waiter.conn sound waiter.found) limit refl
+  now_sound = turned-sound h h.store c waiter.conn accepted sound waiter.found (λ b. refl) (stays_here h.store) sound.tidy sound.still sound.reclaimed refl refl (conn_readable h c waiter.conn sound waiter.found) limit refl
       (turned_fds h h.store c waiter.conn accepted sound waiter.found (λ open'. (refl, open'.1)))
 
   now_open : IsOpenEnd (objects_of now) (Some (on.Connection c))

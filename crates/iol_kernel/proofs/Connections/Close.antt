@@ -7,7 +7,7 @@ use Rattle.iol_core.specs.Calls.Descriptors.{closed_on}
 use Rattle.iol_core.specs.declared.descriptors.Descriptor.{Descriptor}
 use Rattle.iol_core.specs.declared.descriptors.Descriptor.TheVariants as on
 use Rattle.iol_core.specs.declared.numbers.BufId.{BufId}
-use Rattle.iol_hold.specs.StoreState.{count_of, AllSettled}
+use Rattle.iol_hold.specs.StoreState.{count_of, AllReclaimed}
 use Rattle.iol_hold.specs.Releases.{Releases}
 use Rattle.iol_hold.specs.declared.slices.Slice.{Slice}
 use Rattle.iol_hold.proofs.Counts.{tally_none}
@@ -71,25 +71,25 @@ module _ (h k : KernelState) (c : ℕ) (free : IsLetGo h (on.Connection c)) (sam
   fds : Each (λ (d : Domain (List Slice)). Each (IsOpenEnd (objects_of now)) d.fds) h.domains
   fds = all_ends_kept (on.Connection c) (objects_of h) (objects_of now) (hung_keeps (objects_of h) c (hung x)) h.domains free.sound.fds free.free
 
-  all_settled : AllSettled k.store
-  all_settled = released.settles good.0 free.sound.settled
+  all_reclaimed : AllReclaimed k.store
+  all_reclaimed = released.reclaims good.0 free.sound.reclaimed
 
   hung_leaves : Leaves (λ s. record s { conns = changed s.conns c (record (machine.conn_at s c) { incoming = []; closed = true }) }) h now
-  hung_leaves = turned_leaves h k.store c x (hung x) free.sound found counts released.moves.stays (released.moves.tidy free.sound.tidy) (released.moves.still free.sound.still) all_settled released.lists (keeps_pages_frees released.frees).count (readable_none h.store, good.1) limit refl fds
+  hung_leaves = turned_leaves h k.store c x (hung x) free.sound found counts released.moves.stays (released.moves.tidy free.sound.tidy) (released.moves.still free.sound.still) all_reclaimed released.lists (keeps_pages_frees released.frees).count (readable_none h.store, good.1) limit refl fds
       (λ w. record w { incoming = []; closed = true }) (λ f. refl) (keeps_pages_frees released.frees)
 
   pub hung_changed : IsChanged c (λ s. closed_on s (Some (on.Connection c))) h k
   hung_changed = record {
     sound = subst IsSound (sym same)
-        (turned-sound h k.store c x (hung x) free.sound found counts released.moves.stays (released.moves.tidy free.sound.tidy) (released.moves.still free.sound.still) all_settled released.lists (keeps_pages_frees released.frees).count (readable_none h.store, good.1) limit refl fds);
+        (turned-sound h k.store c x (hung x) free.sound found counts released.moves.stays (released.moves.tidy free.sound.tidy) (released.moves.still free.sound.still) all_reclaimed released.lists (keeps_pages_frees released.frees).count (readable_none h.store, good.1) limit refl fds);
     there = subst (λ (l : KernelState). lookup l.conns c ≢ None) (sym same) (there-changed h.conns c x (hung x) found);
-    left = λ l settled. conn_left h k l c x (λ w. record w { incoming = []; closed = true }) free.sound found
-        (subst (λ (m : KernelState). Leaves (λ s. record s { conns = changed s.conns c (record (machine.conn_at s c) { incoming = []; closed = true }) }) h m) (sym same) hung_leaves) settled;
+    left = λ l reclaimed. conn_left h k l c x (λ w. record w { incoming = []; closed = true }) free.sound found
+        (subst (λ (m : KernelState). Leaves (λ s. record s { conns = changed s.conns c (record (machine.conn_at s c) { incoming = []; closed = true }) }) h m) (sym same) hung_leaves) reclaimed;
   }
 
   pub hung_closes : (l : KernelState) → Leaves (λ s. machine.with_conn s c (machine.conn_at s c)) k l → l.domains ≡ k.domains → KeepsEnds (on.Connection c) (objects_of k) (objects_of l) → Closes (on.Connection c) h l
-  hung_closes l settled domains others = record {
-    closed = hung_changed.left l settled;
+  hung_closes l reclaimed domains others = record {
+    closed = hung_changed.left l reclaimed;
     domains = domains ∙ ap (λ (m : KernelState). m.domains) same;
     others = keeps_then (on.Connection c) (objects_of h) (objects_of k) (objects_of l)
         (subst (λ (m : KernelState). KeepsEnds (on.Connection c) (objects_of h) (objects_of m)) (sym same) (hung_keeps (objects_of h) c (hung x))) others;

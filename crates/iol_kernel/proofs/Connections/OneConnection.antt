@@ -17,7 +17,7 @@ use Rattle.iol_core.specs.declared.descriptors.Descriptor.TheVariants as on
 use Rattle.iol_core.specs.declared.limits.TheConstants.{MAX_CONNECTIONS, LAST_CONNECTION}
 use Rattle.iol_core.specs.declared.numbers.BufId.{BufId}
 use Rattle.iol_pool.specs.Pools.{pool_in}
-use Rattle.iol_hold.specs.StoreState.{Stored, IsTidy, IsStill, AllSettled, count_of}
+use Rattle.iol_hold.specs.StoreState.{Stored, IsTidy, IsStill, AllReclaimed, count_of}
 use Rattle.iol_arena.specs.State.{page_count}
 use Rattle.iol_hold.specs.Moves.{Stays, SameLists, Moves, Covers}
 use Rattle.iol_hold.specs.Pages.{KeepsPages}
@@ -232,11 +232,11 @@ module _ (h : KernelState) (t : Stored) (c : ℕ) (x y : Conn (List Slice)) (sou
       ∙ ap (λ (cs : List (ℕ × Connection)). record (read_of f h) { conns = cs }) (changed-map (conn_view (read f)) h.conns c y)
 
   -- what it holds is part of what it held
-  module _ (counts : (b : BufId) → count_of t b + conn_uses b (c, x) ≡ count_of h.store b + conn_uses b (c, y)) (stays : Stays h.store t) (tidy : IsTidy t) (still : IsStill t.arena) (settled : AllSettled t) (lists : SameLists h.store t) (count : page_count t.arena ≡ page_count h.store.arena)
+  module _ (counts : (b : BufId) → count_of t b + conn_uses b (c, x) ≡ count_of h.store b + conn_uses b (c, y)) (stays : Stays h.store t) (tidy : IsTidy t) (still : IsStill t.arena) (reclaimed : AllReclaimed t) (lists : SameLists h.store t) (count : page_count t.arena ≡ page_count h.store.arena)
       (readable : IsConnReadable h.store (c, y)) (limit : held.IsConn (c, y)) (pool' : y.pool ≡ x.pool)
       (fds : Each (λ (d : Domain (List Slice)). Each (IsOpenEnd (objects_of turned)) d.fds) h.domains) where
     pub turned-sound : IsSound turned
-    turned-sound = moved-sound h.store turned stays (turned_counted counts) tidy still settled sound.domains (turned_good readable) fds sound.once (turned_limits limit)
+    turned-sound = moved-sound h.store turned stays (turned_counted counts) tidy still reclaimed sound.domains (turned_good readable) fds sound.once (turned_limits limit)
         (turned_pooled pool' (same_pooled h.store t h.conns h.cache.files lists sound.pooled)) sound.sums sound.filed sound.cached count
 
     pub turned_leaves : (F : Connection → Connection) → ((f : Reading) → F (conn_view (read f) x) ≡ conn_view (read f) y) → KeepsPages h.store t [] → Leaves (λ s. record s { conns = changed s.conns c (F (machine.conn_at s c)) }) h turned
@@ -281,10 +281,10 @@ is_over_gone s c w found over =
     ∙ ap (λ b. record s { conns = if b then without s.conns c else changed s.conns c w }) over
 
 -- changed first, and then settled
-pub settled_after : (s : State) (c : ℕ) (to : ℕ) (w z : Connection) → Rises 0 s.conns to → lookup s.conns c ≡ Some w
+pub reclaimed_after : (s : State) (c : ℕ) (to : ℕ) (w z : Connection) → Rises 0 s.conns to → lookup s.conns c ≡ Some w
     → (let m : State = record s { conns = changed s.conns c z } in machine.with_conn m c (machine.conn_at m c)) ≡ machine.with_conn s c z
 unfolding machine.with_conn machine.conn_at
-settled_after s c to w z rising found =
+reclaimed_after s c to w z rising found =
     let cs : List (ℕ × Connection) = changed s.conns c z in
     let m : State = record s { conns = cs } in
     let is : lookup cs c ≡ Some z = lookup-changed s.conns c w z found in
@@ -296,8 +296,8 @@ without-map' : (f : Reading) (cs : Conns) (c : ℕ) → seen f (without cs c) �
 without-map' f cs c = without-map (conn_view (read f)) cs c
 
 module _ (h : KernelState) (c : ℕ) (x : Conn (List Slice)) (sound : IsSound h) (found : lookup h.conns c ≡ Some x) where
-  pub settled_stays : is_over x ≡ false → Leaves (λ s. machine.with_conn s c (machine.conn_at s c)) h h
-  settled_stays on' = leaves (λ s. machine.with_conn s c (machine.conn_at s c)) h h
+  pub reclaimed_stays : is_over x ≡ false → Leaves (λ s. machine.with_conn s c (machine.conn_at s c)) h h
+  reclaimed_stays on' = leaves (λ s. machine.with_conn s c (machine.conn_at s c)) h h
       (λ f. sym (not_over (read_of f h) c h.next_conn (conn_view (read f) x) (rising-read_of f h sound) (conn_found f h c x found) (over_meant f.at x ∙ on')))
       refl refl (stays_here h.store) (pages_here h.store) sound.domains sound.objects sound
 
@@ -305,7 +305,7 @@ module _ (h : KernelState) (c : ℕ) (x : Conn (List Slice)) (sound : IsSound h)
   pub gone_keeps : is_over x ≡ true → (end : Descriptor) (cs : Conns) (n : ℕ) → cs ≡ without h.conns c → KeepsEnds end (objects_of h) (record (objects_of h) { conns = cs; next_conn = n })
   gone_keeps over end cs n rest = record { each = λ e differ open'. others_end h cs n (λ m open''. subst (λ (l : Conns). IsOpenConn (conn_in l m)) (sym rest) (open-without h.conns c m x found over open'')) (Some e) open' }
 
-  module _ (t : Stored) (over : is_over x ≡ true) (moves : Moves h.store t (held_by x) []) (lists : SameLists h.store t) (frees : FreesOnly h.store t) (settled : AllSettled t) where
+  module _ (t : Stored) (over : is_over x ≡ true) (moves : Moves h.store t (held_by x) []) (lists : SameLists h.store t) (frees : FreesOnly h.store t) (reclaimed : AllReclaimed t) where
     abbrev gone : KernelState
     gone = record h { store = t; conns = without h.conns c }
 
@@ -321,7 +321,7 @@ module _ (h : KernelState) (c : ℕ) (x : Conn (List Slice)) (sound : IsSound h)
         others_limits h (without h.conns c) h.next_conn sound (each-without_any held.IsConn h.conns c l.conns) (omega (arith, l.few_conns, length-without_any h.conns c)) (rises-without h.conns 0 h.next_conn c l.rising) l.last
 
     gone-sound : IsSound gone
-    gone-sound = moved-sound h.store gone moves.stays gone_counted (moves.tidy sound.tidy) (moves.still sound.still) settled sound.domains gone_good
+    gone-sound = moved-sound h.store gone moves.stays gone_counted (moves.tidy sound.tidy) (moves.still sound.still) reclaimed sound.domains gone_good
         (others_fds h (without h.conns c) h.next_conn (λ n open'. open-without h.conns c n x found over open') sound)
         sound.once gone_limits (rest_pooled (same_pooled h.store t h.conns h.cache.files lists sound.pooled)) sound.sums sound.filed sound.cached (keeps_pages_frees frees).count
       where
@@ -334,15 +334,15 @@ module _ (h : KernelState) (c : ℕ) (x : Conn (List Slice)) (sound : IsSound h)
         pools-view f h.domains h.store.pools t.pools (objects_of gone) lists
         ∙ ap (λ (cs : List (ℕ × Connection)). record (read_of f h) { conns = cs }) (without-map' f h.conns c)
 
-    pub settled_goes : Leaves (λ s. machine.with_conn s c (machine.conn_at s c)) h gone
-    settled_goes = leaves (λ s. machine.with_conn s c (machine.conn_at s c)) h gone
+    pub reclaimed_goes : Leaves (λ s. machine.with_conn s c (machine.conn_at s c)) h gone
+    reclaimed_goes = leaves (λ s. machine.with_conn s c (machine.conn_at s c)) h gone
         (λ f. gone-read f ∙ sym (is_over_gone (read_of f h) c (conn_view (read f) x) (conn_found f h c x found) (over_meant f.at x ∙ over)))
         refl refl moves.stays (keeps_pages_frees frees) sound.domains gone_good gone-sound
 
-    pub settled_as : (cs : Conns) (n : ℕ) → cs ≡ without h.conns c → n ≡ h.next_conn → Leaves (λ s. machine.with_conn s c (machine.conn_at s c)) h (record h { store = t; conns = cs; next_conn = n })
-    settled_as cs n rest next' =
+    pub reclaimed_as : (cs : Conns) (n : ℕ) → cs ≡ without h.conns c → n ≡ h.next_conn → Leaves (λ s. machine.with_conn s c (machine.conn_at s c)) h (record h { store = t; conns = cs; next_conn = n })
+    reclaimed_as cs n rest next' =
         subst (λ (l : Conns). Leaves (λ s. machine.with_conn s c (machine.conn_at s c)) h (record h { store = t; conns = l; next_conn = n })) (sym rest)
-        (subst (λ i. Leaves (λ s. machine.with_conn s c (machine.conn_at s c)) h (record h { store = t; conns = without h.conns c; next_conn = i })) (sym next') settled_goes)
+        (subst (λ i. Leaves (λ s. machine.with_conn s c (machine.conn_at s c)) h (record h { store = t; conns = without h.conns c; next_conn = i })) (sym next') reclaimed_goes)
 
 pub some_same : {x y : Conn (List Slice)} → Some x ≡ Some y → x ≡ y
 some_same e = cc
@@ -360,7 +360,7 @@ conn_left h k l c x F sound found one two =
     let m : State → State = λ s. record s { conns = changed s.conns c (F (machine.conn_at s c)) } in
     let n : State → State = λ s. machine.with_conn s c (machine.conn_at s c) in
     leaves_as (λ s. n (m s)) (λ s. machine.with_conn s c (F (machine.conn_at s c))) h l
-    (λ f. settled_after (read_of f h) c h.next_conn (conn_view (read f) x) (F (machine.conn_at (read_of f h) c)) (rising-read_of f h sound) (conn_found f h c x found))
+    (λ f. reclaimed_after (read_of f h) c h.next_conn (conn_view (read f) x) (F (machine.conn_at (read_of f h) c)) (rising-read_of f h sound) (conn_found f h c x found))
     (leaves_then m n h k l (λ s. refl) one two)
 
 -- A new connection.
@@ -380,7 +380,7 @@ module _ (h : KernelState) (p : ℕ) (sound : IsSound h) (open' : (pool_in h.sto
         counted = record { each = λ b. omega (arith, sound.counted.each b, sum_by_push (conn_uses b) h.conns (h.next_conn, new_conn p), tally_none b) };
         tidy = sound.tidy;
         still = sound.still;
-        settled = sound.settled;
+        reclaimed = sound.reclaimed;
         limits = others_limits h joined.conns joined.next_conn sound (each-push held.IsConn h.conns (h.next_conn, new_conn p) l.conns (record { incoming = omega arith; outgoing = omega arith; waits = λ i. refl }))
             (omega (arith, few, length-append h.conns ((h.next_conn, new_conn p) ∷ []))) (rises-push h.conns 0 h.next_conn (new_conn p) l.rising) (omega (arith, some));
         pooled = record { few = sound.pooled.few; opened = each-push (λ (e : ℕ × Conn (List Slice)). (pool_in h.store.pools e.1.pool).closed ≡ false) h.conns (h.next_conn, new_conn p) sound.pooled.opened open'; files_open = sound.pooled.files_open };

@@ -7,7 +7,7 @@ use Rattle.iol_core.specs.Calls.Outside as outside
 use Rattle.iol_core.specs.declared.descriptors.How.{How}
 use Rattle.iol_core.specs.declared.descriptors.How.TheVariants.{Done, Gone}
 use Rattle.iol_core.specs.declared.numbers.BufId.{BufId}
-use Rattle.iol_hold.specs.StoreState.{Stored, count_of, AllSettled}
+use Rattle.iol_hold.specs.StoreState.{Stored, count_of, AllReclaimed}
 use Rattle.iol_hold.specs.Moves.{Moves, SameLists}
 use Rattle.iol_hold.specs.Releases.{FreesOnly}
 use Rattle.iol_hold.specs.Texts.{bufs_of, AllReadable}
@@ -47,18 +47,18 @@ module _ (h : KernelState) (t : Stored) (c : ℕ) (x : Conn (List Slice)) (sound
   left_counts Done moves b = omega (arith, moves.counts.each b)
   left_counts Gone moves b = omega (arith, moves.counts.each b)
 
-  module _ (how : How) (moves : Moves h.store t (bufs_of x.outgoing) (bufs_of (closed_by x how).outgoing)) (lists : SameLists h.store t) (frees : FreesOnly h.store t) (settled : AllSettled t) where
+  module _ (how : How) (moves : Moves h.store t (bufs_of x.outgoing) (bufs_of (closed_by x how).outgoing)) (lists : SameLists h.store t) (frees : FreesOnly h.store t) (reclaimed : AllReclaimed t) where
     pub peer_closed-sound : IsSound (turned h t c x (closed_by x how) sound found)
-    peer_closed-sound = turned-sound h t c x (closed_by x how) sound found (left_counts how moves) moves.stays (moves.tidy sound.tidy) (moves.still sound.still) settled lists (keeps_pages_frees frees).count (left_good how) (left_limit how) (left_pool how) (left_fds how)
+    peer_closed-sound = turned-sound h t c x (closed_by x how) sound found (left_counts how moves) moves.stays (moves.tidy sound.tidy) (moves.still sound.still) reclaimed lists (keeps_pages_frees frees).count (left_good how) (left_limit how) (left_pool how) (left_fds how)
 
     pub peer_closed_leaves : Leaves (λ s. record s { conns = changed s.conns c (outside.closed_by (machine.conn_at s c) how) }) h (turned h t c x (closed_by x how) sound found)
-    peer_closed_leaves = turned_leaves h t c x (closed_by x how) sound found (left_counts how moves) moves.stays (moves.tidy sound.tidy) (moves.still sound.still) settled lists (keeps_pages_frees frees).count (left_good how) (left_limit how) (left_pool how) (left_fds how)
+    peer_closed_leaves = turned_leaves h t c x (closed_by x how) sound found (left_counts how moves) moves.stays (moves.tidy sound.tidy) (moves.still sound.still) reclaimed lists (keeps_pages_frees frees).count (left_good how) (left_limit how) (left_pool how) (left_fds how)
         (λ w. outside.closed_by w how) (λ f. closes_meant f.at x how) (keeps_pages_frees frees)
 
 -- All of it, for the state that it leaves.
 
 module _ (h k : KernelState) (c : ℕ) (how : How) (sound : IsSound h) (there : lookup h.conns c ≢ None) (same : k ≡ record h { store = k.store; conns = changed h.conns c (closed_by (conn_in h.conns c) how) })
-    (moves : Moves h.store k.store (bufs_of (conn_in h.conns c).outgoing) (bufs_of (conn_in k.conns c).outgoing)) (lists : SameLists h.store k.store) (frees : FreesOnly h.store k.store) (settles : AllReadable h.store (conn_in h.conns c).outgoing → AllSettled h.store → AllSettled k.store) where
+    (moves : Moves h.store k.store (bufs_of (conn_in h.conns c).outgoing) (bufs_of (conn_in k.conns c).outgoing)) (lists : SameLists h.store k.store) (frees : FreesOnly h.store k.store) (reclaims : AllReadable h.store (conn_in h.conns c).outgoing → AllReclaimed h.store → AllReclaimed k.store) where
   found : lookup h.conns c ≡ Some (conn_in h.conns c)
   found = conn_in-found h.conns c there
 
@@ -68,13 +68,13 @@ module _ (h k : KernelState) (c : ℕ) (how : How) (sound : IsSound h) (there : 
   moved : Moves h.store k.store (bufs_of (conn_in h.conns c).outgoing) (bufs_of (closed_by (conn_in h.conns c) how).outgoing)
   moved = subst (λ (y : Conn (List Slice)). Moves h.store k.store (bufs_of (conn_in h.conns c).outgoing) (bufs_of y.outgoing)) here moves
 
-  all_settled : AllSettled k.store
-  all_settled = settles (conn_readable h c (conn_in h.conns c) sound found).1 sound.settled
+  all_reclaimed : AllReclaimed k.store
+  all_reclaimed = reclaims (conn_readable h c (conn_in h.conns c) sound found).1 sound.reclaimed
 
   pub peer_changed : IsChanged c (λ s. machine.with_conn s c (outside.closed_by (machine.conn_at s c) how)) h k
   peer_changed = record {
-    sound = subst IsSound (sym same) (peer_closed-sound h k.store c (conn_in h.conns c) sound found how moved lists frees all_settled);
+    sound = subst IsSound (sym same) (peer_closed-sound h k.store c (conn_in h.conns c) sound found how moved lists frees all_reclaimed);
     there = subst (λ (l : KernelState). lookup l.conns c ≢ None) (sym same) (there-changed h.conns c (conn_in h.conns c) (closed_by (conn_in h.conns c) how) found);
-    left = λ l settled. conn_left h k l c (conn_in h.conns c) (λ w. outside.closed_by w how) sound found
-        (subst (λ (m : KernelState). Leaves (λ s. record s { conns = changed s.conns c (outside.closed_by (machine.conn_at s c) how) }) h m) (sym same) (peer_closed_leaves h k.store c (conn_in h.conns c) sound found how moved lists frees all_settled)) settled;
+    left = λ l reclaimed. conn_left h k l c (conn_in h.conns c) (λ w. outside.closed_by w how) sound found
+        (subst (λ (m : KernelState). Leaves (λ s. record s { conns = changed s.conns c (outside.closed_by (machine.conn_at s c) how) }) h m) (sym same) (peer_closed_leaves h k.store c (conn_in h.conns c) sound found how moved lists frees all_reclaimed)) reclaimed;
   }

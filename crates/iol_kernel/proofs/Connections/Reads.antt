@@ -18,7 +18,7 @@ use Rattle.iol_hold.specs.Places.{places, byte_len}
 use Rattle.iol_hold.specs.Texts.{bufs_of, AllReadable}
 use Rattle.iol_hold.specs.declared.slices.Slice.{Slice}
 use Rattle.iol_hold.proofs.Counts.{tally-append}
-use Rattle.iol_hold.proofs.EmptyPools.{all_settled_same}
+use Rattle.iol_hold.proofs.EmptyPools.{all_reclaimed_same}
 use Rattle.iol_hold.proofs.Moves.{shares_move}
 use Rattle.iol_hold.proofs.ReadSlices.{readable_rest}
 use Rattle.iol_pipe.specs.Queue.{may_see}
@@ -143,7 +143,7 @@ module _ (h k : KernelState) (d fd c n : ℕ) (held : IsOpenOn h d fd (on.Connec
     taken-sound =
         let x : Domain (List Slice) = domain_in h.domains d in
         let y : Domain (List Slice) = record x { aggs = x.aggs ++ (x.next_agg, takes.slices) ∷ []; next_agg = x.next_agg + 1 } in
-        moved-sound h.store taken (shares_move takes.shares).stays taken_counted (takes.shares.tidy held.sound.tidy) ((shares_move takes.shares).still held.sound.still) (all_settled_same h.store k.store takes.shares.arena takes.shares.pools held.sound.settled)
+        moved-sound h.store taken (shares_move takes.shares).stays taken_counted (takes.shares.tidy held.sound.tidy) ((shares_move takes.shares).still held.sound.still) (all_reclaimed_same h.store k.store takes.shares.arena takes.shares.pools held.sound.reclaimed)
         (add_readable h.store h.domains d takes.slices held.sound.domains slices_good) less_good
         (fds_stay (objects_of less) h.domains d y less_fds refl) (once_same h.domains d y (open_row held) refl held.sound.once)
         (limits_agg h.domains (objects_of less) d takes.slices (turned_limits h k.store c (conn_in h.conns c) rest held.sound there rest_limit) (open_row held) (omega (arith, parts_short.0)) few)

@@ -13,7 +13,7 @@ use Rattle.iol_core.specs.Calls.Outside as outside
 use Rattle.iol_core.specs.declared.limits.TheConstants.{MAX_QUEUE_BYTES, PAGE_BYTES}
 use Rattle.iol_core.specs.declared.refusals.Refusal.{Refusal}
 use Rattle.iol_core.specs.declared.refusals.Refusal.TheVariants.{BadFd, BadRange, BrokenPipe, WouldBlock}
-use Rattle.iol_hold.specs.StoreState.{AllSettled}
+use Rattle.iol_hold.specs.StoreState.{AllReclaimed}
 use Rattle.iol_hold.specs.Moves.{Moves, SameLists}
 use Rattle.iol_hold.specs.Places.{places, byte_len}
 use Rattle.iol_hold.specs.Releases.{FreesOnly}
@@ -184,7 +184,7 @@ pub record Lent (h m : KernelState) (c n : ℕ) : Type 0 where
 
 module _ (h m : KernelState) (c n : ℕ) (sound : IsSound h) (there : lookup h.conns c ≢ None) (rest : places (conn_in m.conns c).outgoing ≡ drop n (places (conn_in h.conns c).outgoing))
     (same : m ≡ record h { store = m.store; conns = changed h.conns c (record (conn_in h.conns c) { outgoing = (conn_in m.conns c).outgoing }) })
-    (moves : Moves h.store m.store (bufs_of (conn_in h.conns c).outgoing) (bufs_of (conn_in m.conns c).outgoing)) (lists : SameLists h.store m.store) (frees : FreesOnly h.store m.store) (settles : AllSettled h.store → AllSettled m.store) where
+    (moves : Moves h.store m.store (bufs_of (conn_in h.conns c).outgoing) (bufs_of (conn_in m.conns c).outgoing)) (lists : SameLists h.store m.store) (frees : FreesOnly h.store m.store) (reclaims : AllReclaimed h.store → AllReclaimed m.store) where
   abbrev z : Conn (List Slice)
   z = conn_in h.conns c
 
@@ -193,14 +193,14 @@ module _ (h m : KernelState) (c n : ℕ) (sound : IsSound h) (there : lookup h.c
 
   lent : Leaves (λ s. record s { conns = changed s.conns c (shorter n (conn_at s c)) }) h m
   lent = subst (λ (k : KernelState). Leaves (λ s. record s { conns = changed s.conns c (shorter n (conn_at s c)) }) h k) (sym same)
-      (sent_leaves h m.store c n z (conn_in m.conns c).outgoing sound here rest moves lists frees (settles sound.settled))
+      (sent_leaves h m.store c n z (conn_in m.conns c).outgoing sound here rest moves lists frees (reclaims sound.reclaimed))
 
   pub lent_out : Lent h m c n
   lent_out = record {
-    sound = subst IsSound (sym same) (sent-sound h m.store c n z (conn_in m.conns c).outgoing sound here rest moves lists frees (settles sound.settled));
+    sound = subst IsSound (sym same) (sent-sound h m.store c n z (conn_in m.conns c).outgoing sound here rest moves lists frees (reclaims sound.reclaimed));
     there = subst (λ (k : KernelState). lookup k.conns c ≢ None) (sym same) (there-changed h.conns c z (record z { outgoing = (conn_in m.conns c).outgoing }) here);
     nothing = λ none. leaves_as (λ s. record s { conns = changed s.conns c (shorter n (conn_at s c)) }) (sent_on c n) h m
         (λ f. sent_none c n h.next_conn (read_of f h) (conn_view (read f) z) none (rising-read_of f h sound) (conn_found f h c z here) (conn_at-is f.at (read_of f h) c z (conn_found f h c z here))) lent;
-    some = λ l some settled. leaves_as (λ s. with_conn s c (shorter n (conn_at s c))) (sent_on c n) h l (λ f. sent_some c n (read_of f h) some)
-        (conn_left h m l c z (shorter n) sound here lent settled);
+    some = λ l some reclaimed. leaves_as (λ s. with_conn s c (shorter n (conn_at s c))) (sent_on c n) h l (λ f. sent_some c n (read_of f h) some)
+        (conn_left h m l c z (shorter n) sound here lent reclaimed);
   }

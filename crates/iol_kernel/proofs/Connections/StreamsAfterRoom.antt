@@ -120,7 +120,7 @@ module _ (c max pool : ℕ) (h k : KernelState) (room : MakesRoom pool (pages_fo
   takes_brought left after (Ok a) l takes =
       let none : a.taken ≡ 0 → (stored : List (List ℕ)) → machine_of stored l ≡ machine_of stored k = takes.none in
       record {
-        told = subst (λ n. IsOneRead (min (min max PAGE_BYTES) (MAX_QUEUE_BYTES - n)) after a) unread_kept takes.told;
+        reported = subst (λ n. IsOneRead (min (min max PAGE_BYTES) (MAX_QUEUE_BYTES - n)) after a) unread_kept takes.reported;
         made = takes_made a.taken l takes.made;
         slices = few_arrived pool (pages_for 1) h k room l c a.taken (Ok a) takes.slices;
         none = λ nothing. takes_none l takes.sound takes.cache takes.stays (none nothing);

@@ -17,7 +17,7 @@ use Rattle.iol_core.specs.State.{State, Connection}
 use Rattle.iol_core.specs.Calls.Outside as outside
 use Rattle.iol_core.specs.declared.numbers.BufId.{BufId}
 use Rattle.iol_core.specs.declared.refusals.Refusal.{Refusal}
-use Rattle.iol_hold.specs.StoreState.{Stored, count_of, AllSettled}
+use Rattle.iol_hold.specs.StoreState.{Stored, count_of, AllReclaimed}
 use Rattle.iol_hold.specs.Moves.{Moves, SameLists}
 use Rattle.iol_hold.specs.Places.{places, byte_len}
 use Rattle.iol_hold.specs.Releases.{FreesOnly}
@@ -50,7 +50,7 @@ summed k sums right sound = record {
   counted = sound.counted;
   tidy = sound.tidy;
   still = sound.still;
-  settled = sound.settled;
+  reclaimed = sound.reclaimed;
   limits = sound.limits;
   pooled = sound.pooled;
   sums = right;
@@ -76,7 +76,7 @@ abbrev pub shorter : (max : ℕ) → Connection → Connection
 shorter max w = record w { outgoing = drop max w.outgoing }
 
 module _ (h : KernelState) (t : Stored) (c max : ℕ) (x : Conn (List Slice)) (q : List Slice) (sound : IsSound h) (found : lookup h.conns c ≡ Some x) (rest : places q ≡ drop max (places x.outgoing)) (moves : Moves h.store t (bufs_of x.outgoing) (bufs_of q)) (lists : SameLists h.store t)
-    (frees : FreesOnly h.store t) (settled : AllSettled t) where
+    (frees : FreesOnly h.store t) (reclaimed : AllReclaimed t) where
   abbrev pub sent : Conn (List Slice)
   sent = record x { outgoing = q }
 
@@ -92,10 +92,10 @@ module _ (h : KernelState) (t : Stored) (c max : ℕ) (x : Conn (List Slice)) (q
       record { incoming = was.incoming; outgoing = omega (arith, was.outgoing, ap length rest, length-drop max (places x.outgoing)); waits = was.waits }
 
   pub sent-sound : IsSound (turned h t c x sent sound found)
-  sent-sound = turned-sound h t c x sent sound found sent_counts moves.stays (moves.tidy sound.tidy) (moves.still sound.still) settled lists (keeps_pages_frees frees).count sent_good sent_limit refl (turned_fds h t c x sent sound found (λ open'. open'))
+  sent-sound = turned-sound h t c x sent sound found sent_counts moves.stays (moves.tidy sound.tidy) (moves.still sound.still) reclaimed lists (keeps_pages_frees frees).count sent_good sent_limit refl (turned_fds h t c x sent sound found (λ open'. open'))
 
   pub sent_leaves : Leaves (λ s. record s { conns = changed s.conns c (shorter max (machine.conn_at s c)) }) h (turned h t c x sent sound found)
-  sent_leaves = turned_leaves h t c x sent sound found sent_counts moves.stays (moves.tidy sound.tidy) (moves.still sound.still) settled lists (keeps_pages_frees frees).count sent_good sent_limit refl (turned_fds h t c x sent sound found (λ open'. open')) (shorter max)
+  sent_leaves = turned_leaves h t c x sent sound found sent_counts moves.stays (moves.tidy sound.tidy) (moves.still sound.still) reclaimed lists (keeps_pages_frees frees).count sent_good sent_limit refl (turned_fds h t c x sent sound found (λ open'. open')) (shorter max)
       (λ f. ap (λ (u : Text). record (conn_view (read f) x) { outgoing = u }) (sym (read_rest f.at q x.outgoing max rest))) (keeps_pages_frees frees)
 
 -- What the call means.
@@ -123,15 +123,15 @@ never x p e = cc e
 
 module _ (h m l : KernelState) (c max : ℕ) (bytes : List ℕ) (sum : ℕ) (sound : IsSound h) (there : lookup h.conns c ≢ None) (passed : first (segment_refusals (conn_in h.conns c) max) ≡ None) (first' : bytes ≡ bytes_of (take max (text_of h.store (conn_in h.conns c).outgoing))) (sum' : sum ≡ checksum bytes)
     (rest : places (conn_in m.conns c).outgoing ≡ drop max (places (conn_in h.conns c).outgoing)) (same : m ≡ record h { store = m.store; conns = changed h.conns c (record (conn_in h.conns c) { outgoing = (conn_in m.conns c).outgoing }); sums = m.sums })
-    (moves : Moves h.store m.store (bufs_of (conn_in h.conns c).outgoing) (bufs_of (conn_in m.conns c).outgoing)) (lists : SameLists h.store m.store) (frees : FreesOnly h.store m.store) (settles : AllSettled h.store → AllSettled m.store) (right : IsRight m.store.arena m.sums) where
+    (moves : Moves h.store m.store (bufs_of (conn_in h.conns c).outgoing) (bufs_of (conn_in m.conns c).outgoing)) (lists : SameLists h.store m.store) (frees : FreesOnly h.store m.store) (reclaims : AllReclaimed h.store → AllReclaimed m.store) (right : IsRight m.store.arena m.sums) where
   found : lookup h.conns c ≡ Some (conn_in h.conns c)
   found = conn_in-found h.conns c there
 
   abbrev less : KernelState
-  less = turned h m.store c (conn_in h.conns c) (sent h m.store c max (conn_in h.conns c) (conn_in m.conns c).outgoing sound found rest moves lists frees (settles sound.settled)) sound found
+  less = turned h m.store c (conn_in h.conns c) (sent h m.store c max (conn_in h.conns c) (conn_in m.conns c).outgoing sound found rest moves lists frees (reclaims sound.reclaimed)) sound found
 
   less_sound : IsSound less
-  less_sound = sent-sound h m.store c max (conn_in h.conns c) (conn_in m.conns c).outgoing sound found rest moves lists frees (settles sound.settled)
+  less_sound = sent-sound h m.store c max (conn_in h.conns c) (conn_in m.conns c).outgoing sound found rest moves lists frees (reclaims sound.reclaimed)
 
   pub mid_sound : IsSound m
   mid_sound = subst IsSound (sym same) (summed less m.sums right less_sound)
@@ -139,11 +139,11 @@ module _ (h m l : KernelState) (c max : ℕ) (bytes : List ℕ) (sum : ℕ) (sou
   pub mid_there : lookup m.conns c ≢ None
   mid_there = subst (λ (k : KernelState). lookup k.conns c ≢ None) (sym same) (there-changed h.conns c (conn_in h.conns c) (record (conn_in h.conns c) { outgoing = (conn_in m.conns c).outgoing }) found)
 
-  module _ (settled : Leaves (λ s. machine.with_conn s c (machine.conn_at s c)) m l) where
+  module _ (reclaimed : Leaves (λ s. machine.with_conn s c (machine.conn_at s c)) m l) where
     both : Leaves (λ s. machine.with_conn s c (shorter max (machine.conn_at s c))) h (record l { sums = h.sums })
     both = conn_left h less (record l { sums = h.sums }) c (conn_in h.conns c) (shorter max) sound found
-        (sent_leaves h m.store c max (conn_in h.conns c) (conn_in m.conns c).outgoing sound found rest moves lists frees (settles sound.settled))
-        (sums_back (λ s. machine.with_conn s c (machine.conn_at s c)) less l m.sums less_sound (subst (λ (k : KernelState). Leaves (λ s. machine.with_conn s c (machine.conn_at s c)) k l) same settled))
+        (sent_leaves h m.store c max (conn_in h.conns c) (conn_in m.conns c).outgoing sound found rest moves lists frees (reclaims sound.reclaimed))
+        (sums_back (λ s. machine.with_conn s c (machine.conn_at s c)) less l m.sums less_sound (subst (λ (k : KernelState). Leaves (λ s. machine.with_conn s c (machine.conn_at s c)) k l) same reclaimed))
 
     unsummed : (f : Reading) → read_of f l ≡ read_of f (record l { sums = h.sums })
     unfolding read_of
@@ -158,7 +158,7 @@ module _ (h m l : KernelState) (c max : ℕ) (bytes : List ℕ) (sum : ℕ) (sou
       uses = uses;
       cache = both.cache;
       refused = tt;
-      sound = settled.sound;
+      sound = reclaimed.sound;
       stays = both.stays;
     }
 

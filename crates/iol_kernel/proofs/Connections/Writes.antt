@@ -19,7 +19,7 @@ use Rattle.iol_hold.specs.Places.{places, byte_len}
 use Rattle.iol_hold.specs.Texts.{bufs_of}
 use Rattle.iol_hold.specs.declared.slices.Slice.{Slice}
 use Rattle.iol_hold.proofs.AtPlaces.{read_pushed}
-use Rattle.iol_hold.proofs.EmptyPools.{all_settled_same}
+use Rattle.iol_hold.proofs.EmptyPools.{all_reclaimed_same}
 use Rattle.iol_hold.proofs.Moves.{shares_move}
 use Rattle.iol_pipe.specs.Queue.{fitting}
 use Rattle.iol_pipe.proofs.Texts.{readable_pushed}
@@ -90,7 +90,7 @@ module _ (h : KernelState) (d fd a c : ℕ) (from : List Slice) (sound : IsSound
     lists = ap (map pool_meant) shares.pools
 
     fuller-sound : IsSound (turned h k.store c (conn_in h.conns c) fuller sound there')
-    fuller-sound = turned-sound h k.store c (conn_in h.conns c) fuller sound there' counts (shares_move shares).stays (shares.tidy sound.tidy) ((shares_move shares).still sound.still) (all_settled_same h.store k.store shares.arena shares.pools sound.settled) lists (ap page_count shares.arena) good limit refl
+    fuller-sound = turned-sound h k.store c (conn_in h.conns c) fuller sound there' counts (shares_move shares).stays (shares.tidy sound.tidy) ((shares_move shares).still sound.still) (all_reclaimed_same h.store k.store shares.arena shares.pools sound.reclaimed) lists (ap page_count shares.arena) good limit refl
         (turned_fds h k.store c (conn_in h.conns c) fuller sound there' (λ open'. open'))
 
     fits : (f : Reading) → n ≡ (writing.iol_write (read_of f h) d fd a).answer

@@ -4,7 +4,7 @@ use Rattle.iol_core.specs.State.{State}
 use Rattle.iol_core.specs.declared.descriptors.Descriptor.{Descriptor}
 use Rattle.iol_core.specs.declared.descriptors.Descriptor.TheVariants as on
 use Rattle.iol_arena.specs.State.{page_count}
-use Rattle.iol_hold.specs.StoreState.{Stored, AllSettled}
+use Rattle.iol_hold.specs.StoreState.{Stored, AllReclaimed}
 use Rattle.iol_hold.specs.Moves.{Moves, SameLists}
 use Rattle.iol_hold.specs.declared.slices.Slice.{Slice}
 use Rattle.iol_sum.proofs.KeptSums.{IsRight-keeps}
@@ -27,7 +27,7 @@ use Rattle.iol_kernel.proofs.State.Views.{pools-view}
 pub record Recaches (s t : Stored) (c d : Cached) : Type 0 where
   pub moves : Moves s t (held c.files) (held d.files)
   pub lists : SameLists s t
-  pub settles : AllSettled s → AllSettled t
+  pub reclaims : AllReclaimed s → AllReclaimed t
   pub pages : page_count t.arena ≡ page_count s.arena
   pub files : length d.files ≡ length c.files
   pub pools : (f : ℕ) → (file_in d.files f).pool ≡ (file_in c.files f).pool
@@ -99,7 +99,7 @@ module _ (h : KernelState) (t : Stored) (d : Cached) (sound : IsSound h) (m : Re
         counted = recounted;
         tidy = m.moves.tidy sound.tidy;
         still = m.moves.still sound.still;
-        settled = m.settles sound.settled;
+        reclaimed = m.reclaims sound.reclaimed;
         limits = record { aggs = sound.limits.aggs; few = sound.limits.few; objects = with_files _ _ sound.limits.objects (all_apart t d.files m.sound.files) m.sound.few_files };
         pooled = repooled;
         sums = IsRight-keeps h.store.arena t.arena h.sums m.moves.stays.keeps sound.sums;

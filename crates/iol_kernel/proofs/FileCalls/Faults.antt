@@ -81,7 +81,7 @@ module _ (h : KernelState) (d : Cached) (x y : Disk) (r : Result Flushed Refusal
   pub flushes_one : FlushesOne x h q y next
   flushes_one = record {
     flushed = r;
-    told = sym is;
+    reported = sym is;
     flushes = m;
     counts = subst (λ (z : Result (Unit {0}) Refusal). FaultCounts x y z) is (flush_counted h.store h.cache d x y r m);
     same = refl;

@@ -12,7 +12,7 @@ use Rattle.iol_core.specs.declared.refusals.Refusal.TheVariants.{Memory}
 use Rattle.iol_back.specs.Disk.{Disk}
 use Rattle.iol_hold.specs.Moves.{Covers, Moves, SameLists}
 use Rattle.iol_hold.specs.Releases.{FreesOnly}
-use Rattle.iol_hold.specs.StoreState.{Stored, AllSettled}
+use Rattle.iol_hold.specs.StoreState.{Stored, AllReclaimed}
 use Rattle.iol_hold.specs.Places.{byte_len}
 use Rattle.iol_hold.specs.Texts.{bufs_of, text_of}
 use Rattle.iol_hold.proofs.ReadSlices.{bytes_of-labelled, length-text_of}
@@ -50,12 +50,12 @@ module _ {x : FileRead} {h : KernelState} (disk : Disk) (m : Stored) (c : Cached
   pub covers_read : Covers m (bufs_of xs)
   covers_read = covers_right m (cached.held c.files) (bufs_of xs) covers_all
 
-  module _ (after : Disk) (t : Stored) (moves : Moves m t (bufs_of xs) []) (lists : SameLists m t) (frees : FreesOnly m t) (settles : AllSettled m → AllSettled t) where
+  module _ (after : Disk) (t : Stored) (moves : Moves m t (bufs_of xs) []) (lists : SameLists m t) (frees : FreesOnly m t) (reclaims : AllReclaimed m → AllReclaimed t) where
     pub kept_released : cache.IsSound t c
     kept_released = sound_beside (bufs_of xs) [] c kept covers_all moves lists frees.count
 
     pub goes_released : Goes disk [] [] (holding_of h) (over t c)
-    goes_released = goes_trans disk [] (bufs_of xs) [] (holding_of h) (over m c) (over t c) goes (goes_store disk (bufs_of xs) [] m t c kept moves kept_released.covered lists settles frees.count)
+    goes_released = goes_trans disk [] (bufs_of xs) [] (holding_of h) (over m c) (over t c) goes (goes_store disk (bufs_of xs) [] m t c kept moves kept_released.covered lists reclaims frees.count)
 
     pub backed_released : IsBacked after (over m c) → IsBacked after (over t c)
     backed_released backed = record {

@@ -9,7 +9,7 @@ use Rattle.iol_core.specs.declared.descriptors.Descriptor.TheVariants as on
 use Rattle.iol_core.specs.declared.descriptors.Mode.{Mode}
 use Rattle.iol_core.specs.declared.limits.TheConstants.{MAX_FILES, MAX_FILE_BYTES}
 use Rattle.iol_core.specs.declared.refusals.Refusal.{Refusal}
-use Rattle.iol_back.specs.Disk.{Disk, length_told}
+use Rattle.iol_back.specs.Disk.{Disk, length_reported}
 use Rattle.iol_cache.specs.ReadResults.{IsEnd}
 use Rattle.iol_kernel.specs.FileLengths.{EndsAt, EndsOn, SeeksAt, SeeksOn, SeeksTo, is_next_long}
 use Rattle.iol_kernel.specs.FileReads.{held_by}
@@ -54,11 +54,11 @@ module _ (disk : Disk) (h : KernelState) (d fd : ℕ) where
 pub no_next : (disk : Disk) (h : KernelState) → MAX_FILES ≤ length h.files → false ≡ is_next_long disk h
 no_next disk h full =
     let b : nat_lt (length h.files) MAX_FILES ≡ false = grind (arith, nat_tests, full) in
-    sym (ap (λ (x : Bool). if x then nat_lt MAX_FILE_BYTES (length_told disk.told (length h.files + 1)) else false) b)
+    sym (ap (λ (x : Bool). if x then nat_lt MAX_FILE_BYTES (length_reported disk.reported (length h.files + 1)) else false) b)
 
-pub next_long : (disk : Disk) (h : KernelState) (n : ℕ) → length h.files < MAX_FILES → n ≡ length_told disk.told (length h.files + 1)
+pub next_long : (disk : Disk) (h : KernelState) (n : ℕ) → length h.files < MAX_FILES → n ≡ length_reported disk.reported (length h.files + 1)
     → nat_lt MAX_FILE_BYTES n ≡ is_next_long disk h
-next_long disk h n few told =
+next_long disk h n few reported =
     let b : nat_lt (length h.files) MAX_FILES ≡ true = grind (arith, nat_tests, few) in
-    ap (nat_lt MAX_FILE_BYTES) told
-    ∙ sym (ap (λ (x : Bool). if x then nat_lt MAX_FILE_BYTES (length_told disk.told (length h.files + 1)) else false) b)
+    ap (nat_lt MAX_FILE_BYTES) reported
+    ∙ sym (ap (λ (x : Bool). if x then nat_lt MAX_FILE_BYTES (length_reported disk.reported (length h.files + 1)) else false) b)

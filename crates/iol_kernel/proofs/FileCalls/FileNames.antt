@@ -185,7 +185,7 @@ module _ (h : KernelState) (name : List ℕ) (p : ℕ) (c : Cached) (sound : IsS
         counted = record { each = λ b. omega (arith, sound.counted.each b, ap (λ (fs : Files). tally b (held fs)) added, held-push b h.cache.files p) };
         tidy = sound.tidy;
         still = sound.still;
-        settled = sound.settled;
+        reclaimed = sound.reclaimed;
         limits = record { aggs = sound.limits.aggs; few = sound.limits.few; objects = with_files _ _ sound.limits.objects (subst (λ (fs : Files). Each IsFile fs) (sym added) (each-push IsFile h.cache.files (new_file p) sound.limits.objects.cached (record { apart = tt; short = omega arith }))) kept.few_files };
         pooled = record { few = sound.pooled.few; opened = sound.pooled.opened; files_open = λ n there. (kept.opened n there).is_open };
         sums = sound.sums;

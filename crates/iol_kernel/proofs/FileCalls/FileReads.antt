@@ -140,12 +140,12 @@ in_slot : (k : ℕ) (b : List ℕ) → get_or (replicate {A = List ℕ} k [] ++ 
 in_slot zero b = refl
 in_slot (suc k) b = in_slot k b
 
-abbrev told : (f at : ℕ) → List ℕ → List (List ℕ)
-told f at bytes = replicate {A = List ℕ} (f - 1) [] ++ (replicate at 0 ++ bytes) ∷ []
+abbrev reported : (f at : ℕ) → List ℕ → List (List ℕ)
+reported f at bytes = replicate {A = List ℕ} (f - 1) [] ++ (replicate at 0 ++ bytes) ∷ []
 
-told_there : (f at n : ℕ) (bytes : List ℕ) → 0 < f → length bytes ≤ n → take n (drop at (numbered_or (told f at bytes) f [])) ≡ bytes
-told_there f at n bytes some short =
-    let here : numbered_or (told f at bytes) f [] ≡ get_or (told f at bytes) (f - 1) [] = grind (arith, nat_tests, some) in
+reported_there : (f at n : ℕ) (bytes : List ℕ) → 0 < f → length bytes ≤ n → take n (drop at (numbered_or (reported f at bytes) f [])) ≡ bytes
+reported_there f at n bytes some short =
+    let here : numbered_or (reported f at bytes) f [] ≡ get_or (reported f at bytes) (f - 1) [] = grind (arith, nat_tests, some) in
     ap (λ b. take n (drop at b)) (here ∙ in_slot (f - 1) (replicate at 0 ++ bytes))
     ∙ ap (λ k. take n (drop k (replicate at 0 ++ bytes))) (sym (length-replicate at 0))
     ∙ ap (take n) (drop-append_seam (replicate at 0) bytes)
@@ -238,9 +238,9 @@ module _ {x : FileRead} {h : KernelState} (held : IsOpenAt h x) where
       pooled ∙ ap (λ p. labelled p (bytes_of t)) (sym (pool-with_slots slots h x.file held.is.sound.filed))
       ∙ ap (labelled (machine.file (with_slots slots h) x.file).pool) (sym bytes)
 
-  some_have : (bytes : List ℕ) → length bytes ≤ x.count → take x.count (drop x.at (machine.content (with_slots (told x.file x.at bytes) h) x.file)) ≡ bytes
+  some_have : (bytes : List ℕ) → length bytes ≤ x.count → take x.count (drop x.at (machine.content (with_slots (reported x.file x.at bytes) h) x.file)) ≡ bytes
   some_have bytes short =
-      ap (λ b. take x.count (drop x.at b)) (content-with_slots (told x.file x.at bytes) h x.file) ∙ told_there x.file x.at x.count bytes slot_here.0 short
+      ap (λ b. take x.count (drop x.at b)) (content-with_slots (reported x.file x.at bytes) h x.file) ∙ reported_there x.file x.at x.count bytes slot_here.0 short
 
   late_at : (slots : List (List ℕ)) (y : Refusal) → WantOfRoomOrFault (pool_read h x) x.file y → reading.read_late (with_slots slots h) (machine.descriptor (with_slots slots h) x.domain x.fd) y
   late_at slots y late =
@@ -364,10 +364,10 @@ module _ {x : FileRead} {h : KernelState} (disk after : Disk) (t : Stored) (c : 
 
     pub copied_serves : first (reading.read (machine_of [] h) x.domain x.fd x.count).refusals ≡ None → (IsBackedBy disk h → bytes ≡ bytes_read h.store disk.slots h.cache x.file x.at x.count) → Serves (λ s. reading.read s x.domain x.fd x.count) disk h (Ok bytes) after copied
     copied_serves passed given =
-        serve (λ s. reading.read s x.domain x.fd x.count) (Ok bytes) copied (told x.file x.at bytes)
+        serve (λ s. reading.read s x.domain x.fd x.count) (Ok bytes) copied (reported x.file x.at bytes)
         (λ b. machine-refilled disk [] on' t c sound_on goes kept on'.domains after.slots b (slots_same b.honest) ∙ ap (λ (slots : List (List ℕ)). with_slots slots copied) (own_moved (length bytes)))
         (λ b. copied_step own passed (own_have bytes (given b)))
-        (copied_step (told x.file x.at bytes) passed (some_have held bytes short))
+        (copied_step (reported x.file x.at bytes) passed (some_have held bytes short))
         refl refl refl (still_sound disk [] on' t c sound_on goes kept refl) goes.moves.stays
 
   -- Its bytes are the next aggregate.
@@ -408,10 +408,10 @@ module _ {x : FileRead} {h : KernelState} (disk after : Disk) (t : Stored) (c : 
     given_serves a number passed few readable text =
         let bytes : List ℕ = bytes_of (text_of t xs) in
         let long : length bytes ≤ x.count = omega (arith, short, length-map (text_of t xs) (λ b. b.0), length-text_of t xs) in
-        serve (λ s. reading.iol_read s x.domain x.fd x.count) (Ok a) given (told x.file x.at bytes)
+        serve (λ s. reading.iol_read s x.domain x.fd x.count) (Ok a) given (reported x.file x.at bytes)
         (λ b. machine-refilled disk (bufs_of xs) now t c now_sound goes kept (with_agg_in now.domains x.domain xs) after.slots b (slots_same b.honest) ∙ ap (λ (slots : List (List ℕ)). with_slots slots given) (own_moved (byte_len xs)))
         (λ b. given_step own a number passed (own_have bytes (ap bytes_of (text b) ∙ bytes_of-labelled (pool_read h x) (bytes_read h.store disk.slots h.cache x.file x.at x.count))))
-        (given_step (told x.file x.at bytes) a number passed (some_have held bytes long))
+        (given_step (reported x.file x.at bytes) a number passed (some_have held bytes long))
         refl refl refl (gained_sound disk (bufs_of xs) now t c now_sound goes kept x.domain xs refl live_on (few_on few) (omega (arith, fits)) readable) goes.moves.stays
 
     -- in a table that has it so

@@ -1,5 +1,5 @@
--- New bytes are placed in a file's pool and written over those of the file, and what was placed is released: the steps, one
--- after another.
+-- New bytes are placed in a file's pool and written over those of the file, and what was placed is released: the steps,
+-- one after another.
 use Rattle.std.proofs.Common.{inl, inr, ◌≡◌, ℕ, ◌<◌, ◌≤◌, ◌++◌, ◌^◌, List, [], length, map, refl, sym, ap, ◌∙◌, subst, arith, true}
 use Rattle.std.proofs.lemmas.Bool.{cases_lt}
 use Rattle.iol_core.specs.Text.{Text, bytes_of}
@@ -11,7 +11,7 @@ use Rattle.iol_back.specs.Disk.{overwritten}
 use Rattle.iol_hold.specs.Moves.{Covers, Moves, SameLists, pool_meant}
 use Rattle.iol_hold.specs.Places.{byte_len}
 use Rattle.iol_hold.specs.Releases.{FreesOnly}
-use Rattle.iol_hold.specs.StoreState.{Stored, AllSettled}
+use Rattle.iol_hold.specs.StoreState.{Stored, AllReclaimed}
 use Rattle.iol_hold.specs.Texts.{AllReadable, bufs_of, text_of}
 use Rattle.iol_hold.specs.declared.slices.Slice.{Slice}
 use Rattle.iol_hold.proofs.Counts.{tally-append, tally_none}
@@ -59,8 +59,8 @@ module _ (h : KernelState) (s : Stored) (xs : List Slice) (sound : IsSound h) (f
   still_covers moves = record { each = λ b. omega (arith, moves.counts.each b, filled_covers.each b, tally-append b (held c.files) (bufs_of xs)) }
 
   -- They are written, and then released.
-  module _ (t u : Stored) (d : Cached) (f : ℕ) (readable : AllReadable s xs) (moves : Moves s t (held h.cache.files) (held d.files)) (lists : SameLists s t) (settles : AllSettled s → AllSettled t) (filling : FillsLowest (pool_of_file h f) s t) (after : cache.IsSound t d) (mirrors : KeepsMirrors (record { store = s; cache = h.cache }) (record { store = t; cache = d }))
-      (gone : Moves t u (bufs_of xs) []) (lists' : SameLists t u) (frees : FreesOnly t u) (settles' : AllReadable t xs → AllSettled t → AllSettled u) where
+  module _ (t u : Stored) (d : Cached) (f : ℕ) (readable : AllReadable s xs) (moves : Moves s t (held h.cache.files) (held d.files)) (lists : SameLists s t) (reclaims : AllReclaimed s → AllReclaimed t) (filling : FillsLowest (pool_of_file h f) s t) (after : cache.IsSound t d) (mirrors : KeepsMirrors (record { store = s; cache = h.cache }) (record { store = t; cache = d }))
+      (gone : Moves t u (bufs_of xs) []) (lists' : SameLists t u) (frees : FreesOnly t u) (reclaims' : AllReadable t xs → AllReclaimed t → AllReclaimed u) where
     both_covers : Covers t (held d.files ++ bufs_of xs)
     both_covers = record { each = λ b. omega (arith, moves.counts.each b, filled_covers.each b, tally-append b (held c.files) (bufs_of xs), tally-append b (held d.files) (bufs_of xs)) }
 
@@ -76,8 +76,8 @@ module _ (h : KernelState) (s : Stored) (xs : List Slice) (sound : IsSound h) (f
     abbrev new : Holding
     new = record { store = u; cache = d }
 
-    pub through : SamePools mid put → (AllSettled h.store → AllSettled s) → Recaches h.store u h.cache d
-    through same settled = record {
+    pub through : SamePools mid put → (AllReclaimed h.store → AllReclaimed s) → Recaches h.store u h.cache d
+    through same reclaimed = record {
       moves = record {
         counts = record { each = λ b. omega (arith, fills.counts.each b, moves.counts.each b, gone.counts.each b, tally_none b) };
         stays = stays_trans (stays_trans fills.stays moves.stays) gone.stays;
@@ -85,7 +85,7 @@ module _ (h : KernelState) (s : Stored) (xs : List Slice) (sound : IsSound h) (f
         tidy = λ x. gone.tidy (moves.tidy (fills.tidy x));
       };
       lists = lists' ∙ lists ∙ ap (map pool_meant) pools;
-      settles = λ x. settles' (readable_stays xs moves.stays (still_covers moves) readable) (settles (settled x));
+      reclaims = λ x. reclaims' (readable_stays xs moves.stays (still_covers moves) readable) (reclaims (reclaimed x));
       pages = (keeps_pages_frees frees).count ∙ (pages_kept filling).count ∙ pages;
       files = same.0;
       pools = same.1;

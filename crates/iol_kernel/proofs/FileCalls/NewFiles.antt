@@ -13,7 +13,7 @@ use Rattle.iol_core.specs.declared.refusals.Refusal.TheVariants.{NoDomain, NoPoo
 use Rattle.iol_back.specs.Disk.{Disk, IfHonest, content}
 use Rattle.iol_hold.specs.StoreState.{Stored}
 use Rattle.iol_hold.proofs.AtPlaces.{keeps_bytes}
-use Rattle.iol_kernel.specs.Calls.{AddsFile, Names, TellsNext}
+use Rattle.iol_kernel.specs.Calls.{AddsFile, Names, ReportsNext}
 use Rattle.iol_kernel.specs.FileLengths.{AsksNext}
 use Rattle.iol_kernel.specs.KernelState.{KernelState, AreFiled, IsSound, read_of, machine_of}
 use Rattle.iol_kernel.specs.Readings.{Reading, bytes_over}
@@ -43,12 +43,12 @@ length-no_content f = elim (cases_eq f 0) [ inl k ↦ grind (arith, nat_tests, k
 long_is : (len : ℕ) → MAX_FILE_BYTES < len → nat_lt MAX_FILE_BYTES len ≡ true
 long_is len lt = grind (arith, nat_tests, lt)
 
-pub tells_next : (h : KernelState) (long : Bool) → AreFiled h.files h.cache.files → (long ≡ true → length h.files < MAX_FILES) → TellsNext h long
-tells_next h true filed few = record {
+pub reports_next : (h : KernelState) (long : Bool) → AreFiled h.files h.cache.files → (long ≡ true → length h.files < MAX_FILES) → ReportsNext h long
+reports_next h true filed few = record {
   stored = even MAX_FILES (MAX_FILE_BYTES + 1);
   is = λ f same. sym (ap (nat_lt MAX_FILE_BYTES) (next-length f h (even MAX_FILES (MAX_FILE_BYTES + 1)) filed (few refl) same ∙ length-even_content MAX_FILES (MAX_FILE_BYTES + 1) (length h.files + 1) (omega arith) (omega (arith, few refl))) ∙ long_is (MAX_FILE_BYTES + 1) (omega arith));
 }
-tells_next h false filed few = record {
+reports_next h false filed few = record {
   stored = [];
   is = λ f same. sym (ap (nat_lt MAX_FILE_BYTES) (elim (cases_lt (length h.files) MAX_FILES) [
     | inl k ↦ next-length f h [] filed k same ∙ length-no_content (length h.files + 1)
@@ -127,22 +127,22 @@ module _ (disk : Disk) (h : KernelState) (d p : ℕ) (name : List ℕ) {long : B
   here : (o : Option Refusal) → Comes o → IfHonest disk (first (m (machine_of disk.slots h)).refusals ≡ o)
   here o is i = is (bytes_over disk.slots h.store) (next.honest i (bytes_over disk.slots h.store) refl)
 
-  aside : (o : Option Refusal) → Comes o → first (m (machine_of next.told.stored h)).refusals ≡ o
-  aside o is = is (bytes_over next.told.stored h.store) (next.told.is (bytes_over next.told.stored h.store) refl)
+  aside : (o : Option Refusal) → Comes o → first (m (machine_of next.reported.stored h)).refusals ≡ o
+  aside o is = is (bytes_over next.reported.stored h.store) (next.reported.is (bytes_over next.reported.stored h.store) refl)
 
-  pub refused_told : (x : Refusal) → Comes (Some x) → ((q : ℕ) → x ≡ NoRoom q → ⊥) → Names disk m h (Err x) h
-  refused_told x is roomy = unnamed disk m h h x next.told.stored (λ i. refused_first m (machine_of disk.slots h) x (here (Some x) is i)) (refused_first m (machine_of next.told.stored h) x (aside (Some x) is)) roomy refl sound
+  pub refused_reported : (x : Refusal) → Comes (Some x) → ((q : ℕ) → x ≡ NoRoom q → ⊥) → Names disk m h (Err x) h
+  refused_reported x is roomy = unnamed disk m h h x next.reported.stored (λ i. refused_first m (machine_of disk.slots h) x (here (Some x) is i)) (refused_first m (machine_of next.reported.stored h) x (aside (Some x) is)) roomy refl sound
 
   -- and the late one
   pub refused_memory : (k : KernelState) → Comes None → k ≡ h → Names disk m h (Err Memory) k
-  refused_memory k is same = unnamed disk m h k Memory next.told.stored (λ i. refused_late m (machine_of disk.slots h) Memory (here None is i) tt) (refused_late m (machine_of next.told.stored h) Memory (aside None is) tt) (λ q e. cc e) same sound
+  refused_memory k is same = unnamed disk m h k Memory next.reported.stored (λ i. refused_late m (machine_of disk.slots h) Memory (here None is i) tt) (refused_late m (machine_of next.reported.stored h) Memory (aside None is) tt) (λ q e. cc e) same sound
 
   -- a file is there
   pub names : (k : KernelState) (n : ℕ) → Comes None → AddsFile m h n k → Names disk m h (Ok n) k
   names k n is one = record {
     step = λ i. stepped disk.slots (here None is i);
     backed = λ backed. one.backed disk (next_short disk h d p name sound.filed (here None is backed.honest)) backed;
-    beside = steps_beside m h k (Ok n) next.told.stored next.told.stored (stepped next.told.stored (aside None is));
+    beside = steps_beside m h k (Ok n) next.reported.stored next.reported.stored (stepped next.reported.stored (aside None is));
     places = one.after;
     store = one.store;
     roomy = λ q e. cc e;

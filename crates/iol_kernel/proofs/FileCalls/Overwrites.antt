@@ -18,7 +18,7 @@ use Rattle.iol_core.specs.declared.limits.TheConstants.{MAX_FILE_BYTES}
 use Rattle.iol_hold.specs.Moves.{Covers, Moves, SameLists}
 use Rattle.iol_hold.specs.Places.{byte_len}
 use Rattle.iol_hold.specs.Room.{pages_of}
-use Rattle.iol_hold.specs.StoreState.{Stored, AllSettled}
+use Rattle.iol_hold.specs.StoreState.{Stored, AllReclaimed}
 use Rattle.iol_hold.specs.Texts.{bufs_of, text_of}
 use Rattle.iol_hold.specs.declared.slices.Slice.{Slice}
 use Rattle.iol_hold.proofs.AtPlaces.{length-read}
@@ -120,7 +120,7 @@ agg_fits {h} {by} {fd} {a} {f} {at} {mode} {xs} may found =
     omega (arith, agg_short (machine_of [] h) by fd a (may.passed r) f at mode (may.held.from r), length_text-read_of r h by a, ap byte_len (slices_found h.domains by a xs found))
 
 module _ (h : KernelState) (t : Stored) (d : Cached) (by fd a f at : ℕ) (mode : Mode) (xs : List Slice) (may : MayWriteAgg by fd a (on.File f at mode) h) (found : Some xs ≡ agg_in h.domains by a)
-    (moves : Moves h.store t (held h.cache.files) (held d.files)) (lists : SameLists h.store t) (settles : AllSettled h.store → AllSettled t) (pages : FillsLowest (pool_of_file h f) h.store t) (after : cache.IsSound t d) (mirrors : KeepsMirrors (holding_of h) (record { store = t; cache = d })) where
+    (moves : Moves h.store t (held h.cache.files) (held d.files)) (lists : SameLists h.store t) (reclaims : AllReclaimed h.store → AllReclaimed t) (pages : FillsLowest (pool_of_file h f) h.store t) (after : cache.IsSound t d) (mirrors : KeepsMirrors (holding_of h) (record { store = t; cache = d })) where
   abbrev new : Holding
   new = record { store = t; cache = d }
 
@@ -140,7 +140,7 @@ module _ (h : KernelState) (t : Stored) (d : Cached) (by fd a f at : ℕ) (mode 
   same_source = slices_found h.domains by a xs found
 
   recaches : SamePools (holding_of h) new → Recaches h.store t h.cache d
-  recaches same = record { moves = moves; lists = lists; settles = settles; pages = (pages_kept pages).count; files = same.0; pools = same.1; sound = after }
+  recaches same = record { moves = moves; lists = lists; reclaims = reclaims; pages = (pages_kept pages).count; files = same.0; pools = same.1; sound = after }
 
   abbrev m : State → Meaning ℕ
   m s = writing.iol_write s by fd a

@@ -165,8 +165,8 @@ module _ (disk : Disk) (h : KernelState) (d fd f was len : ℕ) (mode : Mode) (h
   seek_beyond at lt = serves_where HasLength (λ s. calls.seek s d fd at) disk h h.domains (Err BadRange) (even MAX_FILES len)
       (λ slots has. refuses (calls.seek (with_slots slots h) d fd at) (with_slots slots h) BadRange (seek-tests at slots has ∙ beyond len at lt)) own some sound
 
-  pub length_told : Serves (λ s. calls.file_length s d fd) disk h (Ok len) disk h
-  length_told = serves_where HasLength (λ s. calls.file_length s d fd) disk h h.domains (Ok len) (even MAX_FILES len)
+  pub length_reported : Serves (λ s. calls.file_length s d fd) disk h (Ok len) disk h
+  length_reported = serves_where HasLength (λ s. calls.file_length s d fd) disk h h.domains (Ok len) (even MAX_FILES len)
       (λ slots has. (
         length-first (with_slots slots h) d fd true (Some (on.File f was mode)) (live-with_slots slots h d ∙ live) (descriptor-with_slots slots h d fd ∙ there),
         sym has ∙ ap (λ (o : Option Descriptor). length (machine.content (with_slots slots h) (on_file o))) (sym (descriptor-with_slots slots h d fd ∙ there)),

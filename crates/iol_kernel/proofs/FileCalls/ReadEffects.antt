@@ -20,7 +20,7 @@ use Rattle.iol_cache.specs.CacheState.{Cached, extents_in}
 use Rattle.iol_cache.specs.Evictions.{Holding}
 use Rattle.iol_cache.specs.KeptCover.{SameExtents}
 use Rattle.iol_cache.specs.PageChanges.{FillsLowest}
-use Rattle.iol_cache.specs.ReadResults.{FaultCounts, NoRoomToRead, ReadsFile, RefusesRead, RoomToRead, TellsFault, TellsRoom}
+use Rattle.iol_cache.specs.ReadResults.{FaultCounts, NoRoomToRead, ReadsFile, RefusesRead, RoomToRead, ReportsFault, ReportsRoom}
 use Rattle.iol_cache.specs.SharedBytes.{CountsBelow, places_over}
 use Rattle.iol_cache.specs.Weave.{places_read}
 use Rattle.iol_cache.proofs.Extents.KeptCover.{apart_of}
@@ -43,38 +43,38 @@ Domains = List (Domain (List Slice))
 
 -- A refusal tells the same of room and of failures, whatever the answer would have been.
 
-room_told : (A B : Type 0) (has lacks : Type 0) (y : Refusal) → TellsRoom {A = A} has lacks (Err y) → TellsRoom {A = B} has lacks (Err y)
-room_told A B has lacks (refusal.NoRoom p) h = h
-room_told A B has lacks (refusal.Fault f) h = h
-room_told A B has lacks y h = h
+room_reported : (A B : Type 0) (has lacks : Type 0) (y : Refusal) → ReportsRoom {A = A} has lacks (Err y) → ReportsRoom {A = B} has lacks (Err y)
+room_reported A B has lacks (refusal.NoRoom p) h = h
+room_reported A B has lacks (refusal.Fault f) h = h
+room_reported A B has lacks y h = h
 
-counts_told : (A B : Type 0) (old new : Disk) (y : Refusal) → FaultCounts {A = A} old new (Err y) → FaultCounts {A = B} old new (Err y)
-counts_told A B old new (refusal.Fault f) h = h
-counts_told A B old new y h = h
+counts_reported : (A B : Type 0) (old new : Disk) (y : Refusal) → FaultCounts {A = A} old new (Err y) → FaultCounts {A = B} old new (Err y)
+counts_reported A B old new (refusal.Fault f) h = h
+counts_reported A B old new y h = h
 
-pub fault_told : (A B : Type 0) (old new : Disk) (y : Refusal) → TellsFault {A = A} old new (Err y) → TellsFault {A = B} old new (Err y)
-fault_told A B old new y told = record { honest = told.honest; slots = told.slots; counts = counts_told A B old new y told.counts }
+pub fault_reported : (A B : Type 0) (old new : Disk) (y : Refusal) → ReportsFault {A = A} old new (Err y) → ReportsFault {A = B} old new (Err y)
+fault_reported A B old new y reported = record { honest = reported.honest; slots = reported.slots; counts = counts_reported A B old new y reported.counts }
 
 -- counts are far below what a count can be
 pub counts_few : (h : KernelState) → IsSound h → CountsBelow h.store 576460752303423488
 counts_few h sound = record { each = λ b. omega (arith, sound.counted.each b, all_few b h.domains (objects_of h) sound.limits) }
 
 -- a refusal before that tells nothing of room, and of no fault
-early_told : (A : Type 0) (has lacks : Type 0) (disk : Disk) (y : Refusal) → IsBeforeRoom y → TellsRoom {A = A} has lacks (Err y) × FaultCounts {A = A} disk disk (Err y)
-early_told A has lacks disk (refusal.NoRoom p) none = absurd none
-early_told A has lacks disk (refusal.Fault f) none = absurd none
-early_told A has lacks disk y before = (tt, refl)
+early_reported : (A : Type 0) (has lacks : Type 0) (disk : Disk) (y : Refusal) → IsBeforeRoom y → ReportsRoom {A = A} has lacks (Err y) × FaultCounts {A = A} disk disk (Err y)
+early_reported A has lacks disk (refusal.NoRoom p) none = absurd none
+early_reported A has lacks disk (refusal.Fault f) none = absurd none
+early_reported A has lacks disk y before = (tt, refl)
 
 -- a refusal that has changed nothing
 pub reads_nothing : {A : Type 0} (x : FileRead) (disk : Disk) (h k : KernelState) (y : Refusal) → k ≡ h → IsBeforeRoom y → ReadsFileAs {A = A} x disk h (Err y) disk k
 reads_nothing {A} x disk h k y same before =
-    let told = early_told A (RoomToRead x.file x.at x.count disk (holding_of h)) (NoRoomToRead x.file x.at x.count disk (holding_of h)) disk y before in
+    let reported = early_reported A (RoomToRead x.file x.at x.count disk (holding_of h)) (NoRoomToRead x.file x.at x.count disk (holding_of h)) disk y before in
     subst (λ (l : KernelState). ReadsFileAs {A = A} x disk h (Err y) disk l) (sym same) (record {
       keeps = keeps_same (pool_read h x) (LacksPagesToRead x.file x.at x.count disk (holding_of h)) h.cache h.cache refl;
       pages = fills_none (pool_read h x) (frees_none h.store h.store refl refl refl);
       lists = refl;
-      room = told.0;
-      fault = record { honest = refl; slots = λ i. refl; counts = told.1 };
+      room = reported.0;
+      fault = record { honest = refl; slots = λ i. refl; counts = reported.1 };
       same = refl;
       refused = refl;
       leaves = inl (before, refl, refl);
@@ -134,13 +134,13 @@ module _ {x : FileRead} {h : KernelState} (disk after : Disk) (t : Stored) (c : 
   abbrev lacks : Type 0
   lacks = NoRoomToRead x.file x.at x.count disk (holding_of h)
 
-  pub reads_refused : (A B : Type 0) (y : Refusal) (ds : Domains) → ds ≡ h.domains → RefusesRead x.file x.at x.count disk (holding_of h) (over t c) y → TellsRoom {A = A} has lacks (Err y) → TellsFault {A = A} disk after (Err y) → WantOfRoomOrFault (pool_read h x) x.file y → ReadsFileAs {A = B} x disk h (Err y) after (record h { store = t; domains = ds; cache = c })
+  pub reads_refused : (A B : Type 0) (y : Refusal) (ds : Domains) → ds ≡ h.domains → RefusesRead x.file x.at x.count disk (holding_of h) (over t c) y → ReportsRoom {A = A} has lacks (Err y) → ReportsFault {A = A} disk after (Err y) → WantOfRoomOrFault (pool_read h x) x.file y → ReadsFileAs {A = B} x disk h (Err y) after (record h { store = t; domains = ds; cache = c })
   reads_refused A B y ds kept refused room fault late = record {
     keeps = refused_unless x.file x.at x.count disk (holding_of h) (over t c) y (apart_of {h = holding_of h} (cache_sound h held.is.sound)) refused;
     pages = pages;
     lists = lists;
-    room = room_told A B has lacks y room;
-    fault = fault_told A B disk after y fault;
+    room = room_reported A B has lacks y room;
+    fault = fault_reported A B disk after y fault;
     same = refl;
     refused = kept;
     leaves = inr (late, refused);

@@ -144,7 +144,7 @@ module _ (disk : Disk) (given : List BufId) (h : KernelState) (t : Stored) (c : 
         counted = record { each = λ b. omega (arith, counts b, sound.counted.each b, uses b) };
         tidy = kept.tidy;
         still = kept.still;
-        settled = goes.settles sound.settled;
+        reclaimed = goes.reclaims sound.reclaimed;
         limits = record {
           aggs = small;
           few = few;

@@ -89,7 +89,7 @@ pub cleaned_recaches : (h : KernelState) (d : Cached) → KeepsParts h.cache d �
 cleaned_recaches h d m sound = record {
   moves = subst (Moves h.store h.store (held h.cache.files)) (sym (parts_kept h d m)) (record { counts = record { each = λ b. refl }; stays = stays_here h.store; still = λ x. x; tidy = λ x. x });
   lists = refl;
-  settles = λ x. x;
+  reclaims = λ x. x;
   pages = refl;
   files = m.files;
   pools = m.pools;
@@ -152,7 +152,7 @@ back_serves m h k d x y r sound parts after steps honest bytes stored was same =
 
 -- what is clean goes
 pub given_recaches : (h : KernelState) (new : Holding) → GivesUp (holding_of h) new → cache.IsSound new.store new.cache → Recaches h.store new.store h.cache new.cache
-given_recaches h new m sound = record { moves = m.moves; lists = m.lists; settles = m.settles; pages = (keeps_pages_frees m.frees).count; files = m.keeps.count; pools = m.keeps.pools; sound = sound }
+given_recaches h new m sound = record { moves = m.moves; lists = m.lists; reclaims = m.reclaims; pages = (keeps_pages_frees m.frees).count; files = m.keeps.count; pools = m.keeps.pools; sound = sound }
 
 pub given_serves : (m : State → Meaning (Unit {0})) (h k : KernelState) (new : Holding) (r : Result (Unit {0}) Refusal) → IsSound h → GivesUp (holding_of h) new → cache.IsSound new.store new.cache → ((stored : List (List ℕ)) → Step (m (machine_of stored h)) (machine_of stored h) r (machine_of stored h)) → k ≡ record h { store = new.store; cache = new.cache } → (disk : Disk) → Serves m disk h r disk k
 given_serves m h k new r sound gone after steps same disk =

@@ -197,7 +197,7 @@ module _ (h : KernelState) (t : Stored) (qs : Pipes) (p : ℕ) (x : Pipe (List S
 
   closed_pipe-sound : (end : Descriptor) → KeepsEnds end (objects_of h) (record (objects_of h) { pipes = less }) → all_ends_on end h.domains ≡ 0 → IsSound (record h { store = t; pipes = qs })
   closed_pipe-sound end keeps free = subst (λ (ys : Pipes). IsSound (record h { store = t; pipes = ys })) (sym set)
-      (moved-sound h.store (record h { store = t; pipes = less }) releases.moves.stays less_counted (releases.moves.tidy sound.tidy) (releases.moves.still sound.still) (releases.settles (queue_readable h p sound) sound.settled) sound.domains less_good
+      (moved-sound h.store (record h { store = t; pipes = less }) releases.moves.stays less_counted (releases.moves.tidy sound.tidy) (releases.moves.still sound.still) (releases.reclaims (queue_readable h p sound) sound.reclaimed) sound.domains less_good
       (all_ends_kept end (objects_of h) (record (objects_of h) { pipes = less }) keeps h.domains sound.fds free) sound.once less_limits (same_pooled h.store t h.conns h.cache.files releases.lists sound.pooled) sound.sums sound.filed sound.cached (keeps_pages_frees releases.frees).count)
 
   -- an end of it is closed

@@ -60,7 +60,7 @@ module _ (f : Reading) (h : KernelState) (x : Descriptor) where
   as_long q t n is len = len ∙ sym (ap length is ∙ length-read f.at q)
 
   pub first_of : KeepsPools f → (q : List Slice) (t : Text) (o : Option ℕ) → t ≡ read f q → o ≡ first_pool q → o ≡ pool_of_first t
-  first_of keeps q t o is told = told ∙ first_pool-read f.at keeps q ∙ ap pool_of_first (sym is)
+  first_of keeps q t o is reported = reported ∙ first_pool-read f.at keeps q ∙ ap pool_of_first (sym is)
 
 -- How many bytes fit into a queue.
 

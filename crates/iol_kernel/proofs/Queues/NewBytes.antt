@@ -17,7 +17,7 @@ use Rattle.iol_pool.specs.Pools.{Pool}
 use Rattle.iol_hold.specs.StoreState.{Stored}
 use Rattle.iol_hold.specs.Moves.{pool_meant}
 use Rattle.iol_hold.specs.Places.{byte_len}
-use Rattle.iol_hold.specs.Room.{TellsRoom, has_room}
+use Rattle.iol_hold.specs.Room.{ReportsRoom, has_room}
 use Rattle.iol_hold.specs.Texts.{text_of, AllReadable}
 use Rattle.iol_hold.specs.declared.slices.Slice.{Slice}
 use Rattle.iol_hold.proofs.AtPlaces.{read-append}
@@ -252,7 +252,7 @@ module _ (h : KernelState) (d fd p pool : ℕ) (bytes : List ℕ) (may : MayPut 
       some_filled : FillsQueue d fd pool bytes h (Ok n) filled
       some_filled = put_some h d fd (on.WriteEnd p) pool bytes may filled n waits (queue_at qs p).queue (λ f. count ∙ sym (counts f)) adds filled_each refl refl filled_sound
 
-    pub fills : (r : Result ℕ Refusal) → IfErr r (WantOfRoom pool) → IfOk r (AddsFitting h.store t waits (queue_at qs p).queue pool bytes) → OnOk r (qs ≡ with_queue_of h.pipes p qs) → TellsRoom (has_room h.store pool (fitting waits (length bytes))) r → OnErr r (filled ≡ h) → FillsQueue d fd pool bytes h r filled
+    pub fills : (r : Result ℕ Refusal) → IfErr r (WantOfRoom pool) → IfOk r (AddsFitting h.store t waits (queue_at qs p).queue pool bytes) → OnOk r (qs ≡ with_queue_of h.pipes p qs) → ReportsRoom (has_room h.store pool (fitting waits (length bytes))) r → OnErr r (filled ≡ h) → FillsQueue d fd pool bytes h r filled
     fills (Ok n) late adds pipes' room kept = some_filled n adds.taken adds.added pipes'
     fills (Err r) late adds pipes' room kept = put_none h d fd (on.WriteEnd p) pool bytes may filled r (fitting waits (length bytes)) (counts (bytes_over [] h.store)) late kept room.no_room
 

@@ -94,7 +94,7 @@ piped-sound h ds qs d sound live few domains' pipes' =
       counted = record { each = λ b. omega (arith, sound.counted.each b, uses-placed b h.pipes empty_pipe, tally_none b) };
       tidy = sound.tidy;
       still = sound.still;
-      settled = sound.settled;
+      reclaimed = sound.reclaimed;
       pooled = sound.pooled;
       sums = sound.sums;
       filed = sound.filed;

@@ -18,7 +18,7 @@ use Rattle.iol_hold.specs.Places.{places, byte_len}
 use Rattle.iol_hold.specs.Texts.{bufs_of, AllReadable}
 use Rattle.iol_hold.specs.declared.slices.Slice.{Slice}
 use Rattle.iol_hold.proofs.Counts.{tally-append}
-use Rattle.iol_hold.proofs.EmptyPools.{all_settled_same}
+use Rattle.iol_hold.proofs.EmptyPools.{all_reclaimed_same}
 use Rattle.iol_hold.proofs.Moves.{shares_move}
 use Rattle.iol_hold.proofs.ReadSlices.{readable_none, readable_rest}
 use Rattle.iol_pipe.specs.Queue.{may_see}
@@ -92,7 +92,7 @@ module _ (h : KernelState) (t : Stored) (qs : List (Option (Pipe (List Slice))))
 
   pub pushed-sound : IsSound (record h { store = t; pipes = qs })
   pushed-sound = subst (λ (ys : List (Option (Pipe (List Slice)))). IsSound (record h { store = t; pipes = ys })) (sym pipes')
-      (moved-sound h.store (record h { store = t; pipes = more }) (shares_move shares).stays more_counted (shares.tidy sound.tidy) ((shares_move shares).still sound.still) (all_settled_same h.store t shares.arena shares.pools sound.settled) sound.domains more_good
+      (moved-sound h.store (record h { store = t; pipes = more }) (shares_move shares).stays more_counted (shares.tidy sound.tidy) ((shares_move shares).still sound.still) (all_reclaimed_same h.store t shares.arena shares.pools sound.reclaimed) sound.domains more_good
       (each-weaker (λ (x : Domain (List Slice)). Each (IsOpenEnd (objects_of h)) x.fds) (λ (x : Domain (List Slice)). Each (IsOpenEnd (record (objects_of h) { pipes = more })) x.fds) h.domains (λ x e. ends_queued (objects_of h) p (queue_at qs p).queue there x.fds e) sound.fds) sound.once
       (queue_limits h p (queue_at qs p).queue sound short) (pools_pooled h.store t h.conns h.cache.files shares.pools sound.pooled) sound.sums sound.filed sound.cached (ap page_count shares.arena))
 
@@ -158,7 +158,7 @@ module _ (h : KernelState) (t : Stored) (ds : List (Domain (List Slice))) (qs : 
         let x : Domain (List Slice) = domain_in h.domains d in
         subst (λ (ys : List (Option (Pipe (List Slice)))). IsSound (record h { store = t; domains = ds; pipes = ys })) (sym pipes')
         (subst (λ (ys : List (Domain (List Slice))). IsSound (record h { store = t; domains = ys; pipes = less })) (sym takes.added)
-        (moved-sound h.store (record h { store = t; domains = given; pipes = less }) (shares_move takes.shares).stays taken_counted (takes.shares.tidy sound.tidy) ((shares_move takes.shares).still sound.still) (all_settled_same h.store t takes.shares.arena takes.shares.pools sound.settled) given_good less_good
+        (moved-sound h.store (record h { store = t; domains = given; pipes = less }) (shares_move takes.shares).stays taken_counted (takes.shares.tidy sound.tidy) ((shares_move takes.shares).still sound.still) (all_reclaimed_same h.store t takes.shares.arena takes.shares.pools sound.reclaimed) given_good less_good
         (fds_stay (record (objects_of h) { pipes = less }) h.domains d (record x { aggs = x.aggs ++ (x.next_agg, takes.slices) ∷ []; next_agg = x.next_agg + 1 })
         (each-weaker (λ (x : Domain (List Slice)). Each (IsOpenEnd (objects_of h)) x.fds) (λ (x : Domain (List Slice)). Each (IsOpenEnd (record (objects_of h) { pipes = less })) x.fds) h.domains (λ x e. ends_queued (objects_of h) p (queue_at qs p).queue there' x.fds e) sound.fds) refl)
         (once_same h.domains d (record x { aggs = x.aggs ++ (x.next_agg, takes.slices) ∷ []; next_agg = x.next_agg + 1 }) live refl sound.once)

@@ -12,7 +12,7 @@ use Rattle.iol_core.specs.Calls.Writes as writing
 use Rattle.iol_core.specs.declared.descriptors.Descriptor.{Descriptor}
 use Rattle.iol_core.specs.declared.descriptors.Descriptor.TheVariants as on
 use Rattle.iol_pool.specs.Pools.{Pool, names_in}
-use Rattle.iol_hold.specs.StoreState.{Stored, AllSettled}
+use Rattle.iol_hold.specs.StoreState.{Stored, AllReclaimed}
 use Rattle.iol_hold.specs.Layout as layout
 use Rattle.iol_hold.specs.Moves.{Moves, SameLists}
 use Rattle.iol_hold.specs.Places.{Place, places, byte_len}
@@ -101,9 +101,9 @@ text-queue s d n (on.ReadEnd p) no_file = refl
 text-queue s d n (on.WriteEnd p) no_file = refl
 text-queue s d n (on.Connection c) no_file = refl
 
-module _ (h : KernelState) (d n count : ℕ) (x : Descriptor) (queue : List Slice) (no_file : writing.is_file (Some x) ≡ false) (told : (f : Reading) → reading.unread (read_of f h) (Some x) ≡ read f queue) (counted : count ≡ length (seen h.store.pools d n queue)) where
+module _ (h : KernelState) (d n count : ℕ) (x : Descriptor) (queue : List Slice) (no_file : writing.is_file (Some x) ≡ false) (reported : (f : Reading) → reading.unread (read_of f h) (Some x) ≡ read f queue) (counted : count ≡ length (seen h.store.pools d n queue)) where
   text_read : (f : Reading) → reading.read_text (read_of f h) d (Some x) n ≡ admitted (machine.may_read (read_of f h) d) (take n (read f queue))
-  text_read f = text-queue (read_of f h) d n x no_file ∙ ap (λ (t : Text). admitted (machine.may_read (read_of f h) d) (take n t)) (told f)
+  text_read f = text-queue (read_of f h) d n x no_file ∙ ap (λ (t : Text). admitted (machine.may_read (read_of f h) d) (take n t)) (reported f)
 
   pub front_count : (f : Reading) → KeepsPools f → count ≡ length (reading.read_text (read_of f h) d (Some x) n)
   front_count f keeps = counted ∙ sym (ap length (text_read f) ∙ seen-count f keeps h d n queue)
@@ -120,7 +120,7 @@ module _ (h : KernelState) (d fd n count : ℕ) (x : Descriptor) (from : (f : Re
 -- The first bytes of what came in on a connection are taken off.
 
 module _ (h k : KernelState) (c count : ℕ) (sound : IsSound h) (open' : IsOpenConn (conn_in h.conns c)) (rest : places (conn_in k.conns c).incoming ≡ drop count (places (conn_in h.conns c).incoming)) (same : k ≡ record h { store = k.store; conns = changed h.conns c (record (conn_in h.conns c) { incoming = (conn_in k.conns c).incoming }) })
-    (moves : Moves h.store k.store (bufs_of (conn_in h.conns c).incoming) (bufs_of (conn_in k.conns c).incoming)) (lists : SameLists h.store k.store) (frees : FreesOnly h.store k.store) (settles : AllReadable h.store (conn_in h.conns c).incoming → AllSettled h.store → AllSettled k.store) where
+    (moves : Moves h.store k.store (bufs_of (conn_in h.conns c).incoming) (bufs_of (conn_in k.conns c).incoming)) (lists : SameLists h.store k.store) (frees : FreesOnly h.store k.store) (reclaims : AllReadable h.store (conn_in h.conns c).incoming → AllReclaimed h.store → AllReclaimed k.store) where
   abbrev x : Conn (List Slice)
   x = conn_in h.conns c
 
@@ -142,7 +142,7 @@ module _ (h k : KernelState) (c count : ℕ) (sound : IsSound h) (open' : IsOpen
   skip w = record w { incoming = drop count w.incoming }
 
   skipped : Leaves (λ s. record s { conns = changed s.conns c (skip (machine.conn_at s c)) }) h (turned h k.store c x y sound found)
-  skipped = turned_leaves h k.store c x y sound found (λ b. omega (arith, moves.counts.each b)) moves.stays (moves.tidy sound.tidy) (moves.still sound.still) (settles was.0 sound.settled) lists (keeps_pages_frees frees).count
+  skipped = turned_leaves h k.store c x y sound found (λ b. omega (arith, moves.counts.each b)) moves.stays (moves.tidy sound.tidy) (moves.still sound.still) (reclaims was.0 sound.reclaimed) lists (keeps_pages_frees frees).count
       (readable_rest (conn_in k.conns c).incoming x.incoming count rest was.0, was.1) limit refl (turned_fds h k.store c x y sound found (λ open'. open')) skip
       (λ f. ap (λ (u : Text). record (conn_view (read f) x) { incoming = u }) (sym (read_rest f.at (conn_in k.conns c).incoming x.incoming count rest))) (keeps_pages_frees frees)
 
@@ -165,7 +165,7 @@ left_true true b e = refl
 left_true false b e = absurd (cc e)
 
 module _ (h : KernelState) (t : Stored) (qs : List (Option (Pipe (List Slice)))) (p count : ℕ) (sound : IsSound h) (reading' : (queue_at h.pipes p).reading ≡ true) (rest : places (queue_at qs p).queue ≡ drop count (places (queue_at h.pipes p).queue)) (pipes' : qs ≡ with_queue_of h.pipes p qs)
-    (moves : Moves h.store t (bufs_of (queue_at h.pipes p).queue) (bufs_of (queue_at qs p).queue)) (lists : SameLists h.store t) (frees : FreesOnly h.store t) (settles : AllReadable h.store (queue_at h.pipes p).queue → AllSettled h.store → AllSettled t) where
+    (moves : Moves h.store t (bufs_of (queue_at h.pipes p).queue) (bufs_of (queue_at qs p).queue)) (lists : SameLists h.store t) (frees : FreesOnly h.store t) (reclaims : AllReadable h.store (queue_at h.pipes p).queue → AllReclaimed h.store → AllReclaimed t) where
   abbrev q : Pipe (List Slice)
   q = record (queue_at h.pipes p) { queue = (queue_at qs p).queue }
 
@@ -187,7 +187,7 @@ module _ (h : KernelState) (t : Stored) (qs : List (Option (Pipe (List Slice))))
 
   less_sound : IsSound (record h { store = t; pipes = less })
   less_sound = moved-sound h.store (record h { store = t; pipes = less }) moves.stays (record { each = λ b. omega (arith, sound.counted.each b, moves.counts.each b, uses-set_pipe b h.pipes p q there) })
-      (moves.tidy sound.tidy) (moves.still sound.still) (settles (queue_readable h p sound) sound.settled) sound.domains less_good
+      (moves.tidy sound.tidy) (moves.still sound.still) (reclaims (queue_readable h p sound) sound.reclaimed) sound.domains less_good
       (each-weaker (λ (z : Domain (List Slice)). Each (IsOpenEnd (objects_of h)) z.fds) (λ (z : Domain (List Slice)). Each (IsOpenEnd (record (objects_of h) { pipes = less })) z.fds) h.domains (λ z e. ends_queued (objects_of h) p (queue_at qs p).queue there z.fds e) sound.fds) sound.once
       (queue_limits h p (queue_at qs p).queue sound short) (same_pooled h.store t h.conns h.cache.files lists sound.pooled) sound.sums sound.filed sound.cached (keeps_pages_frees frees).count
 

@@ -13,7 +13,7 @@ use Rattle.iol_core.specs.Calls.Aggregates as aggs
 use Rattle.iol_core.specs.Calls.Descriptors as fds
 use Rattle.iol_core.specs.Calls.Pools as pools
 use Rattle.iol_pool.specs.Pools.{Pool, with_closed}
-use Rattle.iol_hold.specs.StoreState.{Stored, IsTidy, IsStill, AllSettled}
+use Rattle.iol_hold.specs.StoreState.{Stored, IsTidy, IsStill, AllReclaimed}
 use Rattle.iol_hold.specs.Moves.{Stays, Moves, SameLists, pool_meant}
 use Rattle.iol_hold.specs.Texts.{text_of, bufs_of, AllReadable}
 use Rattle.iol_hold.specs.declared.slices.Slice.{Slice}
@@ -65,7 +65,7 @@ grown-sound h ds sound is = subst (λ (ys : List (Domain (List Slice))). IsSound
   counted = record { each = λ b. omega (arith, sound.counted.each b, sum_by_push (domain_uses b) h.domains new_domain) };
   tidy = sound.tidy;
   still = sound.still;
-  settled = sound.settled;
+  reclaimed = sound.reclaimed;
   limits = record {
     aggs = each-push (λ (x : Domain (List Slice)). Each (λ e. byte_len e.1 ≤ MAX_AGGREGATE_BYTES) x.aggs) h.domains new_domain sound.limits.aggs tt;
     few = omega (arith, sound.limits.few, sum_by_push (λ (x : Domain (List Slice)). length x.aggs) h.domains new_domain);
@@ -116,9 +116,9 @@ leaves after h k reads sums cache stays pages e o sound = record {
   stays = stays;
 }
 
-pub moved-sound : (s : Stored) (k : KernelState) → Stays s k.store → IsCounted k.store k.domains (objects_of k) → IsTidy k.store → IsStill k.store.arena → AllSettled k.store → Each (IsDomainReadable s) k.domains → AreReadable s (objects_of k)
+pub moved-sound : (s : Stored) (k : KernelState) → Stays s k.store → IsCounted k.store k.domains (objects_of k) → IsTidy k.store → IsStill k.store.arena → AllReclaimed k.store → Each (IsDomainReadable s) k.domains → AreReadable s (objects_of k)
     → Each (λ (d : Domain (List Slice)). Each (IsOpenEnd (objects_of k)) d.fds) k.domains → IsOpenOnce k.domains → IsLimited k.domains (objects_of k) → ArePooled k.store.pools k.conns k.cache.files → IsRight s.arena k.sums → AreFiled k.files k.cache.files → IsCached s k.cache → page_count k.store.arena ≡ page_count s.arena → IsSound k
-moved-sound s k stays counted tidy still settled e o fds once limits pooled sums filed cached count = record {
+moved-sound s k stays counted tidy still reclaimed e o fds once limits pooled sums filed cached count = record {
   domains = domains_stay s k.store stays k.domains (objects_of k) (counted_held counted) e;
   objects = objects_stay s k.store stays k.domains (objects_of k) (counted_held counted) o;
   fds = fds;
@@ -126,7 +126,7 @@ moved-sound s k stays counted tidy still settled e o fds once limits pooled sums
   counted = counted;
   tidy = tidy;
   still = still;
-  settled = settled;
+  reclaimed = reclaimed;
   limits = limits;
   pooled = pooled;
   sums = IsRight-keeps s.arena k.store.arena k.sums stays.keeps sums;
@@ -198,9 +198,9 @@ module _ (h : KernelState) (t : Stored) (ds : List (Domain (List Slice))) (d : �
       ∙ ap (aggs.with_agg (machine_of stored h) d) adds.is_text
 
 -- a domain gets an aggregate of these slices
-pub gained-sound : (h : KernelState) (t : Stored) (ds : List (Domain (List Slice))) (d : ℕ) (xs : List Slice) → IsSound h → (domain_in h.domains d).live ≡ true → live_aggs_in h.domains < MAX_AGGREGATES → byte_len xs ≤ MAX_AGGREGATE_BYTES → AllReadable t xs → Moves h.store t [] (bufs_of xs) → AllSettled t → t.pools ≡ h.store.pools → page_count t.arena ≡ page_count h.store.arena
+pub gained-sound : (h : KernelState) (t : Stored) (ds : List (Domain (List Slice))) (d : ℕ) (xs : List Slice) → IsSound h → (domain_in h.domains d).live ≡ true → live_aggs_in h.domains < MAX_AGGREGATES → byte_len xs ≤ MAX_AGGREGATE_BYTES → AllReadable t xs → Moves h.store t [] (bufs_of xs) → AllReclaimed t → t.pools ≡ h.store.pools → page_count t.arena ≡ page_count h.store.arena
     → ds ≡ with_agg_in h.domains d xs → IsSound (record h { store = t; domains = ds })
-gained-sound h t ds d xs sound live few small readable moves settled pools count added =
+gained-sound h t ds d xs sound live few small readable moves reclaimed pools count added =
     let held = adds_held h.store t h.domains (objects_of h) xs sound.counted moves in
     let x : Domain (List Slice) = domain_in h.domains d in
     let still_pooled = pools_pooled h.store t h.conns h.cache.files pools sound.pooled in
@@ -212,7 +212,7 @@ gained-sound h t ds d xs sound live few small readable moves settled pools count
       counted = record { each = λ b. omega (arith, sound.counted.each b, moves.counts.each b, tally_none b, uses-with_agg b h.domains d xs live) };
       tidy = moves.tidy sound.tidy;
       still = moves.still sound.still;
-      settled = settled;
+      reclaimed = reclaimed;
       limits = limits_agg h.domains (objects_of h) d xs sound.limits live small few;
       pooled = still_pooled;
       sums = IsRight-keeps h.store.arena t.arena h.sums moves.stays.keeps sound.sums;
@@ -222,7 +222,7 @@ gained-sound h t ds d xs sound live few small readable moves settled pools count
 
 pub placed-sound : (h : KernelState) (t : Stored) (ds : List (Domain (List Slice))) (d : ℕ) (text : Text) (placed : List ℕ) → IsSound h → (domain_in h.domains d).live ≡ true → live_aggs_in h.domains < MAX_AGGREGATES → length text ≤ MAX_AGGREGATE_BYTES → AddsText h.store t h.domains ds d text placed → IsSound (record h { store = t; domains = ds })
 placed-sound h t ds d text placed sound live few small adds =
-    gained-sound h t ds d adds.slices sound live few (omega (arith, small, ap length adds.is_text, length-text_of t adds.slices)) adds.readable adds.moves (adds.settles sound.settled) adds.pools adds.pages.count adds.added
+    gained-sound h t ds d adds.slices sound live few (omega (arith, small, ap length adds.is_text, length-text_of t adds.slices)) adds.readable adds.moves (adds.reclaims sound.reclaimed) adds.pools adds.pages.count adds.added
 
 -- nothing else changes, whatever is read
 pub placed_alone : (h : KernelState) (t : Stored) (ds : List (Domain (List Slice))) (d pool n : ℕ) (text : Text) → IsSound h → AddsText h.store t h.domains ds d text (lowest_of h.store pool n) → MakesAgg d pool n h (record h { store = t; domains = ds })
@@ -238,7 +238,7 @@ placed_alone h t ds d pool n text sound adds = record {
 -- a domain gives an aggregate up
 
 module _ (h : KernelState) (t : Stored) (ds : List (Domain (List Slice))) (d a : ℕ) (xs : List Slice) (sound : IsSound h) (live : (domain_in h.domains d).live ≡ true) (found : Some xs ≡ agg_in h.domains d a)
-    (rest : ds ≡ without_agg_in h.domains d a) (moves : Moves h.store t (bufs_of xs) []) (lists : SameLists h.store t) (frees : FreesOnly h.store t) (settles : AllReadable h.store xs → AllSettled h.store → AllSettled t) where
+    (rest : ds ≡ without_agg_in h.domains d a) (moves : Moves h.store t (bufs_of xs) []) (lists : SameLists h.store t) (frees : FreesOnly h.store t) (reclaims : AllReadable h.store xs → AllReclaimed h.store → AllReclaimed t) where
   dropped_counted : IsCounted t (without_agg_in h.domains d a) (objects_of h)
   dropped_counted = record { each = λ b. omega (arith, sound.counted.each b, moves.counts.each b, tally_none b, uses-without_agg b h.domains d a xs live found) }
 
@@ -251,7 +251,7 @@ module _ (h : KernelState) (t : Stored) (ds : List (Domain (List Slice))) (d a :
 
   dropped-sound : IsSound (record h { store = t; domains = ds })
   dropped-sound = subst (λ (ys : List (Domain (List Slice))). IsSound (record h { store = t; domains = ys })) (sym rest)
-      (moved-sound h.store (record h { store = t; domains = without_agg_in h.domains d a }) moves.stays dropped_counted (moves.tidy sound.tidy) (moves.still sound.still) (settles (agg_readable h d a xs sound found) sound.settled) (drop_readable h d a sound) sound.objects
+      (moved-sound h.store (record h { store = t; domains = without_agg_in h.domains d a }) moves.stays dropped_counted (moves.tidy sound.tidy) (moves.still sound.still) (reclaims (agg_readable h d a xs sound found) sound.reclaimed) (drop_readable h d a sound) sound.objects
       (fds_stay (objects_of h) h.domains d _ sound.fds refl) (once_same h.domains d _ live refl sound.once) (limits_drop h.domains (objects_of h) d a xs sound.limits live found) (same_pooled h.store t h.conns h.cache.files lists sound.pooled) sound.sums sound.filed sound.cached (keeps_pages_frees frees).count)
 
   pub dropped : Leaves (λ s. aggs.without_agg s d a) h (record h { store = t; domains = ds })
@@ -259,12 +259,12 @@ module _ (h : KernelState) (t : Stored) (ds : List (Domain (List Slice))) (d a :
 
 -- pools come and go; nothing is placed and nothing given up
 
-module _ (h : KernelState) (t : Stored) (sound : IsSound h) (moves : Moves h.store t [] []) (settles : AllSettled h.store → AllSettled t) (pages : KeepsPages h.store t []) where
+module _ (h : KernelState) (t : Stored) (sound : IsSound h) (moves : Moves h.store t [] []) (reclaims : AllReclaimed h.store → AllReclaimed t) (pages : KeepsPages h.store t []) where
   unmoved_counted : IsCounted t h.domains (objects_of h)
   unmoved_counted = record { each = λ b. omega (arith, sound.counted.each b, moves.counts.each b, tally_none b) }
 
   unmoved-sound : ArePooled t.pools h.conns h.cache.files → IsSound (record h { store = t })
-  unmoved-sound pooled = moved-sound h.store (record h { store = t }) moves.stays unmoved_counted (moves.tidy sound.tidy) (moves.still sound.still) (settles sound.settled) sound.domains sound.objects sound.fds sound.once sound.limits pooled sound.sums sound.filed sound.cached pages.count
+  unmoved-sound pooled = moved-sound h.store (record h { store = t }) moves.stays unmoved_counted (moves.tidy sound.tidy) (moves.still sound.still) (reclaims sound.reclaimed) sound.domains sound.objects sound.fds sound.once sound.limits pooled sound.sums sound.filed sound.cached pages.count
 
   pooled-read : (list : List ℕ) → map pool_meant t.pools ≡ map pool_meant h.store.pools ++ record { domains = list; closed = false } ∷ [] → (f : Reading) → read_of f (record h { store = t }) ≡ record (read_of f h) { pools = (read_of f h).pools ++ record { domains = list; closed = false } ∷ [] }
   unfolding read_of

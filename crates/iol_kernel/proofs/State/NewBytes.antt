@@ -66,7 +66,7 @@ module _ (h : KernelState) (t : Stored) (old q : List Slice) (pool : ℕ) (bytes
       counted = counted;
       tidy = adds.moves.tidy sound.tidy;
       still = adds.moves.still sound.still;
-      settled = adds.settles sound.settled;
+      reclaimed = adds.reclaims sound.reclaimed;
       limits = limits;
       pooled = pooled;
       sums = IsRight-keeps h.store.arena t.arena h.sums adds.moves.stays.keeps sound.sums;

@@ -13,7 +13,7 @@ use Rattle.iol_arena.specs.declared.pages.PageKind.TheVariants.{Free}
 use Rattle.std.proofs.lemmas.List.{length-replicate}
 use Rattle.iol_arena.specs.declared.pages.Entry.{Entry}
 use Rattle.iol_pool.specs.Pools.{Pool}
-use Rattle.iol_hold.specs.StoreState.{Stored, count_in, count_of, IsTidy, IsStill, AllSettled}
+use Rattle.iol_hold.specs.StoreState.{Stored, count_in, count_of, IsTidy, IsStill, AllReclaimed}
 use Rattle.iol_hold.specs.declared.slices.Slice.{Slice}
 use Rattle.iol_sum.specs.Sums.{IsRight}
 use Rattle.iol_sock.specs.Connections.{Conn}
@@ -50,9 +50,9 @@ none_held : (s : Stored) (n : ℕ) → s.arena.entries ≡ replicate n no_entry 
 unfolding count_of
 none_held s n e b = ap (λ (x : Entry). count_in x (get_or s.counts b.page 0) b.generation) (ap (λ (es : List Entry). get_or es b.page no_entry) e ∙ every n b.page no_entry)
 
-pub new-sound : (h : KernelState) (n : ℕ) → h.domains ≡ new_domain ∷ [] → h.store.arena.entries ≡ replicate n no_entry → IsTidy h.store → AllSettled h.store → objects_of h ≡ no_objects → h.store.pools ≡ [] → IsRight h.store.arena h.sums → ((s : Stored) → page_count s.arena ≡ n → IsTidy s → IsStill s.arena → cache.IsSound s h.cache) → IsSound h
+pub new-sound : (h : KernelState) (n : ℕ) → h.domains ≡ new_domain ∷ [] → h.store.arena.entries ≡ replicate n no_entry → IsTidy h.store → AllReclaimed h.store → objects_of h ≡ no_objects → h.store.pools ≡ [] → IsRight h.store.arena h.sums → ((s : Stored) → page_count s.arena ≡ n → IsTidy s → IsStill s.arena → cache.IsSound s h.cache) → IsSound h
 unfolding IsCached
-new-sound h n domains' entries' tidy settled objects' pools' sums cached =
+new-sound h n domains' entries' tidy reclaimed objects' pools' sums cached =
     let free : (q : ℕ) → (get_or h.store.arena.entries q no_entry).kind ≡ Free = λ q. ap (λ (x : Entry). x.kind) (ap (λ (es : List Entry). get_or es q no_entry) entries' ∙ every n q no_entry) in
     let still : IsStill h.store.arena = record { each = λ q waits. cc (free q, waits) } in
     subst (λ (ds : List (Domain (List Slice))). IsSound (record h { domains = ds })) (sym domains')
@@ -64,7 +64,7 @@ new-sound h n domains' entries' tidy settled objects' pools' sums cached =
       counted = record { each = λ b. omega (arith, none_held h.store n entries' b, held-none b) };
       tidy = tidy;
       still = still;
-      settled = settled;
+      reclaimed = reclaimed;
       limits = record { aggs = (tt, tt); few = omega arith; objects = record { queues = tt; few_pipes = omega arith; conns = tt; few_conns = omega arith; rising = omega arith; last = omega arith; cached = tt; few_files = omega arith } };
       pooled = record { few = omega (arith, ap length pools'); opened = tt; files_open = λ n there. absurd (none_there {A = CachedFile} [] n refl there) };
       sums = sums;

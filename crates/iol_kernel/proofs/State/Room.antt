@@ -88,7 +88,7 @@ module _ (h : KernelState) (t : Stored) (c : Cached) (sound : IsSound h) (kept :
         counted = record { each = λ b. omega (arith, sound.counted.each b, gone.moves.counts.each b) };
         tidy = gone.moves.tidy sound.tidy;
         still = gone.moves.still sound.still;
-        settled = gone.settles sound.settled;
+        reclaimed = gone.reclaims sound.reclaimed;
         limits = record { aggs = sound.limits.aggs; few = sound.limits.few; objects = with_files _ _ sound.limits.objects (files_each IsFile c.files file_good) kept.few_files };
         pooled = record { few = pooled.few; opened = pooled.opened; files_open = λ n there. (kept.opened n there).is_open };
         sums = IsRight-keeps h.store.arena t.arena h.sums gone.moves.stays.keeps sound.sums;

@@ -235,7 +235,7 @@ sound_with h d x sound live same fds once = record {
   counted = record { each = λ b. omega (arith, sound.counted.each b, uses-same b h.domains d x live same) };
   tidy = sound.tidy;
   still = sound.still;
-  settled = sound.settled;
+  reclaimed = sound.reclaimed;
   limits = record {
     aggs = each-with_domain_in (λ (y : Domain (List Slice)). Each (λ e. byte_len e.1 ≤ MAX_AGGREGATE_BYTES) y.aggs) h.domains d x sound.limits.aggs (subst (λ (es : List (ℕ × List Slice)). Each (λ e. byte_len e.1 ≤ MAX_AGGREGATE_BYTES) es) (sym same) (aggs_small h d sound));
     few = omega (arith, sound.limits.few, sum-with_domain (λ (y : Domain (List Slice)). length y.aggs) h.domains d x live, ap length same);

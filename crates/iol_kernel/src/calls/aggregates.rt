@@ -3,7 +3,7 @@ ghost use Rattle.std.specs.Prelude.{◌≡◌, ℕ, true, IfOk, IfErr, Err};
 ghost use Rattle.iol_core.specs.Prelude.{is_live, domain};
 ghost use Rattle.iol_core.specs.Calls.Aggregates as calls;
 ghost use Rattle.iol_kernel.specs.Calls.{MayMake, RefusesShow};
-ghost use Rattle.iol_kernel.specs.Denials.{TellsBarred};
+ghost use Rattle.iol_kernel.specs.Denials.{ReportsBarred};
 ghost use Rattle.iol_kernel.specs.DomainAggregates.{HasAgg, MayCut, MayGive, MayJoin, MayReplace, MaySplit};
 ghost use Rattle.iol_kernel.specs.KernelState.{joined, IsSound};
 ghost use Rattle.iol_kernel.specs.LocatedParts.{Locates};
@@ -286,7 +286,7 @@ impl Kernel {
 
     /// The pool of the first byte of an aggregate that the receiver may not read.
     fn first_denied(&self, found: &Agg, to: DomainId) -> Option<PoolId>
-        ensures { TellsBarred (state_of self.now) to found.now result }
+        ensures { ReportsBarred (state_of self.now) to found.now result }
     {
         first_hidden(found.slices(), self.store.pools(), to)
     }

@@ -4,7 +4,7 @@ ghost use Rattle.iol_core.specs.State as state;
 ghost use Rattle.iol_core.specs.Prelude.{conn_at, is_numbered, lookup, taken, closed_on, freed, with_fds};
 ghost use Rattle.iol_core.specs.Calls.Descriptors as calls;
 ghost use Rattle.iol_kernel.specs.ClosedEnds.{Closes, IsLetGo};
-ghost use Rattle.iol_kernel.specs.Denials.{TellsDenied};
+ghost use Rattle.iol_kernel.specs.Denials.{ReportsDenied};
 ghost use Rattle.iol_kernel.specs.KernelState.{objects_of, IsOpenEnd, IsSound};
 ghost use Rattle.iol_kernel.specs.NewDescriptors.{MayAccept, MayGiveFd, MayPipe};
 ghost use Rattle.iol_kernel.specs.Readings.{Reading};
@@ -79,7 +79,7 @@ impl Kernel {
     /// may not.
     fn denied_pool(&self, to: DomainId, given: Descriptor) -> Option<PoolId>
         requires { IsOpenEnd (objects_of (state_of self.now)) (Some given) }
-        ensures { TellsDenied (state_of self.now) to (λ s. calls.needed_pool s (Some given)) result }
+        ensures { ReportsDenied (state_of self.now) to (λ s. calls.needed_pool s (Some given)) result }
     {
         match given {
             Descriptor::Connection { conn } => self.hidden_pool(to, conn),
@@ -91,7 +91,7 @@ impl Kernel {
     /// The pool of a connection, if a domain may not read it.
     fn hidden_pool(&self, to: DomainId, conn: ConnId) -> Option<PoolId>
         requires { lookup (state_of self.now).conns conn ≢ None }
-        ensures { TellsDenied (state_of self.now) to (λ s. Some (conn_at s conn).pool) result }
+        ensures { ReportsDenied (state_of self.now) to (λ s. Some (conn_at s conn).pool) result }
     {
         let pool = self.conns.get(conn)?.pool();
         if self.may_read(to, pool) {
@@ -103,7 +103,7 @@ impl Kernel {
     /// The pool of a file, if a domain may not read it.
     pub(crate) fn hidden_file(&self, to: DomainId, file: FileId) -> Option<PoolId>
         requires { is_numbered (state_of self.now).files file ≡ true }
-        ensures { TellsDenied (state_of self.now) to (λ s. Some (state.file s file).pool) result }
+        ensures { ReportsDenied (state_of self.now) to (λ s. Some (state.file s file).pool) result }
     {
         let pool = self.file_pool(file);
         if self.may_read(to, pool) {
@@ -176,7 +176,7 @@ impl Kernel {
         ensures { Closes (Descriptor.Connection conn) (state_of self.old) (state_of self.new) }
     {
         self.conns.close(&mut self.store, conn);
-        self.settle(conn);
+        self.reclaim(conn);
     }
 
     /// Accepts the first waiting connection whose pool the domain may read, under the domain's

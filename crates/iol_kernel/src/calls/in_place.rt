@@ -103,7 +103,7 @@ impl Kernel {
         if drained.taken == 0 {
             return drained;
         }
-        self.settle(conn);
+        self.reclaim(conn);
         drained
     }
 
@@ -142,7 +142,7 @@ impl Kernel {
         if sent.taken == 0 {
             return sent;
         }
-        self.settle(conn);
+        self.reclaim(conn);
         sent
     }
 }

@@ -2,10 +2,10 @@
 ghost use Rattle.std.specs.Prelude.{◌≡◌, ◌≢◌, ℕ, length, None, Err};
 ghost use Rattle.iol_core.specs.Prelude.{conn_at, with_conn, lookup, lacks_conn};
 ghost use Rattle.iol_core.specs.Calls.Outside as calls;
-ghost use Rattle.iol_kernel.specs.Calls.{MayArrive, told};
+ghost use Rattle.iol_kernel.specs.Calls.{MayArrive, reported};
 ghost use Rattle.iol_kernel.specs.KernelState.{IsSound};
 ghost use Rattle.iol_kernel.specs.NewBytes.{FillsConn, TakesIncoming};
-ghost use Rattle.iol_kernel.specs.Outside.{HasConn, MayConnect, Settles, TestsArrival};
+ghost use Rattle.iol_kernel.specs.Outside.{HasConn, MayConnect, Reclaims, TestsArrival};
 ghost use Rattle.iol_kernel.specs.Readings.{Reading};
 
 use crate::kernel::Kernel;
@@ -98,14 +98,14 @@ impl Kernel {
             self.new }
     {
         self.conns.peer_closed(&mut self.store, conn, how);
-        self.settle(conn);
+        self.reclaim(conn);
     }
 
     /// Removes a connection that is over, and releases its buffers.
-    pub(crate) fn settle(&mut self, conn: ConnId)
+    pub(crate) fn reclaim(&mut self, conn: ConnId)
         requires sound { IsSound (state_of self.old) }
         requires there { lookup (state_of self.old).conns conn ≢ None }
-        ensures { Settles conn (state_of self.old) (state_of self.new) }
+        ensures { Reclaims conn (state_of self.old) (state_of self.new) }
     {
         let Some(found) = self.conns.get(conn) else {
             unreachable!()
@@ -172,7 +172,7 @@ impl Kernel {
     #[tactic(auto, using(crate::proofs::State::Stay::stay_rules))]
     pub fn transmit(&mut self, conn: ConnId, max: u32) -> Result<Segment, Refusal>
         requires { IsSound (state_of self.old) }
-        ensures { Transmits conn max self.old (told result) self.new }
+        ensures { Transmits conn max self.old (reported result) self.new }
     {
         if self.lacks_conn(conn) {
             return Err(Refusal::BadFd);
@@ -183,12 +183,12 @@ impl Kernel {
     /// Sends the first bytes of a connection that exists, and removes the connection if it is over.
     fn send(&mut self, conn: ConnId, max: u32) -> Result<Segment, Refusal>
         requires { HasConn (state_of self.old) conn }
-        ensures { Transmits conn max self.old (told result) self.new }
+        ensures { Transmits conn max self.old (reported result) self.new }
     {
         let segment = self
             .conns
             .segment(self.alloc, &mut self.store, conn, &mut self.sums, max)?;
-        self.settle(conn);
+        self.reclaim(conn);
         Ok(segment)
     }
 }

@@ -2,7 +2,7 @@
 ghost use Rattle.iol_core.specs.Calls.Files as calls;
 ghost use Rattle.iol_kernel.specs.FileLengths.{FindsFile, HasFile, IsLengthOf, SeeksAt};
 ghost use Rattle.iol_kernel.specs.KernelState.{IsSound};
-ghost use Rattle.iol_kernel.specs.OpenFiles.{TellsLength};
+ghost use Rattle.iol_kernel.specs.OpenFiles.{ReportsLength};
 
 use crate::kernel::Kernel;
 use crate::open_file::OpenFile;
@@ -48,7 +48,7 @@ impl Kernel {
     /// where a read of the file would end now.
     pub fn file_length<B: Backing>(&self, backing: &B, by: DomainId, fd: Fd) -> Result<u32, Refusal>
         requires { IsSound (state_of self.now) }
-        ensures { TellsLength by fd (B.disk backing.now) (state_of self.now) result }
+        ensures { ReportsLength by fd (B.disk backing.now) (state_of self.now) result }
     {
         let found = match self.find_open(by, fd) {
             Ok(found) => found,

@@ -28,7 +28,7 @@ use Rattle.iol_core.proofs.Lookups.{numbered_or-with}
 use Rattle.iol_core.proofs.TestedLists.{passed, when-none}
 use Rattle.iol_core.proofs.Positions.{placed_new, placed_step}
 use Rattle.iol_laws.proofs.Runs.{run_keeps}
-use Rattle.iol_laws.specs.Caller.{lent_at}
+use Rattle.iol_laws.specs.Caller.{readable_at}
 use Rattle.iol_laws.specs.Lengths.{AreShort}
 use Rattle.iol_laws.proofs.Frame.Files.{files_written, store_meant}
 use Rattle.iol_laws.proofs.Numbers.{text-of}
@@ -157,8 +157,8 @@ short_new slots = record {
 pub short_reached : (slots : List (List ℕ)) (t : State) (es : List Event) (rs : List Reply) → MAX_FILES ≤ length slots → Run (new_state slots) es rs t → AreShort t
 short_reached slots t es rs all run = (run_keeps (λ s. ArePlaced s × AreShort s) (λ s t e r has step. (placed_step s t e r has.0 step, short_step s t e r has.0 has.1 step)) (new_state slots) t es rs (placed_new slots all, short_new slots) run).1
 
-pub short_lent : (s : State) (d a : ℕ) (bytes : List ℕ) → AreShort s → lent_at s d a ≡ Some bytes → length bytes ≤ MAX_AGGREGATE_BYTES
-short_lent s d a bytes short has =
+pub short_readable : (s : State) (d a : ℕ) (bytes : List ℕ) → AreShort s → readable_at s d a ≡ Some bytes → length bytes ≤ MAX_AGGREGATE_BYTES
+short_readable s d a bytes short has =
     let same = sym (length-bytes (text s d a)) ∙ ap (λ (l : List ℕ). length l) (text-of s d a bytes has) in
     let few = is-short (text s d a) (text-fits s d a short.aggs) in
     omega (arith, same, few)

@@ -25,10 +25,10 @@ use Rattle.iol_core.specs.declared.events.Reply.TheVariants as reply
 use Rattle.iol_core.proofs.Lookups.{domain-same}
 use Rattle.iol_laws.specs.Order.{IsOrderly}
 use Rattle.iol_laws.specs.Caller.{WritesConn, WritesPipe}
-use Rattle.iol_laws.specs.CallerCopies.{SameLent, CopiesFile, CopiesConn, CopiesPipe}
+use Rattle.iol_laws.specs.CallerCopies.{SameReadable, CopiesFile, CopiesConn, CopiesPipe}
 use Rattle.iol_laws.specs.CallerFiles.{WritesFile, laid_over}
 use Rattle.iol_laws.proofs.Caller.Descriptors.{puts_conn}
-use Rattle.iol_laws.proofs.Caller.FileBytes.{file-left, refused-write, rough-late, wrote, write-left}
+use Rattle.iol_laws.proofs.Caller.FileBytes.{file-left, refused-write, resource_failure-late, wrote, write-left}
 use Rattle.iol_laws.proofs.Caller.Files.{moved-fd}
 use Rattle.iol_laws.proofs.Caller.Pipes.{puts_pipe}
 use Rattle.iol_laws.proofs.Caller.Queues.{copy_passes, front, takes_front, wrote_bytes}
@@ -42,9 +42,9 @@ use Rattle.iol_laws.proofs.Texts.{bytes-labelled, length-labelled}
 use Rattle.iol_laws.proofs.Streams.WaitingConn.{opened-conn}
 
 -- the bytes of a reply
-abbrev told : Reply → List ℕ
-told (reply.Bytes bytes) = bytes
-told r = []
+abbrev reported : Reply → List ℕ
+reported (reply.Bytes bytes) = bytes
+reported r = []
 
 -- Writing.
 
@@ -102,8 +102,8 @@ does_copy_to_file s t d fd f at mode bytes r placed live writes is step = (let e
 
 -- Reading.
 
-same_lent : (s t : State) (d : ℕ) → (domain t d).aggs ≡ (domain s d).aggs → SameLent s d t
-same_lent s t d same a = ap (λ (l : List (ℕ × Text)). option_map bytes_of (lookup l a)) same
+same_readable : (s t : State) (d : ℕ) → (domain t d).aggs ≡ (domain s d).aggs → SameReadable s d t
+same_readable s t d same a = ap (λ (l : List (ℕ × Text)). option_map bytes_of (lookup l a)) same
 
 pub does_copy_from_file : (s t : State) (d fd f at n : ℕ) (mode : Mode) (r : Reply) → is_live s d ≡ true → may_read s d (file s f).pool ≡ true → reading.reads mode ≡ true → descriptor s d fd ≡ Some (on.File f at mode) → StepsTo s (event.Call d (call.Read fd n)) r t → CopiesFile s d fd f at mode (take n (drop at (content s f))) r t
 does_copy_from_file s t d fd f at n mode (reply.Bytes found) live may reads is step =
@@ -113,12 +113,12 @@ does_copy_from_file s t d fd f at n mode (reply.Bytes found) live may reads is s
     let same : t ≡ fds.with_descriptor s d fd (Some y) = step.2 ∙ ap (λ o. reading.read_on s d fd o (length (reading.read_text s d o n))) is in
     let dom : domain t d ≡ record (domain s d) { fds = slice_set (domain s d).fds fd (Some y) } = ap (λ u. domain u d) same ∙ domain-with_same s d (record (domain s d) { fds = slice_set (domain s d).fds fd (Some y) }) live in
     record {
-      found_is = ap told step.1 ∙ (ap (λ o. bytes_of (reading.read_text s d o n)) is ∙ bytes-labelled p bytes);
-      goes_on = ap (λ u. descriptor u d fd) same ∙ (moved-fd s d fd (on.File f at mode) y live is ∙ ap (λ k. Some (on.File f (at + k) mode)) (length-labelled p bytes));
-      lent = same_lent s t d (ap (λ (z : Domain Text). z.aggs) dom);
+      found_is = ap reported step.1 ∙ (ap (λ o. bytes_of (reading.read_text s d o n)) is ∙ bytes-labelled p bytes);
+      proceeds = ap (λ u. descriptor u d fd) same ∙ (moved-fd s d fd (on.File f at mode) y live is ∙ ap (λ k. Some (on.File f (at + k) mode)) (length-labelled p bytes));
+      readable = same_readable s t d (ap (λ (z : Domain Text). z.aggs) dom);
     }
 does_copy_from_file s t d fd f at n mode (reply.Refused x) live may reads is step =
-    (rough-late s f at mode x (subst (λ o. MatchOption o (reading.read_late s (Some (on.File f at mode)) x) (λ y. x ≡ y)) left (subst (λ o. MatchOption (first (reading.read s d fd n).refusals) (reading.read_late s o x) (λ y. x ≡ y)) is step.0)), step.1)
+    (resource_failure-late s f at mode x (subst (λ o. MatchOption o (reading.read_late s (Some (on.File f at mode)) x) (λ y. x ≡ y)) left (subst (λ o. MatchOption (first (reading.read s d fd n).refusals) (reading.read_late s o x) (λ y. x ≡ y)) is step.0)), step.1)
   where
     left : first (reading.read s d fd n).refusals ≡ None
     left = past-live s d _ live
@@ -137,11 +137,11 @@ does_copy_from_conn s t d fd c n (reply.Bytes found) order is step =
     record {
       text = front (may_read s d) n inc;
       incoming = x.incoming;
-      found_is = ap told step.1 ∙ ap (λ o. bytes_of (reading.read_text s d o n)) is;
+      found_is = ap reported step.1 ∙ ap (λ o. bytes_of (reading.read_text s d o n)) is;
       was = taken.was;
       most = refl;
       conn = ap (λ u. conn_at u c) same ∙ conn-with_same s c x both.1 (not-over x both.0 both.1);
-      lent = same_lent s t d (ap (λ u. (domain u d).aggs) same ∙ ap (λ (z : Domain Text). z.aggs) (domain-same s (with_conn s c x) d (domains-with_conn s c x)));
+      readable = same_readable s t d (ap (λ u. (domain u d).aggs) same ∙ ap (λ (z : Domain Text). z.aggs) (domain-same s (with_conn s c x) d (domains-with_conn s c x)));
       ended = taken.ended;
     }
 does_copy_from_conn s t d fd c n (reply.Refused x) order is step = step.1
@@ -158,11 +158,11 @@ does_copy_from_pipe s t d fd p n (reply.Bytes found) order is step =
     record {
       text = front (may_read s d) n q;
       rest = x.queue;
-      found_is = ap told step.1 ∙ ap (λ o. bytes_of (reading.read_text s d o n)) is;
+      found_is = ap reported step.1 ∙ ap (λ o. bytes_of (reading.read_text s d o n)) is;
       was = taken.was;
       most = refl;
       pipe = ap (λ u. pipe_at u p) same ∙ pipe-with_same s p x on_yet on_yet;
-      lent = same_lent s t d (ap (λ u. (domain u d).aggs) same ∙ ap (λ (z : Domain Text). z.aggs) (domain-same s (with_pipe s p x) d (domains-with_pipe s p x)));
+      readable = same_readable s t d (ap (λ u. (domain u d).aggs) same ∙ ap (λ (z : Domain Text). z.aggs) (domain-same s (with_pipe s p x) d (domains-with_pipe s p x)));
       ended = taken.ended;
     }
 does_copy_from_pipe s t d fd p n (reply.Refused x) order is step = step.1

@@ -18,7 +18,7 @@ use Rattle.iol_core.specs.declared.events.Reply.TheVariants as reply
 use Rattle.iol_core.proofs.Lookups.{domain-same}
 use Rattle.iol_core.proofs.TestedLists.{passed, when-none}
 use Rattle.iol_laws.specs.Order.{IsOrderly}
-use Rattle.iol_laws.specs.Caller.{lent_at, Puts, ReadsConn, WritesConn, Closes, ClosesConn, Accepts}
+use Rattle.iol_laws.specs.Caller.{readable_at, Puts, ReadsConn, WritesConn, Closes, ClosesConn, Accepts}
 use Rattle.iol_laws.proofs.Caller.Queues.{FitsIn, fits_in, front, read_passes, takes_front, wrote_agg}
 use Rattle.iol_laws.proofs.Connections.{conn-remains, conn-with_same, conns-with_agg, conns-with_fds, conns_conn, not-over}
 use Rattle.iol_laws.proofs.Domains.{domain-with_same, domains-closed_on, domains-with_conn, live-first}
@@ -35,7 +35,7 @@ puts_conn s t d fd c bytes k x order is fits takes same =
     let y : Connection = record (conn_at s c) { outgoing = (conn_at s c).outgoing ++ x } in
     record { text = x; within = fits.within; text_is = fits.text_is; most = fits.most; takes = takes; conn = ap (λ u. conn_at u c) same ∙ conn-with_same s c y both.1 (not-over y both.0 both.1) }
 
-pub does_write_conn : (s t : State) (d fd c a : ℕ) (bytes : List ℕ) (r : Reply) → IsOrderly s → descriptor s d fd ≡ Some (on.Connection c) → lent_at s d a ≡ Some bytes → StepsTo s (event.Call d (call.IolWrite fd a)) r t → WritesConn s c bytes r t
+pub does_write_conn : (s t : State) (d fd c a : ℕ) (bytes : List ℕ) (r : Reply) → IsOrderly s → descriptor s d fd ≡ Some (on.Connection c) → readable_at s d a ≡ Some bytes → StepsTo s (event.Call d (call.IolWrite fd a)) r t → WritesConn s c bytes r t
 does_write_conn s t d fd c a bytes (reply.Count k) order is has step =
     let wrote = wrote_agg s t d fd k _ is a step in
     puts_conn s t d fd c bytes k (take k (text s d a)) order is (fits_in (text s d a) bytes (MAX_QUEUE_BYTES - length (conn_at s c).outgoing) k (text-of s d a bytes has) wrote.0) wrote.2 wrote.1
@@ -55,7 +55,7 @@ does_read_conn s t d fd c n (reply.Agg a) order is step =
     record {
       text = front (may_read s d) n inc;
       incoming = x.incoming;
-      lends = got.0;
+      is_readable = got.0;
       new = got.1;
       was = taken.was;
       most = refl;

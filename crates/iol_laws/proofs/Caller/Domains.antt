@@ -25,7 +25,7 @@ use Rattle.iol_core.specs.declared.events.Reply.TheVariants as reply
 use Rattle.iol_core.proofs.Lookups.{domain-same, numbered_or-with}
 use Rattle.iol_core.proofs.TestedLists.{passed, when-none, when-not}
 use Rattle.iol_laws.specs.Order.{IsOrderly}
-use Rattle.iol_laws.specs.Caller.{is_rough}
+use Rattle.iol_laws.specs.Caller.{is_resource_failure}
 use Rattle.iol_laws.specs.CallerDomains.{MakesDomain, Exits, MakesPool, ClosesPool, Admits, SetsPool}
 use Rattle.iol_laws.proofs.Connections.{conns_same}
 use Rattle.iol_laws.proofs.Domains.{domain-with_other, domain-with_same, domains-all_closed, live-first}
@@ -71,8 +71,8 @@ does_start s t d (reply.Domain n) live step =
     }
 does_start s t d (reply.Refused x) live step = (by (nat_le MAX_DOMAINS (length s.domains)) x (subst (λ o. MatchOption o (WantOfMemory x) (λ y. x ≡ y)) (past-live s d _ live) step.0), step.1)
   where
-    by : (b : Bool) (x : Refusal) → MatchOption (first ((refuse.TooMany when b) ∷ [])) (WantOfMemory x) (λ y. x ≡ y) → is_rough (reply.Refused x) ≡ true
-    by true x is = ap (λ z. is_rough (reply.Refused z)) is
+    by : (b : Bool) (x : Refusal) → MatchOption (first ((refuse.TooMany when b) ∷ [])) (WantOfMemory x) (λ y. x ≡ y) → is_resource_failure (reply.Refused x) ≡ true
+    by true x is = ap (λ z. is_resource_failure (reply.Refused z)) is
     by false refuse.Memory is = refl
     by false x is = absurd is
 does_start s t d r live step = (let e = step.1 in absurd (cc))

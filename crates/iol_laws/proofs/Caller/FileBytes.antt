@@ -26,11 +26,11 @@ use Rattle.iol_core.specs.declared.events.Reply.{Reply}
 use Rattle.iol_core.specs.declared.events.Reply.TheVariants as reply
 use Rattle.iol_core.proofs.Lookups.{domain-same}
 use Rattle.iol_laws.specs.Order.{IsOrderly}
-use Rattle.iol_laws.specs.Caller.{lent_at, is_rough}
+use Rattle.iol_laws.specs.Caller.{readable_at, is_resource_failure}
 use Rattle.iol_laws.specs.CallerFiles.{ReadsFile, WritesFile, laid_over}
 use Rattle.iol_laws.proofs.Caller.Files.{moved-fd}
 use Rattle.iol_laws.proofs.Domains.{domain-with_same}
-use Rattle.iol_laws.proofs.Numbers.{agg-there, lent-made, number, text-of}
+use Rattle.iol_laws.proofs.Numbers.{agg-there, readable-made, number, text-of}
 use Rattle.iol_laws.proofs.Refusals.Rest.{past, past-live}
 use Rattle.iol_laws.proofs.Texts.{bytes-labelled, length-bytes, length-labelled}
 
@@ -63,15 +63,15 @@ read-left s d fd f at n mode live may reads is =
     by None false y z none = none
     by (Some x) b y z none = absurd (cc)
 
-pub rough-late : (s : State) (f at : ℕ) (mode : Mode) (x : Refusal) → reading.read_late s (Some (on.File f at mode)) x → is_rough (reply.Refused x) ≡ true
-rough-late s f at mode (refuse.NoRoom p) is = refl
-rough-late s f at mode (refuse.Fault g) is = refl
-rough-late s f at mode refuse.Memory is = refl
-rough-late s f at mode x is = absurd is
+pub resource_failure-late : (s : State) (f at : ℕ) (mode : Mode) (x : Refusal) → reading.read_late s (Some (on.File f at mode)) x → is_resource_failure (reply.Refused x) ≡ true
+resource_failure-late s f at mode (refuse.NoRoom p) is = refl
+resource_failure-late s f at mode (refuse.Fault g) is = refl
+resource_failure-late s f at mode refuse.Memory is = refl
+resource_failure-late s f at mode x is = absurd is
 
-late-rough : (s : State) (f at : ℕ) (mode : Mode) (x : Refusal) (b : Bool) → MatchOption (first ((refuse.TooMany when b) ∷ [])) (reading.read_late s (Some (on.File f at mode)) x) (λ y. x ≡ y) → is_rough (reply.Refused x) ≡ true
-late-rough s f at mode x true is = ap (λ z. is_rough (reply.Refused z)) is
-late-rough s f at mode x false is = rough-late s f at mode x is
+late-resource_failure : (s : State) (f at : ℕ) (mode : Mode) (x : Refusal) (b : Bool) → MatchOption (first ((refuse.TooMany when b) ∷ [])) (reading.read_late s (Some (on.File f at mode)) x) (λ y. x ≡ y) → is_resource_failure (reply.Refused x) ≡ true
+late-resource_failure s f at mode x true is = ap (λ z. is_resource_failure (reply.Refused z)) is
+late-resource_failure s f at mode x false is = resource_failure-late s f at mode x is
 
 pub does_read_file : (s t : State) (d fd f at n : ℕ) (mode : Mode) (r : Reply) → IsOrderly s → is_live s d ≡ true → may_read s d (file s f).pool ≡ true → reading.reads mode ≡ true → descriptor s d fd ≡ Some (on.File f at mode) → StepsTo s (event.Call d (call.IolRead fd n)) r t → ReadsFile s d fd f at mode (take n (drop at (content s f))) r t
 does_read_file s t d fd f at n mode (reply.Agg a) order live may reads is step =
@@ -88,13 +88,13 @@ does_read_file s t d fd f at n mode (reply.Agg a) order live may reads is step =
     let live_mid : is_live mid d ≡ true = ap (λ (z : Domain Text). z.live) dom ∙ live in
     let kept : Domain Text = record (domain mid d) { aggs = (domain mid d).aggs ++ ((domain mid d).next_agg, tx) ∷ []; next_agg = (domain mid d).next_agg + 1 } in
     record {
-      lends = ap (λ k. lent_at t d k) a_is ∙ (lent-made mid t d (domain mid d).aggs tx live_mid none_mid same ∙ ap (λ (l : List ℕ). Some l) (bytes-labelled (file s f).pool bytes));
-      new = ap (λ k. lent_at s d k) (a_is ∙ next) ∙ ap (λ (o : Option Text). option_map bytes_of o) none;
+      is_readable = ap (λ k. readable_at t d k) a_is ∙ (readable-made mid t d (domain mid d).aggs tx live_mid none_mid same ∙ ap (λ (l : List ℕ). Some l) (bytes-labelled (file s f).pool bytes));
+      new = ap (λ k. readable_at s d k) (a_is ∙ next) ∙ ap (λ (o : Option Text). option_map bytes_of o) none;
       moves = ap (λ u. descriptor u d fd) same ∙ (ap (λ (z : Domain Text). in_place z.fds fd) (domain-with_same mid d kept live_mid)
           ∙ (moved-fd s d fd (on.File f at mode) y live is ∙ ap (λ k. Some (on.File f (at + k) mode)) (length-labelled (file s f).pool bytes)));
     }
 does_read_file s t d fd f at n mode (reply.Refused x) order live may reads is step =
-    (late-rough s f at mode x (aggs.too_many_aggs s d 1 0) (subst (λ o. MatchOption o (reading.read_late s (Some (on.File f at mode)) x) (λ y. x ≡ y)) (read-left s d fd f at n mode live may reads is) (subst (λ o. MatchOption (first (reading.iol_read s d fd n).refusals) (reading.read_late s o x) (λ y. x ≡ y)) is step.0)), step.1)
+    (late-resource_failure s f at mode x (aggs.too_many_aggs s d 1 0) (subst (λ o. MatchOption o (reading.read_late s (Some (on.File f at mode)) x) (λ y. x ≡ y)) (read-left s d fd f at n mode live may reads is) (subst (λ o. MatchOption (first (reading.iol_read s d fd n).refusals) (reading.read_late s o x) (λ y. x ≡ y)) is step.0)), step.1)
 does_read_file s t d fd f at n mode r order live may reads is step = (let e = step.1 in absurd (cc))
 
 -- Writing.
@@ -158,7 +158,7 @@ refused-write s t d fd f at p mode bytes x same is = by (nat_lt MAX_FILE_BYTES (
     by false fits refuse.Memory is = (refl, same)
     by false fits x is = absurd is
 
-pub does_write_file : (s t : State) (d fd f at a : ℕ) (mode : Mode) (bytes : List ℕ) (r : Reply) → ArePlaced s → is_live s d ≡ true → writing.writes mode ≡ true → descriptor s d fd ≡ Some (on.File f at mode) → lent_at s d a ≡ Some bytes → StepsTo s (event.Call d (call.IolWrite fd a)) r t → WritesFile s d fd f at mode bytes r t
+pub does_write_file : (s t : State) (d fd f at a : ℕ) (mode : Mode) (bytes : List ℕ) (r : Reply) → ArePlaced s → is_live s d ≡ true → writing.writes mode ≡ true → descriptor s d fd ≡ Some (on.File f at mode) → readable_at s d a ≡ Some bytes → StepsTo s (event.Call d (call.IolWrite fd a)) r t → WritesFile s d fd f at mode bytes r t
 does_write_file s t d fd f at a mode bytes (reply.Count k) placed live writes is has step =
     let w : Text = text s d a in
     let text_is : bytes_of w ≡ bytes = text-of s d a bytes has in

@@ -21,8 +21,8 @@ use Rattle.iol_core.specs.declared.events.Event.TheVariants as event
 use Rattle.iol_core.specs.declared.events.Reply.{Reply}
 use Rattle.iol_core.specs.declared.events.Reply.TheVariants as reply
 use Rattle.iol_core.proofs.TestedLists.{passed, when-none, when-not}
-use Rattle.iol_laws.specs.Caller.{is_rough}
-use Rattle.iol_laws.specs.CallerFiles.{MakesFile, Opening, Seeks, Tells, Syncs}
+use Rattle.iol_laws.specs.Caller.{is_resource_failure}
+use Rattle.iol_laws.specs.CallerFiles.{MakesFile, Opening, Seeks, Reports, Syncs}
 use Rattle.iol_laws.proofs.Domains.{domain-with_same}
 use Rattle.iol_laws.proofs.Numbers.{new-fd, number}
 use Rattle.iol_laws.proofs.Places.{lowest-free, place-set_there}
@@ -39,9 +39,9 @@ moved-fd s d fd x y live is =
 
 -- the refusals in order, where the domain lives
 open-refused : (o : Option ℕ) (many may : Bool) (p : ℕ) (x : Refusal) → MatchOption (first ((refuse.NoFile when is_none o) ∷ (refuse.TooMany when many) ∷ (refuse.Denied p when not may) ∷ [])) (WantOfMemory x) (λ y. x ≡ y)
-    → ((x ≡ refuse.NoFile) × (o ≡ None)) ⊎ (((x ≡ refuse.Denied p) × (may ≡ false) × (is_none o ≡ false)) ⊎ (is_rough (reply.Refused x) ≡ true))
+    → ((x ≡ refuse.NoFile) × (o ≡ None)) ⊎ (((x ≡ refuse.Denied p) × (may ≡ false) × (is_none o ≡ false)) ⊎ (is_resource_failure (reply.Refused x) ≡ true))
 open-refused None many may p x is = inl (is, refl)
-open-refused (Some f) true may p x is = inr (inr (ap (λ z. is_rough (reply.Refused z)) is))
+open-refused (Some f) true may p x is = inr (inr (ap (λ z. is_resource_failure (reply.Refused z)) is))
 open-refused (Some f) false false p x is = inr (inl (is, refl, refl))
 open-refused (Some f) false true p refuse.Memory is = inr (inr refl)
 open-refused (Some f) false true p x is = absurd is
@@ -61,10 +61,10 @@ does_open s t d name mode (reply.Refused x) live step = by x step.1 (open-refuse
     p : ℕ
     p = (file s (unwrap_or (file_called s name) 0)).pool
 
-    by : (x : Refusal) → t ≡ s → ((x ≡ refuse.NoFile) × (file_called s name ≡ None)) ⊎ (((x ≡ refuse.Denied p) × (may_read s d p ≡ false) × (is_none (file_called s name) ≡ false)) ⊎ (is_rough (reply.Refused x) ≡ true)) → Opening s d name mode (reply.Refused x) t
+    by : (x : Refusal) → t ≡ s → ((x ≡ refuse.NoFile) × (file_called s name ≡ None)) ⊎ (((x ≡ refuse.Denied p) × (may_read s d p ≡ false) × (is_none (file_called s name) ≡ false)) ⊎ (is_resource_failure (reply.Refused x) ≡ true)) → Opening s d name mode (reply.Refused x) t
     by refuse.NoFile same (inl a) = (a.1, same)
     by refuse.NoFile same (inr (inl b)) = (let e = b.0 in absurd (cc))
-    by refuse.NoFile same (inr (inr rough)) = absurd (cc)
+    by refuse.NoFile same (inr (inr resource_failure)) = absurd (cc)
     by (refuse.Denied q) same (inl a) = (let e = a.0 in absurd (cc))
     by (refuse.Denied q) same (inr (inl b)) =
         let q_is : q ≡ p = ap denied b.0 in
@@ -73,10 +73,10 @@ does_open s t d name mode (reply.Refused x) live step = by x step.1 (open-refuse
         denied : Refusal → ℕ
         denied (refuse.Denied n) = n
         denied y = 0
-    by (refuse.Denied q) same (inr (inr rough)) = absurd (cc)
+    by (refuse.Denied q) same (inr (inr resource_failure)) = absurd (cc)
     by x same (inl a) = (let e = a.0 in absurd (cc))
     by x same (inr (inl b)) = (let e = b.0 in absurd (cc))
-    by x same (inr (inr rough)) = (rough, same)
+    by x same (inr (inr resource_failure)) = (resource_failure, same)
 does_open s t d name mode r live step = (let e = step.1 in absurd (cc))
 
 -- Positions and lengths.
@@ -98,7 +98,7 @@ does_seek s t d fd f was at mode (reply.Refused x) live is step = by (nat_lt (le
     by false within is = absurd is
 does_seek s t d fd f was at mode r live is step = (let e = step.1 in absurd (cc))
 
-pub does_measure : (s t : State) (d fd f at : ℕ) (mode : Mode) (r : Reply) → is_live s d ≡ true → descriptor s d fd ≡ Some (on.File f at mode) → StepsTo s (event.Call d (call.Length fd)) r t → Tells s (length (content s f)) r t
+pub does_measure : (s t : State) (d fd f at : ℕ) (mode : Mode) (r : Reply) → is_live s d ≡ true → descriptor s d fd ≡ Some (on.File f at mode) → StepsTo s (event.Call d (call.Length fd)) r t → Reports s (length (content s f)) r t
 does_measure s t d fd f at mode (reply.Count k) live is step = (ap number step.1 ∙ ap (λ o. length (content s (unwrap_or (option_map (λ x. x.0) (files.open_on o)) 0))) is, step.2)
 does_measure s t d fd f at mode (reply.Refused x) live is step = subst (λ o. MatchOption o (Never x) (λ y. x ≡ y)) (past-file s d fd f at mode [] live is) step.0
 does_measure s t d fd f at mode r live is step = (let e = step.1 in absurd (cc))

@@ -19,9 +19,9 @@ use Rattle.iol_core.specs.declared.events.Reply.{Reply}
 use Rattle.iol_core.specs.declared.events.Reply.TheVariants as reply
 use Rattle.iol_core.proofs.TestedLists.{passed}
 use Rattle.iol_laws.specs.Order.{IsOrderly}
-use Rattle.iol_laws.specs.Caller.{lent_at, HandsOn, GivesFd, GivesAgg}
+use Rattle.iol_laws.specs.Caller.{readable_at, HandsOn, GivesFd, GivesAgg}
 use Rattle.iol_laws.proofs.Domains.{domain-with_other, domain-with_same}
-use Rattle.iol_laws.proofs.Numbers.{lent-made, new-fd, number, text-of}
+use Rattle.iol_laws.proofs.Numbers.{readable-made, new-fd, number, text-of}
 use Rattle.iol_laws.proofs.Places.{lookup-without_none, lowest-free, place-new, place-set_free}
 
 -- both domains live, since the call was not refused
@@ -72,8 +72,8 @@ does_give_fd s t d fd to x (reply.Fd g) is step = by (d == to) refl same g_is
 does_give_fd s t d fd to x (reply.Refused y) is step = step.1
 does_give_fd s t d fd to x r is step = (let e = step.1 in absurd (cc))
 
-pub does_give_agg : (s t : State) (d a to : ℕ) (bytes : List ℕ) (r : Reply) → IsOrderly s → lent_at s d a ≡ Some bytes → StepsTo s (event.Call d (call.AggGive a to)) r t → GivesAgg s to bytes r t
-does_give_agg s t d a to bytes (reply.Agg n) order has step = (by (d == to) refl step.2, ap (λ k. lent_at s to k) n_is ∙ ap (λ (o : Option Text). option_map bytes_of o) none)
+pub does_give_agg : (s t : State) (d a to : ℕ) (bytes : List ℕ) (r : Reply) → IsOrderly s → readable_at s d a ≡ Some bytes → StepsTo s (event.Call d (call.AggGive a to)) r t → GivesAgg s to bytes r t
+does_give_agg s t d a to bytes (reply.Agg n) order has step = (by (d == to) refl step.2, ap (λ k. readable_at s to k) n_is ∙ ap (λ (o : Option Text). option_map bytes_of o) none)
   where
     live : (is_live s d ≡ true) × (is_live s to ≡ true)
     live = both_live s d to _ step.0
@@ -87,15 +87,15 @@ does_give_agg s t d a to bytes (reply.Agg n) order has step = (by (d == to) refl
     x : Text
     x = text s d a
 
-    by : (b : Bool) → (d == to) ≡ b → t ≡ (if b then aggs.with_new s d (without (domain s d).aggs a) (text s d a) else aggs.without_agg (aggs.with_agg s to (text s d a)) d a) → lent_at t to n ≡ Some bytes
+    by : (b : Bool) → (d == to) ≡ b → t ≡ (if b then aggs.with_new s d (without (domain s d).aggs a) (text s d a) else aggs.without_agg (aggs.with_agg s to (text s d a)) d a) → readable_at t to n ≡ Some bytes
     by true one same =
         let to_is : d ≡ to = grind (arith, nat_tests, one) in
         let gone = lookup-without_none (domain s d).aggs a (aggs.next_agg s d) (order.aggs d (aggs.next_agg s d) (omega arith)) in
-        ap (λ k. lent_at t to k) n_is ∙ (subst (λ m. lent_at t m (aggs.next_agg s m) ≡ Some (bytes_of (text s d a))) to_is (lent-made s t d (without (domain s d).aggs a) (text s d a) live.0 gone same) ∙ ap (λ (l : List ℕ). Some l) (text-of s d a bytes has))
+        ap (λ k. readable_at t to k) n_is ∙ (subst (λ m. readable_at t m (aggs.next_agg s m) ≡ Some (bytes_of (text s d a))) to_is (readable-made s t d (without (domain s d).aggs a) (text s d a) live.0 gone same) ∙ ap (λ (l : List ℕ). Some l) (text-of s d a bytes has))
     by false differ same =
         let other : d ≢ to = λ one. grind (arith, nat_tests, differ, one) in
         let v : State = aggs.with_agg s to (text s d a) in
-        let at : lent_at t to (aggs.next_agg s to) ≡ lent_at v to (aggs.next_agg s to) = ap (λ u. lent_at u to (aggs.next_agg s to)) same ∙ ap (λ (y : Domain Text). option_map bytes_of (lookup y.aggs (aggs.next_agg s to))) (domain-with_other v d to (record (domain v d) { aggs = without (domain v d).aggs a }) other) in
-        ap (λ k. lent_at t to k) n_is ∙ (at ∙ (lent-made s v to (domain s to).aggs (text s d a) live.1 none refl ∙ ap (λ (l : List ℕ). Some l) (text-of s d a bytes has)))
+        let at : readable_at t to (aggs.next_agg s to) ≡ readable_at v to (aggs.next_agg s to) = ap (λ u. readable_at u to (aggs.next_agg s to)) same ∙ ap (λ (y : Domain Text). option_map bytes_of (lookup y.aggs (aggs.next_agg s to))) (domain-with_other v d to (record (domain v d) { aggs = without (domain v d).aggs a }) other) in
+        ap (λ k. readable_at t to k) n_is ∙ (at ∙ (readable-made s v to (domain s to).aggs (text s d a) live.1 none refl ∙ ap (λ (l : List ℕ). Some l) (text-of s d a bytes has)))
 does_give_agg s t d a to bytes (reply.Refused y) order has step = step.1
 does_give_agg s t d a to bytes r order has step = (let e = step.1 in absurd (cc))

@@ -17,7 +17,7 @@ use Rattle.iol_core.specs.declared.events.Reply.{Reply}
 use Rattle.iol_core.specs.declared.events.Reply.TheVariants as reply
 use Rattle.iol_core.proofs.Lookups.{domain-same}
 use Rattle.iol_laws.specs.Order.{IsOrderly}
-use Rattle.iol_laws.specs.Caller.{lent_at, PutsInPipe, ReadsPipe, WritesPipe, MakesPipe, ClosesReadEnd, ClosesWriteEnd}
+use Rattle.iol_laws.specs.Caller.{readable_at, PutsInPipe, ReadsPipe, WritesPipe, MakesPipe, ClosesReadEnd, ClosesWriteEnd}
 use Rattle.iol_laws.proofs.Caller.Queues.{FitsIn, fits_in, front, read_passes, takes_front, wrote_agg}
 use Rattle.iol_laws.proofs.Domains.{domain-with_same, domains-with_pipe, live-first}
 use Rattle.iol_laws.proofs.Order.Ends.{pipe-with_same}
@@ -48,7 +48,7 @@ does_read_pipe s t d fd p n (reply.Agg a) order is step =
     record {
       text = front (may_read s d) n q;
       rest = x.queue;
-      lends = got.0;
+      is_readable = got.0;
       new = got.1;
       was = taken.was;
       most = refl;
@@ -70,7 +70,7 @@ puts_pipe s t p bytes k x fits unbroken same =
     let on_yet = left-true (pipe_at s p).reading (pipe_at s p).writing reads in
     record { text = x; within = fits.within; text_is = fits.text_is; most = fits.most; takes = reads; pipe = ap (λ u. pipe_at u p) same ∙ pipe-with_same s p (record (pipe_at s p) { queue = (pipe_at s p).queue ++ x }) on_yet on_yet }
 
-pub does_write_pipe : (s t : State) (d fd p a : ℕ) (bytes : List ℕ) (r : Reply) → IsOrderly s → descriptor s d fd ≡ Some (on.WriteEnd p) → lent_at s d a ≡ Some bytes → StepsTo s (event.Call d (call.IolWrite fd a)) r t → WritesPipe s p bytes r t
+pub does_write_pipe : (s t : State) (d fd p a : ℕ) (bytes : List ℕ) (r : Reply) → IsOrderly s → descriptor s d fd ≡ Some (on.WriteEnd p) → readable_at s d a ≡ Some bytes → StepsTo s (event.Call d (call.IolWrite fd a)) r t → WritesPipe s p bytes r t
 does_write_pipe s t d fd p a bytes (reply.Count k) order is has step =
     let wrote = wrote_agg s t d fd k _ is a step in
     puts_pipe s t p bytes k (take k (text s d a)) (fits_in (text s d a) bytes (MAX_QUEUE_BYTES - length (pipe_at s p).queue) k (text-of s d a bytes has) wrote.0) wrote.2 wrote.1

@@ -22,7 +22,7 @@ use Rattle.iol_core.specs.declared.events.Call.{Call}
 use Rattle.iol_core.specs.declared.events.Call.TheVariants as call
 use Rattle.iol_core.specs.declared.events.Event.TheVariants as event
 use Rattle.iol_core.specs.declared.events.Reply.TheVariants as reply
-use Rattle.iol_laws.specs.Caller.{lent_at}
+use Rattle.iol_laws.specs.Caller.{readable_at}
 use Rattle.iol_laws.specs.RefusalsLeft.{may_wait, LacksNumbers, LacksNumbersOrRoom, LacksNumbersOrIsDenied, LacksNumbersOrWaits, HasNothingToRead, LacksNumbersOrHasNothingToRead, CannotPut, CannotPutOrLacksRoom}
 use Rattle.iol_laws.proofs.Numbers.{agg-there, text-of}
 use Rattle.iol_laws.proofs.Texts.{length-bytes}
@@ -72,7 +72,7 @@ alive s d live = ap (λ b. not b) live
 pub both-alive : (s : State) (d e : ℕ) → is_live s d ≡ true → is_live s e ≡ true → (not (is_live s d) || not (is_live s e)) ≡ false
 both-alive s d e one two = ap (λ b. not b || not (is_live s e)) one ∙ ap (λ b. not b) two
 
-pub long : (s : State) (d a : ℕ) (bytes : List ℕ) → lent_at s d a ≡ Some bytes → length (text s d a) ≡ length bytes
+pub long : (s : State) (d a : ℕ) (bytes : List ℕ) → readable_at s d a ≡ Some bytes → length (text s d a) ≡ length bytes
 long s d a bytes is = sym (length-bytes (text s d a)) ∙ ap (λ (l : List ℕ). length l) (text-of s d a bytes is)
 
 pub open-fd : (s : State) (d fd : ℕ) (y : Descriptor) → descriptor s d fd ≡ Some y → is_none (descriptor s d fd) ≡ false
@@ -99,12 +99,12 @@ left_make s t d p bytes x live default open_yet fits step =
     not-above : (n : ℕ) → n ≤ MAX_AGGREGATE_BYTES → nat_lt MAX_AGGREGATE_BYTES n ≡ false
     not-above n fits = grind (arith, nat_tests, fits)
 
-pub left_dup : (s t : State) (d a : ℕ) (bytes : List ℕ) (x : Refusal) → is_live s d ≡ true → lent_at s d a ≡ Some bytes → StepsTo s (event.Call d (call.AggDup a)) (reply.Refused x) t → LacksNumbers x
+pub left_dup : (s t : State) (d a : ℕ) (bytes : List ℕ) (x : Refusal) → is_live s d ≡ true → readable_at s d a ≡ Some bytes → StepsTo s (event.Call d (call.AggDup a)) (reply.Refused x) t → LacksNumbers x
 left_dup s t d a bytes x live has step =
     let Is = LacksNumbers in
     left Is WantOfMemory (called s d (call.AggDup a)).refusals x (not-so Is refuse.NoDomain _ (alive s d live), (not-so Is refuse.BadAgg _ (agg-there s d a bytes has), (may Is refuse.TooMany _ tt, tt))) (of-memory Is x tt) step.0
 
-pub left_cut : (s t : State) (d a from to : ℕ) (bytes : List ℕ) (x : Refusal) → is_live s d ≡ true → lent_at s d a ≡ Some bytes → from ≤ to → to ≤ length bytes → StepsTo s (event.Call d (call.AggCut a from to)) (reply.Refused x) t → LacksNumbers x
+pub left_cut : (s t : State) (d a from to : ℕ) (bytes : List ℕ) (x : Refusal) → is_live s d ≡ true → readable_at s d a ≡ Some bytes → from ≤ to → to ≤ length bytes → StepsTo s (event.Call d (call.AggCut a from to)) (reply.Refused x) t → LacksNumbers x
 left_cut s t d a from to bytes x live has rising fits step =
     let Is = LacksNumbers in
     left Is WantOfMemory (called s d (call.AggCut a from to)).refusals x (not-so Is refuse.NoDomain _ (alive s d live), (not-so Is refuse.BadAgg _ (agg-there s d a bytes has), (not-so Is refuse.BadRange _ (within (length (text s d a)) (length bytes) (long s d a bytes has) fits), (may Is refuse.TooMany _ tt, tt)))) (of-memory Is x tt) step.0
@@ -112,7 +112,7 @@ left_cut s t d a from to bytes x live has rising fits step =
     within : (n m : ℕ) → n ≡ m → to ≤ m → (nat_lt to from || nat_lt n to) ≡ false
     within n m same fits = grind (arith, nat_tests, rising, same, fits)
 
-pub left_split : (s t : State) (d a at : ℕ) (bytes : List ℕ) (x : Refusal) → is_live s d ≡ true → lent_at s d a ≡ Some bytes → at ≤ length bytes → StepsTo s (event.Call d (call.AggSplit a at)) (reply.Refused x) t → LacksNumbers x
+pub left_split : (s t : State) (d a at : ℕ) (bytes : List ℕ) (x : Refusal) → is_live s d ≡ true → readable_at s d a ≡ Some bytes → at ≤ length bytes → StepsTo s (event.Call d (call.AggSplit a at)) (reply.Refused x) t → LacksNumbers x
 left_split s t d a at bytes x live has fits step =
     let Is = LacksNumbers in
     left Is WantOfMemory (called s d (call.AggSplit a at)).refusals x (not-so Is refuse.NoDomain _ (alive s d live), (not-so Is refuse.BadAgg _ (agg-there s d a bytes has), (not-so Is refuse.BadRange _ (within (length (text s d a)) (length bytes) (long s d a bytes has) fits), (may Is refuse.TooMany _ tt, tt)))) (of-memory Is x tt) step.0
@@ -120,7 +120,7 @@ left_split s t d a at bytes x live has fits step =
     within : (n m : ℕ) → n ≡ m → at ≤ m → nat_lt n at ≡ false
     within n m same fits = grind (arith, nat_tests, same, fits)
 
-pub left_join : (s t : State) (d a b : ℕ) (xs ys : List ℕ) (x : Refusal) → is_live s d ≡ true → lent_at s d a ≡ Some xs → lent_at s d b ≡ Some ys → a ≢ b → length xs + length ys ≤ MAX_AGGREGATE_BYTES → StepsTo s (event.Call d (call.AggJoin a b)) (reply.Refused x) t → LacksNumbers x
+pub left_join : (s t : State) (d a b : ℕ) (xs ys : List ℕ) (x : Refusal) → is_live s d ≡ true → readable_at s d a ≡ Some xs → readable_at s d b ≡ Some ys → a ≢ b → length xs + length ys ≤ MAX_AGGREGATE_BYTES → StepsTo s (event.Call d (call.AggJoin a b)) (reply.Refused x) t → LacksNumbers x
 left_join s t d a b xs ys x live has_a has_b differ fits step =
     let Is = LacksNumbers in
     left Is WantOfMemory (called s d (call.AggJoin a b)).refusals x
@@ -135,12 +135,12 @@ left_join s t d a b xs ys x live has_a has_b differ fits step =
     within : (n m k l : ℕ) → n ≡ k → m ≡ l → k + l ≤ MAX_AGGREGATE_BYTES → nat_lt MAX_AGGREGATE_BYTES (n + m) ≡ false
     within n m k l one two fits = grind (arith, nat_tests, one, two, fits)
 
-pub left_show : (s t : State) (d a : ℕ) (bytes : List ℕ) (x : Refusal) → is_live s d ≡ true → lent_at s d a ≡ Some bytes → StepsTo s (event.Call d (call.Show a)) (reply.Refused x) t → x ≡ refuse.Memory
+pub left_show : (s t : State) (d a : ℕ) (bytes : List ℕ) (x : Refusal) → is_live s d ≡ true → readable_at s d a ≡ Some bytes → StepsTo s (event.Call d (call.Show a)) (reply.Refused x) t → x ≡ refuse.Memory
 left_show s t d a bytes x live has step =
     let Is : Refusal → Type 0 = λ (y : Refusal). y ≡ refuse.Memory in
     left Is WantOfMemory (called s d (call.Show a)).refusals x (not-so Is refuse.NoDomain _ (alive s d live), (not-so Is refuse.BadAgg _ (agg-there s d a bytes has), tt)) (of-memory Is x refl) step.0
 
-pub left_give_agg : (s t : State) (d a to : ℕ) (bytes : List ℕ) (x : Refusal) → is_live s d ≡ true → is_live s to ≡ true → lent_at s d a ≡ Some bytes → StepsTo s (event.Call d (call.AggGive a to)) (reply.Refused x) t → LacksNumbersOrIsDenied x
+pub left_give_agg : (s t : State) (d a to : ℕ) (bytes : List ℕ) (x : Refusal) → is_live s d ≡ true → is_live s to ≡ true → readable_at s d a ≡ Some bytes → StepsTo s (event.Call d (call.AggGive a to)) (reply.Refused x) t → LacksNumbersOrIsDenied x
 left_give_agg s t d a to bytes x live receives has step =
     let Is = LacksNumbersOrIsDenied in
     left Is WantOfMemory (called s d (call.AggGive a to)).refusals x (not-so Is refuse.NoDomain _ (both-alive s d to live receives), (not-so Is refuse.BadAgg _ (agg-there s d a bytes has), (may Is refuse.TooMany _ tt, (denied Is (barred (may_read s to) (text s d a)) (λ p. tt), tt)))) (of-memory Is x tt) step.0
@@ -215,7 +215,7 @@ pub and-false : (a b : Bool) → b ≡ false → (a && b) ≡ false
 and-false true b is = is
 and-false false b is = refl
 
-pub left_write : (s t : State) (d fd a : ℕ) (y : Descriptor) (bytes : List ℕ) (x : Refusal) → is_live s d ≡ true → descriptor s d fd ≡ Some y → is_file (Some y) ≡ false → writing.can_write (Some y) ≡ true → lent_at s d a ≡ Some bytes → StepsTo s (event.Call d (call.IolWrite fd a)) (reply.Refused x) t → CannotPut x
+pub left_write : (s t : State) (d fd a : ℕ) (y : Descriptor) (bytes : List ℕ) (x : Refusal) → is_live s d ≡ true → descriptor s d fd ≡ Some y → is_file (Some y) ≡ false → writing.can_write (Some y) ≡ true → readable_at s d a ≡ Some bytes → StepsTo s (event.Call d (call.IolWrite fd a)) (reply.Refused x) t → CannotPut x
 left_write s t d fd a y bytes x live is queue can has step =
     let Is = CannotPut in
     left Is (writing.write_late s (descriptor s d fd)) (called s d (call.IolWrite fd a)).refusals x

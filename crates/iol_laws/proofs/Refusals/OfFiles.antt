@@ -21,7 +21,7 @@ use Rattle.iol_core.specs.declared.descriptors.Mode.{Mode}
 use Rattle.iol_core.specs.declared.events.Call.TheVariants as call
 use Rattle.iol_core.specs.declared.events.Event.TheVariants as event
 use Rattle.iol_core.specs.declared.events.Reply.TheVariants as reply
-use Rattle.iol_laws.specs.Caller.{lent_at}
+use Rattle.iol_laws.specs.Caller.{readable_at}
 use Rattle.iol_laws.specs.RefusalsLeft.{LacksNumbers, CannotLoad, CannotFetch, LacksRoom}
 use Rattle.iol_laws.proofs.Numbers.{agg-there}
 use Rattle.iol_laws.proofs.Refusals.Calls.{left, may, not-so, of-memory, of-room, alive, long, open-fd}
@@ -78,7 +78,7 @@ left_copy_file s t d fd f at n mode x live is reads may_see step =
 within : (at n m : ℕ) → n ≡ m → at + m ≤ MAX_FILE_BYTES → nat_lt MAX_FILE_BYTES (at + n) ≡ false
 within at n m same fits = grind (arith, nat_tests, same, fits)
 
-pub left_write_file : (s t : State) (d fd f at a : ℕ) (mode : Mode) (bytes : List ℕ) (x : Refusal) → is_live s d ≡ true → descriptor s d fd ≡ Some (on.File f at mode) → writing.writes mode ≡ true → lent_at s d a ≡ Some bytes → at + length bytes ≤ MAX_FILE_BYTES → StepsTo s (event.Call d (call.IolWrite fd a)) (reply.Refused x) t → LacksRoom (file s f).pool x
+pub left_write_file : (s t : State) (d fd f at a : ℕ) (mode : Mode) (bytes : List ℕ) (x : Refusal) → is_live s d ≡ true → descriptor s d fd ≡ Some (on.File f at mode) → writing.writes mode ≡ true → readable_at s d a ≡ Some bytes → at + length bytes ≤ MAX_FILE_BYTES → StepsTo s (event.Call d (call.IolWrite fd a)) (reply.Refused x) t → LacksRoom (file s f).pool x
 left_write_file s t d fd f at a mode bytes x live is writes has fits step =
     let Is : Refusal → Type 0 = LacksRoom (file s f).pool in
     let n : ℕ = length (text s d a) in

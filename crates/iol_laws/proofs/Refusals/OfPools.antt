@@ -1,4 +1,5 @@
--- The refusals that a call on a pool, a call that replaces part of an aggregate, and a call that drops or closes can still get.
+-- The refusals that a call on a pool, a call that replaces part of an aggregate, and a call that drops or closes can
+-- still get.
 use Rattle.std.proofs.Common.{◌≡◌, ◌<◌, ◌≤◌, ℕ, ◌+◌, ◌==◌, List, ◌++◌, length, take, drop, ap, ◌∙◌, refl, sym, arith, Some, true, false, Bool}
 use Rattle.std.specs.Prelude.{⊤, not, nat_lt, ◌&&◌, ◌||◌, MatchOption}
 use Rattle.std.specs.List.{list_all}
@@ -16,7 +17,7 @@ use Rattle.iol_core.specs.declared.descriptors.Descriptor.{Descriptor}
 use Rattle.iol_core.specs.declared.events.Call.TheVariants as call
 use Rattle.iol_core.specs.declared.events.Event.TheVariants as event
 use Rattle.iol_core.specs.declared.events.Reply.TheVariants as reply
-use Rattle.iol_laws.specs.Caller.{lent_at}
+use Rattle.iol_laws.specs.Caller.{readable_at}
 use Rattle.iol_laws.specs.RefusalsLeft.{LacksNumbers, LacksNumbersOrRoom, IsInUse, HasNoPlace}
 use Rattle.iol_laws.proofs.Numbers.{agg-there, text-of}
 use Rattle.iol_laws.proofs.Refusals.Calls.{left, may, not-so, of-memory, of-room, alive, long, open-fd}
@@ -69,7 +70,7 @@ left_set_pool s t d p x live may_see open_yet step =
     (λ late. late) step.0
 
 -- as long as its bytes
-replaced-long : (s : State) (d a from to b : ℕ) (xs ys : List ℕ) → lent_at s d a ≡ Some xs → lent_at s d b ≡ Some ys → length (take from (text s d a) ++ text s d b ++ drop to (text s d a)) ≡ length (take from xs ++ ys ++ drop to xs)
+replaced-long : (s : State) (d a from to b : ℕ) (xs ys : List ℕ) → readable_at s d a ≡ Some xs → readable_at s d b ≡ Some ys → length (take from (text s d a) ++ text s d b ++ drop to (text s d a)) ≡ length (take from xs ++ ys ++ drop to xs)
 replaced-long s d a from to b xs ys has_a has_b =
     let x : Text = text s d a in
     let y : Text = text s d b in
@@ -81,7 +82,7 @@ replaced-long s d a from to b xs ys has_a has_b =
     joined : {p q v w : List ℕ} → p ≡ v → q ≡ w → p ++ q ≡ v ++ w
     joined {p} {q} {v} {w} one two = ap (λ (l : List ℕ). l ++ q) one ∙ ap (λ (l : List ℕ). v ++ l) two
 
-pub left_replace : (s t : State) (d a from to b : ℕ) (xs ys : List ℕ) (x : Refusal) → is_live s d ≡ true → lent_at s d a ≡ Some xs → lent_at s d b ≡ Some ys → from ≤ to → to ≤ length xs → length (take from xs ++ ys ++ drop to xs) ≤ MAX_AGGREGATE_BYTES → StepsTo s (event.Call d (call.AggReplace a from to b)) (reply.Refused x) t → LacksNumbers x
+pub left_replace : (s t : State) (d a from to b : ℕ) (xs ys : List ℕ) (x : Refusal) → is_live s d ≡ true → readable_at s d a ≡ Some xs → readable_at s d b ≡ Some ys → from ≤ to → to ≤ length xs → length (take from xs ++ ys ++ drop to xs) ≤ MAX_AGGREGATE_BYTES → StepsTo s (event.Call d (call.AggReplace a from to b)) (reply.Refused x) t → LacksNumbers x
 left_replace s t d a from to b xs ys x live has_a has_b rising inside fits step =
     let Is = LacksNumbers in
     left Is WantOfMemory (called s d (call.AggReplace a from to b)).refusals x
@@ -103,7 +104,7 @@ left_close s t d fd y x live is step =
     (not-so Never refuse.NoDomain _ (alive s d live), (not-so Never refuse.BadFd _ (open-fd s d fd y is), tt))
     (λ late. late) step.0
 
-pub left_drop : (s t : State) (d a : ℕ) (bytes : List ℕ) (x : Refusal) → is_live s d ≡ true → lent_at s d a ≡ Some bytes → StepsTo s (event.Call d (call.AggDrop a)) (reply.Refused x) t → ⊥
+pub left_drop : (s t : State) (d a : ℕ) (bytes : List ℕ) (x : Refusal) → is_live s d ≡ true → readable_at s d a ≡ Some bytes → StepsTo s (event.Call d (call.AggDrop a)) (reply.Refused x) t → ⊥
 left_drop s t d a bytes x live has step =
     left Never Never (called s d (call.AggDrop a)).refusals x
     (not-so Never refuse.NoDomain _ (alive s d live), (not-so Never refuse.BadAgg _ (agg-there s d a bytes has), tt))

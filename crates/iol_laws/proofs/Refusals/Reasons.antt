@@ -21,7 +21,7 @@ use Rattle.iol_core.specs.declared.events.Call.TheVariants as call
 use Rattle.iol_core.specs.declared.events.Event.TheVariants as event
 use Rattle.iol_core.specs.declared.events.Reply.{Reply}
 use Rattle.iol_core.specs.declared.events.Reply.TheVariants as reply
-use Rattle.iol_laws.specs.Caller.{lent_at}
+use Rattle.iol_laws.specs.Caller.{readable_at}
 use Rattle.iol_laws.specs.Reasons.{IsHidden}
 use Rattle.iol_laws.proofs.Connections.{conn-found, conn-unmade}
 use Rattle.iol_laws.proofs.Numbers.{agg-there}
@@ -248,7 +248,7 @@ close_is_done s t d fd x reply.Done live is step = refl
 close_is_done s t d fd x (reply.Refused y) live is step = absurd (subst (λ o. MatchOption o (Never y) (λ z. y ≡ z)) (past-live s d _ live ∙ past (refuse.BadFd when is_none (descriptor s d fd)) [] (ap (λ o. refuse.BadFd when is_none o) is)) step.0)
 close_is_done s t d fd x r live is step = (let e = step.1 in absurd (cc))
 
-pub drop_is_done : (s t : State) (d a : ℕ) (bytes : List ℕ) (r : Reply) → is_live s d ≡ true → lent_at s d a ≡ Some bytes → StepsTo s (event.Call d (call.AggDrop a)) r t → r ≡ reply.Done
+pub drop_is_done : (s t : State) (d a : ℕ) (bytes : List ℕ) (r : Reply) → is_live s d ≡ true → readable_at s d a ≡ Some bytes → StepsTo s (event.Call d (call.AggDrop a)) r t → r ≡ reply.Done
 drop_is_done s t d a bytes reply.Done live has step = refl
 drop_is_done s t d a bytes (reply.Refused y) live has step = absurd (subst (λ o. MatchOption o (Never y) (λ z. y ≡ z)) (past-live s d _ live ∙ past (refuse.BadAgg when is_none (aggregate s d a)) [] (ap (λ b. refuse.BadAgg when b) (agg-there s d a bytes has))) step.0)
 drop_is_done s t d a bytes r live has step = (let e = step.1 in absurd (cc))

@@ -20,7 +20,7 @@ use Rattle.iol_core.proofs.TestedLists.{list_all-both, list_all-drop, list_all-l
 use Rattle.iol_core.proofs.Values.{values_step}
 use Rattle.iol_laws.specs.Order.{IsOrderly}
 use Rattle.iol_laws.specs.Aggregates.{brings, is_refusal}
-use Rattle.iol_laws.specs.Caller.{lent_at, gives_away}
+use Rattle.iol_laws.specs.Caller.{readable_at, gives_away}
 use Rattle.iol_laws.specs.Sources.{lie_in, read_from, taken_from}
 use Rattle.iol_laws.proofs.Caller.Aggregates.{first_agg, second_agg, two-found}
 use Rattle.iol_laws.proofs.Caller.Gifts.{both_live}
@@ -188,7 +188,7 @@ module _ (pools : ℕ → Bool) where
   lie-new s t (event.Call by k) (reply.Aggs n m) d a order step is lies = (let e = step.1 in absurd (cc))
   lie-new s t e r d a order step is lies = absurd (cc)
 
-  lie-unlent : (s : State) (d a : ℕ) → lent_at s d a ≡ None → Lie (text s d a)
+  lie-unlent : (s : State) (d a : ℕ) → readable_at s d a ≡ None → Lie (text s d a)
   lie-unlent s d a none = by (aggregate s d a) refl
     where
       by : (o : Option Text) → aggregate s d a ≡ o → Lie (text s d a)

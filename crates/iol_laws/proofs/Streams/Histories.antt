@@ -15,7 +15,7 @@ use Rattle.iol_core.specs.declared.events.Event.TheVariants as event
 use Rattle.iol_core.specs.declared.events.Reply.{Reply}
 use Rattle.iol_core.specs.declared.events.Reply.TheVariants as reply
 use Rattle.iol_laws.specs.Order.{IsOrderly}
-use Rattle.iol_laws.proofs.Runs.{told-append, run-even}
+use Rattle.iol_laws.proofs.Runs.{reported-append, run-even}
 use Rattle.iol_laws.specs.Others.{ComesIn}
 use Rattle.iol_laws.specs.History.{came_by, sent_by, stream_of, sent_of, drops_unsent, IsEndOf, GoesFirst}
 use Rattle.iol_laws.proofs.Frame.Steps.{leaves_step}
@@ -30,11 +30,11 @@ use Rattle.iol_laws.proofs.Streams.UnreadBytes.{IsRest, rest_same, rest_meant}
 
 pub stream-append : (old now : State) (past future : List Event) (rs qs : List Reply) (c : ℕ) → Run old past rs now → stream_of c (past ++ future) (rs ++ qs) ≡ stream_of c past rs ++ stream_of c future qs
 unfolding stream_of
-stream-append old now past future rs qs c run = told-append (λ e r. came_by c e r) (λ es qs. stream_of c es qs) (record { none = refl; next = λ e r es rs. refl }) past future rs qs (run-even old now past rs run)
+stream-append old now past future rs qs c run = reported-append (λ e r. came_by c e r) (λ es qs. stream_of c es qs) (record { none = refl; next = λ e r es rs. refl }) past future rs qs (run-even old now past rs run)
 
 pub sent-append : (old now : State) (past future : List Event) (rs qs : List Reply) (c : ℕ) → Run old past rs now → sent_of c (past ++ future) (rs ++ qs) ≡ sent_of c past rs ++ sent_of c future qs
 unfolding sent_of
-sent-append old now past future rs qs c run = told-append (λ e r. sent_by c e r) (λ es qs. sent_of c es qs) (record { none = refl; next = λ e r es rs. refl }) past future rs qs (run-even old now past rs run)
+sent-append old now past future rs qs c run = reported-append (λ e r. sent_by c e r) (λ es qs. sent_of c es qs) (record { none = refl; next = λ e r es rs. refl }) past future rs qs (run-even old now past rs run)
 
 -- What is unread.
 

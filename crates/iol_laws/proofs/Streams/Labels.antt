@@ -24,33 +24,33 @@ use Rattle.iol_core.specs.declared.events.Reply.{Reply}
 use Rattle.iol_core.specs.declared.events.Reply.TheVariants as reply
 use Rattle.iol_core.proofs.TestedLists.{list_all-both, list_all-drop, list_all-labelled, list_all-lookup, list_all-push, list_all-take, list_all-weaker}
 use Rattle.iol_laws.proofs.Runs.{run_keeps}
-use Rattle.iol_laws.specs.Labels.{AreAtHome, lies_in}
+use Rattle.iol_laws.specs.Labels.{AreInOwnPool, lies_in}
 use Rattle.iol_laws.proofs.ConnChanges.{Change, Reads, Closes, all_turned, changed_by, changes, conns_turned, turned}
 use Rattle.iol_laws.proofs.Refusals.Calls.{left, may}
 use Rattle.iol_laws.proofs.Bounds.ShortQueues.{list_all-with_conn}
 
-abbrev is_home : Connection → Bool
-is_home k = lies_in k.pool k.incoming
+abbrev is_in_pool : Connection → Bool
+is_in_pool k = lies_in k.pool k.incoming
 
-pub home_each : (s : State) (c : ℕ) → AreAtHome s → lies_in (conn_at s c).pool (conn_at s c).incoming ≡ true
+pub home_each : (s : State) (c : ℕ) → AreInOwnPool s → lies_in (conn_at s c).pool (conn_at s c).incoming ≡ true
 unfolding conn_at
-home_each s c home = list_all-lookup is_home s.conns c _ refl home
+home_each s c home = list_all-lookup is_in_pool s.conns c _ refl home
 
-home_conn : (s : State) (c : ℕ) (x : Connection) → is_home x ≡ true → AreAtHome s → AreAtHome (with_conn s c x)
-home_conn s c x new home = list_all-with_conn is_home s c x new home
+home_conn : (s : State) (c : ℕ) (x : Connection) → is_in_pool x ≡ true → AreInOwnPool s → AreInOwnPool (with_conn s c x)
+home_conn s c x new home = list_all-with_conn is_in_pool s c x new home
 
 -- however a call changes a connection
-home_changed : (x : Change) (k : Connection) → is_home k ≡ true → is_home (changed_by x k) ≡ true
+home_changed : (x : Change) (k : Connection) → is_in_pool k ≡ true → is_in_pool (changed_by x k) ≡ true
 home_changed (Reads n) k home = list_all-drop (λ b. b.1 == k.pool) n k.incoming home
 home_changed Closes k home = refl
 home_changed x k home = home
 
-home_all : (s : State) (es : List (ℕ × Change)) → AreAtHome s → AreAtHome (all_turned s es)
+home_all : (s : State) (es : List (ℕ × Change)) → AreInOwnPool s → AreInOwnPool (all_turned s es)
 home_all s [] home = home
 home_all s (e ∷ es) home = home_all (turned s e) es (home_conn s e.0 _ (home_changed e.1 (conn_at s e.0) (home_each s e.0 home)) home)
 
-home_called : (s : State) (by : ℕ) (k : Call) → AreAtHome s → AreAtHome (called s by k).after
-home_called s by k home = subst (λ (l : List (ℕ × Connection)). list_all (λ e. is_home e.1) l ≡ true) (sym (conns_turned s by k).conns) (home_all s (changes s by k) home)
+home_called : (s : State) (by : ℕ) (k : Call) → AreInOwnPool s → AreInOwnPool (called s by k).after
+home_called s by k home = subst (λ (l : List (ℕ × Connection)). list_all (λ e. is_in_pool e.1) l ≡ true) (sym (conns_turned s by k).conns) (home_all s (changes s by k) home)
 
 itself : (p : ℕ) → (p == p) ≡ true
 itself p = grind (arith, nat_tests)
@@ -59,13 +59,13 @@ itself p = grind (arith, nat_tests)
 home-more : (p : ℕ) (t : Text) (bytes : List ℕ) → lies_in p t ≡ true → lies_in p (t ++ labelled p bytes) ≡ true
 home-more p t bytes home = list_all-both (λ b. b.1 == p) t (labelled p bytes) home (list_all-labelled (λ q. q == p) p bytes (itself p))
 
-home_ended : (s : State) (c : ℕ) (how : How) → AreAtHome s → AreAtHome (with_conn s c (closed_by (conn_at s c) how))
+home_ended : (s : State) (c : ℕ) (how : How) → AreInOwnPool s → AreInOwnPool (with_conn s c (closed_by (conn_at s c) how))
 home_ended s c ways.Done home = home_conn s c _ (home_each s c home) home
 home_ended s c ways.Gone home = home_conn s c _ (home_each s c home) home
 
-home_meant : (s : State) (e : Event) → AreAtHome s → AreAtHome (meaning s e).after
+home_meant : (s : State) (e : Event) → AreInOwnPool s → AreInOwnPool (meaning s e).after
 home_meant s (event.Call by k) home = home_called s by k home
-home_meant s (event.ConnNew p) home = list_all-push {A = ℕ × Connection} (λ e. is_home e.1) s.conns (s.next_conn, new_conn p) home refl
+home_meant s (event.ConnNew p) home = list_all-push {A = ℕ × Connection} (λ e. is_in_pool e.1) s.conns (s.next_conn, new_conn p) home refl
 home_meant s (event.Arrive c bytes) home =
     let count : ℕ = min (length bytes) (MAX_QUEUE_BYTES - length (conn_at s c).incoming) in
     home_conn s c _ (home-more (conn_at s c).pool (conn_at s c).incoming (take count bytes) (home_each s c home)) home
@@ -73,15 +73,15 @@ home_meant s (event.PeerClosed c how) home = home_ended s c how home
 home_meant s (event.Transmit c max) home = home_conn s c _ (home_each s c home) home
 home_meant s e home = home
 
-pub home_new : (slots : List (List ℕ)) → AreAtHome (new_state slots)
+pub home_new : (slots : List (List ℕ)) → AreInOwnPool (new_state slots)
 home_new slots = refl
 
-pub home_step : (s t : State) (e : Event) (r : Reply) → AreAtHome s → StepsTo s e r t → AreAtHome t
-home_step s t e (reply.Refused x) home step = subst (λ (u : State). AreAtHome u) (sym step.1) home
-home_step s t e r home step = subst (λ (u : State). AreAtHome u) (sym step.2) (home_meant s e home)
+pub home_step : (s t : State) (e : Event) (r : Reply) → AreInOwnPool s → StepsTo s e r t → AreInOwnPool t
+home_step s t e (reply.Refused x) home step = subst (λ (u : State). AreInOwnPool u) (sym step.1) home
+home_step s t e r home step = subst (λ (u : State). AreInOwnPool u) (sym step.2) (home_meant s e home)
 
-pub home_reached : (slots : List (List ℕ)) (t : State) (es : List Event) (rs : List Reply) → Run (new_state slots) es rs t → AreAtHome t
-home_reached slots t es rs run = run_keeps (λ s. AreAtHome s) home_step (new_state slots) t es rs (home_new slots) run
+pub home_reached : (slots : List (List ℕ)) (t : State) (es : List Event) (rs : List Reply) → Run (new_state slots) es rs t → AreInOwnPool t
+home_reached slots t es rs run = run_keeps (λ s. AreInOwnPool s) home_step (new_state slots) t es rs (home_new slots) run
 
 -- Who may read the pool is never denied.
 
@@ -104,7 +104,7 @@ barred-none may (b ∷ t) all = by (may b.1) refl (barred-none may t)
 read-of : (s : State) (d p q : ℕ) → may_read s d p ≡ true → (q == p) ≡ true → may_read s d q ≡ true
 read-of s d p q may_see is = (let same : p ≡ q = grind (arith, nat_tests, is) in subst (λ n. may_read s d n ≡ true) same may_see)
 
-undenied : (s : State) (d n c : ℕ) (o : Option Descriptor) → AreAtHome s → may_read s d (conn_at s c).pool ≡ true → o ≡ Some (on.Connection c) → MatchOption (reading.read_denied s d o n) ⊤ IsOther
+undenied : (s : State) (d n c : ℕ) (o : Option Descriptor) → AreInOwnPool s → may_read s d (conn_at s c).pool ≡ true → o ≡ Some (on.Connection c) → MatchOption (reading.read_denied s d o n) ⊤ IsOther
 undenied s d n c o home may_see is =
     let t : Text = (conn_at s c).incoming in
     let all = list_all-weaker (λ b. b.1 == (conn_at s c).pool) (λ b. may_read s d b.1) t (λ b. read-of s d (conn_at s c).pool b.1 may_see) (home_each s c home) in
@@ -115,14 +115,14 @@ undenied s d n c o home may_see is =
 not-late : (s : State) (c p : ℕ) (o : Option Descriptor) → o ≡ Some (on.Connection c) → reading.read_late s o (refuse.Denied p) → IsOther (refuse.Denied p)
 not-late s c p o is late = absurd (subst (λ (z : Option Descriptor). reading.read_late s z (refuse.Denied p)) is late)
 
-pub home_reads : (s t : State) (d fd c n p : ℕ) → AreAtHome s → descriptor s d fd ≡ Some (on.Connection c) → may_read s d (conn_at s c).pool ≡ true → StepsTo s (event.Call d (call.IolRead fd n)) (reply.Refused (refuse.Denied p)) t → ⊥
+pub home_reads : (s t : State) (d fd c n p : ℕ) → AreInOwnPool s → descriptor s d fd ≡ Some (on.Connection c) → may_read s d (conn_at s c).pool ≡ true → StepsTo s (event.Call d (call.IolRead fd n)) (reply.Refused (refuse.Denied p)) t → ⊥
 home_reads s t d fd c n p home is may_see step =
     let other : IsOther (refuse.Denied p) = left IsOther (reading.read_late s (descriptor s d fd)) (called s d (call.IolRead fd n)).refusals (refuse.Denied p)
     (may IsOther refuse.NoDomain _ refl, (may IsOther refuse.BadFd _ refl, (may IsOther refuse.WrongMode _ refl, (may IsOther refuse.TooMany _ refl, (undenied s d n c (descriptor s d fd) home may_see is, (may IsOther refuse.WouldBlock _ refl, tt))))))
     (not-late s c p (descriptor s d fd) is) step.0 in
     cc (other)
 
-pub home_copies : (s t : State) (d fd c n p : ℕ) → AreAtHome s → descriptor s d fd ≡ Some (on.Connection c) → may_read s d (conn_at s c).pool ≡ true → StepsTo s (event.Call d (call.Read fd n)) (reply.Refused (refuse.Denied p)) t → ⊥
+pub home_copies : (s t : State) (d fd c n p : ℕ) → AreInOwnPool s → descriptor s d fd ≡ Some (on.Connection c) → may_read s d (conn_at s c).pool ≡ true → StepsTo s (event.Call d (call.Read fd n)) (reply.Refused (refuse.Denied p)) t → ⊥
 home_copies s t d fd c n p home is may_see step =
     let other : IsOther (refuse.Denied p) = left IsOther (reading.read_late s (descriptor s d fd)) (called s d (call.Read fd n)).refusals (refuse.Denied p)
     (may IsOther refuse.NoDomain _ refl, (may IsOther refuse.BadFd _ refl, (may IsOther refuse.WrongMode _ refl, (undenied s d n c (descriptor s d fd) home may_see is, (may IsOther refuse.WouldBlock _ refl, tt)))))

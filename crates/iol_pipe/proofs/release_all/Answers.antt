@@ -27,10 +27,10 @@ loop-slice-preserved c =
       moves = moves_less moves c.release.ensures.moves;
       lists = c.release.ensures.lists ∙ c.loop-slice.invariant.lists;
       frees = frees_trans c.loop-slice.invariant.frees c.release.ensures.frees c.release.ensures.moves.counts;
-      settles = λ readable all.
-          let r = c.loop-slice.invariant.settles readable all in
+      reclaims = λ readable all.
+          let r = c.loop-slice.invariant.reclaims readable all in
           let l = readable_last rest x (subst (λ xs. AllReadable s xs) c.in-Some.ensures.items r.0) in
-          (l.0, c.release.ensures.settles (home_stays x c.loop-slice.invariant.moves.stays (last_held s t gone (bufs_of rest) x.hold.buf c.requires moves) l.1) r.1);
+          (l.0, c.release.ensures.reclaims (home_stays x c.loop-slice.invariant.moves.stays (last_held s t gone (bufs_of rest) x.hold.buf c.requires moves) l.1) r.1);
     }
 
 pub returns-clause-releases : goal.returns-clause-releases
@@ -38,4 +38,4 @@ returns-clause-releases c =
     let s = c.args.store.now in
     let before = c.loop-slice.invariant in
     let moves : Moves s c.loop-slice.store (bufs_of c.args.queue.now.items) [] = search (rules) in
-    record { moves = moves; lists = before.lists; frees = before.frees; settles = λ readable all. (before.settles readable all).1 }
+    record { moves = moves; lists = before.lists; frees = before.frees; reclaims = λ readable all. (before.reclaims readable all).1 }

@@ -18,10 +18,10 @@ fn has_free(stage: &mut Stage, fd: u32) -> bool {
 
 // The pipe is closed before the script begins: the script ends at its first write, and the next
 // job is run.
-fn goes_on(stage: &mut Stage, unread: Bytes, next: Bytes) -> bool {
+fn proceeds(stage: &mut Stage, unread: Bytes, next: Bytes) -> bool {
     give(stage, unread)
         && close(stage, 0)
-        && stage.settle()
+        && stage.quiesce()
         && give(stage, next)
         && is_put_out(stage, b"x\n")
         && has_free(stage, OUTPUT)
@@ -31,7 +31,7 @@ fn ends_unread(alloc: Global) -> Result<bool, Refusal> {
     let unread = job_of(alloc, OUTPUT, "", "emit a\nquery\nemit b")?;
     let next = job_of(alloc, OUTPUT, "x", "query")?;
     on_stage(alloc, |stage| {
-        goes_on(stage, unread, next) && !stage.is_rough()
+        proceeds(stage, unread, next) && !stage.is_resource_failure()
     })
 }
 
@@ -43,7 +43,7 @@ fn broken_pipe_ends_the_script(rt: HostRuntime) -> Result<(), Fail> {
 // A text that is no job is dropped, and the descriptor for its output stays with the worker.
 fn passes_over(stage: &mut Stage, none: Bytes, next: Bytes) -> bool {
     give(stage, none)
-        && stage.settle()
+        && stage.quiesce()
         && close(stage, 0)
         && give(stage, next)
         && is_put_out(stage, b"x\n")
@@ -70,13 +70,16 @@ fn stops(stage: &mut Stage, job: Bytes) -> bool {
     give(stage, job)
         && close(stage, 1)
         && is_put_out(stage, b"x\n")
-        && stage.settle()
+        && stage.quiesce()
         && has_free(stage, OUTPUT)
 }
 
 fn stops_at_the_end(alloc: Global) -> Result<bool, Refusal> {
     let job = job_of(alloc, OUTPUT, "x", "query")?;
-    on_stage(alloc, |stage| stops(stage, job) && !stage.is_rough())
+    on_stage(
+        alloc,
+        |stage| stops(stage, job) && !stage.is_resource_failure(),
+    )
 }
 
 #[test]

@@ -96,7 +96,7 @@ fn many_texts(alloc: Global) -> Result<bool, Refusal> {
     let wanted = repeated(alloc, b"abc\n", 1500)?;
     let job = job_text(alloc, Fd::new(OUTPUT), b"", &script)?;
     on_stage(alloc, |stage| {
-        give(stage, job) && is_put_out(stage, &wanted) && !stage.is_rough()
+        give(stage, job) && is_put_out(stage, &wanted) && !stage.is_resource_failure()
     })
 }
 
@@ -115,7 +115,7 @@ fn small_pieces(alloc: Global, lines: &[u8], output: &[u8]) -> Result<bool, Refu
     let wanted = repeated(alloc, output, 100)?;
     let job = job_text(alloc, Fd::new(OUTPUT), b"q", &script)?;
     lend(stage_of(alloc, &FILES), |stage| {
-        give(stage, job) && is_put_out(stage, &wanted) && !stage.is_rough()
+        give(stage, job) && is_put_out(stage, &wanted) && !stage.is_resource_failure()
     })
 }
 

@@ -55,7 +55,7 @@ pub fn close(stage: &mut Stage, fd: u32) -> bool {
 pub fn is_put_out(stage: &mut Stage, wanted: &[u8]) -> bool {
     let mut left = wanted;
     for _ in 0..1000 {
-        if !stage.settle() {
+        if !stage.quiesce() {
             return false;
         }
         let read = Call::Read {

@@ -17,7 +17,7 @@ fn connect_all(host: &mut Host, count: usize) -> bool {
     for _ in 0..count {
         all &= connect(host).is_some();
     }
-    all && host.settle()
+    all && host.quiesce()
 }
 
 // The last of 257 gets its response once another has ended; the one before it gets its response at
@@ -36,7 +36,7 @@ fn waits(alloc: Global) -> Result<bool, Refusal> {
     let within = arrivals(alloc, 256, GET, 8192)?;
     let past = arrivals(alloc, 257, GET, 8192)?;
     on_host(alloc, &Plan::of(&FILES), |host| {
-        waits_for_another(host, within, past) && !host.is_rough()
+        waits_for_another(host, within, past) && !host.is_resource_failure()
     })
 }
 

@@ -92,7 +92,7 @@ fn answers_fault(alloc: Global) -> Result<bool, Refusal> {
     };
     let row = ("", FAULTED, false);
     on_host(alloc, &plan, |host| {
-        holds(host, 1, events, &row) && host.is_rough()
+        holds(host, 1, events, &row) && host.is_resource_failure()
     })
 }
 
@@ -118,7 +118,7 @@ fn count_taken(host: &mut Host, events: Vec<Event>) -> (u32, bool) {
             Reply::Count(1) => count = count.saturating_add(1),
             reply => return (count, is_room_wanting(&reply)),
         }
-        let _idle = host.settle();
+        let _idle = host.quiesce();
     }
     (count, false)
 }
@@ -149,7 +149,7 @@ fn is_forgotten(host: &mut Host, events: Vec<Event>) -> bool {
     let conn = ConnId::new(1);
     let came = connect(host).is_some() && let_arrive(host, events);
     let sent = host.step(Event::Transmit { conn, max: 100 });
-    let idle = host.settle();
+    let idle = host.quiesce();
     came && matches!(sent, Reply::Segment { .. })
         && idle
         && end(host, 1, How::Gone)
@@ -166,7 +166,7 @@ fn forgets(alloc: Global) -> Result<bool, Refusal> {
         ..Plan::of(&files)
     };
     on_host(alloc, &plan, |host| {
-        is_forgotten(host, events) && !host.is_rough()
+        is_forgotten(host, events) && !host.is_resource_failure()
     })
 }
 

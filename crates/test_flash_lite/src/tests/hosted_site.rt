@@ -43,7 +43,7 @@ fn is_answered(alloc: Global) -> Result<bool, Refusal> {
     let choices = choices_of(alloc)?;
     let (mut host, replies, idle) = hosted(alloc, &Plan::of(&FILES), choices.as_slice())?;
     let is_well = idle
-        && !host.is_rough()
+        && !host.is_resource_failure()
         && have_come(replies.as_slice())
         && is_sent(&mut host, 1, ANSWER);
     drop(host);
@@ -99,7 +99,7 @@ fn are_answered(alloc: Global, workers: u32, guest: u32) -> Result<bool, Refusal
     let choices = mixed_choices(alloc, guest)?;
     let (mut host, replies, idle) = hosted(alloc, &plan, choices.as_slice())?;
     let is_well = idle
-        && !host.is_rough()
+        && !host.is_resource_failure()
         && replies.len() == choices.len()
         && is_sent(&mut host, 1, OUTPUT)
         && is_sent(&mut host, 2, ANSWER);

@@ -61,7 +61,7 @@ fn are_answered(
     on_host(alloc, &plan, |host| {
         is_answered(host, 1, first, chunked, false)
             && is_answered(host, 2, second, plain, true)
-            && !host.is_rough()
+            && !host.is_resource_failure()
     })
 }
 

@@ -58,17 +58,17 @@ fn is_open(call: &Option<Call>) -> bool {
 // A connection: the calls after the request is read, after its bytes are dropped, and the last
 // call again.
 
-fn conn_hears(conn: &mut Conn, system: &System<MemoryBacking>) -> Option<Call> {
+fn conn_receives(conn: &mut Conn, system: &System<MemoryBacking>) -> Option<Call> {
     let agg = AggId::new(1);
     let parts = system.parts(DomainId::new(1), agg).ok();
-    match conn.go_on(Fd::new(1), &Reply::Agg(agg), parts) {
+    match conn.advance(Fd::new(1), &Reply::Agg(agg), parts) {
         Ok(Onward::Asks(call)) => Some(call),
         _ => None,
     }
 }
 
-fn conn_goes_on(conn: &mut Conn) -> Option<Call> {
-    match conn.go_on(Fd::new(1), &Reply::Done, None) {
+fn conn_proceeds(conn: &mut Conn) -> Option<Call> {
+    match conn.advance(Fd::new(1), &Reply::Done, None) {
         Ok(Onward::Asks(call)) => Some(call),
         _ => None,
     }
@@ -80,26 +80,26 @@ fn conn_wants(conn: &Conn) -> Option<Call> {
 
 fn conn_answers(alloc: Global, system: &System<MemoryBacking>) -> bool {
     let mut conn = Conn::new(alloc);
-    let heard = conn_hears(&mut conn, system);
-    let gone = conn_goes_on(&mut conn);
+    let received = conn_receives(&mut conn, system);
+    let gone = conn_proceeds(&mut conn);
     let again = conn_wants(&conn);
     drop(conn);
-    is_drop(&heard) && is_open(&gone) && is_open(&again)
+    is_drop(&received) && is_open(&gone) && is_open(&again)
 }
 
 // A client, with the same calls.
 
-fn client_hears(client: &mut Client, system: &System<MemoryBacking>) -> Option<Call> {
+fn client_receives(client: &mut Client, system: &System<MemoryBacking>) -> Option<Call> {
     let agg = AggId::new(1);
     let parts = system.parts(DomainId::new(1), agg).ok();
-    match client.go_on(true, Fd::new(1), 0, &Reply::Agg(agg), parts) {
+    match client.advance(true, Fd::new(1), 0, &Reply::Agg(agg), parts) {
         Ok(Course::Asks(call)) => Some(call),
         _ => None,
     }
 }
 
-fn client_goes_on(client: &mut Client) -> Option<Call> {
-    match client.go_on(true, Fd::new(1), 0, &Reply::Done, None) {
+fn client_proceeds(client: &mut Client) -> Option<Call> {
+    match client.advance(true, Fd::new(1), 0, &Reply::Done, None) {
         Ok(Course::Asks(call)) => Some(call),
         _ => None,
     }
@@ -111,11 +111,11 @@ fn client_wants(client: &Client) -> Option<Call> {
 
 fn client_answers(alloc: Global, system: &System<MemoryBacking>) -> bool {
     let mut client = Client::new(alloc);
-    let heard = client_hears(&mut client, system);
-    let gone = client_goes_on(&mut client);
+    let received = client_receives(&mut client, system);
+    let gone = client_proceeds(&mut client);
     let again = client_wants(&client);
     drop(client);
-    is_drop(&heard) && is_open(&gone) && is_open(&again)
+    is_drop(&received) && is_open(&gone) && is_open(&again)
 }
 
 fn both_answer(alloc: Global) -> Result<bool, Refusal> {
@@ -130,8 +130,8 @@ fn both_answer(alloc: Global) -> Result<bool, Refusal> {
 const FILES: [Kept<'static>; 1] = [("a", b"hi\n", false)];
 
 fn turn_of<P: Process>(process: &mut P, host: &mut Host) -> Option<Call> {
-    let look = host.world().look(DomainId::new(1));
-    match process.next(&Reply::Done, &look) {
+    let byte_view = host.world().byte_view(DomainId::new(1));
+    match process.next(&Reply::Done, &byte_view) {
         Ok(Turn::Make(call)) => Some(call),
         _ => None,
     }

@@ -44,8 +44,8 @@ fn waits(host: &mut Host, request: Vec<Event>) -> bool {
 }
 
 // Then it gets its response.
-fn goes_on(host: &mut Host) -> bool {
-    host.settle() && is_sent(host, 1, FROM_SHORT)
+fn proceeds(host: &mut Host) -> bool {
+    host.quiesce() && is_sent(host, 1, FROM_SHORT)
 }
 
 // The server takes turns for a request, which cannot be run.
@@ -62,12 +62,12 @@ fn is_refused(host: &mut Host, request: Vec<Event>) -> bool {
 // One descriptor is left for the script's file, but a pipe needs two.
 fn waits_for_a_pipe(host: &mut Host, request: Vec<Event>) -> bool {
     connect(host).is_some()
-        && host.settle()
+        && host.quiesce()
         && take_pairs(host, 1)
         && is_done(host, close(1, 1023))
         && waits(host, request)
         && is_done(host, close(1, 1022))
-        && goes_on(host)
+        && proceeds(host)
 }
 
 // The worker and the guest have all other pipes.
@@ -78,7 +78,7 @@ fn waits_for_another_pipe(host: &mut Host, request: Vec<Event>) -> bool {
         && waits(host, request)
         && is_done(host, close(3, 0))
         && is_done(host, close(3, 1))
-        && goes_on(host)
+        && proceeds(host)
 }
 
 // The worker has no descriptor left for the write end.
@@ -90,7 +90,7 @@ fn waits_to_give(host: &mut Host, request: Vec<Event>) -> bool {
         && connect(host).is_some()
         && waits(host, request)
         && is_done(host, close(2, 1023))
-        && goes_on(host)
+        && proceeds(host)
 }
 
 // The worker's domain has ended.
@@ -118,7 +118,7 @@ fn is_filled(host: &mut Host, fill: Event) -> bool {
 
 // The worker has not read the bytes in its job pipe.
 fn waits_to_hand(host: &mut Host, fill: Event, request: Vec<Event>) -> bool {
-    is_filled(host, fill) && connect(host).is_some() && waits(host, request) && goes_on(host)
+    is_filled(host, fill) && connect(host).is_some() && waits(host, request) && proceeds(host)
 }
 
 // The guest's bytes fill the pool of jobs.
@@ -128,7 +128,7 @@ fn waits_to_make(host: &mut Host, fill: Event, request: Vec<Event>) -> bool {
         && connect(host).is_some()
         && waits(host, request)
         && is_done(host, call_of(3, Call::AggDrop { agg }))
-        && goes_on(host)
+        && proceeds(host)
 }
 
 // They fill the pool of the script's file.

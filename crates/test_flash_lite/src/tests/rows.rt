@@ -42,7 +42,7 @@ pub fn let_arrive(host: &mut Host, events: Vec<Event>) -> bool {
     let mut idle = true;
     for event in events {
         let _reply = host.step(event);
-        idle &= host.settle();
+        idle &= host.quiesce();
     }
     idle
 }
@@ -59,7 +59,7 @@ pub fn is_sent(host: &mut Host, number: u32, wanted: &[u8]) -> bool {
             },
             _ => return left.is_empty(),
         }
-        if !host.settle() {
+        if !host.quiesce() {
             return false;
         }
     }
@@ -75,7 +75,7 @@ pub fn is_gone(host: &mut Host, number: u32) -> bool {
 pub fn end(host: &mut Host, number: u32, how: How) -> bool {
     let conn = ConnId::new(number);
     let _reply = host.step(Event::PeerClosed { conn, how });
-    host.settle()
+    host.quiesce()
 }
 
 /// Returns whether the input of a new connection of this number gets this output, and whether the

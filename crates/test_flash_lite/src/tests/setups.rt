@@ -36,7 +36,7 @@ fn processes_of(
 }
 
 // Returns whether they are in the domains 1, 2 and 3: the server and two workers.
-fn are_seated(processes: &[(DomainId, Actor)]) -> bool {
+fn are_in_slots(processes: &[(DomainId, Actor)]) -> bool {
     let mut last = 0u32;
     for (domain, _process) in processes {
         if domain.number() != last.saturating_add(1) {
@@ -50,9 +50,9 @@ fn are_seated(processes: &[(DomainId, Actor)]) -> bool {
 fn sets_up(alloc: Global) -> Result<bool, Refusal> {
     let site = site_of(alloc, &FILES, 2, 1)?;
     let processes = processes_of(alloc, system_of(alloc)?, &site)?;
-    let seated = are_seated(&processes);
+    let in_slots = are_in_slots(&processes);
     drop((site, processes));
-    Ok(seated)
+    Ok(in_slots)
 }
 
 // Each call that needs memory succeeds if there is enough.

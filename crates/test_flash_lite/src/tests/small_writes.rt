@@ -46,7 +46,7 @@ fn count_taken(host: &mut Host, events: Vec<Event>) -> Option<u32> {
 
 // Makes two connections, which are accepted.
 fn connect_two(host: &mut Host) -> bool {
-    connect(host).is_some() && connect(host).is_some() && host.settle()
+    connect(host).is_some() && connect(host).is_some() && host.quiesce()
 }
 
 // The peer of the first connection is gone, and the second gets its response.
@@ -64,7 +64,7 @@ fn fills_net(host: &mut Host, small: Vec<Event>, whole: Vec<Event>, again: Vec<E
         && count_taken(host, small) == Some(16)
         && count_taken(host, whole) == Some(0)
         && second_is_served(host, again)
-        && !host.is_rough()
+        && !host.is_resource_failure()
 }
 
 fn net_comes_back(alloc: Global) -> Result<bool, Refusal> {
@@ -97,7 +97,7 @@ fn fills_work(host: &mut Host, heads: Vec<Event>) -> bool {
             return false;
         }
     }
-    !host.settle() && host.is_rough()
+    !host.quiesce() && host.is_resource_failure()
 }
 
 // The second client finds no page before the first one is gone.

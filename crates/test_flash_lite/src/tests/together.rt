@@ -25,7 +25,7 @@ fn take<'a>(host: &mut Host, number: u32, wanted: &'a [u8]) -> Option<&'a [u8]> 
         Reply::Segment { bytes, .. } => wanted.strip_prefix(bytes.as_slice())?,
         _ => wanted,
     };
-    if host.settle() { Some(left) } else { None }
+    if host.quiesce() { Some(left) } else { None }
 }
 
 // Takes some segments.
@@ -156,7 +156,7 @@ fn holds(alloc: Global, case: Case, workers: u32, others: &[&[u8]]) -> Result<bo
     let files = files_of(&big, b"cat big");
     let plan = Plan::with(&files, workers, 4);
     on_host(alloc, &plan, |host| {
-        goes(host, case, requests, &answer) && !host.is_rough()
+        goes(host, case, requests, &answer) && !host.is_resource_failure()
     })
 }
 

@@ -67,7 +67,7 @@ fn reads_later(
     asked
         && matches!(opened, Reply::Fd(_))
         && matches!(written, Reply::Count(3))
-        && host.settle()
+        && host.quiesce()
         && is_sent(host, 1, WITH_TWO)
         && is_sent(host, 2, FROM_FILE)
 }
@@ -78,7 +78,7 @@ fn by_turns(alloc: Global) -> Result<bool, Refusal> {
     let open = opens(alloc, b"f")?;
     let write = writes(alloc, b"two")?;
     on_host(alloc, &Plan::of(&FILES), |host| {
-        reads_later(host, script, file, open, write) && !host.is_rough()
+        reads_later(host, script, file, open, write) && !host.is_resource_failure()
     })
 }
 
@@ -90,7 +90,7 @@ fn script_and_file_by_turns(rt: HostRuntime) -> Result<(), Fail> {
 // Two scripts that are requested at the same time.
 fn answers_both(host: &mut Host, first: Vec<Event>, second: Vec<Event>) -> bool {
     ask_both(host, first, second)
-        && host.settle()
+        && host.quiesce()
         && is_sent(host, 1, WITH_ONE)
         && is_sent(host, 2, WITH_ONE)
         && is_sent(host, 1, b"")
@@ -104,7 +104,7 @@ fn two_at_once(alloc: Global, workers: u32) -> Result<bool, Refusal> {
         ..Plan::of(&FILES)
     };
     on_host(alloc, &plan, |host| {
-        answers_both(host, first, second) && !host.is_rough()
+        answers_both(host, first, second) && !host.is_resource_failure()
     })
 }
 
@@ -155,7 +155,7 @@ fn first_goes(alloc: Global, workers: u32) -> Result<bool, Refusal> {
     let files = files_of(&bytes, b"cat big\nemit");
     let plan = Plan::with(&files, workers, 6);
     on_host(alloc, &plan, |host| {
-        waits_for_the_first(host, long, short, workers == 1) && !host.is_rough()
+        waits_for_the_first(host, long, short, workers == 1) && !host.is_resource_failure()
     })
 }
 

@@ -30,7 +30,7 @@ fn close_in_use<R: Abort>(
     pools.close(arena, pool);
     let closed = pools.report(arena, pool);
     arena.free(buf);
-    pools.settle(arena, pool);
+    pools.reclaim(arena, pool);
     closed.free == 31 && pools.report(arena, pool).pages == 0
 }
 

@@ -1,6 +1,6 @@
 //! A process that fills a pipe.
 ghost use Rattle.std.specs.Prelude.{◌≡◌, IfOk, OnErr};
-ghost use Rattle.iol_proc.specs.Prelude.{IsQuiet};
+ghost use Rattle.iol_proc.specs.Prelude.{IsCopyFree};
 
 use iol_core::events::{Call, Reply};
 use iol_core::lists::Bytes;
@@ -35,7 +35,7 @@ impl Producer {
 
     /// Makes a piece, writes it, and drops it. If the pipe is full it yields, and retries.
     pub fn turn(&mut self, last: &Reply) -> Result<Turn, AllocError>
-        ensures quiet { IfOk result IsQuiet }
+        ensures quiet { IfOk result IsCopyFree }
         ensures err { OnErr result (self.new ≡ self.old) }
     {
         match last {
@@ -54,14 +54,14 @@ impl Producer {
 
     // Writes the piece to the pipe.
     fn write(&self, agg: AggId) -> Turn
-        ensures { IsQuiet result }
+        ensures { IsCopyFree result }
     {
         Turn::Make(Call::IolWrite { fd: self.fd, agg })
     }
 
     // The next piece, or the end.
     fn make(&mut self) -> Result<Turn, AllocError>
-        ensures quiet { IfOk result IsQuiet }
+        ensures quiet { IfOk result IsCopyFree }
         ensures err { OnErr result (self.new ≡ self.old) }
     {
         if self.left > 0 {

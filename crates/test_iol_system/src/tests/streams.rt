@@ -60,7 +60,7 @@ fn comes_back(world: &mut Workers, reader: &mut &[u8], writer: &mut Vec<u8>) -> 
         && is_sent(world, 4, b"hell")
         && drains(world, writer, 9, 1)
         && writer.as_slice() == b"o".as_slice()
-        && !world.is_rough()
+        && !world.is_resource_failure()
 }
 
 fn echoes(alloc: Global) -> Result<bool, Refusal> {

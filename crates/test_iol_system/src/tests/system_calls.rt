@@ -195,14 +195,14 @@ fn events_of(alloc: Global) -> Result<Events, AllocError> {
     })
 }
 
-fn is_told(alloc: Global, reply: &Reply, expected: &str) -> Result<bool, AllocError> {
-    let told = format!(in alloc; "{reply:?}")?;
-    Ok(told.as_str() == expected)
+fn is_reported(alloc: Global, reply: &Reply, expected: &str) -> Result<bool, AllocError> {
+    let reported = format!(in alloc; "{reply:?}")?;
+    Ok(reported.as_str() == expected)
 }
 
-fn are_told(alloc: Global, replies: &[Reply], expected: &[&str]) -> Result<bool, AllocError> {
+fn are_reported(alloc: Global, replies: &[Reply], expected: &[&str]) -> Result<bool, AllocError> {
     for (reply, text) in replies.iter().zip(expected) {
-        if !is_told(alloc, reply, text)? {
+        if !is_reported(alloc, reply, text)? {
             return Ok(false);
         }
     }
@@ -214,7 +214,7 @@ type TestedSystem = System<MemoryBacking>;
 // Executes these events, in order.
 fn run(alloc: Global, system: &mut TestedSystem, events: &[Event], expected: &[&str]) -> bool {
     match system.run(events) {
-        Ok(replies) => matches!(are_told(alloc, &replies, expected), Ok(true)),
+        Ok(replies) => matches!(are_reported(alloc, &replies, expected), Ok(true)),
         Err(_) => false,
     }
 }

@@ -5,7 +5,7 @@ use super::start::system_with_pipe;
 use super::watcher::Watcher;
 use iol_back::memory::MemoryBacking;
 use iol_core::refusals::Refusal;
-use iol_proc::laws::idle_is_settled;
+use iol_proc::laws::idle_is_quiescent;
 use iol_proc::world::World;
 use std::alloc::Global;
 use std::test::Fail;
@@ -19,7 +19,7 @@ type Watched = World<MemoryBacking, Watcher>;
 fn watch(world: &mut Watched, turns: usize) -> bool
     ensures { AllHaveWatched world.old world.new (λ w. w.asked) result }
 {
-    idle_is_settled::<Watcher>();
+    idle_is_quiescent::<Watcher>();
     world.until_idle(turns)
 }
 

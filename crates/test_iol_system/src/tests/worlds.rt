@@ -59,7 +59,7 @@ fn sending_world(alloc: Global) -> Result<Workers, Refusal> {
 fn all_come(world: &mut Workers) -> bool {
     world.until_idle(65_536)
         && came(world) == Some((1_048_576, sum_of_pieces()))
-        && !world.is_rough()
+        && !world.is_resource_failure()
 }
 
 #[test]

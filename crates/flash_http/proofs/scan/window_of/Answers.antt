@@ -10,5 +10,5 @@ returns-in-Some c =
 
 pub returns-in-None : goal.returns-in-None
 returns-in-None c =
-    let is = window_not_yet c.args.stream.now c.feed_all.new.self c.in-None.ensures.goes_on c.in-None.ensures.room in
+    let is = window_not_yet c.args.stream.now c.feed_all.new.self c.in-None.ensures.proceeds c.in-None.ensures.room in
     record { window = is; fits = window_fits c.args.stream.now Wait is }

@@ -16,7 +16,7 @@ use Rattle.iol_core.specs.declared.events.Reply.TheVariants as reply
 use Rattle.iol_laws.specs.Frame.{is_conn, touches_conn, touches_fd}
 use Rattle.iol_laws.specs.Order.{IsOrderly}
 use Rattle.iol_laws.specs.Caller as o
-use Rattle.iol_proc.specs.declared.seat.Seat.{Seat}
+use Rattle.iol_proc.specs.declared.process_slot.ProcessSlot.{ProcessSlot}
 use Rattle.flash_http.specs.declared.ranges.Selection.{Selection}
 use Rattle.flash_http.specs.declared.ranges.Selection.TheVariants.{Bytes}
 use Rattle.flash_http.specs.Range.{selected}
@@ -25,25 +25,25 @@ use Rattle.flash_cgi.specs.Script.{script_of}
 use Rattle.flash_cgi.specs.declared.line.Line.{Line}
 use Rattle.flash_laws.specs.Answers.{Failed, keeps}
 use Rattle.flash_laws.specs.Client as client
-use Rattle.flash_laws.specs.Client.{is_for_script, conn_wants, conn_told, script_told, file_told}
-use Rattle.flash_laws.specs.Client.Fits.{TieAlone, due_in, HasText, Finds, FitsAlone, TieRun, FitsRun, Fits, made_of, response_to}
+use Rattle.flash_laws.specs.Client.{is_for_script, conn_wants, conn_after_reply, script_after_reply, file_after_reply}
+use Rattle.flash_laws.specs.Client.Fits.{ConsistencyAlone, expected_in, HasText, Finds, FitsAlone, ConsistencyRun, FitsRun, Fits, made_of, response_to}
 use Rattle.flash_laws.specs.Conn as conn
-use Rattle.flash_laws.specs.Conn.{Following, Conn, piece_end, count_of, text_of, sends_of, settled, told_shuts, told_picks, told_spares, following, headed, told_heads, told_joins, told_cuts, told_swaps, goes_on, told_sent, told_breaks, drops_next, told_drops, told_got}
-use Rattle.flash_laws.specs.Workers.Crew.{Crew}
+use Rattle.flash_laws.specs.Conn.{Following, Conn, piece_end, count_of, text_of, sends_of, resolved, after_close_file, after_slice, after_drop_whole, following, headed, after_head, after_join, after_cut, after_swap, proceeds, after_taken, after_break, drops_next, after_drop, after_discard}
+use Rattle.flash_laws.specs.Workers.WorkerSet.{WorkerSet}
 use Rattle.flash_laws.specs.Conn.Fits.{Has, quits, is_closing, HoldsMore, Names}
 use Rattle.flash_laws.specs.Client.ResponseState as known
 use Rattle.flash_laws.specs.Client.ResponseState.{OfFile, OfScript, MayPutOut, is_read, is_opening}
 use Rattle.flash_laws.specs.Run.Fits.{nothing_yet}
-use Rattle.flash_laws.specs.Shelf.{Shelf, due_to, MayBeDue, IsAmong}
-use Rattle.flash_laws.specs.Shelf.Due.{outcomes_by}
-use Rattle.flash_laws.proofs.Site.Due.{all-show, due-may, script-due}
+use Rattle.flash_laws.specs.SiteContents.{SiteContents, expected_to, MayBeExpected, IsAmong}
+use Rattle.flash_laws.specs.SiteContents.Expected.{outcomes_by}
+use Rattle.flash_laws.proofs.Site.Expected.{all-show, expected-may, script-expected}
 use Rattle.flash_laws.specs.Site.{server, IsFixed}
-use Rattle.flash_laws.specs.declared.phase.Learnt.{Learnt}
-use Rattle.flash_laws.specs.declared.phase.Learnt.TheVariants.{File, Text as TextOf}
-use Rattle.flash_laws.specs.declared.phase.Content.{Content}
-use Rattle.flash_laws.specs.declared.phase.Content.TheVariants.{Script}
-use Rattle.flash_laws.specs.declared.phase.Doing.{Doing}
-use Rattle.flash_laws.specs.declared.phase.Doing.TheVariants.{Rests, Got, Opens, Reads as Reading, Shuts, Picks, Spares, Heads, Joins, Sends, Cuts, Offers, Swaps, Sent, Breaks, Drops, Closes, Over}
+use Rattle.flash_laws.specs.declared.phase.FileResult.{FileResult}
+use Rattle.flash_laws.specs.declared.phase.FileResult.TheVariants.{File, Text as TextOf}
+use Rattle.flash_laws.specs.declared.phase.Payload.{Payload}
+use Rattle.flash_laws.specs.declared.phase.Payload.TheVariants.{Script}
+use Rattle.flash_laws.specs.declared.phase.Phase.{Phase}
+use Rattle.flash_laws.specs.declared.phase.Phase.TheVariants.{Rests, Got, Opens, Reads as Reading, Shuts, Picks, Spares, Heads, Joins, Sends, Cuts, Offers, Swaps, Sent, Breaks, Drops, Closes, Over}
 use Rattle.flash_laws.specs.declared.script_run.Running.TheVariants.{Awaits}
 use Rattle.flash_laws.proofs.Forms.{at}
 use Rattle.flash_laws.proofs.Conn.AnswerParts as having
@@ -51,143 +51,143 @@ use Rattle.flash_laws.proofs.Lists.{clash}
 use Rattle.flash_laws.proofs.World.AllLaws.{AllLaws}
 use Rattle.flash_laws.proofs.World.Alone.Files as files
 use Rattle.flash_laws.proofs.World.Alone.Sends.{sends, offers, rests}
-use Rattle.flash_laws.proofs.World.Alone.Ties.{alone, FitsAt, Stands, TiesOn, tie_on, hush, ends, ends-last}
+use Rattle.flash_laws.proofs.World.Alone.Consistencies.{alone, FitsAt, Stands, ConsistenciesOn, consistency_on, hush, ends, ends-last}
 
 some-lines : (o : Option (List Line)) → is_some o ≡ true → (lines : List Line) × (o ≡ Some lines)
 some-lines None is = absurd (cc (is))
 some-lines (Some lines) is = (lines, refl)
 
-module _ (shelf : Shelf) (crew : Crew) (laws : AllLaws crew) (m n : State) (came sent : List ℕ) (fd c : ℕ) (kept script : List ℕ)
+module _ (site_contents : SiteContents) (worker_set : WorkerSet) (laws : AllLaws worker_set) (m n : State) (came sent : List ℕ) (fd c : ℕ) (kept script : List ℕ)
     (order : IsOrderly m) where
-  abbrev Fitting : State → Answer → Doing → Type 0
-  Fitting = FitsAt shelf came sent fd c kept script
+  abbrev Fitting : State → Answer → Phase → Type 0
+  Fitting = FitsAt site_contents came sent fd c kept script
 
   -- ---- what the phases rest on, of these states
 
-  moves_to : (text : List ℕ) (q : Answer) (d e : Doing) (k : Call) (r : Reply) (later : List ℕ) → MayBeDue shelf q later → (f : Fitting m q d)
+  moves_to : (text : List ℕ) (q : Answer) (d e : Phase) (k : Call) (r : Reply) (later : List ℕ) → MayBeExpected site_contents q later → (f : Fitting m q d)
       → StepsTo m (event.Call server k) r n → touches_conn m (event.Call server k) c ≡ false
-      → touches_fd m (event.Call server k) server fd ≡ false → TiesOn shelf kept script f.due later q d e
-      → Has n q (due_in later q e) e → Finds shelf n q text e → FitsAlone shelf n came sent fd c (alone kept text q e)
-  moves_to = files.moves_to shelf crew laws m n came sent fd c kept script order
+      → touches_fd m (event.Call server k) server fd ≡ false → ConsistenciesOn site_contents kept script f.expected later q d e
+      → Has n q (expected_in later q e) e → Finds site_contents n q text e → FitsAlone site_contents n came sent fd c (alone kept text q e)
+  moves_to = files.moves_to site_contents worker_set laws m n came sent fd c kept script order
 
-  same : (q : Answer) (d : Doing) → Fitting m q d → n ≡ m → Fitting n q d
-  same = files.same shelf crew laws m n came sent fd c kept script order
+  same : (q : Answer) (d : Phase) → Fitting m q d → n ≡ m → Fitting n q d
+  same = files.same site_contents worker_set laws m n came sent fd c kept script order
 
-  goes : (q : Answer) (part : List ℕ) (d e : Doing) (k : Call) (r : Reply) (f : Fitting m q d)
+  goes : (q : Answer) (part : List ℕ) (d e : Phase) (k : Call) (r : Reply) (f : Fitting m q d)
       → StepsTo m (event.Call server k) r n → touches_conn m (event.Call server k) c ≡ false
       → touches_fd m (event.Call server k) server fd ≡ false
-      → Stands f.due q part d → Stands f.due q part e → Has n q (due_in f.due q e) e → Finds shelf n q script e → Fitting n q e
-  goes q part d e k r f = files.goes shelf crew laws m n came sent fd c kept script order q part d e k r f.due f.may f
+      → Stands f.expected q part d → Stands f.expected q part e → Has n q (expected_in f.expected q e) e → Finds site_contents n q script e → Fitting n q e
+  goes q part d e k r f = files.goes site_contents worker_set laws m n came sent fd c kept script order q part d e k r f.expected f.may f
 
-  has_told : (q : Answer) (d : Doing) (r : Reply) (heard : List ℕ) → (f : Fitting m q d) → is_opening d ≡ false → is_closing d ≡ false → is_read d ≡ false
-      → StepsTo m (event.Call server (conn.wants fd (at kept q d))) r n → Names n r heard
-      → Has n q (due_in f.due q (conn.told (at kept q d) r heard).doing) (conn.told (at kept q d) r heard).doing
-  has_told = files.has_told shelf crew laws m n came sent fd c kept script order
+  has_after_reply : (q : Answer) (d : Phase) (r : Reply) (received : List ℕ) → (f : Fitting m q d) → is_opening d ≡ false → is_closing d ≡ false → is_read d ≡ false
+      → StepsTo m (event.Call server (conn.wants fd (at kept q d))) r n → Names n r received
+      → Has n q (expected_in f.expected q (conn.after_reply (at kept q d) r received).phase) (conn.after_reply (at kept q d) r received).phase
+  has_after_reply = files.has_after_reply site_contents worker_set laws m n came sent fd c kept script order
 
-  finds_told : (q : Answer) (d : Doing) (r : Reply) (heard : List ℕ) → is_opening d ≡ false → is_read d ≡ false
-      → Finds shelf m q script d → Finds shelf n q script (conn.told (at kept q d) r heard).doing
-  finds_told = files.finds_told shelf crew laws m n came sent fd c kept script order
+  finds_after_reply : (q : Answer) (d : Phase) (r : Reply) (received : List ℕ) → is_opening d ≡ false → is_read d ≡ false
+      → Finds site_contents m q script d → Finds site_contents n q script (conn.after_reply (at kept q d) r received).phase
+  finds_after_reply = files.finds_after_reply site_contents worker_set laws m n came sent fd c kept script order
 
   differ-fds : (g f pos : ℕ) → descriptor m server g ≡ Some (on.File f pos modes.Read)
       → descriptor m server fd ≡ Some (on.Connection c) → (g == fd) ≡ false
-  differ-fds = files.differ-fds shelf crew laws m n came sent fd c kept script order
+  differ-fds = files.differ-fds site_contents worker_set laws m n came sent fd c kept script order
 
   unused : (g f pos : ℕ) → descriptor m server g ≡ Some (on.File f pos modes.Read)
       → (list_any (is_conn c) (descriptor m server g ∷ []) || false) ≡ false
-  unused = files.unused shelf crew laws m n came sent fd c kept script order
+  unused = files.unused site_contents worker_set laws m n came sent fd c kept script order
 
   -- ---- each phase that opens and reads no file
 
-  got : (q : Answer) (a : ℕ) (r : Reply) (heard : List ℕ) → Fitting m q (Got a) → StepsTo m (event.Call server (call.AggDrop a)) r n → Names n r heard
-      → Fitting n q (told_got a r)
-  got q a r heard f step names =
-      moves_to script q (Got a) (told_got a r) (call.AggDrop a) r f.due f.may f step refl refl (ties r) (has_told q (Got a) r heard f refl refl refl step names) (finds_told q (Got a) r heard refl refl f.finds)
+  got : (q : Answer) (a : ℕ) (r : Reply) (received : List ℕ) → Fitting m q (Got a) → StepsTo m (event.Call server (call.AggDrop a)) r n → Names n r received
+      → Fitting n q (after_discard a r)
+  got q a r received f step names =
+      moves_to script q (Got a) (after_discard a r) (call.AggDrop a) r f.expected f.may f step refl refl (consistencies r) (has_after_reply q (Got a) r received f refl refl refl step names) (finds_after_reply q (Got a) r received refl refl f.finds)
     where
-      ties : (r : Reply) → TiesOn shelf kept script f.due f.due q (Got a) (told_got a r)
-      ties reply.Done = tie_on shelf kept script f.due f.due q (Got a) Rests refl refl refl refl
-      ties r = tie_on shelf kept script f.due f.due q (Got a) (Got a) refl refl refl refl
+      consistencies : (r : Reply) → ConsistenciesOn site_contents kept script f.expected f.expected q (Got a) (after_discard a r)
+      consistencies reply.Done = consistency_on site_contents kept script f.expected f.expected q (Got a) Rests refl refl refl refl
+      consistencies r = consistency_on site_contents kept script f.expected f.expected q (Got a) (Got a) refl refl refl refl
 
-  settled-stands : (due : List ℕ) (q : Answer) (k : Learnt) → Stands due q [] (settled q k)
-  settled-stands due (serve w) (File a len) = by (selected w.range len)
+  resolved-stands : (expected : List ℕ) (q : Answer) (k : FileResult) → Stands expected q [] (resolved q k)
+  resolved-stands expected (serve w) (File a len) = by (selected w.range len)
     where
-      by : (sel : Selection) → Stands due (serve w) [] (sends_of sel a len)
+      by : (sel : Selection) → Stands expected (serve w) [] (sends_of sel a len)
       by (Bytes first last) = (refl, refl, refl)
       by x = (refl, refl, refl)
-  settled-stands due (refuse status head_only close) (File a len) = (refl, refl, refl)
-  settled-stands due q k = (refl, refl, refl)
+  resolved-stands expected (refuse status head_only close) (File a len) = (refl, refl, refl)
+  resolved-stands expected q k = (refl, refl, refl)
 
-  shuts-stands : (due : List ℕ) (q : Answer) (g : ℕ) (k : Learnt) (r : Reply) → Stands due q [] (told_shuts q g k r)
-  shuts-stands due q g k reply.Done = settled-stands due q k
-  shuts-stands due q g k r = (refl, refl, refl)
+  shuts-stands : (expected : List ℕ) (q : Answer) (g : ℕ) (k : FileResult) (r : Reply) → Stands expected q [] (after_close_file q g k r)
+  shuts-stands expected q g k reply.Done = resolved-stands expected q k
+  shuts-stands expected q g k r = (refl, refl, refl)
 
-  shuts : (q : Answer) (g : ℕ) (k : Learnt) (r : Reply) (heard : List ℕ) → is_read (Shuts g k) ≡ false → Fitting m q (Shuts g k)
-      → StepsTo m (event.Call server (call.Close g)) r n → Names n r heard → Fitting n q (told_shuts q g k r)
-  shuts q g k r heard unread f step names =
-      goes q [] (Shuts g k) (told_shuts q g k r) (call.Close g) r f step (unused g f.has.0.0 f.has.0.1 f.has.0.2) (differ-fds g f.has.0.0 f.has.0.1 f.has.0.2 f.open_on) (refl, refl, refl) (shuts-stands f.due q g k r)
-      (has_told q (Shuts g k) r heard f refl refl unread step names) (finds_told q (Shuts g k) r heard refl unread f.finds)
+  shuts : (q : Answer) (g : ℕ) (k : FileResult) (r : Reply) (received : List ℕ) → is_read (Shuts g k) ≡ false → Fitting m q (Shuts g k)
+      → StepsTo m (event.Call server (call.Close g)) r n → Names n r received → Fitting n q (after_close_file q g k r)
+  shuts q g k r received unread f step names =
+      goes q [] (Shuts g k) (after_close_file q g k r) (call.Close g) r f step (unused g f.has.0.0 f.has.0.1 f.has.0.2) (differ-fds g f.has.0.0 f.has.0.1 f.has.0.2 f.open_on) (refl, refl, refl) (shuts-stands f.expected q g k r)
+      (has_after_reply q (Shuts g k) r received f refl refl unread step names) (finds_after_reply q (Shuts g k) r received refl unread f.finds)
 
   -- the text of a script was read
   shuts_text : (q : Answer) (g a : ℕ) (r : Reply) → Fitting m q (Shuts g (TextOf a true)) → StepsTo m (event.Call server (call.Close g)) r n
-      → Fitting n q (told_shuts q g (TextOf a true) r)
+      → Fitting n q (after_close_file q g (TextOf a true) r)
   shuts_text q g a r f step =
       let on = still q r (having.shuts laws.the.steps laws.the.own m n order q g (TextOf a true) (text_of q Script) r f.has step) f.finds in
-      goes q [] (Shuts g (TextOf a true)) (told_shuts q g (TextOf a true) r) (call.Close g) r f step (unused g f.has.0.0 f.has.0.1 f.has.0.2) (differ-fds g f.has.0.0 f.has.0.1 f.has.0.2 f.open_on) (refl, refl, refl) (shuts-stands f.due q g (TextOf a true) r)
+      goes q [] (Shuts g (TextOf a true)) (after_close_file q g (TextOf a true) r) (call.Close g) r f step (unused g f.has.0.0 f.has.0.1 f.has.0.2) (differ-fds g f.has.0.0 f.has.0.1 f.has.0.2 f.open_on) (refl, refl, refl) (shuts-stands f.expected q g (TextOf a true) r)
       on.0 on.1
     where
-      still : (q : Answer) (r : Reply) → Has n q (text_of q Script) (told_shuts q g (TextOf a true) r) → HasText shelf q script
-          → Has n q (due_in f.due q (told_shuts q g (TextOf a true) r)) (told_shuts q g (TextOf a true) r) × Finds shelf n q script (told_shuts q g (TextOf a true) r)
+      still : (q : Answer) (r : Reply) → Has n q (text_of q Script) (after_close_file q g (TextOf a true) r) → HasText site_contents q script
+          → Has n q (expected_in f.expected q (after_close_file q g (TextOf a true) r)) (after_close_file q g (TextOf a true) r) × Finds site_contents n q script (after_close_file q g (TextOf a true) r)
       still (serve w) reply.Done has text = (has, text)
       still (refuse status head_only close) reply.Done has text = (has, text)
       still q r has text = (has, text)
 
-  picks : (q : Answer) (a first to len : ℕ) (r : Reply) (heard : List ℕ) → Fitting m q (Picks a first to len)
-      → StepsTo m (event.Call server (call.AggCut a first to)) r n → Names n r heard → Fitting n q (told_picks a first to len r)
-  picks q a first to len r heard f step names =
-      goes q [] (Picks a first to len) (told_picks a first to len r) (call.AggCut a first to) r f step refl refl (refl, refl, refl) (stands r)
-      (has_told q (Picks a first to len) r heard f refl refl refl step names) (finds_told q (Picks a first to len) r heard refl refl f.finds)
+  picks : (q : Answer) (a first to len : ℕ) (r : Reply) (received : List ℕ) → Fitting m q (Picks a first to len)
+      → StepsTo m (event.Call server (call.AggCut a first to)) r n → Names n r received → Fitting n q (after_slice a first to len r)
+  picks q a first to len r received f step names =
+      goes q [] (Picks a first to len) (after_slice a first to len r) (call.AggCut a first to) r f step refl refl (refl, refl, refl) (stands r)
+      (has_after_reply q (Picks a first to len) r received f refl refl refl step names) (finds_after_reply q (Picks a first to len) r received refl refl f.finds)
     where
-      stands : (r : Reply) → Stands f.due q [] (told_picks a first to len r)
+      stands : (r : Reply) → Stands f.expected q [] (after_slice a first to len r)
       stands (reply.Agg x) = (refl, refl, refl)
       stands r = (refl, refl, refl)
 
-  spares : (q : Answer) (a : ℕ) (k : Content) (r : Reply) (heard : List ℕ) → is_read (Spares a k) ≡ false → Fitting m q (Spares a k)
-      → StepsTo m (event.Call server (call.AggDrop a)) r n → Names n r heard → Fitting n q (told_spares a k r)
-  spares q a k r heard unread f step names =
-      goes q [] (Spares a k) (told_spares a k r) (call.AggDrop a) r f step refl refl (refl, refl, refl) (stands r)
-      (has_told q (Spares a k) r heard f refl refl unread step names) (finds_told q (Spares a k) r heard refl unread f.finds)
+  spares : (q : Answer) (a : ℕ) (k : Payload) (r : Reply) (received : List ℕ) → is_read (Spares a k) ≡ false → Fitting m q (Spares a k)
+      → StepsTo m (event.Call server (call.AggDrop a)) r n → Names n r received → Fitting n q (after_drop_whole a k r)
+  spares q a k r received unread f step names =
+      goes q [] (Spares a k) (after_drop_whole a k r) (call.AggDrop a) r f step refl refl (refl, refl, refl) (stands r)
+      (has_after_reply q (Spares a k) r received f refl refl unread step names) (finds_after_reply q (Spares a k) r received refl unread f.finds)
     where
-      stands : (r : Reply) → Stands f.due q [] (told_spares a k r)
+      stands : (r : Reply) → Stands f.expected q [] (after_drop_whole a k r)
       stands reply.Done = (refl, refl, refl)
       stands r = (refl, refl, refl)
 
   -- the text that was read is dropped: but for HEAD the script begins to run
-  runs : (seats : List (Seat crew.Worker)) (q : Answer) (a : ℕ) (r : Reply) (heard : List ℕ) → Fitting m q (Spares a Script)
-      → StepsTo m (event.Call server (call.AggDrop a)) r n → Fits shelf crew n came sent fd c (script_told (alone kept script q (Spares a Script)) r heard) seats
-  runs seats (refuse status head_only close) a r heard f step = absurd (let bad = f.finds.asks in cc (bad))
-  runs seats (serve w) a r heard f step = by w.head_only r refl (laws.the.own.drops m n server a r order step) step
+  runs : (process_slots : List (ProcessSlot worker_set.Worker)) (q : Answer) (a : ℕ) (r : Reply) (received : List ℕ) → Fitting m q (Spares a Script)
+      → StepsTo m (event.Call server (call.AggDrop a)) r n → Fits site_contents worker_set n came sent fd c (script_after_reply (alone kept script q (Spares a Script)) r received) process_slots
+  runs process_slots (refuse status head_only close) a r received f step = absurd (let bad = f.finds.asks in cc (bad))
+  runs process_slots (serve w) a r received f step = by w.head_only r refl (laws.the.own.drops m n server a r order step) step
     where
-      may : MayPutOut w.head_only w nothing_yet (due_to shelf (serve w))
-      may = subst (λ (t : Bool). known.MayAnswer (serve w) (if t then OfScript f.finds.text nothing_yet else OfFile (Failed 500)) (due_to shelf (serve w))) f.finds.runs
-          (laws.due.read shelf.scripts shelf.finds shelf.shows w f.finds.text f.finds.asks f.finds.found)
+      may : MayPutOut w.head_only w nothing_yet (expected_to site_contents (serve w))
+      may = subst (λ (t : Bool). known.MayAnswer (serve w) (if t then OfScript f.finds.text nothing_yet else OfFile (Failed 500)) (expected_to site_contents (serve w))) f.finds.runs
+          (laws.expected.read site_contents.scripts site_contents.finds site_contents.shows w f.finds.text f.finds.asks f.finds.found)
 
-      may_be : (b : Bool) → w.head_only ≡ b → MayPutOut b w nothing_yet (due_to shelf (serve w))
-      may_be b is = subst (λ (t : Bool). MayPutOut t w nothing_yet (due_to shelf (serve w))) is may
+      may_be : (b : Bool) → w.head_only ≡ b → MayPutOut b w nothing_yet (expected_to site_contents (serve w))
+      may_be b is = subst (λ (t : Bool). MayPutOut t w nothing_yet (expected_to site_contents (serve w))) is may
 
-      ties : (k : Connection) (took sent : List ℕ) → w.head_only ≡ false → TieAlone shelf f.due k took sent (alone kept script (serve w) (Spares a Script))
-          → TieRun shelf (due_to shelf (serve w)) k took sent kept w nothing_yet Awaits
-      ties k took sent get (inl owes) = inl (record { answers = owes.1; may = may_be false get; whole = refl })
-      ties k took sent get (inr (inl finished)) = absurd (let bad = finished.quits in cc (bad))
-      ties k took sent get (inr (inr gone)) = inr gone
+      consistencies : (k : Connection) (took sent : List ℕ) → w.head_only ≡ false → ConsistencyAlone site_contents f.expected k took sent (alone kept script (serve w) (Spares a Script))
+          → ConsistencyRun site_contents (expected_to site_contents (serve w)) k took sent kept w nothing_yet Awaits
+      consistencies k took sent get (inl owes) = inl (record { answers = owes.1; may = may_be false get; whole = refl })
+      consistencies k took sent get (inr (inl finished)) = absurd (let bad = finished.quits in cc (bad))
+      consistencies k took sent get (inr (inr gone)) = inr gone
 
       begins : w.head_only ≡ false → StepsTo m (event.Call server (call.AggDrop a)) reply.Done n
-          → FitsRun shelf crew n came sent fd c (record { conn = at kept (serve w) (Heads Script); run = Some Awaits; script = script }) Awaits seats
+          → FitsRun site_contents worker_set n came sent fd c (record { conn = at kept (serve w) (Heads Script); run = Some Awaits; script = script }) Awaits process_slots
       begins get step =
           let leaves = laws.the.steps.leaves m n (event.Call server (call.AggDrop a)) reply.Done step in
           let conn = leaves.conns c refl in
           let lines = some-lines (script_of f.finds.text) f.finds.runs in
-          let shown = outcomes_by shelf.shows lines.0 in
-          let is_due : due_to shelf (serve w) ≡ response_to w (made_of w lines.0 shown) =
-          script-due shelf w f.finds.text lines.0 f.finds.asks f.finds.found lines.1 get in
+          let shown = outcomes_by site_contents.shows lines.0 in
+          let is_expected : expected_to site_contents (serve w) ≡ response_to w (made_of w lines.0 shown) =
+          script-expected site_contents w f.finds.text lines.0 f.finds.asks f.finds.found lines.1 get in
           record {
             open_on = leaves.fds server fd (on.Connection c) f.open_on refl;
             took = f.took;
@@ -195,160 +195,160 @@ module _ (shelf : Shelf) (crew : Crew) (laws : AllLaws crew) (m n : State) (came
             wanted = w;
             script = record { asks = refl; stands = refl; get = get; is_for = f.finds.asks; text = f.finds.text; found = f.finds.found; lines = lines.0; is_script = lines.1; proper = f.proper };
             shown = shown;
-            may_show = all-show shelf shown;
+            may_show = all-show site_contents shown;
             fresh = λ starts. refl;
             kept = λ u. f.finds.kept get;
             so_far = nothing_yet;
             has = refl;
             ongoing = refl;
-            tie = subst (λ (l : List ℕ). TieRun shelf l (conn_at n c) f.took sent kept w nothing_yet Awaits) is_due
-                (subst (λ (x : Connection). TieRun shelf (due_to shelf (serve w)) x f.took sent kept w nothing_yet Awaits) (sym conn) (ties (conn_at m c) f.took sent get f.tie));
-            desk = tt;
+            consistency = subst (λ (l : List ℕ). ConsistencyRun site_contents l (conn_at n c) f.took sent kept w nothing_yet Awaits) is_expected
+                (subst (λ (x : Connection). ConsistencyRun site_contents (expected_to site_contents (serve w)) x f.took sent kept w nothing_yet Awaits) (sym conn) (consistencies (conn_at m c) f.took sent get f.consistency));
+            job_queue = tt;
           }
 
       by : (b : Bool) (r : Reply) → w.head_only ≡ b → o.Drops m server a r n → StepsTo m (event.Call server (call.AggDrop a)) r n
-          → Fits shelf crew n came sent fd c (record { conn = at kept (serve w) (told_spares a Script r); run = client.told_spares b r; script = script }) seats
+          → Fits site_contents worker_set n came sent fd c (record { conn = at kept (serve w) (after_drop_whole a Script r); run = client.after_drop_whole b r; script = script }) process_slots
       by true reply.Done is did step =
-          files.goes shelf crew laws m n came sent fd c kept script order (serve w) [] (Spares a Script) (Heads Script) (call.AggDrop a) reply.Done (due_to shelf (serve w)) (due-may shelf (serve w)) f step refl refl (refl, refl, refl) (refl, refl, refl) (may_be true is) tt
+          files.goes site_contents worker_set laws m n came sent fd c kept script order (serve w) [] (Spares a Script) (Heads Script) (call.AggDrop a) reply.Done (expected_to site_contents (serve w)) (expected-may site_contents (serve w)) f step refl refl (refl, refl, refl) (refl, refl, refl) (may_be true is) tt
       by false reply.Done is did step = begins is step
       by other (reply.Refused y) is did step = same (serve w) (Spares a Script) f did
       by b r is did step = absurd did
 
-  headed-stands : (due : List ℕ) (q : Answer) (a size : ℕ) (more : Following) → Stands due q [] (headed a size more)
-  headed-stands due q a size None = (refl, refl, refl)
-  headed-stands due q a size (Some x) = by (nat_le (size + x.1) MAX_AGGREGATE_BYTES)
+  headed-stands : (expected : List ℕ) (q : Answer) (a size : ℕ) (more : Following) → Stands expected q [] (headed a size more)
+  headed-stands expected q a size None = (refl, refl, refl)
+  headed-stands expected q a size (Some x) = by (nat_le (size + x.1) MAX_AGGREGATE_BYTES)
     where
-      by : (b : Bool) → Stands due q [] (if b then Joins a size x.0 x.1 else Sends a size 0 (Some x))
+      by : (b : Bool) → Stands expected q [] (if b then Joins a size x.0 x.1 else Sends a size 0 (Some x))
       by true = (refl, refl, refl)
       by false = (refl, refl, refl)
 
-  heads : (q : Answer) (k : Content) (r : Reply) (heard : List ℕ) → Fitting m q (Heads k)
-      → StepsTo m (event.Call server (call.AggMake (text_of q k))) r n → Names n r heard → Fitting n q (told_heads k r heard)
-  heads q k r heard f step names =
-      goes q [] (Heads k) (told_heads k r heard) (call.AggMake (text_of q k)) r f step refl refl (refl, refl, refl) (stands r)
-      (has_told q (Heads k) r heard f refl refl refl step names) (finds_told q (Heads k) r heard refl refl f.finds)
+  heads : (q : Answer) (k : Payload) (r : Reply) (received : List ℕ) → Fitting m q (Heads k)
+      → StepsTo m (event.Call server (call.AggMake (text_of q k))) r n → Names n r received → Fitting n q (after_head k r received)
+  heads q k r received f step names =
+      goes q [] (Heads k) (after_head k r received) (call.AggMake (text_of q k)) r f step refl refl (refl, refl, refl) (stands r)
+      (has_after_reply q (Heads k) r received f refl refl refl step names) (finds_after_reply q (Heads k) r received refl refl f.finds)
     where
-      stands : (r : Reply) → Stands f.due q [] (told_heads k r heard)
-      stands (reply.Agg x) = headed-stands f.due q x (count_of heard) (following k)
+      stands : (r : Reply) → Stands f.expected q [] (after_head k r received)
+      stands (reply.Agg x) = headed-stands f.expected q x (count_of received) (following k)
       stands r = (refl, refl, refl)
 
-  joins : (q : Answer) (a size b len : ℕ) (r : Reply) (heard : List ℕ) → Fitting m q (Joins a size b len)
-      → StepsTo m (event.Call server (call.AggJoin a b)) r n → Names n r heard → Fitting n q (told_joins a size b len r)
-  joins q a size b len r heard f step names =
-      goes q [] (Joins a size b len) (told_joins a size b len r) (call.AggJoin a b) r f step refl refl (refl, refl, refl) (stands r)
-      (has_told q (Joins a size b len) r heard f refl refl refl step names) (finds_told q (Joins a size b len) r heard refl refl f.finds)
+  joins : (q : Answer) (a size b len : ℕ) (r : Reply) (received : List ℕ) → Fitting m q (Joins a size b len)
+      → StepsTo m (event.Call server (call.AggJoin a b)) r n → Names n r received → Fitting n q (after_join a size b len r)
+  joins q a size b len r received f step names =
+      goes q [] (Joins a size b len) (after_join a size b len r) (call.AggJoin a b) r f step refl refl (refl, refl, refl) (stands r)
+      (has_after_reply q (Joins a size b len) r received f refl refl refl step names) (finds_after_reply q (Joins a size b len) r received refl refl f.finds)
     where
-      stands : (r : Reply) → Stands f.due q [] (told_joins a size b len r)
+      stands : (r : Reply) → Stands f.expected q [] (after_join a size b len r)
       stands (reply.Agg x) = (refl, refl, refl)
       stands r = (refl, refl, refl)
 
-  cuts : (q : Answer) (a from len taken : ℕ) (more : Following) (r : Reply) (heard : List ℕ) → Fitting m q (Cuts a from len taken more)
-      → StepsTo m (event.Call server (call.AggCut a from (piece_end from len))) r n → Names n r heard → Fitting n q (told_cuts a from len taken more r)
-  cuts q a from len taken more r heard f step names =
-      goes q (take taken f.due) (Cuts a from len taken more) (told_cuts a from len taken more r) (call.AggCut a from (piece_end from len)) r f step refl refl (refl, refl, refl) (stands r)
-      (has_told q (Cuts a from len taken more) r heard f refl refl refl step names) (finds_told q (Cuts a from len taken more) r heard refl refl f.finds)
+  cuts : (q : Answer) (a from len taken : ℕ) (more : Following) (r : Reply) (received : List ℕ) → Fitting m q (Cuts a from len taken more)
+      → StepsTo m (event.Call server (call.AggCut a from (piece_end from len))) r n → Names n r received → Fitting n q (after_cut a from len taken more r)
+  cuts q a from len taken more r received f step names =
+      goes q (take taken f.expected) (Cuts a from len taken more) (after_cut a from len taken more r) (call.AggCut a from (piece_end from len)) r f step refl refl (refl, refl, refl) (stands r)
+      (has_after_reply q (Cuts a from len taken more) r received f refl refl refl step names) (finds_after_reply q (Cuts a from len taken more) r received refl refl f.finds)
     where
-      stands : (r : Reply) → Stands f.due q (take taken f.due) (told_cuts a from len taken more r)
+      stands : (r : Reply) → Stands f.expected q (take taken f.expected) (after_cut a from len taken more r)
       stands (reply.Agg x) = (refl, refl, refl)
       stands r = (refl, refl, refl)
 
-  swaps : (q : Answer) (a from len piece taken : ℕ) (more : Following) (r : Reply) (heard : List ℕ) → Fitting m q (Swaps a from len piece taken more)
-      → StepsTo m (event.Call server (call.AggDrop piece)) r n → Names n r heard → Fitting n q (told_swaps a from len piece taken more r)
-  swaps q a from len piece taken more r heard f step names =
-      goes q (take taken f.due) (Swaps a from len piece taken more) (told_swaps a from len piece taken more r) (call.AggDrop piece) r f step refl refl (refl, refl, refl) (stands r)
-      (has_told q (Swaps a from len piece taken more) r heard f refl refl refl step names) (finds_told q (Swaps a from len piece taken more) r heard refl refl f.finds)
+  swaps : (q : Answer) (a from len piece taken : ℕ) (more : Following) (r : Reply) (received : List ℕ) → Fitting m q (Swaps a from len piece taken more)
+      → StepsTo m (event.Call server (call.AggDrop piece)) r n → Names n r received → Fitting n q (after_swap a from len piece taken more r)
+  swaps q a from len piece taken more r received f step names =
+      goes q (take taken f.expected) (Swaps a from len piece taken more) (after_swap a from len piece taken more r) (call.AggDrop piece) r f step refl refl (refl, refl, refl) (stands r)
+      (has_after_reply q (Swaps a from len piece taken more) r received f refl refl refl step names) (finds_after_reply q (Swaps a from len piece taken more) r received refl refl f.finds)
     where
-      stands : (r : Reply) → Stands f.due q (take taken f.due) (told_swaps a from len piece taken more r)
+      stands : (r : Reply) → Stands f.expected q (take taken f.expected) (after_swap a from len piece taken more r)
       stands reply.Done = by (nat_lt from len)
         where
-          by : (b : Bool) → Stands f.due q (take taken f.due) (if b then Cuts a from len taken more else Sent a taken more)
+          by : (b : Bool) → Stands f.expected q (take taken f.expected) (if b then Cuts a from len taken more else Sent a taken more)
           by true = (refl, refl, refl)
           by false = (refl, refl, refl)
       stands r = (refl, refl, refl)
 
-  breaks : (q : Answer) (piece a : ℕ) (more : Following) (r : Reply) (heard : List ℕ) → Fitting m q (Breaks piece a more)
-      → StepsTo m (event.Call server (call.AggDrop piece)) r n → Names n r heard → Fitting n q (told_breaks piece a more r)
-  breaks q piece a more r heard f step names =
-      moves_to script q (Breaks piece a more) (told_breaks piece a more r) (call.AggDrop piece) r f.due f.may f step refl refl (hush shelf kept script f.due f.due q (Breaks piece a more) (told_breaks piece a more r) refl (ending r))
-      (has_told q (Breaks piece a more) r heard f refl refl refl step names) (finds_told q (Breaks piece a more) r heard refl refl f.finds)
+  breaks : (q : Answer) (piece a : ℕ) (more : Following) (r : Reply) (received : List ℕ) → Fitting m q (Breaks piece a more)
+      → StepsTo m (event.Call server (call.AggDrop piece)) r n → Names n r received → Fitting n q (after_break piece a more r)
+  breaks q piece a more r received f step names =
+      moves_to script q (Breaks piece a more) (after_break piece a more r) (call.AggDrop piece) r f.expected f.may f step refl refl (hush site_contents kept script f.expected f.expected q (Breaks piece a more) (after_break piece a more r) refl (ending r))
+      (has_after_reply q (Breaks piece a more) r received f refl refl refl step names) (finds_after_reply q (Breaks piece a more) r received refl refl f.finds)
     where
-      ending : (r : Reply) → quits (told_breaks piece a more r) ≡ true
+      ending : (r : Reply) → quits (after_break piece a more r) ≡ true
       ending reply.Done = refl
       ending r = refl
 
-  drops : (q : Answer) (a : ℕ) (more : Following) (r : Reply) (heard : List ℕ) → Fitting m q (Drops a more)
-      → StepsTo m (event.Call server (call.AggDrop a)) r n → Names n r heard → Fitting n q (told_drops a more r)
-  drops q a more r heard f step names =
-      moves_to script q (Drops a more) (told_drops a more r) (call.AggDrop a) r f.due f.may f step refl refl (hush shelf kept script f.due f.due q (Drops a more) (told_drops a more r) refl (ending r))
-      (has_told q (Drops a more) r heard f refl refl refl step names) (finds_told q (Drops a more) r heard refl refl f.finds)
+  drops : (q : Answer) (a : ℕ) (more : Following) (r : Reply) (received : List ℕ) → Fitting m q (Drops a more)
+      → StepsTo m (event.Call server (call.AggDrop a)) r n → Names n r received → Fitting n q (after_drop a more r)
+  drops q a more r received f step names =
+      moves_to script q (Drops a more) (after_drop a more r) (call.AggDrop a) r f.expected f.may f step refl refl (hush site_contents kept script f.expected f.expected q (Drops a more) (after_drop a more r) refl (ending r))
+      (has_after_reply q (Drops a more) r received f refl refl refl step names) (finds_after_reply q (Drops a more) r received refl refl f.finds)
     where
       next : (more : Following) → quits (drops_next more) ≡ true
       next None = refl
       next (Some x) = refl
 
-      ending : (r : Reply) → quits (told_drops a more r) ≡ true
+      ending : (r : Reply) → quits (after_drop a more r) ≡ true
       ending reply.Done = next more
       ending r = refl
 
-  sent_all : (q : Answer) (a taken : ℕ) (more : Following) (r : Reply) (heard : List ℕ) → Fitting m q (Sent a taken more)
-      → StepsTo m (event.Call server (call.AggDrop a)) r n → Names n r heard → Fitting n q (told_sent q a taken more r)
-  sent_all q a taken more r heard f step names =
-      moves_to script q (Sent a taken more) (told_sent q a taken more r) (call.AggDrop a) r f.due f.may f step refl refl (ties r)
-      (has_told q (Sent a taken more) r heard f refl refl refl step names) (finds_told q (Sent a taken more) r heard refl refl f.finds)
+  sent_all : (q : Answer) (a taken : ℕ) (more : Following) (r : Reply) (received : List ℕ) → Fitting m q (Sent a taken more)
+      → StepsTo m (event.Call server (call.AggDrop a)) r n → Names n r received → Fitting n q (after_taken q a taken more r)
+  sent_all q a taken more r received f step names =
+      moves_to script q (Sent a taken more) (after_taken q a taken more r) (call.AggDrop a) r f.expected f.may f step refl refl (consistencies r)
+      (has_after_reply q (Sent a taken more) r received f refl refl refl step names) (finds_after_reply q (Sent a taken more) r received refl refl f.finds)
     where
-      ended : (b : Bool) → keeps q ≡ b → drop taken f.due ≡ [] → TiesOn shelf kept script f.due f.due q (Sent a taken None) (if b then Rests else Closes)
-      ended true keep none = ends shelf kept script f.due q f.may a taken keep none
-      ended false keep none = ends-last shelf kept script f.due q f.may a taken keep none
+      ended : (b : Bool) → keeps q ≡ b → drop taken f.expected ≡ [] → ConsistenciesOn site_contents kept script f.expected f.expected q (Sent a taken None) (if b then Rests else Closes)
+      ended true keep none = ends site_contents kept script f.expected q f.may a taken keep none
+      ended false keep none = ends-last site_contents kept script f.expected q f.may a taken keep none
 
-      after : (more : Following) → HoldsMore m f.due a taken more → TiesOn shelf kept script f.due f.due q (Sent a taken more) (goes_on q taken more)
-      after (Some x) h = tie_on shelf kept script f.due f.due q (Sent a taken (Some x)) (Sends x.0 x.1 taken None) refl refl refl refl
+      after : (more : Following) → HoldsMore m f.expected a taken more → ConsistenciesOn site_contents kept script f.expected f.expected q (Sent a taken more) (proceeds q taken more)
+      after (Some x) h = consistency_on site_contents kept script f.expected f.expected q (Sent a taken (Some x)) (Sends x.0 x.1 taken None) refl refl refl refl
       after None h = ended (keeps q) refl (sym h.next ∙ h.follows)
 
-      ties : (r : Reply) → TiesOn shelf kept script f.due f.due q (Sent a taken more) (told_sent q a taken more r)
-      ties reply.Done = after more f.has
-      ties r = tie_on shelf kept script f.due f.due q (Sent a taken more) (Sent a taken more) refl refl refl refl
+      consistencies : (r : Reply) → ConsistenciesOn site_contents kept script f.expected f.expected q (Sent a taken more) (after_taken q a taken more r)
+      consistencies reply.Done = after more f.has
+      consistencies r = consistency_on site_contents kept script f.expected f.expected q (Sent a taken more) (Sent a taken more) refl refl refl refl
 
   -- ---- any call of it but the last
 
   -- whether it reads a file, or a script's text was read that is now dropped
-  abbrev is_of_text : Doing → Bool
+  abbrev is_of_text : Phase → Bool
   is_of_text (Reading g) = true
   is_of_text (Spares a Script) = true
   is_of_text d = false
 
-  phase : (q : Answer) (d : Doing) (r : Reply) (heard : List ℕ) → is_of_text d ≡ false → IsFixed shelf.finds m → Fitting m q d
-      → conn.IsAwaiting (at kept q d) → is_closing d ≡ false → IsAmong shelf.refuses.of_server r
-      → StepsTo m (event.Call server (conn.wants fd (at kept q d))) r n → Names n r heard → FitsAlone shelf n came sent fd c (conn_told (alone kept script q d) r heard)
-  phase q Rests r heard plain fixed f waits busy calm step names = rests shelf laws.the m n came sent fd c kept script order q r heard f waits step names
-  phase q (Got a) r heard plain fixed f waits busy calm step names = got q a r heard f step names
-  phase q Opens r heard plain fixed f waits busy calm step names = files.opens shelf crew laws m n came sent fd c kept script order q r heard fixed f calm step
-  phase q (Reading g) r heard plain fixed f waits busy calm step names = absurd (cc (plain))
-  phase q (Shuts g (TextOf a true)) r heard plain fixed f waits busy calm step names = shuts_text q g a r f step
-  phase q (Shuts g k) r heard plain fixed f waits busy calm step names = shuts q g k r heard refl f step names
-  phase q (Picks a first last len) r heard plain fixed f waits busy calm step names = picks q a first last len r heard f step names
-  phase q (Spares a Script) r heard plain fixed f waits busy calm step names = absurd (cc (plain))
-  phase q (Spares a k) r heard plain fixed f waits busy calm step names = spares q a k r heard refl f step names
-  phase q (Heads k) r heard plain fixed f waits busy calm step names = heads q k r heard f step names
-  phase q (Joins a size body len) r heard plain fixed f waits busy calm step names = joins q a size body len r heard f step names
-  phase q (Sends a len taken more) r heard plain fixed f waits busy calm step names =
-      sends shelf laws.the m n came sent fd c kept script order q a len taken more r f step (has_told q (Sends a len taken more) r heard f refl refl refl step names) (finds_told q (Sends a len taken more) r heard refl refl f.finds)
-  phase q (Cuts a from len taken more) r heard plain fixed f waits busy calm step names = cuts q a from len taken more r heard f step names
-  phase q (Offers a from len piece taken more) r heard plain fixed f waits busy calm step names =
-      offers shelf laws.the m n came sent fd c kept script order q a from len piece taken more r f step (has_told q (Offers a from len piece taken more) r heard f refl refl refl step names) (finds_told q (Offers a from len piece taken more) r heard refl refl f.finds)
-  phase q (Swaps a from len piece taken more) r heard plain fixed f waits busy calm step names = swaps q a from len piece taken more r heard f step names
-  phase q (Sent a taken more) r heard plain fixed f waits busy calm step names = sent_all q a taken more r heard f step names
-  phase q (Breaks piece a more) r heard plain fixed f waits busy calm step names = breaks q piece a more r heard f step names
-  phase q (Drops a more) r heard plain fixed f waits busy calm step names = drops q a more r heard f step names
-  phase q Closes r heard plain fixed f waits busy calm step names = absurd (cc (busy))
-  phase q Over r heard plain fixed f waits busy calm step names = absurd (cc (busy))
+  phase : (q : Answer) (d : Phase) (r : Reply) (received : List ℕ) → is_of_text d ≡ false → IsFixed site_contents.finds m → Fitting m q d
+      → conn.IsAwaiting (at kept q d) → is_closing d ≡ false → IsAmong site_contents.refuses.of_server r
+      → StepsTo m (event.Call server (conn.wants fd (at kept q d))) r n → Names n r received → FitsAlone site_contents n came sent fd c (conn_after_reply (alone kept script q d) r received)
+  phase q Rests r received plain fixed f waits busy undisturbed step names = rests site_contents laws.the m n came sent fd c kept script order q r received f waits step names
+  phase q (Got a) r received plain fixed f waits busy undisturbed step names = got q a r received f step names
+  phase q Opens r received plain fixed f waits busy undisturbed step names = files.opens site_contents worker_set laws m n came sent fd c kept script order q r received fixed f undisturbed step
+  phase q (Reading g) r received plain fixed f waits busy undisturbed step names = absurd (cc (plain))
+  phase q (Shuts g (TextOf a true)) r received plain fixed f waits busy undisturbed step names = shuts_text q g a r f step
+  phase q (Shuts g k) r received plain fixed f waits busy undisturbed step names = shuts q g k r received refl f step names
+  phase q (Picks a first last len) r received plain fixed f waits busy undisturbed step names = picks q a first last len r received f step names
+  phase q (Spares a Script) r received plain fixed f waits busy undisturbed step names = absurd (cc (plain))
+  phase q (Spares a k) r received plain fixed f waits busy undisturbed step names = spares q a k r received refl f step names
+  phase q (Heads k) r received plain fixed f waits busy undisturbed step names = heads q k r received f step names
+  phase q (Joins a size body len) r received plain fixed f waits busy undisturbed step names = joins q a size body len r received f step names
+  phase q (Sends a len taken more) r received plain fixed f waits busy undisturbed step names =
+      sends site_contents laws.the m n came sent fd c kept script order q a len taken more r f step (has_after_reply q (Sends a len taken more) r received f refl refl refl step names) (finds_after_reply q (Sends a len taken more) r received refl refl f.finds)
+  phase q (Cuts a from len taken more) r received plain fixed f waits busy undisturbed step names = cuts q a from len taken more r received f step names
+  phase q (Offers a from len piece taken more) r received plain fixed f waits busy undisturbed step names =
+      offers site_contents laws.the m n came sent fd c kept script order q a from len piece taken more r f step (has_after_reply q (Offers a from len piece taken more) r received f refl refl refl step names) (finds_after_reply q (Offers a from len piece taken more) r received refl refl f.finds)
+  phase q (Swaps a from len piece taken more) r received plain fixed f waits busy undisturbed step names = swaps q a from len piece taken more r received f step names
+  phase q (Sent a taken more) r received plain fixed f waits busy undisturbed step names = sent_all q a taken more r received f step names
+  phase q (Breaks piece a more) r received plain fixed f waits busy undisturbed step names = breaks q piece a more r received f step names
+  phase q (Drops a more) r received plain fixed f waits busy undisturbed step names = drops q a more r received f step names
+  phase q Closes r received plain fixed f waits busy undisturbed step names = absurd (cc (busy))
+  phase q Over r received plain fixed f waits busy undisturbed step names = absurd (cc (busy))
 
-  pub alone_phase : (seats : List (Seat crew.Worker)) (b : Bool) (q : Answer) (d : Doing) (r : Reply) (heard : List ℕ)
-      → is_for_script shelf.scripts q ≡ b → IsFixed shelf.finds m → Fitting m q d
-      → conn.IsAwaiting (at kept q d) → is_closing d ≡ false → IsAmong shelf.refuses.of_server r
-      → StepsTo m (event.Call server (conn_wants b fd (at kept q d))) r n → Names n r heard
-      → Fits shelf crew n came sent fd c (file_told b (alone kept script q d) r heard) seats
-  alone_phase seats false q (Reading g) r heard is fixed f waits busy calm step names = files.reads shelf crew laws m n came sent fd c kept script order q g r heard is fixed f calm step names
-  alone_phase seats false q (Spares a Script) r heard is fixed f waits busy calm step names = absurd (clash (is_for_script shelf.scripts q) f.finds.asks is)
-  alone_phase seats true q (Reading g) r heard is fixed f waits busy calm step names = files.reads_text shelf crew laws m n came sent fd c kept script order q g r heard is fixed f calm step names
-  alone_phase seats true q (Spares a Script) r heard is fixed f waits busy calm step names = runs seats q a r heard f step
-  alone_phase seats b q d r heard is fixed f waits busy calm step names = phase q d r heard refl fixed f waits busy calm step names
+  pub alone_phase : (process_slots : List (ProcessSlot worker_set.Worker)) (b : Bool) (q : Answer) (d : Phase) (r : Reply) (received : List ℕ)
+      → is_for_script site_contents.scripts q ≡ b → IsFixed site_contents.finds m → Fitting m q d
+      → conn.IsAwaiting (at kept q d) → is_closing d ≡ false → IsAmong site_contents.refuses.of_server r
+      → StepsTo m (event.Call server (conn_wants b fd (at kept q d))) r n → Names n r received
+      → Fits site_contents worker_set n came sent fd c (file_after_reply b (alone kept script q d) r received) process_slots
+  alone_phase process_slots false q (Reading g) r received is fixed f waits busy undisturbed step names = files.reads site_contents worker_set laws m n came sent fd c kept script order q g r received is fixed f undisturbed step names
+  alone_phase process_slots false q (Spares a Script) r received is fixed f waits busy undisturbed step names = absurd (clash (is_for_script site_contents.scripts q) f.finds.asks is)
+  alone_phase process_slots true q (Reading g) r received is fixed f waits busy undisturbed step names = files.reads_text site_contents worker_set laws m n came sent fd c kept script order q g r received is fixed f undisturbed step names
+  alone_phase process_slots true q (Spares a Script) r received is fixed f waits busy undisturbed step names = runs process_slots q a r received f step
+  alone_phase process_slots b q d r received is fixed f waits busy undisturbed step names = phase q d r received refl fixed f waits busy undisturbed step names

@@ -10,27 +10,27 @@ use Rattle.iol_core.specs.State.{State, descriptor, conn_at, may_read}
 use Rattle.iol_core.specs.declared.descriptors.Descriptor.TheVariants as on
 use Rattle.iol_core.specs.declared.events.Call.{Call}
 use Rattle.iol_laws.specs.Order.{IsOrderly}
-use Rattle.iol_proc.specs.declared.seat.Seat.{Seat}
+use Rattle.iol_proc.specs.declared.process_slot.ProcessSlot.{ProcessSlot}
 use Rattle.flash_http.specs.MediaType.{is_script}
 use Rattle.flash_http.specs.Request.{serve}
 use Rattle.flash_laws.specs.Answers.{Reads}
 use Rattle.flash_laws.specs.Client.{Client, uses_agg, is_for_script, job_of, awaits}
 use Rattle.flash_laws.specs.Client.Fits.{Fits, FitsRun, made_of, response_to}
 use Rattle.flash_laws.specs.Conn.{Conn}
-use Rattle.flash_laws.specs.Workers.Crew.{Crew, IsFixedFor}
+use Rattle.flash_laws.specs.Workers.WorkerSet.{WorkerSet, IsFixedFor}
 use Rattle.flash_laws.specs.World.Remains.{IsFull, StaysOpen}
-use Rattle.flash_laws.specs.Conn.Fits.{IsLent}
-use Rattle.flash_laws.specs.World.Idle.{WouldWait, Blocks, AllBlock, server_settled}
+use Rattle.flash_laws.specs.Conn.Fits.{IsReadable}
+use Rattle.flash_laws.specs.World.Idle.{WouldWait, Blocks, AllBlock, server_quiescent}
 use Rattle.flash_laws.specs.Site.Past.{Past}
 use Rattle.flash_laws.specs.Site.Places.{is_run_by, has_free, may_go, runs_scripts, filed}
 use Rattle.flash_laws.specs.Run.Fits.{Progress}
 use Rattle.flash_laws.specs.Run.OfferedBytes.{past_of as past_taken, taken_by}
-use Rattle.flash_laws.specs.Site.ClientTies.{Held, Aside, AllFit, IsUsed, AreOwned}
-use Rattle.flash_laws.specs.Shelf.{Shelf, IsAnswer, MayBeDue}
-use Rattle.flash_laws.proofs.Site.Due.{shown-may}
+use Rattle.flash_laws.specs.Site.ClientConsistency.{Held, Aside, AllFit, IsUsed, AreOwned}
+use Rattle.flash_laws.specs.SiteContents.{SiteContents, IsAnswer, MayBeExpected}
+use Rattle.flash_laws.proofs.Site.Expected.{shown-may}
 use Rattle.flash_laws.specs.Workers.OwnWorkers.{RunsForAnother}
 use Rattle.flash_laws.specs.Site.{server}
-use Rattle.flash_laws.specs.World.Tie.{past_of, Actor, Serving}
+use Rattle.flash_laws.specs.World.Consistency.{past_of, Actor, Serving}
 use Rattle.flash_laws.specs.World.{as_actor}
 use Rattle.flash_laws.specs.World.Done.{IsHeldUp, IsHeldUpAt, AsksForScript, RunsForHeldUp, AwaitsWorker, IsDone, IdleIsDone}
 use Rattle.flash_laws.specs.declared.script_run.Running.{Running}
@@ -43,31 +43,31 @@ use Rattle.flash_laws.proofs.Site.OwnWorkers.{workers_shared}
 use Rattle.flash_laws.proofs.Site.OpenDescriptors.{held-open, conn-same}
 use Rattle.flash_laws.proofs.World.AllLaws.{AllLaws}
 use Rattle.flash_laws.proofs.World.Idle.Clients.{IsAnsweredSoFar, alone-left}
-use Rattle.flash_laws.proofs.World.Idle.Runs.{WorkersAreSettled, run-left}
+use Rattle.flash_laws.proofs.World.Idle.Runs.{WorkersAreQuiescent, run-left}
 use Rattle.flash_laws.proofs.World.OwnRun.{wants-run}
 
 -- the descriptor of a client is open on its connection
-fits-open : (shelf : Shelf) (crew : Crew) (m : State) (came sent : List ℕ) (fd c : ℕ) (conn : Conn) (run : Option Running) (script : List ℕ) (seats : List (Seat crew.Worker))
-    → Fits shelf crew m came sent fd c (of conn run script) seats → descriptor m server fd ≡ Some (on.Connection c)
-fits-open shelf crew m came sent fd c conn None script seats f = f.open_on
-fits-open shelf crew m came sent fd c conn (Some y) script seats f = f.open_on
+fits-open : (site_contents : SiteContents) (worker_set : WorkerSet) (m : State) (came sent : List ℕ) (fd c : ℕ) (conn : Conn) (run : Option Running) (script : List ℕ) (process_slots : List (ProcessSlot worker_set.Worker))
+    → Fits site_contents worker_set m came sent fd c (of conn run script) process_slots → descriptor m server fd ≡ Some (on.Connection c)
+fits-open site_contents worker_set m came sent fd c conn None script process_slots f = f.open_on
+fits-open site_contents worker_set m came sent fd c conn (Some y) script process_slots f = f.open_on
 
 -- where scripts are run there are workers
 some-workers : (scripts named : Bool) (count : ℕ) → (scripts && named) ≡ true → scripts ≡ runs_scripts count → 0 < count
 some-workers true named count asks runs = grind (arith, nat_tests, runs)
 some-workers false named count asks runs = absurd (cc (asks))
 
-module _ (shelf : Shelf) (crew : Crew) (laws : AllLaws crew) (m : State) (order : IsOrderly m) (fixed : IsFixedFor shelf crew m) (p : Past) (clients : List (Option Client))
-    (seats : List (Seat crew.Worker)) (all : AllFit shelf crew m p clients seats) (all_owned : AreOwned m p clients) (workers : ℕ) (count : workers ≡ crew.count) (settled : WorkersAreSettled crew m seats)
+module _ (site_contents : SiteContents) (worker_set : WorkerSet) (laws : AllLaws worker_set) (m : State) (order : IsOrderly m) (fixed : IsFixedFor site_contents worker_set m) (p : Past) (clients : List (Option Client))
+    (process_slots : List (ProcessSlot worker_set.Worker)) (all : AllFit site_contents worker_set m p clients process_slots) (all_owned : AreOwned m p clients) (workers : ℕ) (count : workers ≡ worker_set.count) (quiescent : WorkersAreQuiescent worker_set m process_slots)
     (blocked : AllBlock m server workers clients) where
   -- a client that waits for a worker, where none is free
   record IsPassedOver (x : Client) : Type 0 where
     pub passed : may_go (has_free workers clients) x ≡ false
-    pub some : 0 < crew.count
+    pub some : 0 < worker_set.count
 
   -- a client for which no script runs: all that came is answered, and it uses no aggregate
   record Rests (c : ℕ) (x : Client) : Type 0 where
-    pub answered : IsAnsweredSoFar shelf m (p.came c) (p.sent c) c
+    pub answered : IsAnsweredSoFar site_contents m (p.came c) (p.sent c) c
     pub alone : x.run ≡ None
     pub none : (a : ℕ) → uses_agg x a ≡ false
 
@@ -75,18 +75,18 @@ module _ (shelf : Shelf) (crew : Crew) (laws : AllLaws crew) (m : State) (order 
   abbrev Left : (c : ℕ) → Client → Type 0
   Left c x = Rests c x ⊎ IsHeldUp m c ⊎ IsPassedOver x
 
-  client-left : (fd c : ℕ) (conn : Conn) (run : Option Running) (script : List ℕ) → Fits shelf crew m (p.came c) (p.sent c) fd c (of conn run script) seats
+  client-left : (fd c : ℕ) (conn : Conn) (run : Option Running) (script : List ℕ) → Fits site_contents worker_set m (p.came c) (p.sent c) fd c (of conn run script) process_slots
       → Blocks m server workers clients fd (of conn run script) → Left c (of conn run script)
   client-left fd c conn None script f blocks = elim blocks.1 [
     | inl passed ↦ absurd (never_passed (has_free workers clients) passed)
-    | inr step ↦ elim (alone-left shelf crew laws m order fixed (p.came c) (p.sent c) fd c (is_for_script (runs_scripts workers) conn.q) conn.kept script conn.q conn.doing f blocks.0 step) [
+    | inr step ↦ elim (alone-left site_contents worker_set laws m order fixed (p.came c) (p.sent c) fd c (is_for_script (runs_scripts workers) conn.q) conn.kept script conn.q conn.phase f blocks.0 step) [
       | inl rests ↦ inl (record { answered = rests.0; alone = refl; none = rests.1 })
       | inr held ↦ inr (inl held)
     ]
   ]
   client-left fd c conn (Some y) script f blocks = elim blocks.1 [
-    | inl passed ↦ inr (inr (record { passed = passed; some = some-workers shelf.scripts (is_script f.wanted.name) crew.count f.script.is_for fixed.scripts }))
-    | inr step ↦ inr (inl (run-left shelf crew laws m order fixed fd c f.wanted (job_of f.wanted f.script.text) y seats (made_of f.wanted f.script.lines f.shown) f.so_far all.desks settled f.open_on f.ongoing f.has f.desk
+    | inl passed ↦ inr (inr (record { passed = passed; some = some-workers site_contents.scripts (is_script f.wanted.name) worker_set.count f.script.is_for fixed.scripts }))
+    | inr step ↦ inr (inl (run-left site_contents worker_set laws m order fixed fd c f.wanted (job_of f.wanted f.script.text) y process_slots (made_of f.wanted f.script.lines f.shown) f.so_far all.job_queues quiescent f.open_on f.ongoing f.has f.job_queue
         (subst (λ (k : Call). WouldWait m server k) (wants-run (runs_scripts workers) fd conn (Some y) script f.script.text y f.wanted refl f.script.asks f.kept) step)))
   ]
 
@@ -94,7 +94,7 @@ module _ (shelf : Shelf) (crew : Crew) (laws : AllLaws crew) (m : State) (order 
   place-open : (fd : ℕ) (x : Client) (is : in_place clients fd ≡ Some x) → descriptor m server fd ≡ Some (on.Connection (all.each fd x is).conn)
   place-open fd x is =
       let there = all.each fd x is in
-      fits-open shelf crew m (p.came there.conn) (p.sent there.conn) fd there.conn x.conn x.run x.script seats there.fits
+      fits-open site_contents worker_set m (p.came there.conn) (p.sent there.conn) fd there.conn x.conn x.run x.script process_slots there.fits
 
   -- what is left to do for it
   place-left : (fd : ℕ) (x : Client) (is : in_place clients fd ≡ Some x) → Left (all.each fd x is).conn x
@@ -110,9 +110,9 @@ module _ (shelf : Shelf) (crew : Crew) (laws : AllLaws crew) (m : State) (order 
       by (inr (inr over)) = absurd (clash (may_go (has_free workers clients) x) (workers_shared.going (has_free workers clients) k x runs) over.passed)
 
   -- a script is asked for, and so much of its response is taken, or the peer left
-  run-asks : (fd c : ℕ) (x : Client) (y : Running) (f : FitsRun shelf crew m (p.came c) (p.sent c) fd c x y seats)
-      → AsksForScript shelf m p c (take (past_taken f.so_far + taken_by y) (response_to f.wanted (made_of f.wanted f.script.lines f.shown)))
-  run-asks fd c x y f = elim f.tie [
+  run-asks : (fd c : ℕ) (x : Client) (y : Running) (f : FitsRun site_contents worker_set m (p.came c) (p.sent c) fd c x y process_slots)
+      → AsksForScript site_contents m p c (take (past_taken f.so_far + taken_by y) (response_to f.wanted (made_of f.wanted f.script.lines f.shown)))
+  run-asks fd c x y f = elim f.consistency [
     | inl goes ↦ inr (record {
       qs = goes.answers.done;
       q = serve f.wanted;
@@ -125,25 +125,25 @@ module _ (shelf : Shelf) (crew : Crew) (laws : AllLaws crew) (m : State) (order 
       responds = goes.answers.responds;
       so_far = goes.answers.out_is;
       after = drop (past_taken f.so_far + taken_by y) (response_to f.wanted (made_of f.wanted f.script.lines f.shown));
-      may = subst (λ (l : List ℕ). MayBeDue shelf (serve f.wanted) l) (sym (take-append-drop (past_taken f.so_far + taken_by y) (response_to f.wanted (made_of f.wanted f.script.lines f.shown)))) (shown-may shelf x f.wanted f.script f.shown f.may_show);
+      may = subst (λ (l : List ℕ). MayBeExpected site_contents (serve f.wanted) l) (sym (take-append-drop (past_taken f.so_far + taken_by y) (response_to f.wanted (made_of f.wanted f.script.lines f.shown)))) (shown-may site_contents x f.wanted f.script f.shown f.may_show);
     })
     | inr alone ↦ inl (all.left c (held-open m fd c order f.open_on).1 alone.gone)
   ]
 
-  runner-asks : (fd c k : ℕ) (conn : Conn) (run : Option Running) (script : List ℕ) → Fits shelf crew m (p.came c) (p.sent c) fd c (of conn run script) seats
-      → is_run_by (of conn run script) k ≡ true → (part : List ℕ) × AsksForScript shelf m p c part
+  runner-asks : (fd c k : ℕ) (conn : Conn) (run : Option Running) (script : List ℕ) → Fits site_contents worker_set m (p.came c) (p.sent c) fd c (of conn run script) process_slots
+      → is_run_by (of conn run script) k ≡ true → (part : List ℕ) × AsksForScript site_contents m p c part
   runner-asks fd c k conn None script f runs = absurd (cc (runs))
   runner-asks fd c k conn (Some y) script f runs = (take (past_taken f.so_far + taken_by y) (response_to f.wanted (made_of f.wanted f.script.lines f.shown)), run-asks fd c (of conn (Some y) script) y f)
 
   -- nothing is of one that waits for a worker
-  waiter-asks : (fd c : ℕ) (conn : Conn) (run : Option Running) (script : List ℕ) → Fits shelf crew m (p.came c) (p.sent c) fd c (of conn run script) seats
-      → awaits (of conn run script) ≡ true → AsksForScript shelf m p c []
+  waiter-asks : (fd c : ℕ) (conn : Conn) (run : Option Running) (script : List ℕ) → Fits site_contents worker_set m (p.came c) (p.sent c) fd c (of conn run script) process_slots
+      → awaits (of conn run script) ≡ true → AsksForScript site_contents m p c []
   waiter-asks fd c conn (Some Awaits) script f waits =
-      subst (λ (l : List ℕ). AsksForScript shelf m p c l) (ap (λ (o : Progress). take (past_taken o + 0) (response_to f.wanted (made_of f.wanted f.script.lines f.shown))) f.has) (run-asks fd c (of conn (Some Awaits) script) Awaits f)
+      subst (λ (l : List ℕ). AsksForScript site_contents m p c l) (ap (λ (o : Progress). take (past_taken o + 0) (response_to f.wanted (made_of f.wanted f.script.lines f.shown))) f.has) (run-asks fd c (of conn (Some Awaits) script) Awaits f)
   waiter-asks fd c conn o script f waits = absurd (cc (waits))
 
   -- one that is passed over waits for a worker, while each runs the script of one that is held up
-  awaits-left : (fd : ℕ) (x : Client) (is : in_place clients fd ≡ Some x) → IsPassedOver x → AwaitsWorker shelf crew.count m p clients (all.each fd x is).conn
+  awaits-left : (fd : ℕ) (x : Client) (is : in_place clients fd ≡ Some x) → IsPassedOver x → AwaitsWorker site_contents worker_set.count m p clients (all.each fd x is).conn
   awaits-left fd x is over =
       let both = workers_shared.waits workers clients fd x is over.passed in
       record {
@@ -157,7 +157,7 @@ module _ (shelf : Shelf) (crew : Crew) (laws : AllLaws crew) (m : State) (order 
         busy = λ k lt. busy k (both.1 k (subst (λ n. k < n) (sym count) lt));
       }
     where
-      busy : (k : ℕ) → RunsForAnother clients fd k → RunsForHeldUp shelf m p clients k
+      busy : (k : ℕ) → RunsForAnother clients fd k → RunsForHeldUp site_contents m p clients k
       busy k one =
           let at = all.each one.place one.client one.there in
           let asks = runner-asks one.place at.conn k one.client.conn one.client.run one.client.script at.fits one.runs in
@@ -175,7 +175,7 @@ module _ (shelf : Shelf) (crew : Crew) (laws : AllLaws crew) (m : State) (order 
 
   -- what is left to do for a connection that the server has
   abbrev IsLeft : (c : ℕ) → Type 0
-  IsLeft c = IsAnsweredSoFar shelf m (p.came c) (p.sent c) c ⊎ IsHeldUp m c ⊎ AwaitsWorker shelf crew.count m p clients c
+  IsLeft c = IsAnsweredSoFar site_contents m (p.came c) (p.sent c) c ⊎ IsHeldUp m c ⊎ AwaitsWorker site_contents worker_set.count m p clients c
 
   held-left : (c : ℕ) → Held m clients c → IsLeft c
   held-left c held =
@@ -189,7 +189,7 @@ module _ (shelf : Shelf) (crew : Crew) (laws : AllLaws crew) (m : State) (order 
       by (inr (inr over)) = inr (inr (awaits-left held.fd held.client held.at over))
 
   -- each connection of the net, whether the server has it or not
-  accepted : (c : ℕ) → p.net c ≡ true → Held m clients c ⊎ Aside shelf p c (conn_at m c) → ((conn_at m c).accepted ≡ true) ⊎ IsFull m clients
+  accepted : (c : ℕ) → p.net c ≡ true → Held m clients c ⊎ Aside site_contents p c (conn_at m c) → ((conn_at m c).accepted ≡ true) ⊎ IsFull m clients
   accepted c net (inl held) = inl (held-open m held.fd c order held.open_on).0
   accepted c net (inr (inr (inl ended))) = inl (by (conn_at m c).accepted refl)
     where
@@ -197,16 +197,16 @@ module _ (shelf : Shelf) (crew : Crew) (laws : AllLaws crew) (m : State) (order 
       by true is = is
       by false is = (let a = order.waits c is in let b = ended.closed in absurd (cc (a, b)))
   accepted c net (inr (inr (inr foreign))) = inl foreign.taken
-  accepted c net (inr (inl waits)) = elim blocked.door [
+  accepted c net (inr (inl waits)) = elim blocked.accept_step [
     | inl most ↦ inr (record { most = most; each = λ fd x is. ((all.each fd x is).conn, place-open fd x is) })
     | inr step ↦ (let never = ap (λ z. may_read m server z) (sym (waits.pool_is net)) ∙ laws.the.reasons.nobody_waits m m server c step waits.waits in let may = fixed.site.net_read in absurd (cc (never, may)))
   ]
 
   -- it is answered whole, but where its peer takes nothing, or no worker is free
   abbrev IsWhole : (c : ℕ) → Type 0
-  IsWhole c = IsAnswer shelf (p.came c) (p.sent c ++ bytes_of (conn_at m c).outgoing) ⊎ IsHeldUp m c ⊎ AwaitsWorker shelf crew.count m p clients c
+  IsWhole c = IsAnswer site_contents (p.came c) (p.sent c ++ bytes_of (conn_at m c).outgoing) ⊎ IsHeldUp m c ⊎ AwaitsWorker site_contents worker_set.count m p clients c
 
-  answered : (c : ℕ) → p.net c ≡ true → (conn_at m c).accepted ≡ true → p.gone c ≡ false → Held m clients c ⊎ Aside shelf p c (conn_at m c) → IsWhole c
+  answered : (c : ℕ) → p.net c ≡ true → (conn_at m c).accepted ≡ true → p.gone c ≡ false → Held m clients c ⊎ Aside site_contents p c (conn_at m c) → IsWhole c
   answered c net was live (inl held) = by (held-left c held)
     where
       by : IsLeft c → IsWhole c
@@ -218,9 +218,9 @@ module _ (shelf : Shelf) (crew : Crew) (laws : AllLaws crew) (m : State) (order 
 
   -- it is closed, or its peer may still ask for more, or take
   abbrev IsClosing : (c : ℕ) → Type 0
-  IsClosing c = ((conn_at m c).closed ≡ true) ⊎ IsHeldUp m c ⊎ AwaitsWorker shelf crew.count m p clients c ⊎ (((conn_at m c).peer ≡ None) × StaysOpen (p.came c))
+  IsClosing c = ((conn_at m c).closed ≡ true) ⊎ IsHeldUp m c ⊎ AwaitsWorker site_contents worker_set.count m p clients c ⊎ (((conn_at m c).peer ≡ None) × StaysOpen (p.came c))
 
-  closes : (c : ℕ) → p.net c ≡ true → (conn_at m c).accepted ≡ true → Held m clients c ⊎ Aside shelf p c (conn_at m c) → IsClosing c
+  closes : (c : ℕ) → p.net c ≡ true → (conn_at m c).accepted ≡ true → Held m clients c ⊎ Aside site_contents p c (conn_at m c) → IsClosing c
   closes c net was (inl held) = by (held-left c held)
     where
       by : IsLeft c → IsClosing c
@@ -232,8 +232,8 @@ module _ (shelf : Shelf) (crew : Crew) (laws : AllLaws crew) (m : State) (order 
   closes c net was (inr (inr (inl ended))) = inl ended.closed
 
   -- who uses an aggregate is held up
-  lends : (fd a : ℕ) (x : Client) → in_place clients fd ≡ Some x → uses_agg x a ≡ true → IsHeldUpAt m fd
-  lends fd a x is uses = by (place-left fd x is)
+  is_readable : (fd a : ℕ) (x : Client) → in_place clients fd ≡ Some x → uses_agg x a ≡ true → IsHeldUpAt m fd
+  is_readable fd a x is uses = by (place-left fd x is)
     where
       by : Left (all.each fd x is).conn x → IsHeldUpAt m fd
       by (inl rests) = absurd (clash (uses_agg x a) uses (rests.none a))
@@ -241,31 +241,31 @@ module _ (shelf : Shelf) (crew : Crew) (laws : AllLaws crew) (m : State) (order 
       by (inr (inr over)) = absurd (clash (uses_agg x a) uses ((workers_shared.waiting x (workers_shared.waits workers clients fd x is over.passed).0).0 a))
 
   -- and the server has no aggregate but what such a client uses, or was given to it
-  owned : (a : ℕ) → IsLent m a → ((used : IsUsed clients a) × IsHeldUpAt m used.fd) ⊎ (p.given a ≡ true)
-  owned a lent = elim (all_owned a lent) [ inl used ↦ inl (used, lends used.fd a used.client used.at used.uses) | inr given ↦ inr given ]
+  owned : (a : ℕ) → IsReadable m a → ((used : IsUsed clients a) × IsHeldUpAt m used.fd) ⊎ (p.given a ≡ true)
+  owned a readable = elim (all_owned a readable) [ inl used ↦ inl (used, is_readable used.fd a used.client used.at used.uses) | inr given ↦ inr given ]
 
-  all-done : IsDone shelf crew.count m p clients
+  all-done : IsDone site_contents worker_set.count m p clients
   all-done = record {
     accepted = λ c net. accepted c net (all.others c);
     answered = λ c net was live. answered c net was live (all.others c);
     closes = λ c net was. closes c net was (all.others c);
-    lends = lends;
+    is_readable = is_readable;
     owned = owned;
   }
 
--- a worker's seat is the next after the server's
-seat-of : {W : Type 0} (workers : List (Seat W)) (k : ℕ) (seat : Seat W) → slice_get workers k ≡ Some seat → slice_get (map (λ (v : Seat W). as_actor v) workers) k ≡ Some (as_actor seat)
-seat-of {W = W} workers k seat sits = slice_get-map (λ (v : Seat W). as_actor v) workers k ∙ ap (λ (o : Option (Seat W)). option_map (λ (v : Seat W). as_actor v) o) sits
+-- a worker's process slot is the next after the server's
+process_slot-of : {W : Type 0} (workers : List (ProcessSlot W)) (k : ℕ) (process_slot : ProcessSlot W) → slice_get workers k ≡ Some process_slot → slice_get (map (λ (v : ProcessSlot W). as_actor v) workers) k ≡ Some (as_actor process_slot)
+process_slot-of {W = W} workers k process_slot sits = slice_get-map (λ (v : ProcessSlot W). as_actor v) workers k ∙ ap (λ (o : Option (ProcessSlot W)). option_map (λ (v : ProcessSlot W). as_actor v) o) sits
 
-module _ (crew : Crew) (laws : AllLaws crew) where
-  pub idle_done : IdleIsDone crew
-  idle_done settled shelf xs rs w after most idle tied =
-      let s = tied.seated in
-      let seat : Seat (Actor crew.Worker) = record { by = server; process = Serving s.state; last = s.last } in
-      let is : server_settled 2 server s.state s.last after.machine = settled.each w after most 0 seat idle (ap (λ (l : List (Seat (Actor crew.Worker))). slice_get l 0) s.seats) in
-      let workers : WorkersAreSettled crew after.machine s.workers = λ k v sits. settled.each w after most (suc k) (as_actor v) idle
-      (ap (λ (l : List (Seat (Actor crew.Worker))). slice_get l (suc k)) s.seats ∙ seat-of s.workers k v sits) in
-      let same : filed s.state.workers s.state.clients s.state.flight s.last s.serves.heard ≡ s.state.clients = filed-same laws.left.waits after.machine server s.state s.last s.serves.heard is.0 in
-      all-done shelf crew laws after.machine tied.order tied.fixed (past_of xs rs) s.state.clients s.workers
-      (subst (λ (l : List (Option Client)). AllFit shelf crew after.machine (past_of xs rs) l s.workers) same s.serves.fit)
+module _ (worker_set : WorkerSet) (laws : AllLaws worker_set) where
+  pub idle_done : IdleIsDone worker_set
+  idle_done quiescent site_contents xs rs w after most idle consistent =
+      let s = consistent.in_slots in
+      let process_slot : ProcessSlot (Actor worker_set.Worker) = record { by = server; process = Serving s.state; last = s.last } in
+      let is : server_quiescent 2 server s.state s.last after.machine = quiescent.each w after most 0 process_slot idle (ap (λ (l : List (ProcessSlot (Actor worker_set.Worker))). slice_get l 0) s.process_slots) in
+      let workers : WorkersAreQuiescent worker_set after.machine s.workers = λ k v sits. quiescent.each w after most (suc k) (as_actor v) idle
+      (ap (λ (l : List (ProcessSlot (Actor worker_set.Worker))). slice_get l (suc k)) s.process_slots ∙ process_slot-of s.workers k v sits) in
+      let same : filed s.state.workers s.state.clients s.state.pending_call s.last s.serves.received ≡ s.state.clients = filed-same laws.left.waits after.machine server s.state s.last s.serves.received is.0 in
+      all-done site_contents worker_set laws after.machine consistent.order consistent.fixed (past_of xs rs) s.state.clients s.workers
+      (subst (λ (l : List (Option Client)). AllFit site_contents worker_set after.machine (past_of xs rs) l s.workers) same s.serves.fit)
       (subst (λ (l : List (Option Client)). AreOwned after.machine (past_of xs rs) l) same s.serves.owned) s.state.workers s.serves.count workers is.1

@@ -12,17 +12,17 @@ use Rattle.iol_laws.specs.Frame.{Leaves as Leaving}
 use Rattle.iol_laws.specs.Order.{IsOrderly}
 use Rattle.iol_laws.specs.Others as o
 use Rattle.iol_laws.proofs.Streams.Remains.{Went, went-out}
-use Rattle.iol_proc.specs.declared.seat.Seat.{Seat}
+use Rattle.iol_proc.specs.declared.process_slot.ProcessSlot.{ProcessSlot}
 use Rattle.flash_laws.specs.Client.{Client}
-use Rattle.flash_laws.specs.Workers.Crew.{Crew, IsFixedFor}
+use Rattle.flash_laws.specs.Workers.WorkerSet.{WorkerSet, IsFixedFor}
 use Rattle.flash_laws.specs.Site.Past.{Past, and_then}
-use Rattle.flash_laws.specs.Site.ClientTies.{Aside, AllFit}
-use Rattle.flash_laws.specs.Shelf.{Shelf, Begins, IsAnswer}
+use Rattle.flash_laws.specs.Site.ClientConsistency.{Aside, AllFit}
+use Rattle.flash_laws.specs.SiteContents.{SiteContents, Begins, IsAnswer}
 use Rattle.flash_laws.specs.Site.{net_pool, KeepsSite}
 use Rattle.flash_laws.specs.Site.OtherConns.{Waits}
 use Rattle.flash_laws.proofs.Lists.{not-equal, self, former_of}
 use Rattle.flash_laws.proofs.Site.Pasts.{or-false}
-use Rattle.flash_laws.proofs.Site.Peers.{IsTold}
+use Rattle.flash_laws.proofs.Site.Peers.{IsAfterReply}
 use Rattle.flash_laws.proofs.World.AllLaws.{AllLaws}
 use Rattle.flash_laws.proofs.World.Outside.Conns.{Goes, outside}
 
@@ -38,14 +38,14 @@ was-accepted m c order closed = by (conn_at m c).accepted refl
     by true is = is
     by false is = (let a = order.waits c is in absurd (cc (a, closed)))
 
-module _ (shelf : Shelf) (crew : Crew) (laws : AllLaws crew) where
+module _ (site_contents : SiteContents) (worker_set : WorkerSet) (laws : AllLaws worker_set) where
   -- ---- bytes arrive
 
-  pub arrives : (m n : State) (p : Past) (clients : List (Option Client)) (seats : List (Seat crew.Worker)) (c : ℕ) (bytes : List ℕ) (k : ℕ)
-      → IsOrderly m → IsFixedFor shelf crew m → KeepsSite m n → StepsTo m (event.Arrive c bytes) (reply.Count k) n → AllFit shelf crew m p clients seats
-      → AllFit shelf crew n (and_then p (event.Arrive c bytes) (reply.Count k)) clients seats
-  arrives m n p clients seats c bytes k order fixed site step all =
-      outside shelf crew laws m n p q clients seats (event.Arrive c bytes) (reply.Count k) c order fixed site step (λ d. refl)
+  pub arrives : (m n : State) (p : Past) (clients : List (Option Client)) (process_slots : List (ProcessSlot worker_set.Worker)) (c : ℕ) (bytes : List ℕ) (k : ℕ)
+      → IsOrderly m → IsFixedFor site_contents worker_set m → KeepsSite m n → StepsTo m (event.Arrive c bytes) (reply.Count k) n → AllFit site_contents worker_set m p clients process_slots
+      → AllFit site_contents worker_set n (and_then p (event.Arrive c bytes) (reply.Count k)) clients process_slots
+  arrives m n p clients process_slots c bytes k order fixed site step all =
+      outside site_contents worker_set laws m n p q clients process_slots (event.Arrive c bytes) (reply.Count k) c order fixed site step (λ d. refl)
       (λ z differ. leaves.conns z (not-equal c z differ))
       (record {
         came = λ z differ. ap (λ b. p.came z ++ (if b then take k bytes else [])) (not-equal c z differ) ∙ append-nil (p.came z);
@@ -82,7 +82,7 @@ module _ (shelf : Shelf) (crew : Crew) (laws : AllLaws crew) where
         });
       }
 
-      aside : Aside shelf p c (conn_at m c) → Aside shelf q c (conn_at n c)
+      aside : Aside site_contents p c (conn_at m c) → Aside site_contents q c (conn_at n c)
       aside (inl w) = inl (record {
         waits = ap (λ (z : Connection). z.accepted) did.conn ∙ w.waits;
         pool_is = λ net. ap (λ (z : Connection). z.pool) did.conn ∙ w.pool_is (sym (or-false (p.net c) false refl) ∙ net);
@@ -92,16 +92,16 @@ module _ (shelf : Shelf) (crew : Crew) (laws : AllLaws crew) where
       aside (inr (inl w)) = (let a = did.open_yet in let b = w.closed in absurd (cc (a, b)))
       aside (inr (inr w)) = inr (inr (record { other_pool = or-false (p.net c) false refl ∙ w.other_pool; taken = ap (λ (z : Connection). z.accepted) did.conn ∙ w.taken }))
 
-      left : IsTold (p.gone c || false) (conn_at n c)
+      left : IsAfterReply (p.gone c || false) (conn_at n c)
       left still gone = absurd (let here = ap (λ (w : Option How). is_gone w) did.peer_open in let there = ap (λ (z : Connection). is_gone z.peer) did.conn in cc (here, there, gone))
 
   -- ---- bytes are sent
 
-  pub transmits : (m n : State) (p : Past) (clients : List (Option Client)) (seats : List (Seat crew.Worker)) (c max : ℕ) (bytes : List ℕ) (sum : ℕ)
-      → IsOrderly m → IsOrderly n → IsFixedFor shelf crew m → KeepsSite m n → StepsTo m (event.Transmit c max) (reply.Segment bytes sum) n
-      → AllFit shelf crew m p clients seats → AllFit shelf crew n (and_then p (event.Transmit c max) (reply.Segment bytes sum)) clients seats
-  transmits m n p clients seats c max bytes sum order order_n fixed site step all =
-      outside shelf crew laws m n p q clients seats (event.Transmit c max) (reply.Segment bytes sum) c order fixed site step (λ d. refl)
+  pub transmits : (m n : State) (p : Past) (clients : List (Option Client)) (process_slots : List (ProcessSlot worker_set.Worker)) (c max : ℕ) (bytes : List ℕ) (sum : ℕ)
+      → IsOrderly m → IsOrderly n → IsFixedFor site_contents worker_set m → KeepsSite m n → StepsTo m (event.Transmit c max) (reply.Segment bytes sum) n
+      → AllFit site_contents worker_set m p clients process_slots → AllFit site_contents worker_set n (and_then p (event.Transmit c max) (reply.Segment bytes sum)) clients process_slots
+  transmits m n p clients process_slots c max bytes sum order order_n fixed site step all =
+      outside site_contents worker_set laws m n p q clients process_slots (event.Transmit c max) (reply.Segment bytes sum) c order fixed site step (λ d. refl)
       (λ z differ. leaves.conns z (not-equal c z differ))
       (record {
         came = λ z differ. append-nil (p.came z);
@@ -146,14 +146,14 @@ module _ (shelf : Shelf) (crew : Crew) (laws : AllLaws crew) where
           }
           by (inr over) = (let closed = over.0 in absurd (cc (closed, open_yet)))
 
-      aside : Aside shelf p c (conn_at m c) → Aside shelf q c (conn_at n c)
+      aside : Aside site_contents p c (conn_at m c) → Aside site_contents q c (conn_at n c)
       aside (inl w) = absurd (did.some (order.silent c w.waits))
       aside (inr (inl w)) = inr (inl (record {
         closed = (elim did.conn [ inl conn ↦ ap (λ (z : Connection). z.closed) conn ∙ w.closed | inr over ↦ over.1 ]);
-        begins = subst (λ (l : List ℕ). Begins shelf l ((p.sent c ++ (if c == c then bytes else [])) ++ bytes_of (conn_at n c).outgoing)) (sym (append-nil (p.came c))) (subst (λ (l : List ℕ). Begins shelf (p.came c) l) total w.begins);
+        begins = subst (λ (l : List ℕ). Begins site_contents l ((p.sent c ++ (if c == c then bytes else [])) ++ bytes_of (conn_at n c).outgoing)) (sym (append-nil (p.came c))) (subst (λ (l : List ℕ). Begins site_contents (p.came c) l) total w.begins);
         whole = elim w.whole [
           | inl gone ↦ inl (former_of (p.gone c) false gone)
-          | inr all ↦ inr (subst (λ (l : List ℕ). IsAnswer shelf l ((p.sent c ++ (if c == c then bytes else [])) ++ bytes_of (conn_at n c).outgoing)) (sym (append-nil (p.came c))) (subst (λ (l : List ℕ). IsAnswer shelf (p.came c) l) total all))
+          | inr all ↦ inr (subst (λ (l : List ℕ). IsAnswer site_contents l ((p.sent c ++ (if c == c then bytes else [])) ++ bytes_of (conn_at n c).outgoing)) (sym (append-nil (p.came c))) (subst (λ (l : List ℕ). IsAnswer site_contents (p.came c) l) total all))
         ];
       }))
       aside (inr (inr w)) = inr (inr (record {
@@ -161,7 +161,7 @@ module _ (shelf : Shelf) (crew : Crew) (laws : AllLaws crew) where
         taken = (elim did.conn [ inl conn ↦ ap (λ (z : Connection). z.accepted) conn ∙ w.taken | inr over ↦ was-accepted n c order_n over.1 ]);
       }))
 
-      left : IsTold (p.gone c || false) (conn_at n c)
+      left : IsAfterReply (p.gone c || false) (conn_at n c)
       left still gone = elim did.conn [
         | inl conn ↦ former_of (p.gone c) false (all.left c (ap (λ (z : Connection). z.closed) (sym conn) ∙ still) (ap (λ (z : Connection). is_gone z.peer) (sym conn) ∙ gone))
         | inr over ↦ (let closed = over.1 in absurd (cc (closed, still)))
@@ -176,11 +176,11 @@ module _ (shelf : Shelf) (crew : Crew) (laws : AllLaws crew) where
       number : (a b : ℕ) → reply.Conn a ≡ reply.Conn b → a ≡ b
       number a b e = cc
 
-  pub connects : (m n : State) (p : Past) (clients : List (Option Client)) (seats : List (Seat crew.Worker)) (pool c : ℕ) → IsOrderly m
-      → IsFixedFor shelf crew m → KeepsSite m n → StepsTo m (event.ConnNew pool) (reply.Conn c) n → AllFit shelf crew m p clients seats
-      → AllFit shelf crew n (and_then p (event.ConnNew pool) (reply.Conn c)) clients seats
-  connects m n p clients seats pool c order fixed site step all =
-      outside shelf crew laws m n p (and_then p (event.ConnNew pool) (reply.Conn c)) clients seats (event.ConnNew pool) (reply.Conn c) c order fixed site step (λ d. refl)
+  pub connects : (m n : State) (p : Past) (clients : List (Option Client)) (process_slots : List (ProcessSlot worker_set.Worker)) (pool c : ℕ) → IsOrderly m
+      → IsFixedFor site_contents worker_set m → KeepsSite m n → StepsTo m (event.ConnNew pool) (reply.Conn c) n → AllFit site_contents worker_set m p clients process_slots
+      → AllFit site_contents worker_set n (and_then p (event.ConnNew pool) (reply.Conn c)) clients process_slots
+  connects m n p clients process_slots pool c order fixed site step all =
+      outside site_contents worker_set laws m n p (and_then p (event.ConnNew pool) (reply.Conn c)) clients process_slots (event.ConnNew pool) (reply.Conn c) c order fixed site step (λ d. refl)
       (λ z differ. leaves.conns z (ap (λ k. k == z) (sym numbers.0) ∙ not-equal c z differ))
       (record {
         came = λ z differ. append-nil (p.came z);

@@ -14,17 +14,17 @@ use Rattle.iol_laws.specs.Frame.{Leaves as Leaving}
 use Rattle.iol_laws.specs.Order.{IsOrderly}
 use Rattle.iol_core.proofs.TestedLists.{passed, when-none}
 use Rattle.iol_laws.proofs.Streams.Remains.{LeavesPeer, peer-left}
-use Rattle.iol_proc.specs.declared.seat.Seat.{Seat}
+use Rattle.iol_proc.specs.declared.process_slot.ProcessSlot.{ProcessSlot}
 use Rattle.flash_laws.specs.Client.{Client}
-use Rattle.flash_laws.specs.Workers.Crew.{Crew, IsFixedFor}
+use Rattle.flash_laws.specs.Workers.WorkerSet.{WorkerSet, IsFixedFor}
 use Rattle.flash_laws.specs.Site.Past.{Past, gone_by}
-use Rattle.flash_laws.specs.Site.ClientTies.{Ended, Aside, AllFit}
-use Rattle.flash_laws.specs.Shelf.{Shelf, Begins, IsAnswer}
+use Rattle.flash_laws.specs.Site.ClientConsistency.{Ended, Aside, AllFit}
+use Rattle.flash_laws.specs.SiteContents.{SiteContents, Begins, IsAnswer}
 use Rattle.flash_laws.specs.Site.{KeepsSite}
 use Rattle.flash_laws.specs.Site.OtherConns.{Waits, Foreign}
 use Rattle.flash_laws.proofs.Lists.{clash, not-equal, self, later_of, former_of}
-use Rattle.flash_laws.proofs.Site.Pasts.{or-false, peer_told}
-use Rattle.flash_laws.proofs.Site.Peers.{IsTold, peer-done, over-done}
+use Rattle.flash_laws.proofs.Site.Pasts.{or-false, peer_after_reply}
+use Rattle.flash_laws.proofs.Site.Peers.{IsAfterReply, peer-done, over-done}
 use Rattle.flash_laws.proofs.World.AllLaws.{AllLaws}
 use Rattle.flash_laws.proofs.World.ClientFrame.{Changes}
 use Rattle.flash_laws.proofs.World.Responses.{begins-less, begins-none}
@@ -51,25 +51,25 @@ changes-closed : (k : Connection) (w : How) (sent : List ℕ) → Changes k (clo
 changes-closed k how.Done sent = inl (record { total = refl; gone = gone-same (is_gone k.peer); ended = λ some. (refl, one-closed (is_gone k.peer)) })
 changes-closed k how.Gone sent = inr (record { gone = refl; dropped = bytes_of k.outgoing; total = ap (λ (l : List ℕ). l ++ bytes_of k.outgoing) (sym (append-nil sent)) })
 
-module _ (shelf : Shelf) where
-  outgoing-less : (k : Connection) (w : How) (s sent : List ℕ) → Begins shelf s (sent ++ bytes_of k.outgoing)
-      → Begins shelf s (sent ++ bytes_of (closed_by k w).outgoing)
+module _ (site_contents : SiteContents) where
+  outgoing-less : (k : Connection) (w : How) (s sent : List ℕ) → Begins site_contents s (sent ++ bytes_of k.outgoing)
+      → Begins site_contents s (sent ++ bytes_of (closed_by k w).outgoing)
   outgoing-less k how.Done s sent b = b
-  outgoing-less k how.Gone s sent b = subst (λ (l : List ℕ). Begins shelf s l) (sym (append-nil sent)) (begins-less shelf s sent (bytes_of k.outgoing) b)
+  outgoing-less k how.Gone s sent b = subst (λ (l : List ℕ). Begins site_contents s l) (sym (append-nil sent)) (begins-less site_contents s sent (bytes_of k.outgoing) b)
 
   whole-closed : (k : Connection) (c : ℕ) (w : How) (s sent : List ℕ) (left : Bool)
-      → (left ≡ true) ⊎ IsAnswer shelf s (sent ++ bytes_of k.outgoing)
-      → ((left || gone_by c (event.PeerClosed c w) reply.Done) ≡ true) ⊎ IsAnswer shelf s (sent ++ bytes_of (closed_by k w).outgoing)
+      → (left ≡ true) ⊎ IsAnswer site_contents s (sent ++ bytes_of k.outgoing)
+      → ((left || gone_by c (event.PeerClosed c w) reply.Done) ≡ true) ⊎ IsAnswer site_contents s (sent ++ bytes_of (closed_by k w).outgoing)
   whole-closed k c how.Gone s sent left whole = inl (later_of left (c == c) (self c))
   whole-closed k c how.Done s sent left (inr all) = inr all
   whole-closed k c how.Done s sent left (inl gone) = inl (former_of left false gone)
 
-module _ (shelf : Shelf) (crew : Crew) (laws : AllLaws crew) where
-  pub peer_closes : (m n : State) (p : Past) (clients : List (Option Client)) (seats : List (Seat crew.Worker)) (c : ℕ) (w : How) → IsOrderly m
-      → IsOrderly n → IsFixedFor shelf crew m → KeepsSite m n → StepsTo m (event.PeerClosed c w) reply.Done n → AllFit shelf crew m p clients seats
-      → AllFit shelf crew n (peer_told p c w) clients seats
-  peer_closes m n p clients seats c w order order_n fixed site step all =
-      outside shelf crew laws m n p (peer_told p c w) clients seats (event.PeerClosed c w) reply.Done c order fixed site step (λ d. refl)
+module _ (site_contents : SiteContents) (worker_set : WorkerSet) (laws : AllLaws worker_set) where
+  pub peer_closes : (m n : State) (p : Past) (clients : List (Option Client)) (process_slots : List (ProcessSlot worker_set.Worker)) (c : ℕ) (w : How) → IsOrderly m
+      → IsOrderly n → IsFixedFor site_contents worker_set m → KeepsSite m n → StepsTo m (event.PeerClosed c w) reply.Done n → AllFit site_contents worker_set m p clients process_slots
+      → AllFit site_contents worker_set n (peer_after_reply p c w) clients process_slots
+  peer_closes m n p clients process_slots c w order order_n fixed site step all =
+      outside site_contents worker_set laws m n p (peer_after_reply p c w) clients process_slots (event.PeerClosed c w) reply.Done c order fixed site step (λ d. refl)
       (λ z differ. leaves.conns z (not-equal c z differ)) (record { came = λ z differ. refl; sent = λ z differ. refl; net = λ z differ. refl; gone = λ z differ. or-false (p.gone z) (gone_by z (event.PeerClosed c w) reply.Done) (elsewhere w z differ) })
       (λ taken open_yet. goes taken open_yet did) (λ a. aside did a) (left w step) (λ more. let up = laws.the.rises m n (event.PeerClosed c w) reply.Done step in all.fresh c (omega (arith, up, more)))
       (λ more. let up = laws.the.rises m n (event.PeerClosed c w) reply.Done step in absurd (unmade (omega (arith, up, more)))) all
@@ -85,7 +85,7 @@ module _ (shelf : Shelf) (crew : Crew) (laws : AllLaws crew) where
       did : LeavesPeer m c w n
       did = peer-left m n c w order (laws.the.other.peer_closed m n c w reply.Done order step)
 
-      goes : (conn_at m c).accepted ≡ true → (conn_at m c).closed ≡ false → LeavesPeer m c w n → Goes m n p (peer_told p c w) c
+      goes : (conn_at m c).accepted ≡ true → (conn_at m c).closed ≡ false → LeavesPeer m c w n → Goes m n p (peer_after_reply p c w) c
       goes taken open_yet (inl conn) = record {
         more = [];
         came = sym (append-nil (p.came c));
@@ -101,7 +101,7 @@ module _ (shelf : Shelf) (crew : Crew) (laws : AllLaws crew) where
       elsewhere how.Gone z differ = not-equal c z differ
 
       left : (w : How) → StepsTo m (event.PeerClosed c w) reply.Done n
-          → IsTold (p.gone c || gone_by c (event.PeerClosed c w) reply.Done) (conn_at n c)
+          → IsAfterReply (p.gone c || gone_by c (event.PeerClosed c w) reply.Done) (conn_at n c)
       left how.Gone step still gone = later_of (p.gone c) (c == c) (self c)
       left how.Done step still gone = elim (peer-done m n c order step) [
         | inl conn ↦ former_of (p.gone c) false (all.left c (ap (λ (z : Connection). z.closed) (sym conn) ∙ still) (sym (gone-same (is_gone (conn_at m c).peer)) ∙ (ap (λ (z : Connection). is_gone z.peer) (sym conn) ∙ gone)))
@@ -122,11 +122,11 @@ module _ (shelf : Shelf) (crew : Crew) (laws : AllLaws crew) where
 
       -- one that was closed is forgotten where its peer left, or where nothing was to be sent
       forgotten : (w : How) → StepsTo m (event.PeerClosed c w) reply.Done n → (conn_at n c).outgoing ≡ []
-          → (p.gone c ≡ true) ⊎ IsAnswer shelf (p.came c) (p.sent c ++ bytes_of (conn_at m c).outgoing)
-          → ((p.gone c || gone_by c (event.PeerClosed c w) reply.Done) ≡ true) ⊎ IsAnswer shelf (p.came c) (p.sent c ++ bytes_of (conn_at n c).outgoing)
+          → (p.gone c ≡ true) ⊎ IsAnswer site_contents (p.came c) (p.sent c ++ bytes_of (conn_at m c).outgoing)
+          → ((p.gone c || gone_by c (event.PeerClosed c w) reply.Done) ≡ true) ⊎ IsAnswer site_contents (p.came c) (p.sent c ++ bytes_of (conn_at n c).outgoing)
       forgotten how.Gone step none whole = inl (later_of (p.gone c) (c == c) (self c))
       forgotten how.Done step none (inl gone) = inl (former_of (p.gone c) false gone)
-      forgotten how.Done step none (inr whole) = inr (subst (λ (t : Text). IsAnswer shelf (p.came c) (p.sent c ++ bytes_of t)) same whole)
+      forgotten how.Done step none (inr whole) = inr (subst (λ (t : Text). IsAnswer site_contents (p.came c) (p.sent c ++ bytes_of t)) same whole)
         where
           same : (conn_at m c).outgoing ≡ (conn_at n c).outgoing
           same = elim (peer-done m n c order step) [
@@ -138,18 +138,18 @@ module _ (shelf : Shelf) (crew : Crew) (laws : AllLaws crew) where
       silent how.Done waits = refl
       silent how.Gone waits = sym (order.silent c waits)
 
-      aside : LeavesPeer m c w n → Aside shelf p c (conn_at m c) → Aside shelf (peer_told p c w) c (conn_at n c)
-      aside (inl conn) (inl v) = inl (subst (λ (z : Connection). Waits (peer_told p c w) c z) (sym conn) (record {
+      aside : LeavesPeer m c w n → Aside site_contents p c (conn_at m c) → Aside site_contents (peer_after_reply p c w) c (conn_at n c)
+      aside (inl conn) (inl v) = inl (subst (λ (z : Connection). Waits (peer_after_reply p c w) c z) (sym conn) (record {
         waits = (same-beside (conn_at m c) w).1 ∙ v.waits;
         pool_is = λ net. (same-beside (conn_at m c) w).3 ∙ v.pool_is net;
         came_is = v.came_is ∙ ap (λ (t : Text). bytes_of t) (sym ((same-beside (conn_at m c) w).0));
         none_sent = ap (λ (t : Text). p.sent c ++ bytes_of t) (silent w v.waits) ∙ v.none_sent;
       }))
-      aside (inl conn) (inr (inl v)) = inr (inl (subst (λ (z : Connection). Ended shelf (peer_told p c w) c z) (sym conn) (record { closed = (same-beside (conn_at m c) w).2 ∙ v.closed; begins = outgoing-less shelf (conn_at m c) w (p.came c) (p.sent c) v.begins; whole = whole-closed shelf (conn_at m c) c w (p.came c) (p.sent c) (p.gone c) v.whole })))
-      aside (inl conn) (inr (inr v)) = inr (inr (subst (λ (z : Connection). Foreign (peer_told p c w) c z) (sym conn) (record { other_pool = v.other_pool; taken = (same-beside (conn_at m c) w).1 ∙ v.taken })))
+      aside (inl conn) (inr (inl v)) = inr (inl (subst (λ (z : Connection). Ended site_contents (peer_after_reply p c w) c z) (sym conn) (record { closed = (same-beside (conn_at m c) w).2 ∙ v.closed; begins = outgoing-less site_contents (conn_at m c) w (p.came c) (p.sent c) v.begins; whole = whole-closed site_contents (conn_at m c) c w (p.came c) (p.sent c) (p.gone c) v.whole })))
+      aside (inl conn) (inr (inr v)) = inr (inr (subst (λ (z : Connection). Foreign (peer_after_reply p c w) c z) (sym conn) (record { other_pool = v.other_pool; taken = (same-beside (conn_at m c) w).1 ∙ v.taken })))
       aside (inr (inl g)) (inl v) = inr (inl (record {
         closed = g.2.closed;
-        begins = subst (λ (l : List ℕ). Begins shelf (p.came c) l) (sym (ap (λ (t : Text). p.sent c ++ bytes_of t) (g.2.none ∙ sym g.1) ∙ v.none_sent)) (begins-none shelf (p.came c));
+        begins = subst (λ (l : List ℕ). Begins site_contents (p.came c) l) (sym (ap (λ (t : Text). p.sent c ++ bytes_of t) (g.2.none ∙ sym g.1) ∙ v.none_sent)) (begins-none site_contents (p.came c));
         whole = inl (unaccepted w step v.waits g.2.closed);
       }))
       aside (inr (inl g)) (inr (inl v)) = (let a = order.waits c g.0 in let b = v.closed in absurd (cc (a, b)))
@@ -157,7 +157,7 @@ module _ (shelf : Shelf) (crew : Crew) (laws : AllLaws crew) where
       aside (inr (inr g)) (inl v) = (let a = order.waits c v.waits in let b = g.0 in absurd (cc (a, b)))
       aside (inr (inr g)) (inr (inl v)) = inr (inl (record {
         closed = g.1.closed;
-        begins = subst (λ (t : Text). Begins shelf (p.came c) (p.sent c ++ bytes_of t)) (sym g.1.none) (subst (λ (l : List ℕ). Begins shelf (p.came c) l) (sym (append-nil (p.sent c))) (begins-less shelf (p.came c) (p.sent c) (bytes_of (conn_at m c).outgoing) v.begins));
+        begins = subst (λ (t : Text). Begins site_contents (p.came c) (p.sent c ++ bytes_of t)) (sym g.1.none) (subst (λ (l : List ℕ). Begins site_contents (p.came c) l) (sym (append-nil (p.sent c))) (begins-less site_contents (p.came c) (p.sent c) (bytes_of (conn_at m c).outgoing) v.begins));
         whole = forgotten w step g.1.none v.whole;
       }))
       aside (inr (inr g)) (inr (inr v)) = inr (inr (record { other_pool = v.other_pool; taken = was-accepted n c order_n g.1.closed }))

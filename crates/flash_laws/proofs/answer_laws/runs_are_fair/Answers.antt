@@ -1,8 +1,8 @@
-use Rattle.flash_laws.proofs.World.Fair.{smooth_is_fair, any_is_fair, own_is_fair, own_is_least, none_refuses_nothing}
+use Rattle.flash_laws.proofs.World.Fair.{failure_free_is_fair, any_is_fair, own_is_fair, own_is_least, none_refuses_nothing}
 use Rattle.flash_laws.proofs.answer_laws.runs_are_fair.Goals as goal
 
-pub returns-clause-smooth : goal.returns-clause-smooth
-returns-clause-smooth c = smooth_is_fair
+pub returns-clause-failure_free : goal.returns-clause-failure_free
+returns-clause-failure_free c = failure_free_is_fair
 
 pub returns-clause-any : goal.returns-clause-any
 returns-clause-any c = any_is_fair

@@ -14,8 +14,8 @@ returns-clause-shared g c =
 
 pub returns-clause-hosts : goal.returns-clause-hosts
 returns-clause-hosts g c = λ honest.
-    let told = c.in_ok-world.ensures.honest ∙ honest in
+    let after_reply = c.in_ok-world.ensures.honest ∙ honest in
     hosted c.args.site.now (slots_of (g.B.Backing.disk c.args.backing).slots) c.args.choices.now c.in-Ok.replies.items c.args.turns
     c.until_idle-idle.result (copied c.in_ok-world.world) (copied c.run.new.self) (copied c.until_idle-idle.new.self)
-    (c.in_ok-world.ensures.new honest) (c.in-Ok.ensures.run told)
-    (c.until_idle-idle.ensures.run (c.in-Ok.ensures.honest.same ∙ told))
+    (c.in_ok-world.ensures.new honest) (c.in-Ok.ensures.run after_reply)
+    (c.until_idle-idle.ensures.run (c.in-Ok.ensures.honest.same ∙ after_reply))

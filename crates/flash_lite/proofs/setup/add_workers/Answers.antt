@@ -1,6 +1,6 @@
 use Rattle.std.proofs.Common.{rules, ℕ, ◌+◌, List, subst, sym}
 use Rattle.flash_cgi.specs.declared.worker.Worker.{Worker}
-use Rattle.flash_laws.specs.World.Tie.{Actor}
+use Rattle.flash_laws.specs.World.Consistency.{Actor}
 use Rattle.flash_lite.specs.Setup.{HasWorkers}
 use Rattle.flash_lite.proofs.World.Apart.{none_yet, one_more}
 use Rattle.flash_lite.proofs.setup.add_workers.Goals as goal

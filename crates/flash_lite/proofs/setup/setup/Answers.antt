@@ -31,6 +31,6 @@ returns-clause-over_honest g c honest =
     record {
       set_up = set;
       slots = slots_kept c.args.site.now (machine_of c.args.system.now) (machine_of c.run.new.self) set;
-      new = λ w is seated. c.set_up_is_a_new_world.ensures c.args.site.now (machine_of c.args.system.now) w fits
-          (subst (λ (m : State). SetsUp c.args.site.now (machine_of c.args.system.now) m) (sym is) set) seated;
+      new = λ w is in_slots. c.set_up_is_a_new_world.ensures c.args.site.now (machine_of c.args.system.now) w fits
+          (subst (λ (m : State). SetsUp c.args.site.now (machine_of c.args.system.now) m) (sym is) set) in_slots;
     }

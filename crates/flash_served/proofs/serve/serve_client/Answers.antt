@@ -4,7 +4,7 @@ use Rattle.iol_core.specs.declared.events.Reply.{Reply}
 use Rattle.iol_proc.specs.World.{OutsideStep, copied, copying}
 use Rattle.flash_laws.specs.Serves.Rounds.{in_rounds}
 use Rattle.flash_laws.specs.Site.{net_pool}
-use Rattle.flash_laws.specs.World.Tie.{actor_turns}
+use Rattle.flash_laws.specs.World.Consistency.{actor_turns}
 use Rattle.flash_lite.specs.Workers.{worker_turns}
 use Rattle.flash_served.proofs.ConnEnd.{lacks_copied}
 use Rattle.flash_served.proofs.Sessions.{serves_none, serves_right}

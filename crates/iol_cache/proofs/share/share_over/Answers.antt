@@ -105,7 +105,7 @@ returns-in-Err c =
     let m = still at.In-Err in
     let r = c.release.ensures in
     let there = subst (AllReadable c.args.store.now) (sym c.in-Err.ensures.err) (readable at.In-Some) in
-    record { places = tt; parts = tt; shared = released_then m r.moves r.lists r.frees (r.settles (readable_on c.add_range.new.self m there)) }
+    record { places = tt; parts = tt; shared = released_then m r.moves r.lists r.frees (r.reclaims (readable_on c.add_range.new.self m there)) }
 
 pub returns : goal.returns
 returns c =

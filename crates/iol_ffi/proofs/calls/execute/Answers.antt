@@ -5,7 +5,7 @@ use Rattle.iol_core.specs.declared.events.Reply.TheVariants as reply
 use Rattle.iol_system.specs.BorrowedMemory.{shown}
 use Rattle.iol_system.specs.Machine.{SystemState}
 use Rattle.iol_system.specs.Promises.{Promises}
-use Rattle.iol_system.specs.Replies.{told}
+use Rattle.iol_system.specs.Replies.{reported}
 use Rattle.iol_ffi.specs.Events.{event_with}
 use Rattle.iol_ffi.specs.Replies.{CountsShown, Encodes}
 use Rattle.iol_ffi.specs.Room.{most_bytes}
@@ -36,9 +36,9 @@ returns-in-Show-clause-executes c =
     let shows = c.show_into.ensures in
     let r = c.shown_reply.result in
     let len : length filled ≡ length memory = c.show_into.auto.out in
-    let told_it : Encodes (told reply.Bytes (shown shows.shows.bytes c.show_into.result)) r filled =
+    let reported_it : Encodes (reported reply.Bytes (shown shows.shows.bytes c.show_into.result)) r filled =
     shown_in c.in-Show.by c.in-Show.agg memory filled s c.show_into.result r shows (subst (λ (n : ℕ). CountsShown c.show_into.result n r) len c.shown_reply.ensures) in
-    meant c.args.request.now _ c.args.bytes.now memory filled s s (told reply.Bytes (shown shows.shows.bytes c.show_into.result)) r c.in-Show.is shows.step told_it c.requires len
+    meant c.args.request.now _ c.args.bytes.now memory filled s s (reported reply.Bytes (shown shows.shows.bytes c.show_into.result)) r c.in-Show.is shows.step reported_it c.requires len
 
 pub returns-in-Read-clause-executes : goal.returns-in-Read-clause-executes
 returns-in-Read-clause-executes c =

@@ -25,7 +25,7 @@ loop-agg-preserved c =
         moves = last_released s t c.release.new.store (bufs_in c.args.aggs) es rest n x is so_far.moves released.moves;
         lists = released.lists ∙ so_far.lists;
         frees = frees_trans so_far.frees released.frees released.moves.counts;
-        settles = λ all settled. released.settles (last_readable s t es rest n x is so_far.moves.stays covers (readable all)) (so_far.settles all settled);
+        reclaims = λ all reclaimed. released.reclaims (last_readable s t es rest n x is so_far.moves.stays covers (readable all)) (so_far.reclaims all reclaimed);
       };
       readable = λ all. front_readable s es rest n x is (readable all);
     }

@@ -36,7 +36,7 @@ returns-clause-adds c =
     record {
       taken = omega (arith, c.min-taken.ensures, c.self.invariant.len, ap byte_len c.self.view_is);
       added = subst (λ old. AddsBytes s t old now c.args.pool taken) (c.reserve.ensures.items ∙ c.self.view_is)
-          (bytes_added s t c.reserve.new.self.items now c.args.pool taken c.in_ok-holds.holds c.add_whole.ensures held.pool held.value held.moves held.made_on held.others held.grows held.settles held.pools);
+          (bytes_added s t c.reserve.new.self.items now c.args.pool taken c.in_ok-holds.holds c.add_whole.ensures held.pool held.value held.moves held.made_on held.others held.grows held.reclaims held.pools);
     }
 
 -- no byte fits, or none is offered

@@ -18,7 +18,7 @@ returns-in_default g c =
     let same : c.reserve.new.self.items ≡ old = ◌∙◌ {A = List Slice} c.reserve.ensures.items c.self.view_is in
     record {
       read = subst (λ new. ReadsIn left after s t old new c.args.pool n) (sym same) (nothing_added left after s t old c.args.pool n made);
-      told = search (rules);
+      reported = search (rules);
       room = search (rules);
       late = tt;
       err = tt;
@@ -44,7 +44,7 @@ invariant_of-self-2 g c =
     let seen = ap byte_len c.self.view_is in
     record {
       len = omega (arith, more, same, c.self.invariant.len);
-      most = omega (arith, more, same, seen, c.requires.fits, c.in_ok-made.ensures.reads.told.most);
+      most = omega (arith, more, same, seen, c.requires.fits, c.in_ok-made.ensures.reads.reported.most);
     }
 
 pub returns : goal.returns
@@ -60,7 +60,7 @@ returns g c =
     record {
       read = subst (λ old. ReadsIn left after s t old new c.args.pool n) same
           (read_added left after s t c.reserve.new.self.items new c.in-Some.holds c.args.pool n c.add_whole.ensures made);
-      told = search (rules);
+      reported = search (rules);
       room = search (rules);
       late = tt;
       err = tt;

@@ -5,7 +5,7 @@ use Rattle.iol_pipe.proofs.arrive.read_in.Goals as goal
 pub returns-in_err-filling-clause-reads : goal.returns-in_err-filling-clause-reads
 returns-in_err-filling-clause-reads g c = record {
   made = search (rules);
-  told = search (rules);
+  reported = search (rules);
   room = record {
     room = search (rules);
     no_room = λ p is. sym (room_for_one c.args.store.now c.args.pool c.args.n c.requires.some c.requires.page) ∙ c.in_err-filling.ensures.begins.no_room p (search (rules, is));

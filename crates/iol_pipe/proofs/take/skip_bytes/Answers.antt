@@ -37,8 +37,8 @@ loop-left-preserved c =
       moves = moves_first (bufs_of rest) (subst (λ xs. Moves s t (bufs_of c.args.queue.now.items) (bufs_of xs)) items before.moves) c.release.ensures.moves;
       lists = c.release.ensures.lists ∙ before.lists;
       frees = frees_trans before.frees c.release.ensures.frees c.release.ensures.moves.counts;
-      settles = λ readable all.
-          let r = before.settles readable all in
+      reclaims = λ readable all.
+          let r = before.reclaims readable all in
           let there = readable_rest first rest (subst (λ xs. AllReadable t xs) items r.0) c.release.ensures.moves covered in
-          (there.1, c.release.ensures.settles there.0 r.1);
+          (there.1, c.release.ensures.reclaims there.0 r.1);
     }

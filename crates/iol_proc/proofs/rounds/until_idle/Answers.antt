@@ -1,7 +1,7 @@
 use Rattle.std.proofs.Common.{◌≡◌, ◌∙◌, ◌<◌, ◌≤◌, ◌++◌, ◌∷◌, [], Bool, false, ℕ, List, length, take, arith, ap, sym, length-append, rules}
 use Rattle.iol_system.specs.Machine.{SystemState}
 use Rattle.iol_proc.specs.Idle.{Idles, RoundRun, Went, is_idle, yields_of}
-use Rattle.iol_proc.specs.Turns.{Account}
+use Rattle.iol_proc.specs.Turns.{TransitionRelation}
 use Rattle.iol_proc.proofs.Runs.{same_length}
 use Rattle.iol_proc.proofs.InRounds.{round_next, counted_next, first_next, rounds_run}
 use Rattle.iol_proc.specs.World.{Stage, sharing}
@@ -11,7 +11,7 @@ use Rattle.iol_proc.proofs.rounds.until_idle.Goals as goal
 pub loop-i-preserved : goal.loop-i-preserved
 loop-i-preserved g c =
     let t : Went = (c.place_turn-outcome.result.yields, c.place_turn-outcome.result.reply) in
-    let size : c.len.result ≡ length c.loop-i.seats.items = search rules in
+    let size : c.len.result ≡ length c.loop-i.process_slots.items = search rules in
     let old = c.loop-i.invariant.ran in
     record {
       domains = c.place_turn-outcome.ensures.domains ∙ c.loop-i.invariant.domains;
@@ -26,15 +26,15 @@ loop-i-preserved g c =
     }
 
 -- the turns that were taken, where no moment before the last was idle
-module _ {P : Type 0} (turns : Account P) (w after : Stage SystemState P) (most i : ℕ) (idle : Bool) (yields : List ℕ) where
-  idles : (went : List Went) × RoundRun sharing turns w 0 went after × (length went ≡ i) × (yields ≡ yields_of (length w.seats) went) × ((j : ℕ) → j < length went → is_idle (yields_of (length w.seats) (take j went)) ≡ false) → i ≤ most → idle ≡ is_idle yields → (idle ≡ false → most ≤ i)
+module _ {P : Type 0} (turns : TransitionRelation P) (w after : Stage SystemState P) (most i : ℕ) (idle : Bool) (yields : List ℕ) where
+  idles : (went : List Went) × RoundRun sharing turns w 0 went after × (length went ≡ i) × (yields ≡ yields_of (length w.process_slots) went) × ((j : ℕ) → j < length went → is_idle (yields_of (length w.process_slots) (take j went)) ≡ false) → i ≤ most → idle ≡ is_idle yields → (idle ≡ false → most ≤ i)
       → Idles sharing turns w most idle after
-  idles old within told all = record {
+  idles old within reported all = record {
     went = old.0;
     ran = old.1;
     run = rounds_run sharing turns _ 0 old.0 _ old.1;
     within = omega (arith, old.2);
-    told = told ∙ ap is_idle old.3;
+    reported = reported ∙ ap is_idle old.3;
     first = old.4;
     all_taken = λ e. omega (arith, old.2, all e);
   }

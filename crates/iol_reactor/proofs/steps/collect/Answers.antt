@@ -10,7 +10,7 @@ returns-in-Ok-clause-alone g c = sends_drained g.P.Process.turns c.args.conn _ _
 
 pub returns-in-Err-clause-alone : goal.returns-in-Err-clause-alone
 returns-in-Err-clause-alone g c = sends_refused g.P.Process.turns c.args.conn _ _ c.args.world.now c.drain_to.new.self (ap g.W.Write.contents c.in-Err.ensures.system.refuses.err_writer)
-    (λ i. record { machine = c.in-Err.ensures.system.refuses.err i; seats = c.in-Err.ensures.seats i; rough = c.in-Err.ensures.rough i })
+    (λ i. record { machine = c.in-Err.ensures.system.refuses.err i; process_slots = c.in-Err.ensures.process_slots i; resource_failure = c.in-Err.ensures.resource_failure i })
 
 pub returns-in-Err-clause-over : goal.returns-in-Err-clause-over
 returns-in-Err-clause-over g c = λ none. lacks_same c.drain_to.new.self.machine c.args.conn

@@ -12,7 +12,7 @@ returns-then-arrived-clause-serves g c = λ honest. serves_came g.P.Process.turn
 pub returns-then-arrived-2-clause-serves : goal.returns-then-arrived-2-clause-serves
 returns-then-arrived-2-clause-serves g c = λ honest.
     let came = serves_came g.P.Process.turns c.args.conn _ _ _ _ _ _ _ (appends_kept _ _ c.flush.ensures.bytes) (c.in-Ok.ensures.copied honest) in
-    let closed = c.close.ensures.goes_on (ap (λ (d : Disk). d.honest) c.arrive_from.ensures.system.disk ∙ honest) in
+    let closed = c.close.ensures.proceeds (ap (λ (d : Disk). d.honest) c.arrive_from.ensures.system.disk ∙ honest) in
     serves_then g.P.Process.turns c.args.conn false false _ _ _ _ _ _ _ _ _ came (serves_alone g.P.Process.turns c.args.conn false _ _ _ _ closed)
 
 pub returns-else-arrived-2-clause-serves : goal.returns-else-arrived-2-clause-serves

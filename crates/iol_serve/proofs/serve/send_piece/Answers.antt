@@ -13,4 +13,4 @@ returns-else-drained-eq0-clause-sends g c = sends_drained g.P.Process.turns c.ar
 
 pub returns-in-Err-clause-sends : goal.returns-in-Err-clause-sends
 returns-in-Err-clause-sends g c = sends_refused g.P.Process.turns c.args.conn _ _ c.args.world.now c.drain_to.new.self (ap g.W.Write.contents c.in-Err.ensures.system.refuses.err_writer)
-    (λ i. record { machine = c.in-Err.ensures.system.refuses.err i; seats = c.in-Err.ensures.seats i; rough = c.in-Err.ensures.rough i })
+    (λ i. record { machine = c.in-Err.ensures.system.refuses.err i; process_slots = c.in-Err.ensures.process_slots i; resource_failure = c.in-Err.ensures.resource_failure i })

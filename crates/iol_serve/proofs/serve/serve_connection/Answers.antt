@@ -32,7 +32,7 @@ returns g c = record {
   ended = c.hang_up.ensures.ended;
   over = λ is. c.hang_up.ensures.lacks (c.long.ensures.over is);
   honest = record { same = c.hang_up.ensures.honest.same ∙ c.loop.invariant.honest.same };
-  serves = λ honest. serves_as g.P.Process.turns c.args.conn _ _ _ _ _ _ _ _ (sym c.long.ensures.told)
+  serves = λ honest. serves_as g.P.Process.turns c.args.conn _ _ _ _ _ _ _ _ (sym c.long.ensures.reported)
       (serves_then g.P.Process.turns c.args.conn _ _ _ _ _ _ _ _ _ _ _ (c.loop.invariant.serves honest)
-      (serves_alone g.P.Process.turns c.args.conn _ _ _ _ _ (c.hang_up.ensures.goes_on (c.loop.invariant.honest.same ∙ honest))));
+      (serves_alone g.P.Process.turns c.args.conn _ _ _ _ _ (c.hang_up.ensures.proceeds (c.loop.invariant.honest.same ∙ honest))));
 }

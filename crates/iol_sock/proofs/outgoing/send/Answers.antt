@@ -4,7 +4,7 @@ use Rattle.iol_arena.specs.State.{State}
 use Rattle.iol_pool.specs.Pools.{Pool}
 use Rattle.iol_hold.specs.Moves.{pool_meant}
 use Rattle.iol_hold.specs.Texts.{text_of, bufs_of, AllReadable}
-use Rattle.iol_hold.proofs.EmptyPools.{all_settled_same}
+use Rattle.iol_hold.proofs.EmptyPools.{all_reclaimed_same}
 use Rattle.iol_hold.proofs.Releases.{frees_none, frees_trans}
 use Rattle.iol_sum.specs.Sums.{UsesEach}
 use Rattle.iol_sum.proofs.KeptSums.{IsRight-keeps}
@@ -38,7 +38,7 @@ returns c =
           moves = sent_moves (bufs_of c.take.new.self) (bufs_of sent) shares c.release.ensures.moves;
           lists = c.release.ensures.lists ∙ ap (λ (ps : List Pool). map pool_meant ps) shares.pools;
           frees = frees_trans (frees_none s t (ap (λ (a : State). a.entries) shares.arena) (ap (λ (a : State). a.limit) shares.arena) shares.pools) c.release.ensures.frees c.release.ensures.moves.counts;
-          settles = λ readable all. c.release.ensures.settles (sent_readable sent c.take.new.self c.args.queue.now c.args.max c.in_ok-sent.ensures.cuts.given c.requires.covered shares readable) (all_settled_same s t shares.arena shares.pools all);
+          reclaims = λ readable all. c.release.ensures.reclaims (sent_readable sent c.take.new.self c.args.queue.now c.args.max c.in_ok-sent.ensures.cuts.given c.requires.covered shares readable) (all_reclaimed_same s t shares.arena shares.pools all);
         };
         uses = record {
           sent = sent;

@@ -8,7 +8,7 @@ use Rattle.iol_proc.specs.declared.choice.Choice.{Choice}
 use Rattle.iol_proc.specs.declared.choice.Choice.TheVariants as choice
 use Rattle.iol_system.specs.Machine.{SystemState}
 use Rattle.flash_cgi.specs.declared.worker.Worker.{Worker}
-use Rattle.flash_laws.specs.World.Tie.{Actor}
+use Rattle.flash_laws.specs.World.Consistency.{Actor}
 use Rattle.flash_lite.specs.Harmless.{AreHarmless, HarmlessIsRight}
 use Rattle.flash_lite.specs.HostedSite.{Hosts}
 use Rattle.flash_lite.specs.declared.site.Site.{Site}

@@ -25,13 +25,13 @@ loop-slice-preserved c =
       moves = moves_less moves c.release.ensures.moves;
       lists = c.release.ensures.lists ∙ c.loop-slice.invariant.lists;
       frees = frees_trans c.loop-slice.invariant.frees c.release.ensures.frees c.release.ensures.moves.counts;
-      settles = λ readable all.
-          let r = c.loop-slice.invariant.settles readable all in
+      reclaims = λ readable all.
+          let r = c.loop-slice.invariant.reclaims readable all in
           let l = readable_last rest x (subst (λ xs. AllReadable s xs) c.in-Some.ensures.items r.0) in
-          (l.0, c.release.ensures.settles (home_stays x c.loop-slice.invariant.moves.stays (last_held s t (bufs_of c.args.self) (bufs_of rest) x.hold.buf c.requires moves) l.1) r.1);
+          (l.0, c.release.ensures.reclaims (home_stays x c.loop-slice.invariant.moves.stays (last_held s t (bufs_of c.args.self) (bufs_of rest) x.hold.buf c.requires moves) l.1) r.1);
     }
 
 pub returns : goal.returns
 returns c =
     let m = c.loop-slice.invariant in
-    record { moves = search rules; lists = m.lists; frees = m.frees; settles = λ readable all. (m.settles readable all).1 }
+    record { moves = search rules; lists = m.lists; frees = m.frees; reclaims = λ readable all. (m.reclaims readable all).1 }

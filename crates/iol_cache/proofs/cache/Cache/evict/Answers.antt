@@ -123,5 +123,5 @@ returns c =
       moves = subst (λ (xs : List Slice). Moves c.args.store.now c.release.new.store (bufs_of xs) []) whole c.release.ensures.moves;
       frees = c.release.ensures.frees;
       lists = c.release.ensures.lists;
-      settles = c.release.ensures.settles (subst (AllReadable c.args.store.now) (sym parts) laid.readable);
+      reclaims = c.release.ensures.reclaims (subst (AllReadable c.args.store.now) (sym parts) laid.readable);
     })

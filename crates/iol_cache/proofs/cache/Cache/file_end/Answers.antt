@@ -12,6 +12,6 @@ returns g c =
     let last : c.end.result ≡ last_end (extents_in fs c.args.file) = c.end.ensures ∙ ap (λ (y : CachedFile). last_end y.extents.extents) x in
     record {
       short = omega (arith, c.max.ensures, c.min-stored.ensures, last, c.requires.short);
-      is = omega (arith, c.max.ensures, c.min-stored.ensures, last, c.length.ensures.told);
+      is = omega (arith, c.max.ensures, c.min-stored.ensures, last, c.length.ensures.reported);
       stored = λ honest. omega (arith, c.max.ensures, c.min-stored.ensures, last, c.length.ensures.honest honest);
     }

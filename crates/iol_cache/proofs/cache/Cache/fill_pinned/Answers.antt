@@ -76,7 +76,7 @@ returns-then-not-make_room g c =
       };
       readable = tt;
       goes = tt;
-      gone = goes_out d c.requires gone sound r.moves r.lists r.settles r.frees.count;
+      gone = goes_out d c.requires gone sound r.moves r.lists r.reclaims r.frees.count;
       sound = sound_out d c.requires gone sound r.moves r.lists r.frees.count;
       room = lacks c.make_room.result made c.if-not-make_room.true;
       asks = record { honest = refl; slots = λ y. refl; counts = refl };
@@ -96,4 +96,4 @@ release-requires-2 g c =
 pub returns : goal.returns
 returns g c =
     let r = c.release-2.ensures in
-    pinned_filled c.fill-filled.result c.requires (makes g (goal.at.returns g c).After-make_room) c.if-not-make_room.false c.make_room.ensures.sound c.fill-filled.ensures r.moves r.frees r.lists r.settles
+    pinned_filled c.fill-filled.result c.requires (makes g (goal.at.returns g c).After-make_room) c.if-not-make_room.false c.make_room.ensures.sound c.fill-filled.ensures r.moves r.frees r.lists r.reclaims

@@ -1,10 +1,10 @@
 use Rattle.std.proofs.Common.{◌≤◌, List, ℕ, length, refl, ap, arith}
 use Rattle.std.proofs.lemmas.Bool.Decides.{nat_tests}
-use Rattle.iol_hold.specs.Loose.{loose_pages}
+use Rattle.iol_hold.specs.Reclaimable.{reclaimable_pages}
 use Rattle.iol_hold.specs.Room.{free_of}
 use Rattle.iol_hold.proofs.Rooms.{open_numbered}
 use Rattle.iol_cache.specs.Cache.{cached_of}
-use Rattle.iol_cache.proofs.Evictions.LoosePages.{free_fits, loose_count}
+use Rattle.iol_cache.proofs.Evictions.ReclaimablePages.{free_fits, reclaimable_count}
 use Rattle.iol_cache.proofs.cache.Cache.has_room.Goals as goal
 
 pub has_free-requires : goal.has_free-requires
@@ -20,6 +20,6 @@ returns-then-has_free c =
 
 pub returns : goal.returns
 returns c =
-    let all = loose_count c.args.store.now (cached_of c.args.self.now) c.args.pool c.requires.sound in
-    let same = ap (λ (l : List ℕ). length (loose_pages c.args.store.now l c.args.pool)) c.as_slice.ensures in
+    let all = reclaimable_count c.args.store.now (cached_of c.args.self.now) c.args.pool c.requires.sound in
+    let same = ap (λ (l : List ℕ). length (reclaimable_pages c.args.store.now l c.args.pool)) c.as_slice.ensures in
     ((λ y. omega (arith, c.can_free.ensures.0 y, all, same)), (λ y. c.can_free.ensures.1 (omega (arith, y, all, same))))

@@ -2,7 +2,7 @@ use Rattle.std.proofs.Common.{Some, refl, arith}
 use Rattle.iol_cache.specs.Cache.{cached_of, holding}
 use Rattle.iol_cache.proofs.Evictions.Victims.{none_evicted}
 use Rattle.iol_cache.proofs.Evictions.Files.{gives_up_none}
-use Rattle.iol_cache.proofs.Evictions.LoosePages.{free_fits}
+use Rattle.iol_cache.proofs.Evictions.ReclaimablePages.{free_fits}
 use Rattle.iol_cache.proofs.cache.Cache.make_room.Goals as goal
 
 pub returns-then-pages-eq0 : goal.returns-then-pages-eq0

@@ -47,7 +47,7 @@ module _ (c : After-index-cached) where
 pub returns-in_err-reserve_places : goal.returns-in_err-reserve_places
 returns-in_err-reserve_places c =
     let s = c.args.store.now in
-    record { pinned = search (rules); sound = sound_same s (cached_of c.args.self.now) (cached_of c.reserve_places.new.self) c.requires.sound c.reserve_places.ensures.same; same = search (rules); none = search (rules); frees = frees_none s s refl refl refl; lists = refl; settles = λ all. all }
+    record { pinned = search (rules); sound = sound_same s (cached_of c.args.self.now) (cached_of c.reserve_places.new.self) c.requires.sound c.reserve_places.ensures.same; same = search (rules); none = search (rules); frees = frees_none s s refl refl refl; lists = refl; reclaims = λ all. all }
 
 pub share_beside-requires : goal.share_beside-requires
 share_beside-requires c =
@@ -70,7 +70,7 @@ pub returns-in_err-pins : goal.returns-in_err-pins
 returns-in_err-pins c =
     let at = (goal.at.returns-in_err-pins c).After-index-cached in
     let w = c.share_beside.ensures.shared in
-    record { pinned = search (rules); sound = sound_to c.args.store.now c.share_beside.new.store (now at) (sound at) c.in_err-pins.ensures.shared.gone w.lists w.frees.count; same = search (rules); none = search (rules); frees = w.frees; lists = w.lists; settles = w.settles }
+    record { pinned = search (rules); sound = sound_to c.args.store.now c.share_beside.new.store (now at) (sound at) c.in_err-pins.ensures.shared.gone w.lists w.frees.count; same = search (rules); none = search (rules); frees = w.frees; lists = w.lists; reclaims = w.reclaims }
 
 pub overflow_sub-number : goal.overflow_sub-number
 overflow_sub-number c =
@@ -157,5 +157,5 @@ returns c =
       none = tt;
       frees = w.frees;
       lists = w.lists;
-      settles = w.settles;
+      reclaims = w.reclaims;
     }

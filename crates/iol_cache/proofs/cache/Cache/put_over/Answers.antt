@@ -55,7 +55,7 @@ returns-clause-puts c =
       moves = e.moves;
       frees = e.frees;
       lists = e.lists;
-      settles = e.settles;
+      reclaims = e.reclaims;
     }
 
 pub returns-clause-sound : goal.returns-clause-sound

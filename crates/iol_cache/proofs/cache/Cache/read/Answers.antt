@@ -16,10 +16,10 @@ use Rattle.iol_cache.specs.Evictions.{Holding}
 use Rattle.iol_cache.specs.Gaps.{AreOf}
 use Rattle.iol_cache.specs.ReadSteps.{Goes}
 use Rattle.iol_cache.specs.Ranges.{PinsRange}
-use Rattle.iol_cache.specs.ReadResults.{FaultCounts, Range, ReadsFile, RefusesRead, TellsRoom, bytes_read}
+use Rattle.iol_cache.specs.ReadResults.{FaultCounts, Range, ReadsFile, RefusesRead, ReportsRoom, bytes_read}
 use Rattle.iol_cache.proofs.RangeReads.Hits.{HitsShared, fits_hit, goes_filled, goes_hit, gone_filled, late_filled, may_fill, readable_hit, reads_filled, reads_hit, refused_filled, room_hit}
 use Rattle.iol_cache.proofs.RangeReads.PageChanges.{fills_none}
-use Rattle.iol_cache.proofs.RangeReads.RangeHolds.{always_err, goes_reserved, on_memory, tells_fault}
+use Rattle.iol_cache.proofs.RangeReads.RangeHolds.{always_err, goes_reserved, on_memory, reports_fault}
 use Rattle.iol_cache.proofs.RangeReads.Whole.{file_backed, file_pages, file_pool, file_short, file_text, range_of}
 use Rattle.iol_cache.proofs.cache.Cache.read.Given.{Over}
 use Rattle.iol_cache.proofs.cache.Cache.read.Goals.{After-pin, In_ok-pins}
@@ -41,9 +41,9 @@ module _ (g : Over) (c : After-pin g) where
 
 -- Refused for want of memory, before anything was shared.
 
-room_untold : {A : Type 0} (has lacks : Type 0) (r : Result A Refusal) → IsErrAnd r (λ y. y ≡ Memory) → TellsRoom has lacks r
-room_untold has lacks (Ok x) is = absurd is
-room_untold {A = A} has lacks (Err y) is = subst (λ z. TellsRoom {A = A} has lacks (Err z)) (sym is) tt
+room_unreported : {A : Type 0} (has lacks : Type 0) (r : Result A Refusal) → IsErrAnd r (λ y. y ≡ Memory) → ReportsRoom has lacks r
+room_unreported has lacks (Ok x) is = absurd is
+room_unreported {A = A} has lacks (Err y) is = subst (λ z. ReportsRoom {A = A} has lacks (Err z)) (sym is) tt
 
 no_fault : {A : Type 0} (d : Disk) (r : Result A Refusal) → IsErrAnd r (λ y. y ≡ Memory) → FaultCounts d d r
 no_fault d (Ok x) is = refl
@@ -60,7 +60,7 @@ returns-in_err-pins g c =
     let p = (file_in c.args.self.now.files.items f).pool in
     let t = c.pin.new.store in
     let goes = IfOk-from_err r (λ xs. Goes (disk g at) [] (bufs_of xs) (old g at) (hit g at)) err in
-    let gone = always_err r (goes_reserved (disk g at) (old g at) (hit g at) c.requires.sound e.same e.none e.lists e.settles e.frees.count) in
+    let gone = always_err r (goes_reserved (disk g at) (old g at) (hit g at) c.requires.sound e.same e.none e.lists e.reclaims e.frees.count) in
     record {
       text = λ b. IfOk-from_err r (λ xs. text_of t xs ≡ labelled p (bytes_read c.args.store.now (disk g at).slots (cached_of c.args.self.now) f c.args.at c.args.count)) err;
       readable = IfOk-from_err r (AllReadable t) err;
@@ -74,7 +74,7 @@ returns-in_err-pins g c =
       sound = e.sound;
       refused = on_memory r (RefusesRead f c.args.at c.args.count (disk g at) (old g at) (hit g at)) memory
           (record { range = range g at; leaves = inl (refl, record { same = e.same; moves = e.none; frees = e.frees }) });
-      room = room_untold _ _ r memory;
+      room = room_unreported _ _ r memory;
       fault = record { honest = refl; slots = λ h. refl; counts = no_fault (disk g at) r memory };
       late = on_memory r (WantOfRoomOrFault p f) memory tt;
     }
@@ -152,6 +152,6 @@ returns g c =
       sound = e.sound;
       refused = refused;
       room = room_hit h r e.room;
-      fault = tells_fault (length c.deref.result.now) (disk g at) after r e.asks;
+      fault = reports_fault (length c.deref.result.now) (disk g at) after r e.asks;
       late = late_filled h e;
     }

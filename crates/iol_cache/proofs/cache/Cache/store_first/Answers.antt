@@ -16,7 +16,7 @@ use Rattle.iol_cache.specs.CacheState.{Cached, extents_in, file_in, order_in, wi
 use Rattle.iol_cache.specs.Marks.{AreWithin, HasMarksLeft}
 use Rattle.iol_cache.specs.SharedBytes.{CountsBelow}
 use Rattle.iol_cache.specs.Sound.{IsLaid, IsSound}
-use Rattle.iol_cache.specs.WriteBack.{Cleans, Fails, MaySettle, MayWriteBack, Settles, Stores, WritesFirst}
+use Rattle.iol_cache.specs.WriteBack.{Cleans, Fails, MayReclaim, MayWriteBack, Reclaims, Stores, WritesFirst}
 use Rattle.iol_cache.proofs.RangeWrites.CleanExtents.{dirty_some, first_dirty}
 use Rattle.iol_cache.proofs.RangeWrites.Composition.{length-bytes}
 use Rattle.iol_cache.proofs.Extents.FewerExtents.{last_end-without_at}
@@ -47,8 +47,8 @@ module _ (s : Stored) (c : Cached) (f : ℕ) (x : Extent) (sound : IsSound s c) 
     readable = (each-begins (IsLaid s (file_in c.files f).pool) (extents_in c.files f) x.at x (sound.files f).laid begins).readable;
   }
 
-  may_settle : CountsBelow s (2 ^ 61) → MaySettle f x.at (file_in c.files f).extents (order_in c.orders (file_in c.files f).pool) c.marks
-  may_settle few = record {
+  may_reclaim : CountsBelow s (2 ^ 61) → MayReclaim f x.at (file_in c.files f).extents (order_in c.orders (file_in c.files f).pool) c.marks
+  may_reclaim few = record {
     apart = (sound.files f).apart;
     dirty = record { extent = x; is = is; begins = refl };
     ranked = ranks_file s c f sound;
@@ -111,14 +111,14 @@ index_mut-requires g c =
     let b = pool_bounds c.args.file c.requires.sound c.requires.file in
     omega (arith, b.0, b.1, c.number-2.ensures, ap (λ (y : CachedFile). y.pool) (file_here _ c.number.ensures c.index.ensures c.requires.file), c.args.self.now.orders.ok.0)
 
-pub settle-requires : goal.settle-requires
-settle-requires g c =
+pub reclaim-requires : goal.reclaim-requires
+reclaim-requires g c =
     let f = c.args.file in
     let old = cached_of c.args.self.now in
-    let first = here g (goal.at.settle-requires g c).In-Some in
+    let first = here g (goal.at.reclaim-requires g c).In-Some in
     let z = file_here _ c.number.ensures c.index_mut-2.ensures.value c.requires.file in
     let o = order_here f c.requires.sound c.requires.file (file_here _ c.number.ensures c.index.ensures c.requires.file) c.number-2.ensures c.index_mut.ensures.value in
-    subst (λ (y : CachedFile). MaySettle f c.in-Some.at y.extents c.index_mut.result.now old.marks) (sym z) (subst (λ (q : Ranking). MaySettle f c.in-Some.at (file_in old.files f).extents q old.marks) (sym o) (may_settle c.args.store.now old f _ c.requires.sound first c.requires.few))
+    subst (λ (y : CachedFile). MayReclaim f c.in-Some.at y.extents c.index_mut.result.now old.marks) (sym z) (subst (λ (q : Ranking). MayReclaim f c.in-Some.at (file_in old.files f).extents q old.marks) (sym o) (may_reclaim c.args.store.now old f _ c.requires.sound first c.requires.few))
 
 pub returns : goal.returns
 returns g c =
@@ -130,11 +130,11 @@ returns g c =
     let w = file_here _ c.number.ensures c.index.ensures c.requires.file in
     let o = order_here f c.requires.sound c.requires.file w c.number-2.ensures c.index_mut.ensures.value in
     let x = extent_of at c.in-Some.agg.now true in
-    let m = c.settle.new.extents in
-    let r = c.settle.new.order in
+    let m = c.reclaim.new.extents in
+    let r = c.reclaim.new.order in
     let kept = order_in c.args.self.now.orders.items (file_in fs f).pool in
-    let s : Settles f at (file_in fs f).extents m kept r marks c.settle.new.marks =
-    subst (λ (q : Ranking). Settles f at (file_in fs f).extents m q r marks c.settle.new.marks) o (subst (λ (y : CachedFile). Settles f at y.extents m c.index_mut.result.now r marks c.settle.new.marks) z c.settle.ensures) in
+    let s : Reclaims f at (file_in fs f).extents m kept r marks c.reclaim.new.marks =
+    subst (λ (q : Ranking). Reclaims f at (file_in fs f).extents m q r marks c.reclaim.new.marks) o (subst (λ (y : CachedFile). Reclaims f at y.extents m c.index_mut.result.now r marks c.reclaim.new.marks) z c.reclaim.ensures) in
     let b = c.in_default-write_back.ensures in
     let d = g.B.Backing.disk c.args.backing.now in
     let e = g.B.Backing.disk c.write_back.new.backing in

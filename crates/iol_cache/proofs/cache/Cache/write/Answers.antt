@@ -75,7 +75,7 @@ returns-then-is_empty c =
       moves = record { counts = record { each = λ b. refl }; stays = same.stays; still = same.still; tidy = same.tidy };
       pages = fills_none p (frees_shares (shares_none s));
       lists = refl;
-      settles = λ h. h;
+      reclaims = λ h. h;
       sound = c.requires.sound;
     }
 
@@ -116,7 +116,7 @@ returns-in-Err c =
       moves = (kept c).moves;
       pages = unwritten_pages _ _ _ _ (only_room c);
       lists = m.room.gives_up.lists;
-      settles = m.room.gives_up.settles;
+      reclaims = m.room.gives_up.reclaims;
       sound = m.sound;
     }
 
@@ -167,7 +167,7 @@ returns-in-Ok c =
       moves = (done c).moves;
       pages = write_pages c.args.file c.args.at c.args.source.now _ _ (wrote c);
       lists = e.leaves.lists ∙ m.lists;
-      settles = λ h. e.leaves.settles (m.settles h);
+      reclaims = λ h. e.leaves.reclaims (m.reclaims h);
       sound = e.sound;
     }
 
@@ -178,7 +178,7 @@ stayed c =
     let old = holding c.args.store.now c.args.self.now in
     let t = c.overwrite.new.store in
     let e = c.in-Err-overwrite.ensures.leaves in
-    subst (λ (x : Cache). KeepsAll c.args.file old (holding t x)) (sym c.in-Err-overwrite.ensures.same) (goes_all c.args.file old _ (λ d. goes_refused d _ _ _ _ t c.make_place.ensures.room c.make_place.ensures.sound e.none e.lists e.settles e.given_back.pages.count))
+    subst (λ (x : Cache). KeepsAll c.args.file old (holding t x)) (sym c.in-Err-overwrite.ensures.same) (goes_all c.args.file old _ (λ d. goes_refused d _ _ _ _ t c.make_place.ensures.room c.make_place.ensures.sound e.none e.lists e.reclaims e.given_back.pages.count))
 
 -- the file is of the pool that it was of
 same_pool : (c : goal.In-Err-overwrite) → pool_of c.make_place.new.self c.args.file ≡ pool_of c.args.self.now c.args.file
@@ -226,6 +226,6 @@ returns-in-Err-overwrite c =
       moves = (stayed c).moves;
       pages = unwritten_pages _ _ _ _ (back c);
       lists = e.leaves.lists ∙ m.lists;
-      settles = λ h. e.leaves.settles (m.settles h);
+      reclaims = λ h. e.leaves.reclaims (m.reclaims h);
       sound = e.sound;
     }

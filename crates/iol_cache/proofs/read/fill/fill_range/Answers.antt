@@ -67,6 +67,6 @@ returns-in_default-weave g c =
       fills = tt;
       parts = tt;
       pool = refl;
-      reads = reads_as refl (put c.args.cached.now c.take_back.new.extents) (taken_back gaps Memory fills (back g (goal.at.returns-in_default-weave g c).In_default-weave) c.in_default-weave.ensures.shared.gone (w.lists ∙ e.leaves.lists) (λ all. w.settles (e.leaves.settles all)) taken left
+      reads = reads_as refl (put c.args.cached.now c.take_back.new.extents) (taken_back gaps Memory fills (back g (goal.at.returns-in_default-weave g c).In_default-weave) c.in_default-weave.ensures.shared.gone (w.lists ∙ e.leaves.lists) (λ all. w.reclaims (e.leaves.reclaims all)) taken left
           (λ q is. absurd (let other : Memory ≡ NoRoom q = is in cc)) (record { honest = e.asks.honest; slots = e.asks.slots; counts = e.asks.counts.0 }) tt);
     }

@@ -29,7 +29,7 @@ loop-i-init g c = record {
   within = omega arith;
   fills = fills_none c.args.store.now c.args.extents.now c.args.pool (g.B.Backing.disk c.args.backing.now) c.args.file c.requires.apart;
   left = c.requires.each;
-  settles = λ h. h;
+  reclaims = λ h. h;
   honest = refl;
   slots = λ y. refl;
   failures = refl;
@@ -73,7 +73,7 @@ returns-in-Err g c =
     let left = placed_some (gap_pages gaps) (gap_pages-take gaps i) v.fills.places k.kept c.take_back.ensures.frees k.pools in
     record {
       fills = tt;
-      reads = taken_back gaps c.in-Err.refusal v.fills (back g (goal.at.returns-in-Err g c).In-Err) k.none (ap (map pool_meant) (k.pools ∙ v.fills.places.pools)) (λ all. k.settles (v.settles all)) c.take_back.ensures left
+      reads = taken_back gaps c.in-Err.refusal v.fills (back g (goal.at.returns-in-Err g c).In-Err) k.none (ap (map pool_meant) (k.pools ∙ v.fills.places.pools)) (λ all. k.reclaims (v.reclaims all)) c.take_back.ensures left
           (λ p is. omega (arith, k.no_room p is, ap length v.fills.places.free, length-drop (gap_pages (take i gaps)) (free_of c.args.store.now c.args.pool), v.fills.places.enough, pages_more gaps i c.loop-i-test.true, gap_pages-take gaps (i + 1)))
           (asks_after (length gaps) (omega (arith, c.loop-i-test.true)) v.honest v.slots v.failures c.in-Err.ensures.asks) k.late;
     }
@@ -146,7 +146,7 @@ loop-i-preserved g c =
           (fills_more c.args.store.now c.loop-i.store c.gap_agg.new.store c.args.extents.now c.loop-i.extents c.put.new.self c.args.pool c.args.file (take i gaps) gap (g.B.Backing.disk c.args.backing.now) d v.honest v.slots v.fills f);
       left = gaps_left c.loop-i.extents.extents c.put.new.self.extents x 4294967295 (drop (i + 1) gaps) (subst (λ n. AreInOrder n 4294967295 (drop (i + 1) gaps)) (sym (ends g at)) (next_gap g at).1)
           (All-tail (IsGapSpan c.loop-i.extents.extents) gap (drop (i + 1) gaps) (is_left g at)) f.adds;
-      settles = λ all. k.settles (v.settles all);
+      reclaims = λ all. k.reclaims (v.reclaims all);
       honest = asks.honest ∙ v.honest;
       slots = λ y. asks.slots (v.honest ∙ y) ∙ v.slots y;
       failures = asks.counts.0 ∙ v.failures;
@@ -162,7 +162,7 @@ returns g c =
       fills = subst (λ (k : List Span). FillsGaps c.args.store.now c.loop-i.store c.args.extents.now c.loop-i.extents c.args.pool k (g.B.Backing.disk c.args.backing.now) c.args.file) (ap (λ n. take n gaps) i ∙ take-length gaps) v.fills;
       reads = record {
         same = tt;
-        leaves = record { none = tt; given_back = tt; lists = ap (map pool_meant) v.fills.places.pools; settles = v.settles; no_room = tt };
+        leaves = record { none = tt; given_back = tt; lists = ap (map pool_meant) v.fills.places.pools; reclaims = v.reclaims; no_room = tt };
         asks = record { honest = v.honest; slots = v.slots; counts = (v.failures, λ some. v.works (omega (arith, some, c.loop-i-test.false))) };
         late = tt;
       };

@@ -57,8 +57,8 @@ loop-left-preserved c =
       moves = subst (λ bs. Moves c.args.store.now c.release.new.store bs []) (sym parts) (moves_trans v.moves c.release.ensures.moves);
       lists = c.release.ensures.lists ∙ v.lists;
       frees = frees_trans v.frees c.release.ensures.frees c.release.ensures.moves.counts;
-      settles = λ readable all.
+      reclaims = λ readable all.
           let here = readable_here es g (drop c.loop-left.left spans) (subst (λ (l : List Span). AllReadable c.args.store.now (parts_back es l)) next.left_is (readable_back es spans (c.loop-left.left - 1) readable)) in
           let there : AllReadable c.args.store.now c.remove-agg.result = subst (AllReadable c.args.store.now) (ap parts_in (ap (λ (xs : List Extent). begins_at xs g.from) (sym v.extents) ∙ next.begins) ∙ sym is) here in
-          c.release.ensures.settles (readable_stays c.remove-agg.result v.moves.stays (covered c.args.store.now c.loop-left.store es spans (c.loop-left.left - 1) c.remove-agg.result back c.requires.covered v.moves parts) there) (v.settles readable all);
+          c.release.ensures.reclaims (readable_stays c.remove-agg.result v.moves.stays (covered c.args.store.now c.loop-left.store es spans (c.loop-left.left - 1) c.remove-agg.result back c.requires.covered v.moves parts) there) (v.reclaims readable all);
     }

@@ -12,9 +12,9 @@ use Rattle.iol_pool.specs.Pools.{pool_in}
 use Rattle.iol_hold.specs.Fillings.{filling_bytes, filling_parts}
 use Rattle.iol_hold.specs.Pages.{KeepsPages}
 use Rattle.iol_hold.specs.Room.{lowest_of}
-use Rattle.iol_hold.specs.StoreState.{AllSettled, Buffer, Stored}
+use Rattle.iol_hold.specs.StoreState.{AllReclaimed, Buffer, Stored}
 use Rattle.iol_hold.specs.declared.parts.Reserved.{Reserved}
-use Rattle.iol_hold.proofs.EmptyPools.{all_settled_placed}
+use Rattle.iol_hold.proofs.EmptyPools.{all_reclaimed_placed}
 use Rattle.iol_cache.specs.Loads.{LoadsHolds}
 use Rattle.iol_cache.proofs.RangeReads.PageSteps.{few_free, keeps_abandoned, loaded, placed_all}
 use Rattle.iol_cache.proofs.read.load.load.Goals as goal
@@ -33,7 +33,7 @@ returns-in-Err-clause-keeps g c = record {
   none = search (rules);
   kept = search (rules);
   pools = search (rules);
-  settles = search (rules);
+  reclaims = search (rules);
   no_room = λ p is. few_free c.args.store.now c.args.pool c.args.n (c.in-Err.ensures.begins.no_room p (ap (λ x. Err x) is));
   late = search (rules);
 }
@@ -65,7 +65,7 @@ pub returns-in-Ok-fill_parts-clause-keeps : goal.returns-in-Ok-fill_parts-clause
 returns-in-Ok-fill_parts-clause-keeps g c =
     let s = c.args.store.now in
     let m = (returns-in-Ok-fill_parts-clause-loads g c).placed.pages in
-    record { none = tt; kept = tt; pools = m.pools; settles = λ all. all_settled_placed s _ (pool_in s.pools c.args.pool).chunks (pages_for c.args.n) m.pools m.others all; no_room = tt; late = tt }
+    record { none = tt; kept = tt; pools = m.pools; reclaims = λ all. all_reclaimed_placed s _ (pool_in s.pools c.args.pool).chunks (pages_for c.args.n) m.pools m.others all; no_room = tt; late = tt }
 
 pub returns-in-Err-fill_parts-clause-keeps : goal.returns-in-Err-fill_parts-clause-keeps
 returns-in-Err-fill_parts-clause-keeps g c =
@@ -76,13 +76,13 @@ returns-in-Err-fill_parts-clause-keeps g c =
     let placed = lowest_of s c.args.pool c.args.n in
     let gone = keeps_abandoned (filling_parts c.in-Ok.filling) qs placed (parts_are _ _ w.reserved) c.in-Ok.ensures.begins.pages c.in-Ok.ensures.begins.fills c.in-Ok.ensures.begins.others w.fills w.entries e.publishes e.unraised e.others e.returned in
     let P : Stored → Type 0 = λ t. KeepsPages s t [] in
-    let Q : Stored → Type 0 = λ t. AllSettled s → AllSettled t in
-    let f = λ (d : Stored) (m : KeepsPages s d [] × IsSameBut placed s.arena d.arena × (d.pools ≡ s.pools)) (all : AllSettled s). all_settled_placed s d (pool_in s.pools c.args.pool).chunks (pages_for c.args.n) m.2 m.1 all in
+    let Q : Stored → Type 0 = λ t. AllReclaimed s → AllReclaimed t in
+    let f = λ (d : Stored) (m : KeepsPages s d [] × IsSameBut placed s.arena d.arena × (d.pools ≡ s.pools)) (all : AllReclaimed s). all_reclaimed_placed s d (pool_in s.pools c.args.pool).chunks (pages_for c.args.n) m.2 m.1 all in
     record {
       none = search (rules);
       kept = subst P (search rules) gone.0;
       pools = search (rules);
-      settles = subst Q (search rules) (f _ gone);
+      reclaims = subst Q (search rules) (f _ gone);
       no_room = λ p is. absurd (let other : Fault c.args.file ≡ NoRoom p = is in cc);
       late = refl;
     }

@@ -11,7 +11,7 @@ use Rattle.iol_hold.proofs.PageChanges.{keeps_pages_same}
 use Rattle.iol_hold.proofs.ReadSlices.{readable_stays}
 use Rattle.iol_hold.proofs.Releases.{frees_trans}
 use Rattle.iol_cache.specs.Composition.{ComposesRun}
-use Rattle.iol_cache.proofs.RangeWrites.Composition.{composed, covers_first, covers_second, covers_source, gone_both, may_go_on, run_all, run_none, run_then}
+use Rattle.iol_cache.proofs.RangeWrites.Composition.{composed, covers_first, covers_second, covers_source, gone_both, may_advance, run_all, run_none, run_then}
 use Rattle.iol_cache.proofs.RangeReads.FilledGaps.{moved_back, placed_some, places_then}
 use Rattle.iol_cache.proofs.write.copies.compose.Goals as goal
 
@@ -23,7 +23,7 @@ loop-i-init c = record {
 }
 
 pub compose_run-requires-clause-may : goal.compose_run-requires-clause-may
-compose_run-requires-clause-may c = may_go_on c.requires c.loop-i.invariant.composes
+compose_run-requires-clause-may c = may_advance c.requires c.loop-i.invariant.composes
 
 pub release-requires : goal.release-requires
 release-requires c = subst (λ (u : Stored). Covers u (bufs_of c.loop-i.so_far)) (sym c.in-Err.ensures.err) (covers_given c.loop-i.invariant.composes.composes.moves.counts)
@@ -39,7 +39,7 @@ returns-in-Err c =
         none = moved_back m.composes.moves (subst (λ (u : Stored). Moves c.loop-i.store u [] []) (sym err) (moves_none c.loop-i.store)) c.release.ensures.moves (λ b. refl);
         given_back = placed_some (copied_pages c.args.pool c.args.source.now) (omega (arith, m.pages)) m.composes.pages (keeps_pages_same c.loop-i.store c.compose_run.new.store (ap (λ (x : Stored). x.arena) err) pools) c.release.ensures.frees pools;
         lists = search (rules);
-        settles = search (rules);
+        reclaims = search (rules);
         no_room = λ p is. omega (arith, c.in-Err.ensures.no_room p (ap (λ x. Err x) is), ap length m.composes.pages.free, length-drop m.count (free_of c.args.store.now c.args.pool), m.composes.pages.enough, m.pages);
       };
       late = c.in-Err.ensures.late;
@@ -78,7 +78,7 @@ returns-in-Err-join c =
         none = gone_both a.moves b.moves gone (subst (λ (x : List Slice). Moves v c.release-in-Err-join-2.new.store (bufs_of x) []) is1 two.moves);
         given_back = placed_some (copied_pages c.args.pool c.args.source.now) (omega (arith, m.pages, n.pages)) (places_then a.pages b.pages) (keeps_pages_same u u refl refl) (frees_trans one.frees two.frees two.moves.counts) refl;
         lists = search (rules);
-        settles = λ all. two.settles (subst (AllReadable v) (sym is1) second) (one.settles (subst (AllReadable u) (sym is0) first) (b.settles (a.settles all)));
+        reclaims = λ all. two.reclaims (subst (AllReadable v) (sym is1) second) (one.reclaims (subst (AllReadable u) (sym is0) first) (b.reclaims (a.reclaims all)));
         no_room = search (rules);
       };
       late = tt;

@@ -18,5 +18,5 @@ returns c =
     let e = c.in-Ok.ensures in
     let bytes = c.deref.ensures.value ∙ c.in_ok-bytes.ensures in
     let all = composes_copied {s = s} {t = c.fill.new.store} {p = c.args.pool} {run = c.args.run.now} (length c.deref.result.now) (ap length bytes ∙ length-bytes s c.args.run.now) c.requires.others c.requires.tidy e.moves
-    (e.text ∙ ap (text.labelled c.args.pool) bytes) e.readable e.made_on e.others e.grows e.pools e.lowest e.room e.settles in
+    (e.text ∙ ap (text.labelled c.args.pool) bytes) e.readable e.made_on e.others e.grows e.pools e.lowest e.room e.reclaims in
     record { composes = all; no_room = λ p is. cc; late = tt; err = tt }

@@ -15,7 +15,7 @@ use Rattle.iol_cache.proofs.RangeWrites.Composition.{composed_long, covers_sourc
 use Rattle.iol_cache.proofs.RangeReads.FilledGaps.{moved_back, placed_some}
 use Rattle.iol_cache.proofs.RangeWrites.Preparation.{composed_few, cut_few, few_more, held_after, left_readable, still_held}
 use Rattle.iol_cache.proofs.RangeWrites.Replacement.{moves_on}
-use Rattle.iol_cache.proofs.RangeReads.SharedBytes.{settles_shares}
+use Rattle.iol_cache.proofs.RangeReads.SharedBytes.{reclaims_shares}
 use Rattle.iol_cache.proofs.RangeReads.Weave.{still_covers}
 use Rattle.iol_cache.proofs.RangeWrites.ReplacedRange.{left_len}
 use Rattle.iol_cache.proofs.write.prepare.prepare.Goals.{In_default-cut_right}
@@ -44,7 +44,7 @@ returns-in_default c =
         none = moves_on m.moves (subst (λ (t : Stored). Moves t c.release.new.store (bufs_of c.in-Ok.agg) []) err c.release.ensures.moves);
         given_back = placed_some (copied_pages c.args.pool c.args.source.now) (omega arith) m.pages (keeps_pages_same t c.cut_left.new.store (ap (λ (x : Stored). x.arena) err) pools) c.release.ensures.frees pools;
         lists = search (rules);
-        settles = search (rules);
+        reclaims = search (rules);
         no_room = search (rules);
       };
       late = tt;
@@ -96,7 +96,7 @@ returns-in_default-cut_right c =
         none = moved_back first.moves (moves_on moves one.moves) two.moves (λ b. refl);
         given_back = placed_some (copied_pages c.args.pool c.args.source.now) (omega arith) first.pages (keeps_pages_shares shares) (frees_trans one.frees two.frees two.moves.counts) shares.pools;
         lists = search (rules);
-        settles = λ h. two.settles agg_v (one.settles (subst (AllReadable u) (sym is) left_u) (settles_shares shares (first.settles h)));
+        reclaims = λ h. two.reclaims agg_v (one.reclaims (subst (AllReadable u) (sym is) left_u) (reclaims_shares shares (first.reclaims h)));
         no_room = search (rules);
       };
       late = tt;

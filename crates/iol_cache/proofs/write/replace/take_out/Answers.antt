@@ -8,7 +8,7 @@ use Rattle.iol_cache.specs.CacheState.{parts_in, all_parts}
 use Rattle.iol_cache.specs.Marks.{AreWithin}
 use Rattle.iol_cache.specs.Replacement.{Reindexes}
 use Rattle.iol_cache.proofs.Evictions.AfterEviction.{given_is}
-use Rattle.iol_cache.proofs.RangeWrites.InPlace.{may_go_on}
+use Rattle.iol_cache.proofs.RangeWrites.InPlace.{may_advance}
 use Rattle.iol_cache.proofs.RangeWrites.Replacement.{covers_part, moves_part, readable_less, readable_part}
 use Rattle.iol_cache.proofs.Extents.HeldSlices.{are_within}
 use Rattle.iol_cache.proofs.write.replace.take_out.Goals as goal
@@ -50,7 +50,7 @@ returns c =
         moves = moves;
         frees = released.frees;
         lists = released.lists;
-        settles = released.settles (subst (AllReadable c.args.store.now) (sym given) (readable_part es c.args.at e.0 may.indexed.apart e.1 may.readable));
-        left = may_go_on may follows moves released.frees c.remove-agg.ensures.apart (subst (λ (xs : List Extent). AllReadable c.args.store.now (all_parts xs)) (sym is) (readable_less es c.args.at may.readable));
+        reclaims = released.reclaims (subst (AllReadable c.args.store.now) (sym given) (readable_part es c.args.at e.0 may.indexed.apart e.1 may.readable));
+        left = may_advance may follows moves released.frees c.remove-agg.ensures.apart (subst (λ (xs : List Extent). AllReadable c.args.store.now (all_parts xs)) (sym is) (readable_less es c.args.at may.readable));
       };
     }

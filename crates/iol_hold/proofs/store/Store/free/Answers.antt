@@ -2,8 +2,8 @@ use Rattle.std.proofs.Common.{◌≡◌, [], ◌∷◌, arith, refl, sym, ap, �
 use Rattle.iol_core.specs.declared.numbers.BufId.{BufId}
 use Rattle.iol_arena.specs.State.{State, HasRuns, page_count}
 use Rattle.iol_arena.specs.Buffers.{IsLive, Keeps, Frees, with_freed}
-use Rattle.iol_hold.specs.StoreState.{Stored, count_of, AllSettledBut, IsTidy, with_arena}
-use Rattle.iol_hold.proofs.EmptyPools.{settled_freed}
+use Rattle.iol_hold.specs.StoreState.{Stored, count_of, AllReclaimedBut, IsTidy, with_arena}
+use Rattle.iol_hold.proofs.EmptyPools.{reclaimed_freed}
 use Rattle.iol_hold.specs.Moves.{Moves}
 use Rattle.iol_hold.specs.View.{stored}
 use Rattle.iol_hold.proofs.Counts.{live_of}
@@ -45,6 +45,6 @@ returns c =
       moves = subst (λ a. Moves s (with_arena s a) (b ∷ []) []) (sym e.arena) (freed_moves s b (one c) (freed c) (subst (λ a. Keeps s.arena a) e.arena e.keeps));
       pools = refl;
       frees = subst (λ a. FreesOnly s (with_arena s a)) (sym e.arena) (frees_one s b e.runs (subst (λ (a : State). HasRuns a.entries) e.arena e.runs_after) (live c));
-      others = λ p home all. subst (λ a. AllSettledBut p (with_arena s a)) (sym e.arena) (settled_freed s b p was.runs was.owned (live c) home all);
+      others = λ p home all. subst (λ a. AllReclaimedBut p (with_arena s a)) (sym e.arena) (reclaimed_freed s b p was.runs was.owned (live c) home all);
       tidy = tidy c;
     })

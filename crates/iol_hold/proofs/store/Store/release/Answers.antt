@@ -1,7 +1,7 @@
 use Rattle.std.proofs.Common.{◌≡◌, ℕ, ◌+◌, ◌-◌, ◌<◌, [], ◌∷◌, map, arith, refl, sym, ap, ◌∙◌, subst}
 use Rattle.iol_core.specs.declared.numbers.BufId.{BufId}
-use Rattle.iol_hold.specs.StoreState.{Stored, AllSettledBut, IsHome, IsSettled, count_of, with_count}
-use Rattle.iol_hold.proofs.EmptyPools.{all_settled_same}
+use Rattle.iol_hold.specs.StoreState.{Stored, AllReclaimedBut, IsInPool, IsReclaimed, count_of, with_count}
+use Rattle.iol_hold.proofs.EmptyPools.{all_reclaimed_same}
 use Rattle.iol_hold.specs.Moves.{Moves, pool_meant}
 use Rattle.iol_hold.proofs.Counts.{one_less}
 use Rattle.iol_hold.proofs.Moves.{shares_move, moves_trans}
@@ -23,21 +23,21 @@ returns-then-count-gt1 c =
       moves = subst (λ x. Moves s x (b ∷ []) []) (sym same) (shares_move (record { counts = one_less s b n is; arena = refl; pools = refl; tidy = λ h. tidy_count s b n (omega (arith, is)) some h }));
       frees = frees_none s t (ap (λ (x : Stored). x.arena.entries) set) (ap (λ (x : Stored). x.arena.limit) set) (ap (λ (x : Stored). x.pools) set);
       lists = ap (λ (x : Stored). map pool_meant x.pools) set;
-      settled = λ one. absurd (omega (arith, one, is, some));
-      settles = λ home all. all_settled_same s t (ap (λ (x : Stored). x.arena) set) (ap (λ (x : Stored). x.pools) set) all;
+      reclaimed = λ one. absurd (omega (arith, one, is, some));
+      reclaims = λ home all. all_reclaimed_same s t (ap (λ (x : Stored). x.arena) set) (ap (λ (x : Stored). x.pools) set) all;
     }
 
 pub returns-else-count-gt1 : goal.returns-else-count-gt1
 returns-else-count-gt1 c =
     let s = c.args.self.now in
-    let t = c.settle.new.self in
+    let t = c.reclaim.new.self in
     let p : ℕ = c.args.hold.pool in
     let freed = c.free.ensures in
-    let then = c.settle.ensures in
+    let then = c.reclaim.ensures in
     record {
       moves = subst (λ b. Moves s t (b ∷ []) []) c.buf-buf.ensures (moves_trans freed.moves then.moves);
       frees = frees_trans freed.frees then.frees then.moves.counts;
       lists = then.lists ∙ ap (map pool_meant) freed.pools;
-      settled = λ one. subst (IsSettled t) c.pool.ensures then.settled;
-      settles = λ home all. then.settles (subst (λ q. AllSettledBut q c.free.new.self) (sym c.pool.ensures) (freed.others p (subst (λ b. IsHome s p b) (sym c.buf-buf.ensures) home) all));
+      reclaimed = λ one. subst (IsReclaimed t) c.pool.ensures then.reclaimed;
+      reclaims = λ home all. then.reclaims (subst (λ q. AllReclaimedBut q c.free.new.self) (sym c.pool.ensures) (freed.others p (subst (λ b. IsInPool s p b) (sym c.buf-buf.ensures) home) all));
     }

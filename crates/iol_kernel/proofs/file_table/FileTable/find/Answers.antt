@@ -15,5 +15,5 @@ returns c =
     let found = c.get_index_of.ensures.index ∙ position-named c.args.name.now c.self.inside.pools.entries ∙ ap (λ (t : NamedFiles). position (λ (f : machine.File). bytes_eq f.name c.args.name.now) t.files) c.self.view_is in
     let was : c.get_index_of.result ≡ Some c.in_ok-place.place = c.in_ok-place.was in
     let number : Option ℕ = Some c.new.result in
-    let told : number ≡ option_map (λ i. i + 1) (Some c.in_ok-place.place) = ap (λ (i : ℕ). Some i) c.new.ensures in
-    told ∙ ap (option_map (λ i. i + 1)) (sym was ∙ found)
+    let reported : number ≡ option_map (λ i. i + 1) (Some c.in_ok-place.place) = ap (λ (i : ℕ). Some i) c.new.ensures in
+    reported ∙ ap (option_map (λ i. i + 1)) (sym was ∙ found)

@@ -24,15 +24,15 @@ hung c =
     let w = c.close.new in
     hung_changed h (record h { store = w.store; conns = w.self.conns; next_conn = w.self.next }) c.args.conn c.requires (ap (λ (t : ConnTable). record h { store = w.store; conns = t.conns; next_conn = t.next }) (changed_to c.close.ensures.others c.close.ensures.conn.closed)) c.close.ensures.conn.releases
 
-pub settle-requires-clause-sound : goal.settle-requires-clause-sound
-settle-requires-clause-sound c = (hung (goal.at.settle-requires-clause-sound c).After-close).sound
+pub reclaim-requires-clause-sound : goal.reclaim-requires-clause-sound
+reclaim-requires-clause-sound c = (hung (goal.at.reclaim-requires-clause-sound c).After-close).sound
 
-pub settle-requires-clause-there : goal.settle-requires-clause-there
-settle-requires-clause-there c = (hung (goal.at.settle-requires-clause-there c).After-close).there
+pub reclaim-requires-clause-there : goal.reclaim-requires-clause-there
+reclaim-requires-clause-there c = (hung (goal.at.reclaim-requires-clause-there c).After-close).there
 
 pub returns : goal.returns
 returns c =
     let h = state_of c.args.self.now in
     let w = c.close.new in
     hung_closes h (record h { store = w.store; conns = w.self.conns; next_conn = w.self.next }) c.args.conn c.requires (ap (λ (t : ConnTable). record h { store = w.store; conns = t.conns; next_conn = t.next }) (changed_to c.close.ensures.others c.close.ensures.conn.closed)) c.close.ensures.conn.releases
-    (state_of c.settle.new.self) c.settle.ensures.left c.settle.ensures.domains c.settle.ensures.others
+    (state_of c.reclaim.new.self) c.reclaim.ensures.left c.reclaim.ensures.domains c.reclaim.ensures.others

@@ -20,7 +20,7 @@ use Rattle.iol_kernel.proofs.FileCalls.FileReads.{file_for, numbered_here, open_
 use Rattle.iol_kernel.proofs.FileCalls.ReadEffects.{counts_few, read_fits, reads_done, reads_refused}
 use Rattle.iol_kernel.proofs.FileCalls.FileTests.{read-first}
 use Rattle.iol_kernel.proofs.FileCalls.FileNames.{cache_sound}
-use Rattle.iol_kernel.proofs.FileCalls.ShortReads.{bytes_more, reads_more, refuses_more, room_more, tells_room}
+use Rattle.iol_kernel.proofs.FileCalls.ShortReads.{bytes_more, reads_more, refuses_more, room_more, reports_room}
 use Rattle.iol_kernel.proofs.Queues.CopiedBytes.{front_is}
 use Rattle.iol_kernel.proofs.kernel.Kernel.copy_file_into.Given.{Over}
 use Rattle.iol_kernel.proofs.kernel.Kernel.copy_file_into.Goals as goal
@@ -72,7 +72,7 @@ returns-in_err-agg g c =
     let after = g.B.Backing.disk c.read.new.backing in
     let m = c.read.new.store in
     let k = cached_of c.read.new.self in
-    let told = c.readable-most.ensures in
+    let reported = c.readable-most.ensures in
     let e = c.in_err-agg.ensures in
     let y = c.in_err-agg.field-0.0 in
     let new : KernelState = record h { store = m; cache = k } in
@@ -81,7 +81,7 @@ returns-in_err-agg g c =
       serves = refused_read disk after m k at e.sound e.fault.honest e.fault.slots e.backed e.gone y (read-first at ∙ c.in_ok-test_read.ensures.passed (bytes_over [] h.store)) e.late;
       copies = record {
         mid = m;
-        reads = reads_refused disk after m k at e.pages e.gone.lists (List Slice) (List ℕ) y h.domains refl (refuses_more (holding_of h) told e.refused) (tells_room (holding_of h) told {A = List Slice} (Err y) e.room) e.fault e.late;
+        reads = reads_refused disk after m k at e.pages e.gone.lists (List Slice) (List ℕ) y h.domains refl (refuses_more (holding_of h) reported e.refused) (reports_room (holding_of h) reported {A = List Slice} (Err y) e.room) e.fault e.late;
         gives = tt;
         early = inr e.late;
         frees = frees_here m;
@@ -120,7 +120,7 @@ returns g c =
     let after = g.B.Backing.disk c.read.new.backing in
     let m = c.read.new.store in
     let k = cached_of c.read.new.self in
-    let told = c.readable-most.ensures in
+    let reported = c.readable-most.ensures in
     let e = c.in_ok-agg.ensures in
     let agg : List Slice = c.in_ok-agg.agg in
     let text : Text = text_of m agg in
@@ -128,7 +128,7 @@ returns g c =
     let ds = domains_of c.set_fd.new.self in
     let len = c.len-len.result in
     let bytes = take len filled in
-    let fewer : byte_len agg ≤ x.count = omega (arith, e.short, told.fewer) in
+    let fewer : byte_len agg ≤ x.count = omega (arith, e.short, reported.fewer) in
     let moved : ds ≡ moved_on h.domains x (byte_len agg) = set_to h.domains c.args.by c.args.fd c.set_fd.ensures.set c.moved_by.ensures ∙ ap (moved_on h.domains x) c.len-len.ensures in
     let long : length (bytes_of text) ≡ byte_len agg = length-map text (λ (b : ℕ × ℕ). b.0) ∙ length-text_of m agg in
     let count : len ≡ length (bytes_of text) = omega (arith, long, c.len-len.ensures) in
@@ -136,12 +136,12 @@ returns g c =
     let is : bytes ≡ bytes_of text = front_is (bytes_of text) (drop (byte_len agg) memory) filled len laid count in
     record {
       copies = record {
-        serves = copied_as disk m k agg at e.sound e.goes after c.release.new.store r.moves r.lists r.frees (r.settles e.readable) (read-first at ∙ c.in_ok-test_read.ensures.passed (bytes_over [] h.store)) e.fault.honest e.fault.slots e.backed
-            bytes ds is fewer (read_fits at e.reads) (λ b. e.text b ∙ ap (labelled (pool_read h x)) (bytes_more (holding_of h) told b)) moved;
+        serves = copied_as disk m k agg at e.sound e.goes after c.release.new.store r.moves r.lists r.frees (r.reclaims e.readable) (read-first at ∙ c.in_ok-test_read.ensures.passed (bytes_over [] h.store)) e.fault.honest e.fault.slots e.backed
+            bytes ds is fewer (read_fits at e.reads) (λ b. e.text b ∙ ap (labelled (pool_read h x)) (bytes_more (holding_of h) reported b)) moved;
         copies = record {
           mid = m;
-          reads = reads_done disk after m k at e.pages e.goes.lists {B = List ℕ} bytes agg m ds (reads_more (holding_of h) told e.reads) (room_more (holding_of h) told e.room) e.fault.counts e.fault.honest e.fault.slots;
-          gives = record { slices = agg; copied = is; read = reads_more (holding_of h) told e.reads; released = r.moves; domains = moved };
+          reads = reads_done disk after m k at e.pages e.goes.lists {B = List ℕ} bytes agg m ds (reads_more (holding_of h) reported e.reads) (room_more (holding_of h) reported e.room) e.fault.counts e.fault.honest e.fault.slots;
+          gives = record { slices = agg; copied = is; read = reads_more (holding_of h) reported e.reads; released = r.moves; domains = moved };
           early = tt;
           frees = r.frees;
           lists = r.lists;

@@ -5,7 +5,7 @@ use Rattle.iol_core.specs.declared.refusals.Refusal.{Refusal}
 use Rattle.iol_core.specs.declared.refusals.Refusal.TheVariants as refuse
 use Rattle.iol_kernel.specs.Calls.{Names}
 use Rattle.iol_kernel.specs.Kernel.{state_of}
-use Rattle.iol_kernel.proofs.FileCalls.NewFiles.{names, refused_always, refused_memory, refused_told}
+use Rattle.iol_kernel.proofs.FileCalls.NewFiles.{names, refused_always, refused_memory, refused_reported}
 use Rattle.iol_kernel.proofs.kernel.Kernel.file_new.Goals as goal
 
 pub returns-then-not-is_live-clause-names : goal.returns-then-not-is_live-clause-names
@@ -26,19 +26,19 @@ returns-then-len-eq0-clause-names g c =
 
 pub returns-then-is_next_too_long-clause-names : goal.returns-then-is_next_too_long-clause-names
 returns-then-is_next_too_long-clause-names g c =
-    refused_told (g.B.Backing.disk c.args.backing.now) (state_of c.args.self.now) c.args.by c.args.pool c.args.name.now c.is_next_too_long.ensures c.requires refuse.TooLong (λ f length. search (rules, length)) (λ p e. cc e)
+    refused_reported (g.B.Backing.disk c.args.backing.now) (state_of c.args.self.now) c.args.by c.args.pool c.args.name.now c.is_next_too_long.ensures c.requires refuse.TooLong (λ f length. search (rules, length)) (λ p e. cc e)
 
 pub returns-then-file_count-ge-MAX_FILES-clause-names : goal.returns-then-file_count-ge-MAX_FILES-clause-names
 returns-then-file_count-ge-MAX_FILES-clause-names g c =
-    refused_told (g.B.Backing.disk c.args.backing.now) (state_of c.args.self.now) c.args.by c.args.pool c.args.name.now c.is_next_too_long.ensures c.requires refuse.TooMany (λ f length. search (rules, length)) (λ p e. cc e)
+    refused_reported (g.B.Backing.disk c.args.backing.now) (state_of c.args.self.now) c.args.by c.args.pool c.args.name.now c.is_next_too_long.ensures c.requires refuse.TooMany (λ f length. search (rules, length)) (λ p e. cc e)
 
 pub returns-then-not-may_read-clause-names : goal.returns-then-not-may_read-clause-names
 returns-then-not-may_read-clause-names g c =
-    refused_told (g.B.Backing.disk c.args.backing.now) (state_of c.args.self.now) c.args.by c.args.pool c.args.name.now c.is_next_too_long.ensures c.requires (refuse.Denied c.args.pool) (λ f length. search (rules, length)) (λ p e. cc e)
+    refused_reported (g.B.Backing.disk c.args.backing.now) (state_of c.args.self.now) c.args.by c.args.pool c.args.name.now c.is_next_too_long.ensures c.requires (refuse.Denied c.args.pool) (λ f length. search (rules, length)) (λ p e. cc e)
 
 pub returns-then-is_closed-clause-names : goal.returns-then-is_closed-clause-names
 returns-then-is_closed-clause-names g c =
-    refused_told (g.B.Backing.disk c.args.backing.now) (state_of c.args.self.now) c.args.by c.args.pool c.args.name.now c.is_next_too_long.ensures c.requires (refuse.PoolClosed c.args.pool) (λ f length. search (rules, length)) (λ p e. cc e)
+    refused_reported (g.B.Backing.disk c.args.backing.now) (state_of c.args.self.now) c.args.by c.args.pool c.args.name.now c.is_next_too_long.ensures c.requires (refuse.PoolClosed c.args.pool) (λ f length. search (rules, length)) (λ p e. cc e)
 
 pub returns-in_err-add_file-clause-names : goal.returns-in_err-add_file-clause-names
 returns-in_err-add_file-clause-names g c =

@@ -32,7 +32,7 @@ added c =
       moves = e.moves;
       made_on = e.made_on;
       pages = keeps_pages_made e.made_on e.others e.grows e.pools;
-      settles = e.settles;
+      reclaims = e.reclaims;
       pools = e.pools;
       added = c.add_agg.ensures.added ∙ ap (λ (ds : List (Domain (List Slice))). with_agg_in ds c.args.by c.in_ok-agg.agg) c.in_ok-reserve_aggs.ensures.same;
     }

@@ -71,12 +71,12 @@ returns-in-Err c =
     let long = filled_len s xs c.args.pool c.args.bytes.now e.text in
     let own = own_pool h c.args.by c.args.fd x.file x.at c.args.pool x.mode c.args.bytes.now c.requires in
     let apart = files_apart h c.requires.sound in
-    let same = unput_pools h s xs c.requires.sound e.moves e.pools e.grows.count t u d x.file e.readable w.moves w.lists w.settles w.pages w.sound w.mirrors r.moves r.lists r.frees r.settles w.evicts in
+    let same = unput_pools h s xs c.requires.sound e.moves e.pools e.grows.count t u d x.file e.readable w.moves w.lists w.reclaims w.pages w.sound w.mirrors r.moves r.lists r.frees r.reclaims w.evicts in
     record {
       serves = unfilled_serves h c.args.by c.args.fd x.file x.at c.args.pool x.mode c.args.bytes.now c.requires _ u d
-          (through h s xs c.requires.sound e.moves e.pools e.grows.count t u d x.file e.readable w.moves w.lists w.settles w.pages w.sound w.mirrors r.moves r.lists r.frees r.settles same e.settles)
-          (through_files h s xs c.requires.sound e.moves e.pools e.grows.count t u d x.file e.readable w.moves w.lists w.settles w.pages w.sound w.mirrors r.moves r.lists r.frees r.settles w.refused)
-          (through_mirrors h s xs c.requires.sound e.moves e.pools e.grows.count t u d x.file e.readable w.moves w.lists w.settles w.pages w.sound w.mirrors r.moves r.lists r.frees r.settles) refl;
+          (through h s xs c.requires.sound e.moves e.pools e.grows.count t u d x.file e.readable w.moves w.lists w.reclaims w.pages w.sound w.mirrors r.moves r.lists r.frees r.reclaims same e.reclaims)
+          (through_files h s xs c.requires.sound e.moves e.pools e.grows.count t u d x.file e.readable w.moves w.lists w.reclaims w.pages w.sound w.mirrors r.moves r.lists r.frees r.reclaims w.refused)
+          (through_mirrors h s xs c.requires.sound e.moves e.pools e.grows.count t u d x.file e.readable w.moves w.lists w.reclaims w.pages w.sound w.mirrors r.moves r.lists r.frees r.reclaims) refl;
       roomy = λ p e. cc e;
       late = tt;
       fills = tt;
@@ -132,12 +132,12 @@ returns c =
     let own = own_pool h c.args.by c.args.fd x.file x.at c.args.pool x.mode c.args.bytes.now c.requires in
     let apart = files_apart h c.requires.sound in
     let pages = keeps_pages_made e.made_on e.others e.grows e.pools in
-    let same = put_pools h s xs c.requires.sound e.moves e.pools e.grows.count t u d x.file e.readable w.moves w.lists w.settles w.pages w.sound w.mirrors r.moves r.lists r.frees r.settles x.at there w.writes w.nothing in
+    let same = put_pools h s xs c.requires.sound e.moves e.pools e.grows.count t u d x.file e.readable w.moves w.lists w.reclaims w.pages w.sound w.mirrors r.moves r.lists r.frees r.reclaims x.at there w.writes w.nothing in
     let moved = set_to h.domains c.args.by c.args.fd c.set_fd.ensures.set (c.moved_by.ensures ∙ ap (λ z. on.File x.file (x.at + z) x.mode) len) in
     record {
       serves = filled_serves h c.args.by c.args.fd x.file x.at c.args.pool x.mode c.args.bytes.now c.requires _ u d c.len-len.result
-          (through h s xs c.requires.sound e.moves e.pools e.grows.count t u d x.file e.readable w.moves w.lists w.settles w.pages w.sound w.mirrors r.moves r.lists r.frees r.settles same e.settles)
-          (through_puts h s xs c.requires.sound e.moves e.pools e.grows.count t u d x.file e.readable w.moves w.lists w.settles w.pages w.sound w.mirrors r.moves r.lists r.frees r.settles x.at _ w.written w.others e.text) len
+          (through h s xs c.requires.sound e.moves e.pools e.grows.count t u d x.file e.readable w.moves w.lists w.reclaims w.pages w.sound w.mirrors r.moves r.lists r.frees r.reclaims same e.reclaims)
+          (through_puts h s xs c.requires.sound e.moves e.pools e.grows.count t u d x.file e.readable w.moves w.lists w.reclaims w.pages w.sound w.mirrors r.moves r.lists r.frees r.reclaims x.at _ w.written w.others e.text) len
           (ap (λ ds. let k : KernelState = record h { store = u; cache = d; domains = ds } in k) moved);
       roomy = λ p e. cc e;
       late = tt;

@@ -30,13 +30,13 @@ lent g c =
     let r = e.conn.releases in
     lent_out h (record h { store = w.store; conns = w.self.conns; next_conn = w.self.next }) c.args.conn c.drain_to-drained.result.taken c.requires.sound (conn_is h c.args.conn c.requires.there) e.conn.rest
     (ap (λ (t : ConnTable). record h { store = w.store; conns = t.conns; next_conn = t.next }) (changed_to e.others e.conn.others)) r.moves r.lists r.frees
-    (r.settles (conn_readable h c.args.conn (conn_in h.conns c.args.conn) c.requires.sound (found_conn h c.args.conn c.requires.there)).1)
+    (r.reclaims (conn_readable h c.args.conn (conn_in h.conns c.args.conn) c.requires.sound (found_conn h c.args.conn c.requires.there)).1)
 
-pub settle-requires-clause-sound : goal.settle-requires-clause-sound
-settle-requires-clause-sound g c = (lent g (goal.at.settle-requires-clause-sound g c).After-drain_to-drained).sound
+pub reclaim-requires-clause-sound : goal.reclaim-requires-clause-sound
+reclaim-requires-clause-sound g c = (lent g (goal.at.reclaim-requires-clause-sound g c).After-drain_to-drained).sound
 
-pub settle-requires-clause-there : goal.settle-requires-clause-there
-settle-requires-clause-there g c = (lent g (goal.at.settle-requires-clause-there g c).After-drain_to-drained).there
+pub reclaim-requires-clause-there : goal.reclaim-requires-clause-there
+reclaim-requires-clause-there g c = (lent g (goal.at.reclaim-requires-clause-there g c).After-drain_to-drained).there
 
 pub returns-then-drained-eq0 : goal.returns-then-drained-eq0
 returns-then-drained-eq0 g c =
@@ -50,5 +50,5 @@ pub returns : goal.returns
 returns g c =
     let h = state_of c.args.self.now in
     let e = c.drain_to-drained.ensures.conn.writes in
-    drains_to h c.args.conn c.args.max (conn_is h c.args.conn c.requires.there) (g.W.Write.contents c.args.writer.now) (g.W.Write.contents c.drain_to-drained.new.writer) (state_of c.settle.new.self) c.drain_to-drained.result e.most e.all e.fewer e.written
-    ((lent g (goal.at.returns g c).After-drain_to-drained).some (state_of c.settle.new.self) (λ none. omega (arith, none, c.if-drained-eq0.false)) c.settle.ensures.left)
+    drains_to h c.args.conn c.args.max (conn_is h c.args.conn c.requires.there) (g.W.Write.contents c.args.writer.now) (g.W.Write.contents c.drain_to-drained.new.writer) (state_of c.reclaim.new.self) c.drain_to-drained.result e.most e.all e.fewer e.written
+    ((lent g (goal.at.returns g c).After-drain_to-drained).some (state_of c.reclaim.new.self) (λ none. omega (arith, none, c.if-drained-eq0.false)) c.reclaim.ensures.left)

@@ -49,5 +49,5 @@ returns c =
     let none = none_of c.new-pipes.ensures c.new-conns.ensures.none c.new-conns.ensures.next c.in_ok-files.ensures.none c.in_ok-files.ensures.cached in
     let made = c.in_ok-store.ensures in
     let new = new-machine h one made.pools none in
-    let sound = new-sound h (c.args.config.chunks * 16) one made.all_free.entries made.tidy made.settled none made.pools (c.in_ok-sums.ensures.right c.in_ok-store.store.arena) c.in_ok-files.ensures.sound in
+    let sound = new-sound h (c.args.config.chunks * 16) one made.all_free.entries made.tidy made.reclaimed none made.pools (c.in_ok-sums.ensures.right c.in_ok-store.store.arena) c.in_ok-files.ensures.sound in
     search (rules, new, sound)

@@ -21,8 +21,8 @@ returns-in-Err-clause-ends g c =
 pub returns-then-at-length_of-clause-looks : goal.returns-then-at-length_of-clause-looks
 returns-then-at-length_of-clause-looks g c =
     let x = c.in-Ok.found in
-    let told = seek_beyond (g.B.Backing.disk c.args.backing.now) (state_of c.args.self.now) c.args.by c.args.fd x.file x.at c.length_of.result x.mode c.in-Ok.ensures.found.held c.length_of.ensures.is c.args.at (omega (arith, c.if-at-length_of.true)) in
-    search (rules, told)
+    let reported = seek_beyond (g.B.Backing.disk c.args.backing.now) (state_of c.args.self.now) c.args.by c.args.fd x.file x.at c.length_of.result x.mode c.in-Ok.ensures.found.held c.length_of.ensures.is c.args.at (omega (arith, c.if-at-length_of.true)) in
+    search (rules, reported)
 
 pub returns-then-at-length_of-clause-ends : goal.returns-then-at-length_of-clause-ends
 returns-then-at-length_of-clause-ends g c =
@@ -43,9 +43,9 @@ returns-clause-looks g c =
     let x = c.in-Ok.found in
     let is = c.length_of.ensures.is in
     let ds = domains_of c.set_fd.new.self in
-    let told = sought (g.B.Backing.disk c.args.backing.now) (state_of c.args.self.now) c.args.by c.args.fd x.file x.at c.length_of.result x.mode c.in-Ok.ensures.found.held is c.args.at ds (omega (arith, c.if-at-length_of.false)) c.length_of.ensures.end.short c.set_fd.ensures.set in
+    let reported = sought (g.B.Backing.disk c.args.backing.now) (state_of c.args.self.now) c.args.by c.args.fd x.file x.at c.length_of.result x.mode c.in-Ok.ensures.found.held is c.args.at ds (omega (arith, c.if-at-length_of.false)) c.length_of.ensures.end.short c.set_fd.ensures.set in
     let lies = moved-places (g.B.Backing.disk c.args.backing.now) (state_of c.args.self.now) c.args.by c.args.fd x.file x.at c.length_of.result x.mode c.in-Ok.ensures.found.held is c.args.at ds c.set_fd.ensures.set in
-    search (rules, told, lies)
+    search (rules, reported, lies)
 
 pub returns-clause-ends : goal.returns-clause-ends
 returns-clause-ends g c =

@@ -25,23 +25,23 @@ segment-requires-clause-countable c =
 pub segment-requires-clause-readable : goal.segment-requires-clause-readable
 segment-requires-clause-readable c = let h = state_of c.args.self.now in (conn_readable h c.args.conn (conn_in h.conns c.args.conn) c.requires.sound (found_conn h c.args.conn c.requires.there)).1
 
-pub settle-requires-clause-sound : goal.settle-requires-clause-sound
-settle-requires-clause-sound c =
+pub reclaim-requires-clause-sound : goal.reclaim-requires-clause-sound
+reclaim-requires-clause-sound c =
     let h = state_of c.args.self.now in
     let e = c.in_ok-segment.ensures in
     let sent = e.conn.sent in
     let readable = (conn_readable h c.args.conn (conn_in h.conns c.args.conn) c.requires.sound (found_conn h c.args.conn c.requires.there)).1 in
     mid_sound h (record h { store = c.segment.new.store; conns = c.segment.new.self.conns; next_conn = c.segment.new.self.next; sums = c.segment.new.sums }) (state_of c.args.self.now) c.args.conn c.args.max c.in_ok-segment.segment.bytes c.in_ok-segment.segment.checksum c.requires.sound (conn_is h c.args.conn c.requires.there) e.conn.passed sent.bytes e.conn.checksum
-    sent.rest (ap (λ (w : ConnTable). record h { store = c.segment.new.store; conns = w.conns; next_conn = w.next; sums = c.segment.new.sums }) (changed_to e.others e.conn.others)) sent.releases.moves sent.releases.lists sent.releases.frees (sent.releases.settles readable) e.conn.right
+    sent.rest (ap (λ (w : ConnTable). record h { store = c.segment.new.store; conns = w.conns; next_conn = w.next; sums = c.segment.new.sums }) (changed_to e.others e.conn.others)) sent.releases.moves sent.releases.lists sent.releases.frees (sent.releases.reclaims readable) e.conn.right
 
-pub settle-requires-clause-there : goal.settle-requires-clause-there
-settle-requires-clause-there c =
+pub reclaim-requires-clause-there : goal.reclaim-requires-clause-there
+reclaim-requires-clause-there c =
     let h = state_of c.args.self.now in
     let e = c.in_ok-segment.ensures in
     let sent = e.conn.sent in
     let readable = (conn_readable h c.args.conn (conn_in h.conns c.args.conn) c.requires.sound (found_conn h c.args.conn c.requires.there)).1 in
     mid_there h (record h { store = c.segment.new.store; conns = c.segment.new.self.conns; next_conn = c.segment.new.self.next; sums = c.segment.new.sums }) (state_of c.args.self.now) c.args.conn c.args.max c.in_ok-segment.segment.bytes c.in_ok-segment.segment.checksum c.requires.sound (conn_is h c.args.conn c.requires.there) e.conn.passed sent.bytes e.conn.checksum
-    sent.rest (ap (λ (w : ConnTable). record h { store = c.segment.new.store; conns = w.conns; next_conn = w.next; sums = c.segment.new.sums }) (changed_to e.others e.conn.others)) sent.releases.moves sent.releases.lists sent.releases.frees (sent.releases.settles readable) e.conn.right
+    sent.rest (ap (λ (w : ConnTable). record h { store = c.segment.new.store; conns = w.conns; next_conn = w.next; sums = c.segment.new.sums }) (changed_to e.others e.conn.others)) sent.releases.moves sent.releases.lists sent.releases.frees (sent.releases.reclaims readable) e.conn.right
 
 pub returns : goal.returns
 returns c =
@@ -49,8 +49,8 @@ returns c =
     let e = c.in_ok-segment.ensures in
     let sent = e.conn.sent in
     let readable = (conn_readable h c.args.conn (conn_in h.conns c.args.conn) c.requires.sound (found_conn h c.args.conn c.requires.there)).1 in
-    transmitted h (record h { store = c.segment.new.store; conns = c.segment.new.self.conns; next_conn = c.segment.new.self.next; sums = c.segment.new.sums }) (state_of c.settle.new.self) c.args.conn c.args.max c.in_ok-segment.segment.bytes c.in_ok-segment.segment.checksum c.requires.sound (conn_is h c.args.conn c.requires.there) e.conn.passed sent.bytes e.conn.checksum
-    sent.rest (ap (λ (w : ConnTable). record h { store = c.segment.new.store; conns = w.conns; next_conn = w.next; sums = c.segment.new.sums }) (changed_to e.others e.conn.others)) sent.releases.moves sent.releases.lists sent.releases.frees (sent.releases.settles readable) e.conn.right c.settle.ensures.left (uses_kept c.settle.ensures.left.sums sent.uses)
+    transmitted h (record h { store = c.segment.new.store; conns = c.segment.new.self.conns; next_conn = c.segment.new.self.next; sums = c.segment.new.sums }) (state_of c.reclaim.new.self) c.args.conn c.args.max c.in_ok-segment.segment.bytes c.in_ok-segment.segment.checksum c.requires.sound (conn_is h c.args.conn c.requires.there) e.conn.passed sent.bytes e.conn.checksum
+    sent.rest (ap (λ (w : ConnTable). record h { store = c.segment.new.store; conns = w.conns; next_conn = w.next; sums = c.segment.new.sums }) (changed_to e.others e.conn.others)) sent.releases.moves sent.releases.lists sent.releases.frees (sent.releases.reclaims readable) e.conn.right c.reclaim.ensures.left (uses_kept c.reclaim.ensures.left.sums sent.uses)
 
 pub returns-in_err-segment : goal.returns-in_err-segment
 returns-in_err-segment c =

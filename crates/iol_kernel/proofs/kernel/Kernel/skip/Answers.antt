@@ -20,7 +20,7 @@ returns-in-ReadEnd c = λ d fd.
     let k : KernelState = record h { store = c.skip.new.store; pipes = c.skip.new.self.places } in
     let e = c.skip.ensures in
     subst (λ (x : Descriptor). Leaves (λ s. read_on s d fd (Some x) c.args.count) h k) (sym c.in-ReadEnd.is)
-    (pipe_skipped h c.skip.new.store c.skip.new.self.places c.in-ReadEnd.pipe c.args.count c.requires.sound (reading (goal.at.returns-in-ReadEnd c).In-ReadEnd) e.rest e.pipes e.releases.moves e.releases.lists e.releases.frees e.releases.settles)
+    (pipe_skipped h c.skip.new.store c.skip.new.self.places c.in-ReadEnd.pipe c.args.count c.requires.sound (reading (goal.at.returns-in-ReadEnd c).In-ReadEnd) e.rest e.pipes e.releases.moves e.releases.lists e.releases.frees e.releases.reclaims)
 
 pub skip-requires-in-Connection-clause-there : goal.skip-requires-in-Connection-clause-there
 skip-requires-in-Connection-clause-there c = source_there (state_of c.args.self.now) c.args.from.now c.in-Connection.conn c.requires c.in-Connection.is
@@ -37,4 +37,4 @@ returns-in-Connection c = λ d fd.
     let r = e.conn.releases in
     subst (λ (x : Descriptor). Leaves (λ s. read_on s d fd (Some x) c.args.count) h k) (sym c.in-Connection.is)
     (conn_skipped h k c.in-Connection.conn c.args.count c.requires.sound (source_open h c.args.from.now c.in-Connection.conn c.requires c.in-Connection.is) e.conn.rest
-    (ap (λ (t : ConnTable). record h { store = w.store; conns = t.conns; next_conn = t.next }) (changed_to e.others e.conn.others)) r.moves r.lists r.frees r.settles)
+    (ap (λ (t : ConnTable). record h { store = w.store; conns = t.conns; next_conn = t.next }) (changed_to e.others e.conn.others)) r.moves r.lists r.frees r.reclaims)

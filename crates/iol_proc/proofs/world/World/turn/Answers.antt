@@ -2,7 +2,7 @@ use Rattle.std.proofs.Common.{◌≡◌, inr}
 use Rattle.iol_proc.proofs.Runs.{of_some}
 use Rattle.iol_proc.proofs.world.World.turn.Goals as goal
 
--- the seat that was found has its turn
+-- the process slot that was found has its turn
 pub returns-in-Some : goal.returns-in-Some
 returns-in-Some g c =
     rw (← c.self.view_is)

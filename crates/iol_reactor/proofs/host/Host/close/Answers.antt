@@ -1,13 +1,13 @@
-use Rattle.iol_reactor.proofs.Serving.{continues_on, goes_on}
-use Rattle.iol_reactor.proofs.Visits.{visits_go_on}
+use Rattle.iol_reactor.proofs.Serving.{continues_on, proceeds}
+use Rattle.iol_reactor.proofs.Visits.{visits_advance}
 use Rattle.std.proofs.Common.{[], false}
 use Rattle.iol_reactor.proofs.host.Host.close.Goals as goal
 
 pub invariant_of-self : goal.invariant_of-self
 invariant_of-self g c = record {
-  served = goes_on g.P.Process.turns g.V.Service.starts c.args.self.now.pool c.args.self.now.world c.close.new.world c.close.ensures.honest
+  served = proceeds g.P.Process.turns g.V.Service.starts c.args.self.now.pool c.args.self.now.world c.close.new.world c.close.ensures.honest
       (λ honest. continues_on g.P.Process.turns c.args.self.now.pool c.args.conn [] [] false _ _ (c.close.ensures.alone honest)) c.args.self.now.served;
 }
 
 pub returns-clause-visits : goal.returns-clause-visits
-returns-clause-visits g c = visits_go_on g.P.Process.turns g.V.Service.starts c.args.self.now.pool c.args.conn [] [] false c.args.self.now.world c.close.new.world c.close.ensures.honest c.close.ensures.alone
+returns-clause-visits g c = visits_advance g.P.Process.turns g.V.Service.starts c.args.self.now.pool c.args.conn [] [] false c.args.self.now.world c.close.new.world c.close.ensures.honest c.close.ensures.alone

@@ -2,13 +2,13 @@ use Rattle.std.proofs.Common.{subst}
 use Rattle.iol_core.specs.declared.events.Event.TheVariants as event
 use Rattle.iol_core.specs.declared.events.Reply.{Reply}
 use Rattle.iol_proc.specs.World.{OutsideStep, copied, copying}
-use Rattle.iol_reactor.proofs.Serving.{continues_new, goes_on}
+use Rattle.iol_reactor.proofs.Serving.{continues_new, proceeds}
 use Rattle.iol_reactor.proofs.Visits.{carries_made, visits_begin, visits_stay}
 use Rattle.iol_reactor.proofs.host.Host.connect.Goals as goal
 
 pub invariant_of-self : goal.invariant_of-self
 invariant_of-self g c = record {
-  served = goes_on g.P.Process.turns g.V.Service.starts c.args.self.now.pool c.args.self.now.world c.step_outside-reply.new.self c.step_outside-reply.ensures.honest
+  served = proceeds g.P.Process.turns g.V.Service.starts c.args.self.now.pool c.args.self.now.world c.step_outside-reply.new.self c.step_outside-reply.ensures.honest
       (λ honest. continues_new g.P.Process.turns c.args.self.now.pool _ _ _ (c.step_outside-reply.ensures.copied honest)) c.args.self.now.served;
 }
 

@@ -1,12 +1,12 @@
-use Rattle.iol_reactor.proofs.Serving.{continues_on, goes_on}
+use Rattle.iol_reactor.proofs.Serving.{continues_on, proceeds}
 use Rattle.iol_reactor.proofs.Visits.{visits_arrive}
 use Rattle.std.proofs.Common.{[], false}
 use Rattle.iol_reactor.proofs.host.Host.hand_in.Goals as goal
 
 pub invariant_of-self : goal.invariant_of-self
 invariant_of-self g c = record {
-  served = goes_on g.P.Process.turns g.V.Service.starts c.args.self.now.pool c.args.self.now.world c.hand_in.new.world c.hand_in.ensures.honest
-      (λ honest. let s = c.hand_in.ensures.alone honest in continues_on g.P.Process.turns c.args.self.now.pool c.args.conn s.came [] false _ _ s.goes_on) c.args.self.now.served;
+  served = proceeds g.P.Process.turns g.V.Service.starts c.args.self.now.pool c.args.self.now.world c.hand_in.new.world c.hand_in.ensures.honest
+      (λ honest. let s = c.hand_in.ensures.alone honest in continues_on g.P.Process.turns c.args.self.now.pool c.args.conn s.came [] false _ _ s.proceeds) c.args.self.now.served;
 }
 
 pub returns-clause-visits : goal.returns-clause-visits

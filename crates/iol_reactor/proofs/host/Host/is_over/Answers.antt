@@ -1,10 +1,10 @@
-use Rattle.iol_reactor.proofs.Serving.{continues_same, goes_on}
+use Rattle.iol_reactor.proofs.Serving.{continues_same, proceeds}
 use Rattle.iol_reactor.proofs.Visits.{visits_same}
 use Rattle.iol_reactor.proofs.host.Host.is_over.Goals as goal
 
 pub invariant_of-self : goal.invariant_of-self
 invariant_of-self g c = record {
-  served = goes_on g.P.Process.turns g.V.Service.starts c.args.self.now.pool c.args.self.now.world c.is_over.new.world c.is_over.ensures.honest
+  served = proceeds g.P.Process.turns g.V.Service.starts c.args.self.now.pool c.args.self.now.world c.is_over.new.world c.is_over.ensures.honest
       (λ honest. continues_same g.P.Process.turns c.args.self.now.pool _ _ c.is_over.ensures.same) c.args.self.now.served;
 }
 

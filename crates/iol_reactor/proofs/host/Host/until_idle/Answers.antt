@@ -1,12 +1,12 @@
 use Rattle.std.proofs.Common.{[], false}
 use Rattle.iol_serve.proofs.Steps.{goes_turns}
-use Rattle.iol_reactor.proofs.Serving.{continues_on, goes_on}
+use Rattle.iol_reactor.proofs.Serving.{continues_on, proceeds}
 use Rattle.iol_reactor.proofs.Visits.{carries_own, visits_stay}
 use Rattle.iol_reactor.proofs.host.Host.until_idle.Goals as goal
 
 pub invariant_of-self : goal.invariant_of-self
 invariant_of-self g c = record {
-  served = goes_on g.P.Process.turns g.V.Service.starts c.args.self.now.pool c.args.self.now.world c.until_idle.new.self c.until_idle.ensures.honest
+  served = proceeds g.P.Process.turns g.V.Service.starts c.args.self.now.pool c.args.self.now.world c.until_idle.new.self c.until_idle.ensures.honest
       (λ honest. continues_on g.P.Process.turns c.args.self.now.pool 0 [] [] false _ _ (goes_turns g.P.Process.turns 0 0 _ _ _ _ _ (c.until_idle.ensures.run honest).run)) c.args.self.now.served;
 }
 
