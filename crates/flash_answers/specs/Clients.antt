@@ -55,7 +55,8 @@ pub record ClientsAreAnswered : Type 0 where
   pub apart : (pc ps waiting unsent supplied accepted : List ℕ) → LeftSites pc ps
       → Holds pc ps [] [] waiting unsent supplied accepted → ∥ IsBegun supplied accepted ∥₁
   -- a request closed its last connection, and its socket accepted all
-  pub closed : (pc ps : List ℕ) (v : Visit (Actor Worker)) (waiting supplied accepted : List ℕ) → LeftSites pc ps → IsHonest v
+  pub closed : (pc ps : List ℕ) (v : Visit (Actor Worker)) (waiting supplied accepted : List ℕ) → LeftSites pc ps
+      → IsHonest v
       → IsClosed (actor_turns in_rounds worker_turns) BeginsSite Framed net_pool v
       → Holds pc ps v.came v.sent waiting [] supplied accepted → ∥ IsAnswered supplied accepted ∥₁
   -- it left all, no complete request waits, and its socket accepted all

@@ -1,5 +1,6 @@
 -- A worker's turn changes only its own domain, and one pipe.
-use Rattle.std.proofs.Common.{inl, inr, ◌≡◌, ◌≢◌, ℕ, ◌==◌, List, [], ◌∷◌, ap, ◌∙◌, refl, sym, subst, arith, Option, Some, None, true, false, Bool}
+use Rattle.std.proofs.Common.{inl, inr, ◌≡◌, ◌≢◌, ℕ, ◌==◌, List, [], ◌∷◌, ap, ◌∙◌, refl, sym, subst, arith, Option}
+use Rattle.std.proofs.Common.{Some, None, true, false, Bool}
 use Rattle.std.specs.Prelude.{◌&&◌, ◌||◌, not, if◌then◌else◌, slice_get}
 use Rattle.std.specs.List.{list_any}
 use Rattle.std.proofs.lemmas.Bool.Decides.{nat_tests}
@@ -16,7 +17,8 @@ use Rattle.iol_core.specs.declared.events.Reply.{Reply}
 use Rattle.iol_core.specs.declared.events.Reply.TheVariants as reply
 use Rattle.iol_laws.specs.Aggregates.{AggregatesComeAndGo, brings}
 use Rattle.iol_laws.specs.Caller.{readable_at}
-use Rattle.iol_laws.specs.Frame.{EachStepLeavesTheRest, Leaves, admits_to, changes_files, closes_pool, ends, is_conn, is_end, sets_default, touches_conn, touches_fd, touches_pipe}
+use Rattle.iol_laws.specs.Frame.{EachStepLeavesTheRest, Leaves, admits_to, changes_files, closes_pool, ends, is_conn}
+use Rattle.iol_laws.specs.Frame.{is_end, sets_default, touches_conn, touches_fd, touches_pipe}
 use Rattle.iol_laws.specs.DescriptorNumbers.{DescriptorsComeByReplies, opens}
 use Rattle.iol_proc.specs.Turns.{Comes as ComesOf, ProcessSlotTurn}
 use Rattle.iol_proc.specs.World.{copying}
@@ -139,7 +141,8 @@ module _ (m : State) (d p : ℕ) where
   file_free (call.IolWrite fd a) is = second_of (is_but p (descriptor m d fd)) (is_file (descriptor m d fd)) is
   file_free k is = absurd (cc (is))
 
-  pool_free : (k : Call) (q : ℕ) → keeps_to m d p k ≡ true → (closes_pool (event.Call d k) q ≡ false) × (admits_to (event.Call d k) q ≡ false)
+  pool_free : (k : Call) (q : ℕ) → keeps_to m d p k ≡ true → (closes_pool (event.Call d k) q ≡ false)
+      × (admits_to (event.Call d k) q ≡ false)
   pool_free (call.PoolClose x) q is = absurd (cc (is))
   pool_free (call.PoolAdmit x e) q is = absurd (cc (is))
   pool_free k q is = (refl, refl)
@@ -148,25 +151,29 @@ module _ (m : State) (d p : ℕ) where
   life_free call.Exit e is = absurd (cc (is))
   life_free k e is = refl
 
-  default_free : (k : Call) (e : ℕ) → keeps_to m d p k ≡ true → (d == e) ≡ false → sets_default (event.Call d k) e ≡ false
+  default_free : (k : Call) (e : ℕ) → keeps_to m d p k ≡ true → (d == e) ≡ false
+      → sets_default (event.Call d k) e ≡ false
   default_free call.Exit e is other = other
   default_free (call.SetPool q) e is other = other
   default_free k e is other = refl
 
-  fd_free : (k : Call) (r : Reply) (e fd : ℕ) → keeps_to m d p k ≡ true → (d == e) ≡ false → opens (event.Call d k) r e fd ≡ false
+  fd_free : (k : Call) (r : Reply) (e fd : ℕ) → keeps_to m d p k ≡ true → (d == e) ≡ false
+      → opens (event.Call d k) r e fd ≡ false
   fd_free (call.GiveFd f to) r e fd is other = absurd (cc (is))
   fd_free k (reply.Fd g) e fd is other = ap (λ b. b && (g == fd)) other
   fd_free k (reply.Fds g h) e fd is other = ap (λ b. b && ((g == fd) || (h == fd))) other
   fd_free k r e fd is other = refl
 
-  agg_free : (k : Call) (r : Reply) (e a : ℕ) → keeps_to m d p k ≡ true → (d == e) ≡ false → brings (event.Call d k) r e a ≡ false
+  agg_free : (k : Call) (r : Reply) (e a : ℕ) → keeps_to m d p k ≡ true → (d == e) ≡ false
+      → brings (event.Call d k) r e a ≡ false
   agg_free (call.AggGive x to) r e a is other = absurd (cc (is))
   agg_free k (reply.Agg b) e a is other = ap (λ t. t && (b == a)) other
   agg_free k (reply.Aggs b c) e a is other = ap (λ t. t && ((b == a) || (c == a))) other
   agg_free k r e a is other = refl
 
   -- its job pipe is not closed by it
-  at_job_queue : (fd j : ℕ) → j ≢ p → descriptor m d 0 ≡ Some (on.ReadEnd j) → is_but p (descriptor m d fd) ≡ true → (fd == 0) ≡ false
+  at_job_queue : (fd j : ℕ) → j ≢ p → descriptor m d 0 ≡ Some (on.ReadEnd j) → is_but p (descriptor m d fd) ≡ true
+      → (fd == 0) ≡ false
   at_job_queue fd j differ opened is = by (fd == 0) refl
     where
       by : (b : Bool) → (fd == 0) ≡ b → (fd == 0) ≡ false
@@ -175,7 +182,8 @@ module _ (m : State) (d p : ℕ) where
           let zero_is : fd ≡ 0 = grind (arith, nat_tests, is_b) in
           absurd (differ (at_pipe p j (sym (ap (λ o. is_but p o) (ap (λ k. descriptor m d k) zero_is ∙ opened)) ∙ is)))
 
-  no_file_end : (fd : ℕ) (j : ℕ) → descriptor m d 0 ≡ Some (on.ReadEnd j) → ((d == d) && (fd == 0) && is_file (descriptor m d fd)) ≡ false
+  no_file_end : (fd : ℕ) (j : ℕ) → descriptor m d 0 ≡ Some (on.ReadEnd j)
+      → ((d == d) && (fd == 0) && is_file (descriptor m d fd)) ≡ false
   no_file_end fd j opened = by (fd == 0) refl
     where
       none : (b : Bool) → (b && false) ≡ false
@@ -183,12 +191,15 @@ module _ (m : State) (d p : ℕ) where
       none false = refl
 
       by : (b : Bool) → (fd == 0) ≡ b → ((d == d) && (fd == 0) && is_file (descriptor m d fd)) ≡ false
-      by false is_b = (let e : ((d == d) && (fd == 0)) ≡ false = ap (λ b. (d == d) && b) is_b ∙ none (d == d) in ap (λ b. b && is_file (descriptor m d fd)) e)
+      by false is_b = (let e : ((d == d) && (fd == 0)) ≡ false = ap (λ b. (d == d) && b) is_b ∙ none (d == d) in
+          ap (λ b. b && is_file (descriptor m d fd)) e)
       by true is_b =
           let zero_is : fd ≡ 0 = grind (arith, nat_tests, is_b) in
-          ap (λ o. (d == d) && (fd == 0) && is_file o) (ap (λ k. descriptor m d k) zero_is ∙ opened) ∙ none ((d == d) && (fd == 0))
+          ap (λ o. (d == d) && (fd == 0) && is_file o) (ap (λ k. descriptor m d k) zero_is ∙ opened)
+          ∙ none ((d == d) && (fd == 0))
 
-  job_queue_free : (k : Call) (j : ℕ) → j ≢ p → descriptor m d 0 ≡ Some (on.ReadEnd j) → keeps_to m d p k ≡ true → touches_fd m (event.Call d k) d 0 ≡ false
+  job_queue_free : (k : Call) (j : ℕ) → j ≢ p → descriptor m d 0 ≡ Some (on.ReadEnd j) → keeps_to m d p k ≡ true
+      → touches_fd m (event.Call d k) d 0 ≡ false
   job_queue_free (call.AggMake bytes) j differ opened is = refl
   job_queue_free (call.AggCut a from to) j differ opened is = refl
   job_queue_free (call.AggDrop a) j differ opened is = refl
@@ -197,12 +208,14 @@ module _ (m : State) (d p : ℕ) where
   job_queue_free (call.AggReplace a from to b) j differ opened is = refl
   job_queue_free (call.SetPool q) j differ opened is = refl
   job_queue_free (call.OpenFile name mode) j differ opened is = refl
-  job_queue_free (call.Close fd) j differ opened is = (let e = at_job_queue fd j differ opened is in grind (arith, nat_tests, e))
+  job_queue_free (call.Close fd) j differ opened is =
+      (let e = at_job_queue fd j differ opened is in grind (arith, nat_tests, e))
   job_queue_free (call.IolRead fd n) j differ opened is = no_file_end fd j opened
   job_queue_free (call.IolWrite fd a) j differ opened is = no_file_end fd j opened
   job_queue_free k j differ opened is = absurd (cc (is))
 
-module _ (steps : EachStepLeavesTheRest) (come : AggregatesComeAndGo) (by_reply : DescriptorsComeByReplies) (m n : State) (d p : ℕ) where
+module _ (steps : EachStepLeavesTheRest) (come : AggregatesComeAndGo) (by_reply : DescriptorsComeByReplies)
+    (m n : State) (d p : ℕ) where
   other_domain : (e : ℕ) → e ≢ d → (d == e) ≡ false
   other_domain e differ = grind (arith, nat_tests, differ)
 
@@ -222,13 +235,21 @@ module _ (steps : EachStepLeavesTheRest) (come : AggregatesComeAndGo) (by_reply 
       leaves : Leaves m (event.Call d k) n
       leaves = steps.leaves m n (event.Call d k) r step
 
-      fd_stays : (e fd : ℕ) → e ≢ d → (o : Option Descriptor) → descriptor m e fd ≡ o → descriptor n e fd ≡ descriptor m e fd
-      fd_stays e fd differ None none = by_reply.none m n (event.Call d k) r e fd step none (fd_free m d p k r e fd is (other_domain e differ)) ∙ sym none
-      fd_stays e fd differ (Some x) opened = leaves.fds e fd x opened (no_touch m (event.Call d k) e fd (other_domain e differ)) ∙ sym opened
+      fd_stays : (e fd : ℕ) → e ≢ d → (o : Option Descriptor) → descriptor m e fd ≡ o
+          → descriptor n e fd ≡ descriptor m e fd
+      fd_stays e fd differ None none =
+          by_reply.none m n (event.Call d k) r e fd step none (fd_free m d p k r e fd is (other_domain e differ))
+          ∙ sym none
+      fd_stays e fd differ (Some x) opened =
+          leaves.fds e fd x opened (no_touch m (event.Call d k) e fd (other_domain e differ)) ∙ sym opened
 
-      agg_stays : (e a : ℕ) → e ≢ d → (o : Option (List ℕ)) → readable_at m e a ≡ o → readable_at n e a ≡ readable_at m e a
-      agg_stays e a differ None none = come.none m n (event.Call d k) r e a step none (agg_free m d p k r e a is (other_domain e differ)) ∙ sym none
-      agg_stays e a differ (Some bytes) readable = values_stay m n (event.Call d k) e a bytes (steps.values m n (event.Call d k) r step) readable (no_gift (event.Call d k) e a (other_domain e differ)) ∙ sym readable
+      agg_stays : (e a : ℕ) → e ≢ d → (o : Option (List ℕ)) → readable_at m e a ≡ o
+          → readable_at n e a ≡ readable_at m e a
+      agg_stays e a differ None none =
+          come.none m n (event.Call d k) r e a step none (agg_free m d p k r e a is (other_domain e differ)) ∙ sym none
+      agg_stays e a differ (Some bytes) readable =
+          values_stay m n (event.Call d k) e a bytes (steps.values m n (event.Call d k) r step) readable
+          (no_gift (event.Call d k) e a (other_domain e differ)) ∙ sym readable
 
   same : n ≡ m → LeavesAllBut m d p n
   same is = record {
@@ -243,7 +264,8 @@ module _ (steps : EachStepLeavesTheRest) (come : AggregatesComeAndGo) (by_reply 
     job_queue = λ j differ opened. ap (λ u. descriptor u d 0) is ∙ opened;
   }
 
-  turned : (t : Turn) (r : Reply) (yields : Bool) → ComesOf copying worker_turns m d t yields r n → ((k : Call) → t ≡ turn.Make k → keeps_to m d p k ≡ true) → LeavesAllBut m d p n
+  turned : (t : Turn) (r : Reply) (yields : Bool) → ComesOf copying worker_turns m d t yields r n
+      → ((k : Call) → t ≡ turn.Make k → keeps_to m d p k ≡ true) → LeavesAllBut m d p n
   turned turn.Yield r yields comes keeps = same comes.2
   turned (turn.Make k) r yields comes keeps = called k r comes.1 (keeps k refl)
 
@@ -259,7 +281,8 @@ pub record MakesCall (w v : Worker) (k : Call) (step : Step) : Type 0 where
   pub step_is : v.step ≡ step
   pub asked : v.standing ≡ standing.Asked
 
-makes : (w v x : Worker) (k : Call) (step : Step) → turn.Make k ≡ turn.Make (call_at w.job step) → v ≡ x → x.job ≡ w.job → x.step ≡ step → x.standing ≡ standing.Asked → MakesCall w v k step
+makes : (w v x : Worker) (k : Call) (step : Step) → turn.Make k ≡ turn.Make (call_at w.job step) → v ≡ x → x.job ≡ w.job
+    → x.step ≡ step → x.standing ≡ standing.Asked → MakesCall w v k step
 makes w v x k step call_is is job_is step_is asked = record {
   call_is = made_is k (call_at w.job step) call_is;
   job_is = ap (λ (y : Worker). y.job) is ∙ job_is;
@@ -267,36 +290,45 @@ makes w v x k step call_is is job_is step_is asked = record {
   asked = ap (λ (y : Worker). y.standing) is ∙ asked;
 }
 
-pub makes_call : (w v : Worker) (k : Call) (l : Reply) (readable : ℕ → Option (List ℕ)) (s : Standing) → w.standing ≡ s → is_over s ≡ false
-    → (s ≡ standing.Asked → is_given w.step.phase l ≡ false) → works_as s w l readable (turn.Make k) v → MakesCall w v k (filed_step s w readable l)
+pub makes_call : (w v : Worker) (k : Call) (l : Reply) (readable : ℕ → Option (List ℕ)) (s : Standing) → w.standing ≡ s
+    → is_over s ≡ false
+    → (s ≡ standing.Asked → is_given w.step.phase l ≡ false) → works_as s w l readable (turn.Make k) v
+    → MakesCall w v k (filed_step s w readable l)
 makes_call w v k l readable standing.Over is goes un did = absurd (cc (goes))
-makes_call w v k l readable standing.Asks is goes un did = makes w v (record w { standing = standing.Asked }) k w.step did.0 did.1 refl refl refl
+makes_call w v k l readable standing.Asks is goes un did =
+    makes w v (record w { standing = standing.Asked }) k w.step did.0 did.1 refl refl refl
 makes_call w v k l readable standing.Asked is goes un did = filed w.step.phase l (un refl) did
   where
     on : (o : Option Step) → proceeds w o (turn.Make k) v → MakesCall w v k (or_again o w.step)
     on (Some step) did = makes w v (record w { step = step }) k step did.0 did.1 refl refl is
     on None did = (let e = did.0 in absurd (cc (e)))
 
-    filed : (x : Phase) (y : Reply) → is_given x y ≡ false → files w x y readable (turn.Make k) v → MakesCall w v k (or_again (after_reply w.job w.step readable y) w.step)
+    filed : (x : Phase) (y : Reply) → is_given x y ≡ false → files w x y readable (turn.Make k) v
+        → MakesCall w v k (or_again (after_reply w.job w.step readable y) w.step)
     filed phase.Waits (reply.Agg a) given did = absurd (cc (given))
     filed x y given did = on (after_reply w.job w.step readable y) did
 
 -- a step that it is at keeps to files, and to the pipe of its output
-line_keeps : (m : State) (d p : ℕ) (job : Task) (l : Option Line) → is_but p (descriptor m d job.fd) ≡ true → keeps_to m d p (next_call job l) ≡ true
+line_keeps : (m : State) (d p : ℕ) (job : Task) (l : Option Line) → is_but p (descriptor m d job.fd) ≡ true
+    → keeps_to m d p (next_call job l) ≡ true
 line_keeps m d p job None is = is
 line_keeps m d p job (Some (line.Cat name)) is = refl
 line_keeps m d p job (Some (line.Wc name)) is = refl
 line_keeps m d p job o is = refl
 
-begin_keeps : (m : State) (d p : ℕ) (job : Task) (x : Collected) (l : Option Line) (t : Bool) → is_but p (descriptor m d job.fd) ≡ true → keeps_to m d p (if t then call.AggMake x.text else next_call job l) ≡ true
+begin_keeps : (m : State) (d p : ℕ) (job : Task) (x : Collected) (l : Option Line) (t : Bool)
+    → is_but p (descriptor m d job.fd) ≡ true → keeps_to m d p (if t then call.AggMake x.text else next_call job l)
+    ≡ true
 begin_keeps m d p job x l true is = refl
 begin_keeps m d p job x l false is = line_keeps m d p job l is
 
-output_is : (m : State) (d p fd : ℕ) → descriptor m d fd ≡ Some (on.WriteEnd p) → (is_but p (descriptor m d fd) ≡ true) × (is_file (descriptor m d fd) ≡ false)
+output_is : (m : State) (d p fd : ℕ) → descriptor m d fd ≡ Some (on.WriteEnd p) → (is_but p (descriptor m d fd) ≡ true)
+    × (is_file (descriptor m d fd) ≡ false)
 unfolding is_but
 output_is m d p fd opened = (ap (λ o. is_but p o) opened ∙ grind (arith, nat_tests), ap (λ o. is_file o) opened)
 
-file_is : (m : State) (d p fd f at : ℕ) → descriptor m d fd ≡ Some (on.File f at Read) → is_but p (descriptor m d fd) ≡ true
+file_is : (m : State) (d p fd f at : ℕ) → descriptor m d fd ≡ Some (on.File f at Read)
+    → is_but p (descriptor m d fd) ≡ true
 unfolding is_but
 file_is m d p fd f at opened = ap (λ o. is_but p o) opened
 
@@ -305,11 +337,13 @@ both true false one two = refl
 both true true one two = absurd (cc (two))
 both false b one two = absurd (cc (one))
 
-step_keeps : (m : State) (d p : ℕ) (job : Task) (x : Collected) (begun : ℕ) (y : Phase) → descriptor m d job.fd ≡ Some (on.WriteEnd p) → Needs m d y → keeps_to m d p (phase_call job x begun y) ≡ true
+step_keeps : (m : State) (d p : ℕ) (job : Task) (x : Collected) (begun : ℕ) (y : Phase)
+    → descriptor m d job.fd ≡ Some (on.WriteEnd p) → Needs m d y → keeps_to m d p (phase_call job x begun y) ≡ true
 step_keeps m d p job x begun phase.Waits opened h = absurd h
 step_keeps m d p job x begun (phase.Skips a) opened h = absurd h
 step_keeps m d p job x begun (phase.Breaks a) opened h = absurd h
-step_keeps m d p job x begun phase.Runs opened h = begin_keeps m d p job x (slice_get job.lines begun) (expected_now job x begun) (output_is m d p job.fd opened).0
+step_keeps m d p job x begun phase.Runs opened h =
+    begin_keeps m d p job x (slice_get job.lines begun) (expected_now job x begun) (output_is m d p job.fd opened).0
 step_keeps m d p job x begun (phase.Reads file u) opened h = file_is m d p file h.number h.place h.open_on
 step_keeps m d p job x begun (phase.Shuts file a) opened h = file_is m d p file h.0.0 h.0.1 h.0.2
 step_keeps m d p job x begun (phase.ShutsToSay file s) opened h = file_is m d p file h.0 h.1 h.2
@@ -317,78 +351,122 @@ step_keeps m d p job x begun (phase.Writes a) opened h = (let o = output_is m d 
 step_keeps m d p job x begun y opened h = refl
 
 -- one that runs was given no text, or it would wait
-given_waits : (m : State) (d : ℕ) (x : Phase) (y : Reply) (w : Worker) (readable : ℕ → Option (List ℕ)) → w.step.phase ≡ x → Needs m d (or_again (after_phase readable w.job w.step.piece w.step.begun x y) w.step).phase → is_given x y ≡ false
+given_waits : (m : State) (d : ℕ) (x : Phase) (y : Reply) (w : Worker) (readable : ℕ → Option (List ℕ))
+    → w.step.phase ≡ x → Needs m d (or_again (after_phase readable w.job w.step.piece w.step.begun x y) w.step).phase
+    → is_given x y ≡ false
 given_waits m d phase.Waits (reply.Agg a) w readable at h = absurd (subst (λ (z : Phase). Needs m d z) at h)
 given_waits m d x y w readable at h = refl
 
-pub run_is_not_given : (m : State) (d : ℕ) (w : Worker) (l : Reply) (readable : ℕ → Option (List ℕ)) (s : Standing) → s ≡ standing.Asked → Needs m d (filed_step s w readable l).phase → is_given w.step.phase l ≡ false
-run_is_not_given m d w l readable s asked h = given_waits m d w.step.phase l w readable refl (subst (λ (z : Standing). Needs m d (filed_step z w readable l).phase) asked h)
+pub run_is_not_given : (m : State) (d : ℕ) (w : Worker) (l : Reply) (readable : ℕ → Option (List ℕ)) (s : Standing)
+    → s ≡ standing.Asked → Needs m d (filed_step s w readable l).phase → is_given w.step.phase l ≡ false
+run_is_not_given m d w l readable s asked h =
+    given_waits m d w.step.phase l w readable refl
+    (subst (λ (z : Standing). Needs m d (filed_step z w readable l).phase) asked h)
 
 module _ (steps : EachStepLeavesTheRest) (come : AggregatesComeAndGo) (by_reply : DescriptorsComeByReplies) where
   -- of a worker that lives: whichever call it makes keeps to the pipe
-  quiet : (m n : State) (p : ℕ) (process_slot next : ProcessSlot Worker) (yields : Bool) (r : Reply) → is_live m process_slot.by ≡ true
-      → ((k : Call) (v : Worker) → works process_slot.process process_slot.last (readable_at m process_slot.by) (turn.Make k) v → keeps_to m process_slot.by p k ≡ true)
+  quiet : (m n : State) (p : ℕ) (process_slot next : ProcessSlot Worker) (yields : Bool) (r : Reply)
+      → is_live m process_slot.by ≡ true
+      → ((k : Call) (v : Worker)
+      → works process_slot.process process_slot.last (readable_at m process_slot.by) (turn.Make k) v
+      → keeps_to m process_slot.by p k ≡ true)
       → ProcessSlotTurn copying worker_turns m process_slot yields r n next → LeavesAllBut m process_slot.by p n
-  quiet m n p process_slot next yields r live keeps (inl starved) = same steps come by_reply m n process_slot.by p starved.machine_stays
+  quiet m n p process_slot next yields r live keeps (inl starved) =
+      same steps come by_reply m n process_slot.by p starved.machine_stays
   quiet m n p process_slot next yields r live keeps (inr did) =
-      let goes = subst (λ (l : ℕ → Option (List ℕ)). works process_slot.process process_slot.last l did.turn next.process) (readable-live m process_slot.by live) did.proceeds in
+      let goes =
+      subst (λ (l : ℕ → Option (List ℕ)). works process_slot.process process_slot.last l did.turn next.process)
+      (readable-live m process_slot.by live) did.proceeds in
       turned steps come by_reply m n process_slot.by p did.turn r yields did.comes
-      (λ k is. keeps k next.process (subst (λ (t : Turn). works process_slot.process process_slot.last (readable_at m process_slot.by) t next.process) is goes))
+      (λ k is. keeps k next.process
+      (subst (λ (t : Turn). works process_slot.process process_slot.last (readable_at m process_slot.by) t
+      next.process) is goes))
 
-  free_keeps : (m : State) (j : ℕ) (process_slot : ProcessSlot Worker) → IsFree m process_slot → descriptor m process_slot.by 0 ≡ Some (on.ReadEnd j)
-      → (k : Call) (v : Worker) → works process_slot.process process_slot.last (readable_at m process_slot.by) (turn.Make k) v → k ≡ call.IolRead 0 65536
+  free_keeps : (m : State) (j : ℕ) (process_slot : ProcessSlot Worker) → IsFree m process_slot
+      → descriptor m process_slot.by 0 ≡ Some (on.ReadEnd j)
+      → (k : Call) (v : Worker)
+      → works process_slot.process process_slot.last (readable_at m process_slot.by) (turn.Make k) v
+      → k ≡ call.IolRead 0 65536
   free_keeps m j process_slot free opened k v did =
       let w : Worker = process_slot.process in
       let step : Step = filed_step w.standing w (readable_at m process_slot.by) process_slot.last in
-      (makes_call w v k process_slot.last (readable_at m process_slot.by) w.standing refl free.not_over free.not_given did).call_is ∙ ap (λ (x : Phase). phase_call w.job step.piece step.begun x) free.waits
+      (makes_call w v k process_slot.last (readable_at m process_slot.by) w.standing refl free.not_over free.not_given
+      did).call_is ∙ ap (λ (x : Phase). phase_call w.job step.piece step.begun x) free.waits
 
   job_queue_is : (m : State) (d j : ℕ) → descriptor m d 0 ≡ Some (on.ReadEnd j) → is_but j (descriptor m d 0) ≡ true
   unfolding is_but
   job_queue_is m d j opened = ap (λ o. is_but j o) opened ∙ grind (arith, nat_tests)
 
-  free : (m n : State) (j : ℕ) (process_slot next : ProcessSlot Worker) (yields : Bool) (r : Reply) → is_live m process_slot.by ≡ true
-      → IsFree m process_slot → descriptor m process_slot.by 0 ≡ Some (on.ReadEnd j) → ProcessSlotTurn copying worker_turns m process_slot yields r n next
+  free : (m n : State) (j : ℕ) (process_slot next : ProcessSlot Worker) (yields : Bool) (r : Reply)
+      → is_live m process_slot.by ≡ true
+      → IsFree m process_slot → descriptor m process_slot.by 0 ≡ Some (on.ReadEnd j)
+      → ProcessSlotTurn copying worker_turns m process_slot yields r n next
       → LeavesAllBut m process_slot.by j n × (descriptor n process_slot.by 0 ≡ Some (on.ReadEnd j))
   free m n j process_slot next yields r live is_free opened did = (
-    quiet m n j process_slot next yields r live (λ k v goes. ap (λ c. keeps_to m process_slot.by j c) (free_keeps m j process_slot is_free opened k v goes) ∙ job_queue_is m process_slot.by j opened) did,
+    quiet m n j process_slot next yields r live
+        (λ k v goes. ap (λ c. keeps_to m process_slot.by j c) (free_keeps m j process_slot is_free opened k v goes)
+        ∙ job_queue_is m process_slot.by j opened) did,
     kept did,
   )
     where
-      read : (t : Turn) (y : Bool) → ComesOf copying worker_turns m process_slot.by t y r n → ((k : Call) → t ≡ turn.Make k → k ≡ call.IolRead 0 65536) → descriptor n process_slot.by 0 ≡ Some (on.ReadEnd j)
+      read : (t : Turn) (y : Bool) → ComesOf copying worker_turns m process_slot.by t y r n
+          → ((k : Call) → t ≡ turn.Make k → k ≡ call.IolRead 0 65536)
+          → descriptor n process_slot.by 0 ≡ Some (on.ReadEnd j)
       read turn.Yield y comes is = ap (λ u. descriptor u process_slot.by 0) comes.2 ∙ opened
       read (turn.Make k) y comes is =
           let step = subst (λ c. StepsTo m (event.Call process_slot.by c) r n) (is k refl) comes.1 in
-          (steps.leaves m n (event.Call process_slot.by (call.IolRead 0 65536)) r step).fds process_slot.by 0 (on.ReadEnd j) opened (no_file_end m process_slot.by j 0 j opened)
+          (steps.leaves m n (event.Call process_slot.by (call.IolRead 0 65536)) r step).fds process_slot.by 0
+          (on.ReadEnd j) opened (no_file_end m process_slot.by j 0 j opened)
 
-      kept : ProcessSlotTurn copying worker_turns m process_slot yields r n next → descriptor n process_slot.by 0 ≡ Some (on.ReadEnd j)
+      kept : ProcessSlotTurn copying worker_turns m process_slot yields r n next
+          → descriptor n process_slot.by 0 ≡ Some (on.ReadEnd j)
       kept (inl starved) = ap (λ u. descriptor u process_slot.by 0) starved.machine_stays ∙ opened
       kept (inr did) =
-          let goes = subst (λ (l : ℕ → Option (List ℕ)). works process_slot.process process_slot.last l did.turn next.process) (readable-live m process_slot.by live) did.proceeds in
+          let goes =
+          subst (λ (l : ℕ → Option (List ℕ)). works process_slot.process process_slot.last l did.turn next.process)
+          (readable-live m process_slot.by live) did.proceeds in
           read did.turn yields did.comes
-          (λ k is. free_keeps m j process_slot is_free opened k next.process (subst (λ (t : Turn). works process_slot.process process_slot.last (readable_at m process_slot.by) t next.process) is goes))
+          (λ k is. free_keeps m j process_slot is_free opened k next.process
+          (subst (λ (t : Turn). works process_slot.process process_slot.last (readable_at m process_slot.by) t
+          next.process) is goes))
 
-  begins : (m n : State) (p : ℕ) (process_slot next : ProcessSlot Worker) (yields : Bool) (r : Reply) (unseen : List Outcome → List ℕ)
-      → HasRead m p process_slot unseen → ProcessSlotTurn copying worker_turns m process_slot yields r n next → LeavesAllBut m process_slot.by p n
-  begins m n p process_slot next yields r unseen h did = quiet m n p process_slot next yields r h.begins.feeds.live keeps did
+  begins : (m n : State) (p : ℕ) (process_slot next : ProcessSlot Worker) (yields : Bool) (r : Reply)
+      (unseen : List Outcome → List ℕ)
+      → HasRead m p process_slot unseen → ProcessSlotTurn copying worker_turns m process_slot yields r n next
+      → LeavesAllBut m process_slot.by p n
+  begins m n p process_slot next yields r unseen h did =
+      quiet m n p process_slot next yields r h.begins.feeds.live keeps did
     where
-      keeps : (k : Call) (v : Worker) → works process_slot.process process_slot.last (readable_at m process_slot.by) (turn.Make k) v → keeps_to m process_slot.by p k ≡ true
+      keeps : (k : Call) (v : Worker)
+          → works process_slot.process process_slot.last (readable_at m process_slot.by) (turn.Make k) v
+          → keeps_to m process_slot.by p k ≡ true
       keeps k v goes =
           let w : Worker = process_slot.process in
-          let filed = subst (λ (s : Standing). works_as s w process_slot.last (readable_at m process_slot.by) (turn.Make k) v) h.asked goes in
+          let filed =
+          subst (λ (s : Standing). works_as s w process_slot.last (readable_at m process_slot.by) (turn.Make k) v)
+          h.asked goes in
           let took = subst (λ (l : Reply). files w phase.Waits l (readable_at m process_slot.by) (turn.Make k) v) h.last
-          (subst (λ (x : Phase). files w x process_slot.last (readable_at m process_slot.by) (turn.Make k) v) h.waits filed) in
+          (subst (λ (x : Phase). files w x process_slot.last (readable_at m process_slot.by) (turn.Make k) v) h.waits
+          filed) in
           ap (λ c. keeps_to m process_slot.by p c) (made_is k (call.AggDrop h.agg) took.0)
 
-  runs : (m n : State) (p : ℕ) (process_slot next : ProcessSlot Worker) (yields : Bool) (r : Reply) (unseen : List Outcome → List ℕ)
-      → IsRunning m p process_slot unseen → ProcessSlotTurn copying worker_turns m process_slot yields r n next → LeavesAllBut m process_slot.by p n
+  runs : (m n : State) (p : ℕ) (process_slot next : ProcessSlot Worker) (yields : Bool) (r : Reply)
+      (unseen : List Outcome → List ℕ)
+      → IsRunning m p process_slot unseen → ProcessSlotTurn copying worker_turns m process_slot yields r n next
+      → LeavesAllBut m process_slot.by p n
   runs m n p process_slot next yields r unseen i did = quiet m n p process_slot next yields r i.feeds.live keeps did
     where
-      keeps : (k : Call) (v : Worker) → works process_slot.process process_slot.last (readable_at m process_slot.by) (turn.Make k) v → keeps_to m process_slot.by p k ≡ true
+      keeps : (k : Call) (v : Worker)
+          → works process_slot.process process_slot.last (readable_at m process_slot.by) (turn.Make k) v
+          → keeps_to m process_slot.by p k ≡ true
       keeps k v goes =
           let w : Worker = process_slot.process in
           let step : Step = filed_step w.standing w (readable_at m process_slot.by) process_slot.last in
-          let is = makes_call w v k process_slot.last (readable_at m process_slot.by) w.standing refl i.not_over (λ asked. run_is_not_given m process_slot.by w process_slot.last (readable_at m process_slot.by) w.standing asked i.feeds.needs) goes in
-          ap (λ c. keeps_to m process_slot.by p c) is.call_is ∙ step_keeps m process_slot.by p w.job step.piece step.begun step.phase i.feeds.open_on i.feeds.needs
+          let is = makes_call w v k process_slot.last (readable_at m process_slot.by) w.standing refl i.not_over
+          (λ asked. run_is_not_given m process_slot.by w process_slot.last (readable_at m process_slot.by)
+          w.standing asked i.feeds.needs) goes in
+          ap (λ c. keeps_to m process_slot.by p c) is.call_is
+          ∙ step_keeps m process_slot.by p w.job step.piece step.begun step.phase i.feeds.open_on i.feeds.needs
 
 pub workers_are_quiet : EachStepLeavesTheRest → AggregatesComeAndGo → DescriptorsComeByReplies → WorkersAreQuiet
 workers_are_quiet steps come by_reply = record {

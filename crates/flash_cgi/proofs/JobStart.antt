@@ -1,5 +1,6 @@
 -- A worker takes its job.
-use Rattle.std.proofs.Common.{◌≡◌, ◌≢◌, ℕ, ◌+◌, ◌==◌, List, [], ◌∷◌, ◌++◌, length, take, cond, ap, ◌∙◌, refl, sym, arith, Option, Some, true, false, Bool}
+use Rattle.std.proofs.Common.{◌≡◌, ◌≢◌, ℕ, ◌+◌, ◌==◌, List, [], ◌∷◌, ◌++◌, length, take, cond, ap, ◌∙◌, refl, sym}
+use Rattle.std.proofs.Common.{arith, Option, Some, true, false, Bool}
 use Rattle.std.specs.Prelude.{◌&&◌, ◌||◌}
 use Rattle.std.specs.List.{AllByRecursion, list_any, prefix_len}
 use Rattle.std.proofs.lemmas.List.{take_all, length-map}
@@ -40,27 +41,47 @@ last_false true c e = e
 last_false false c e = refl
 
 -- it awaits the same job, whatever became of the machine
-abbrev pub awaits_still : (m n : State) (p : ℕ) (process_slot next : ProcessSlot Worker) (was is : List Outcome → List ℕ) → (h : Awaits m p process_slot was) → IsFree n next → HasJob n next.by h.jobs p h.fd h.query h.script h.lines
+abbrev pub awaits_still : (m n : State) (p : ℕ) (process_slot next : ProcessSlot Worker) (was is : List Outcome
+    → List ℕ) → (h : Awaits m p process_slot was) → IsFree n next
+    → HasJob n next.by h.jobs p h.fd h.query h.script h.lines
     → ((os : List Outcome) → is os ≡ bytes_of (pipe_at n p).queue ++ output h.query h.lines os) → Awaits n p next is
-awaits_still m n p process_slot next was is h free has unseen = record { jobs = h.jobs; fd = h.fd; query = h.query; script = h.script; lines = h.lines; free = free; has = has; is = unseen }
+awaits_still m n p process_slot next was is h free has unseen =
+    record {
+      jobs = h.jobs;
+      fd = h.fd;
+      query = h.query;
+      script = h.script;
+      lines = h.lines;
+      free = free;
+      has = has;
+      is =
+          unseen;
+    }
 
 -- what waits for it is its job
-pub waits_as_job : (m : State) (d j p fd : ℕ) (query script : List ℕ) (lines : List Line) → HasJob m d j p fd query script lines
+pub waits_as_job : (m : State) (d j p fd : ℕ) (query script : List ℕ) (lines : List Line)
+    → HasJob m d j p fd query script lines
     → job_of (bytes_of (pipe_at m j).queue) ≡ Some (record { fd = fd; query = query; lines = lines })
 waits_as_job m d j p fd query script lines has =
     let queue : Text = (pipe_at m j).queue in
     let size = length-map queue (λ b. b.0) in
     let same = ap (λ (l : List ℕ). length l) has.text in
     let short = job_is_short fd query script (omega (arith, size, same, has.short)) in
-    ap job_of has.text ∙ (job_is_read fd query script has.fds short.0 short.1 ∙ ap (λ (o : Option (List Line)). task_of fd query o) has.is_script)
+    ap job_of has.text
+    ∙ (job_is_read fd query script has.fds short.0 short.1
+    ∙ ap (λ (o : Option (List Line)). task_of fd query o) has.is_script)
 
 -- the read of it leaves nothing behind
-pub all_taken : (m n : State) (d j p fd a : ℕ) (query script : List ℕ) (lines : List Line) → HasJob m d j p fd query script lines
+pub all_taken : (m n : State) (d j p fd a : ℕ) (query script : List ℕ) (lines : List Line)
+    → HasJob m d j p fd query script lines
     → TakesFromPipe m d j 65536 a n → (pipe_at n j).queue ≡ []
 all_taken m n d j p fd a query script lines has takes =
     let queue : Text = (pipe_at m j).queue in
-    let all : takes.text ≡ queue = takes.most ∙ (ap (λ (t : Text). admitted (may_read m d) t) (take_all 65536 queue has.short) ∙ all_admitted (may_read m d) queue has.readable) in
-    ap (λ (x : Pipe). x.queue) takes.pipe ∙ no_rest queue takes.rest (ap (λ (t : Text). t ++ takes.rest) (sym all) ∙ sym takes.was)
+    let all : takes.text ≡ queue =
+    takes.most ∙ (ap (λ (t : Text). admitted (may_read m d) t) (take_all 65536 queue has.short)
+    ∙ all_admitted (may_read m d) queue has.readable) in
+    ap (λ (x : Pipe). x.queue) takes.pipe ∙ no_rest queue takes.rest (ap (λ (t : Text). t ++ takes.rest) (sym all)
+    ∙ sym takes.was)
   where
     no_rest : (t rest : Text) → t ++ rest ≡ t → rest ≡ []
     no_rest [] rest e = e
@@ -71,21 +92,34 @@ all_taken m n d j p fd a query script lines has takes =
 
 -- nothing is collected yet
 nothing_left : (readable : ℕ → Option (List ℕ)) → IsRest readable nothing
-nothing_left readable = record { piece = record { files = refl; within = tt; next = tt }; no_text = refl; no_places = refl }
+nothing_left readable = record {
+  piece = record { files = refl; within = tt; next = tt };
+  no_text = refl;
+  no_places =
+      refl;
+}
 
 pub job_is_taken : EachStepLeavesTheRest → JobsAreTaken
 job_is_taken steps m n d j p fd a query script lines has step takes =
     let queue : Text = (pipe_at m j).queue in
-    let all : takes.text ≡ queue = takes.most ∙ (ap (λ (t : Text). admitted (may_read m d) t) (take_all 65536 queue has.short) ∙ all_admitted (may_read m d) queue has.readable) in
-    let leaves : Leaves m (event.Call d (call.IolRead 0 65536)) n = steps.leaves m n (event.Call d (call.IolRead 0 65536)) (reply.Agg a) step in
-    let pipe : pipe_at n p ≡ pipe_at m p = leaves.pipes p (ap (λ (x : Option Descriptor). list_any (is_end p) (x ∷ []) || false) has.jobs ∙ ap (λ b. (b || false) || false) (not-equal j p has.apart)) in
+    let all : takes.text ≡ queue =
+    takes.most ∙ (ap (λ (t : Text). admitted (may_read m d) t) (take_all 65536 queue has.short)
+    ∙ all_admitted (may_read m d) queue has.readable) in
+    let leaves : Leaves m (event.Call d (call.IolRead 0 65536)) n =
+    steps.leaves m n (event.Call d (call.IolRead 0 65536)) (reply.Agg a) step in
+    let pipe : pipe_at n p ≡ pipe_at m p =
+    leaves.pipes p (ap (λ (x : Option Descriptor). list_any (is_end p) (x ∷ []) || false) has.jobs
+    ∙ ap (λ b. (b || false) || false) (not-equal j p has.apart)) in
     record {
       bytes = bytes_of takes.text;
       is_readable = takes.is_readable;
       is_job = ap (λ (t : Text). job_of (bytes_of t)) all ∙ waits_as_job m d j p fd query script lines has;
       feeds = record {
         live = leaves.lives d has.live refl;
-        open_on = leaves.fds d fd (on.WriteEnd p) has.open_on (last_false ((d == d) && (0 == fd)) (is_file (descriptor m d 0)) (ap (λ (x : Option Descriptor). is_file x) has.jobs));
+        open_on =
+            leaves.fds d fd (on.WriteEnd p) has.open_on
+            (last_false ((d == d) && (0 == fd)) (is_file (descriptor m d 0))
+            (ap (λ (x : Option Descriptor). is_file x) has.jobs));
         needs = (bytes_of takes.text, takes.is_readable);
         holds = (nothing_left (readable_at n d), (λ e. absurd (cc (e)), λ e. absurd (cc (e))));
         is = λ os. ap (λ (x : Pipe). bytes_of x.queue ++ output query lines os) (sym pipe);

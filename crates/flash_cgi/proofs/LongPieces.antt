@@ -1,5 +1,6 @@
 -- The bytes that a worker writes before a line are at least the minimum.
-use Rattle.std.proofs.Common.{inl, inr, ◌⊎◌, ◌≡◌, ◌≢◌, ℕ, ◌+◌, ◌≤◌, List, [], ◌∷◌, ◌++◌, length, take, drop, refl, sym, ap, ◌∙◌, subst, arith, Option, Some, None, Bool, true, false, length-append, length-drop}
+use Rattle.std.proofs.Common.{inl, inr, ◌⊎◌, ◌≡◌, ◌≢◌, ℕ, ◌+◌, ◌≤◌, List, [], ◌∷◌, ◌++◌, length, take, drop, refl, sym}
+use Rattle.std.proofs.Common.{ap, ◌∙◌, subst, arith, Option, Some, None, Bool, true, false, length-append, length-drop}
 use Rattle.std.specs.Prelude.{◌||◌, is_some, unwrap_or}
 use Rattle.std.proofs.lemmas.List.{length-take}
 use Rattle.std.proofs.lemmas.Bool.Decides.{nat_tests}
@@ -9,7 +10,8 @@ use Rattle.flash_cgi.specs.declared.line.Line.{Line}
 use Rattle.flash_cgi.specs.declared.piece.Place.{Place}
 
 -- all bytes stand in it
-length-interleaved : (text files : List ℕ) (ps : List Place) → HavePlaces ps (length files) → length (interleaved text ps files) ≡ length text + length files
+length-interleaved : (text files : List ℕ) (ps : List Place) → HavePlaces ps (length files)
+    → length (interleaved text ps files) ≡ length text + length files
 length-interleaved text files [] h = omega (arith, h)
 length-interleaved text files (p ∷ ps) h =
     let front = length-take p.from files in
@@ -17,8 +19,11 @@ length-interleaved text files (p ∷ ps) h =
     let before = length-take p.at text in
     let behind = length-drop p.at text in
     let from_is : length (take p.from files) ≡ p.from = (let le = h.0 in omega (arith, front, le)) in
-    let rest = length-interleaved (take p.at text) (take p.from files) ps (subst (λ (k : ℕ). HavePlaces ps k) (sym from_is) h.1) in
-    let all = length-append (interleaved (take p.at text) ps (take p.from files)) (drop p.from files ++ drop p.at text) in
+    let rest =
+    length-interleaved (take p.at text) (take p.from files) ps
+    (subst (λ (k : ℕ). HavePlaces ps k) (sym from_is) h.1) in
+    let all =
+    length-append (interleaved (take p.at text) ps (take p.from files)) (drop p.from files ++ drop p.at text) in
     let ends = length-append (drop p.from files) (drop p.at text) in
     let le = h.0 in
     omega (arith, all, ends, rest, from_is, back, before, behind, le)
@@ -31,7 +36,8 @@ no_none : (o : Option ℕ) → is_some o ≡ true → o ≢ None
 no_none None is none = absurd (cc (is))
 no_none (Some a) is none = absurd (cc (none))
 
-long : (readable : ℕ → Option (List ℕ)) (x : Collected) (l : Line) → IsCounted readable x → is_expected x (Some l) ≡ true → (4064 ≤ length (collected readable x)) ⊎ (x.next ≢ None)
+long : (readable : ℕ → Option (List ℕ)) (x : Collected) (l : Line) → IsCounted readable x
+    → is_expected x (Some l) ≡ true → (4064 ≤ length (collected readable x)) ⊎ (x.next ≢ None)
 long readable x l h expected = by (either (is_full x) (is_some x.next) expected)
   where
     files : List ℕ
@@ -41,15 +47,19 @@ long readable x l h expected = by (either (is_full x) (is_some x.next) expected)
     by (inl full) = inl (
         let count = h.count in
         let most : 4064 ≤ length x.text + x.files = grind (arith, nat_tests, full) in
-        let all = length-interleaved x.text files x.places (subst (λ (k : ℕ). HavePlaces x.places k) h.count h.places) in
+        let all =
+        length-interleaved x.text files x.places (subst (λ (k : ℕ). HavePlaces x.places k) h.count h.places) in
         let both = length-append (interleaved x.text x.places files) (bytes_of_one readable x.next) in
         omega (arith, count, most, all, both))
     by (inr next) = inr (no_none x.next next)
 
-files_counted : (readable now : ℕ → Option (List ℕ)) (x : Collected) (a : ℕ) (bytes : List ℕ) → IsCounted readable x → now a ≡ Some (bytes_of_one readable x.held ++ bytes)
+files_counted : (readable now : ℕ → Option (List ℕ)) (x : Collected) (a : ℕ) (bytes : List ℕ) → IsCounted readable x
+    → now a ≡ Some (bytes_of_one readable x.held ++ bytes)
     → IsCounted now (with_file x a (length (bytes_of_one readable x.held)) (length bytes))
 files_counted readable now x a bytes h is = record {
-  count = sym (ap (λ (o : Option (List ℕ)). length (unwrap_or o [])) is ∙ length-append (bytes_of_one readable x.held) bytes);
+  count =
+      sym (ap (λ (o : Option (List ℕ)). length (unwrap_or o [])) is
+      ∙ length-append (bytes_of_one readable x.held) bytes);
   places = (omega arith, subst (λ (k : ℕ). HavePlaces x.places k) h.count h.places);
 }
 

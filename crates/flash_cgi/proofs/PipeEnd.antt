@@ -34,7 +34,8 @@ reports : CallsServeTheirDomain → (m n : State) (d j a : ℕ) → IsOrderly m 
     → ((pipe_at m j).queue ≡ []) × ((pipe_at m j).writing ≡ false)
 reports own m n d j a order opened step none =
     let takes : TakesFromPipe m d j 65536 a n = own.read_pipe m n d 0 j 65536 (reply.Agg a) order opened step in
-    let bytes : bytes_of takes.text ≡ [] = sym (ap (λ (l : Option (List ℕ)). unwrap_or l []) takes.is_readable) ∙ none in
+    let bytes : bytes_of takes.text ≡ [] = sym (ap (λ (l : Option (List ℕ)). unwrap_or l []) takes.is_readable)
+    ∙ none in
     takes.ended (omega arith) (no_text takes.text bytes)
 
 ends : (w v : Worker) (last : Reply) (readable : ℕ → Option (List ℕ)) (t : Turn) → (is : ReadNothing w last readable)
@@ -45,7 +46,9 @@ ends w v last readable t is did = (took.0, ap (λ (x : Worker). x.standing) took
     filed = subst (λ (s : Standing). works_as s w last readable t v) is.asked did
 
     after_reply_agg : takes w (bytes_at readable is.agg) is.agg t v
-    after_reply_agg = subst (λ (l : Reply). files w phase.Waits l readable t v) is.read (subst (λ (x : Phase). files w x last readable t v) is.waited filed)
+    after_reply_agg =
+        subst (λ (l : Reply). files w phase.Waits l readable t v) is.read
+        (subst (λ (x : Phase). files w x last readable t v) is.waited filed)
 
     took : takes w [] is.agg t v
     took = subst (λ (l : List ℕ). takes w l is.agg t v) is.nothing after_reply_agg
@@ -62,19 +65,24 @@ only w v last readable t goes did over = by w.standing refl goes did
     proceeds_so (Some step) is did = clash (record w { step = step }) did.1 (ap (λ (s : Standing). is_over s) is)
     proceeds_so None is did = clash (record w { standing = standing.Asks }) did.1 refl
 
-    with_one : (o : Option Task) (agg : ℕ) → w.standing ≡ standing.Asked → v ≡ with_job w o agg → ReadNothing w last readable
+    with_one : (o : Option Task) (agg : ℕ) → w.standing ≡ standing.Asked → v ≡ with_job w o agg
+        → ReadNothing w last readable
     with_one (Some job) agg is same = clash (with_job w (Some job) agg) same (ap (λ (s : Standing). is_over s) is)
     with_one None agg is same = clash (with_job w None agg) same (ap (λ (s : Standing). is_over s) is)
 
-    took : (agg : ℕ) (text : List ℕ) → w.step.phase ≡ phase.Waits → w.standing ≡ standing.Asked → last ≡ reply.Agg agg → bytes_at readable agg ≡ text → v ≡ with_text w text agg → ReadNothing w last readable
-    took agg [] waits asked is none same = record { agg = agg; waited = waits; asked = asked; read = is; nothing = none }
+    took : (agg : ℕ) (text : List ℕ) → w.step.phase ≡ phase.Waits → w.standing ≡ standing.Asked → last ≡ reply.Agg agg
+        → bytes_at readable agg ≡ text → v ≡ with_text w text agg → ReadNothing w last readable
+    took agg [] waits asked is none same =
+        record { agg = agg; waited = waits; asked = asked; read = is; nothing = none }
     took agg (b ∷ bs) waits asked is some same = with_one (job_of (b ∷ bs)) agg asked same
 
-    filed : (x : Phase) (l : Reply) → w.step.phase ≡ x → last ≡ l → w.standing ≡ standing.Asked → files w x l readable t v → ReadNothing w last readable
+    filed : (x : Phase) (l : Reply) → w.step.phase ≡ x → last ≡ l → w.standing ≡ standing.Asked
+        → files w x l readable t v → ReadNothing w last readable
     filed phase.Waits (reply.Agg agg) at is asked did = took agg (bytes_at readable agg) at asked is refl did.1
     filed x l at is asked did = proceeds_so (after_reply w.job w.step readable l) asked did
 
-    by : (s : Standing) → w.standing ≡ s → is_over s ≡ false → works_as s w last readable t v → ReadNothing w last readable
+    by : (s : Standing) → w.standing ≡ s → is_over s ≡ false → works_as s w last readable t v
+        → ReadNothing w last readable
     by standing.Over is goes did = absurd (cc)
     by standing.Asks is goes did = clash (record w { standing = standing.Asked }) did.1 refl
     by standing.Asked is goes did = filed w.step.phase last refl refl is did

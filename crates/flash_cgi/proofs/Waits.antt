@@ -1,5 +1,6 @@
 -- A worker's account preserves its condition when idle.
-use Rattle.std.proofs.Common.{◌≡◌, ℕ, zero, suc, ◌+◌, false, Option, Some, None, List, [], ◌∷◌, refl, sym, ap, subst, ◌∙◌, arith, nat_lt, if◌then◌else◌}
+use Rattle.std.proofs.Common.{◌≡◌, ℕ, zero, suc, ◌+◌, false, Option, Some, None, List, [], ◌∷◌, refl, sym, ap, subst}
+use Rattle.std.proofs.Common.{◌∙◌, arith, nat_lt, if◌then◌else◌}
 use Rattle.std.proofs.lemmas.Bool.Decides.{nat_tests}
 use Rattle.iol_core.specs.State.{State}
 use Rattle.iol_core.specs.Run.{StepsTo}
@@ -30,21 +31,25 @@ abbrev IsCallOf : Call → Worker → Standing → Type 0
 IsCallOf c v standing.Over = Unit {0}
 IsCallOf c v s = c ≡ call_at v.job v.step
 
-call_is : (w v : Worker) (c : Call) (l : Reply) (readable : ℕ → Option (List ℕ)) → works w l readable (turn.Make c) v → IsCallOf c v v.standing
+call_is : (w v : Worker) (c : Call) (l : Reply) (readable : ℕ → Option (List ℕ)) → works w l readable (turn.Make c) v
+    → IsCallOf c v v.standing
 call_is w v c l readable did = by w.standing did
   where
     any : (s : Standing) → c ≡ call_at v.job v.step → IsCallOf c v s
     any standing.Over is = tt
     any x is = is
 
-    made : (k : Call) (x : Worker) → turn.Make c ≡ turn.Make k → v ≡ x → k ≡ call_at x.job x.step → IsCallOf c v v.standing
-    made k x e is at = let same : c ≡ k = cc in any v.standing (same ∙ (at ∙ sym (ap (λ (y : Worker). call_at y.job y.step) is)))
+    made : (k : Call) (x : Worker) → turn.Make c ≡ turn.Make k → v ≡ x → k ≡ call_at x.job x.step
+        → IsCallOf c v v.standing
+    made k x e is at = let same : c ≡ k = cc in
+        any v.standing (same ∙ (at ∙ sym (ap (λ (y : Worker). call_at y.job y.step) is)))
 
     goes : (o : Option Step) → proceeds w o (turn.Make c) v → IsCallOf c v v.standing
     goes (Some step) did = made (call_at w.job step) (record w { step = step }) did.0 did.1 refl
     goes None did = (let e = did.0 in absurd (cc))
 
-    with_one : (o : Option Task) (agg : ℕ) → turn.Make c ≡ turn.Make (call.AggDrop agg) → v ≡ with_job w o agg → IsCallOf c v v.standing
+    with_one : (o : Option Task) (agg : ℕ) → turn.Make c ≡ turn.Make (call.AggDrop agg) → v ≡ with_job w o agg
+        → IsCallOf c v v.standing
     with_one (Some t) agg e is = made (call.AggDrop agg) (with_job w (Some t) agg) e is refl
     with_one None agg e is = made (call.AggDrop agg) (with_job w None agg) e is refl
 
@@ -67,7 +72,8 @@ Yields w v standing.Asks = ⊥
 Yields w v standing.Asked = v ≡ record w { standing = standing.Asks }
 Yields w v standing.Over = v ≡ w
 
-yield_is : (w v : Worker) (l : Reply) (readable : ℕ → Option (List ℕ)) → works w l readable turn.Yield v → Yields w v w.standing
+yield_is : (w v : Worker) (l : Reply) (readable : ℕ → Option (List ℕ)) → works w l readable turn.Yield v
+    → Yields w v w.standing
 yield_is w v l readable did = by w.standing did
   where
     goes : (o : Option Step) → proceeds w o turn.Yield v → v ≡ record w { standing = standing.Asks }
@@ -85,10 +91,13 @@ yield_is w v l readable did = by w.standing did
 
 -- what is claimed after one yield and after two, by where it stands
 module _ (m : State) (by : ℕ) where
-  stuck_called : (w : Worker) (c : Call) (s : Standing) → IsCallOf c w s → StepsTo m (event.Call by c) (reply.Refused WouldBlock) m → IsStuck m by w (reply.Refused WouldBlock) s
+  stuck_called : (w : Worker) (c : Call) (s : Standing) → IsCallOf c w s
+      → StepsTo m (event.Call by c) (reply.Refused WouldBlock) m → IsStuck m by w (reply.Refused WouldBlock) s
   stuck_called w c standing.Over is step = tt
-  stuck_called w c standing.Asks is step = subst (λ (k : Call). StepsTo m (event.Call by k) (reply.Refused WouldBlock) m) is step
-  stuck_called w c standing.Asked is step = (subst (λ (k : Call). StepsTo m (event.Call by k) (reply.Refused WouldBlock) m) is step, refl)
+  stuck_called w c standing.Asks is step =
+      subst (λ (k : Call). StepsTo m (event.Call by k) (reply.Refused WouldBlock) m) is step
+  stuck_called w c standing.Asked is step =
+      (subst (λ (k : Call). StepsTo m (event.Call by k) (reply.Refused WouldBlock) m) is step, refl)
 
   refused_stuck : (w : Worker) (l : Reply) (s : Standing) → IsStuck m by w l s → IsRefused m by w l s
   refused_stuck w l standing.Asked h = h
@@ -97,13 +106,17 @@ module _ (m : State) (by : ℕ) where
   -- a yield makes of what was refused what is stuck, and leaves what is stuck
   yields_once : (w v : Worker) (s : Standing) → w.standing ≡ s → Yields w v s → IsRefused m by v reply.Done v.standing
   yields_once w v standing.Asks is y = absurd y
-  yields_once w v standing.Asked is y = subst (λ (x : Standing). IsRefused m by v reply.Done x) (sym (ap (λ (x : Worker). x.standing) y)) tt
-  yields_once w v standing.Over is y = subst (λ (x : Standing). IsRefused m by v reply.Done x) (sym (ap (λ (x : Worker). x.standing) y ∙ is)) tt
+  yields_once w v standing.Asked is y =
+      subst (λ (x : Standing). IsRefused m by v reply.Done x) (sym (ap (λ (x : Worker). x.standing) y)) tt
+  yields_once w v standing.Over is y =
+      subst (λ (x : Standing). IsRefused m by v reply.Done x) (sym (ap (λ (x : Worker). x.standing) y ∙ is)) tt
 
-  yields_twice : (w v : Worker) (l : Reply) (s : Standing) → w.standing ≡ s → Yields w v s → IsRefused m by w l s → IsStuck m by v reply.Done v.standing
+  yields_twice : (w v : Worker) (l : Reply) (s : Standing) → w.standing ≡ s → Yields w v s → IsRefused m by w l s
+      → IsStuck m by v reply.Done v.standing
   yields_twice w v l standing.Asks is y h = absurd y
   yields_twice w v l standing.Asked is y h = subst (λ (x : Worker). IsStuck m by x reply.Done x.standing) (sym y) h.0
-  yields_twice w v l standing.Over is y h = subst (λ (x : Standing). IsStuck m by v reply.Done x) (sym (ap (λ (x : Worker). x.standing) y ∙ is)) tt
+  yields_twice w v l standing.Over is y h =
+      subst (λ (x : Standing). IsStuck m by v reply.Done x) (sym (ap (λ (x : Worker). x.standing) y ∙ is)) tt
 
 pub worker_quiesces : Quiesces HasWaited worker_turns
 worker_quiesces = record {
@@ -113,22 +126,38 @@ worker_quiesces = record {
 }
   where
     stays : (n : ℕ) → more_of_two (suc (suc n)) ≡ suc (suc n)
-    stays n = let e : nat_lt (suc (suc n)) 2 ≡ false = grind (arith, nat_tests) in ap (λ b. if b then suc (suc n) + 1 else suc (suc n)) e
+    stays n = let e : nat_lt (suc (suc n)) 2 ≡ false = grind (arith, nat_tests) in
+        ap (λ b. if b then suc (suc n) + 1 else suc (suc n)) e
 
-    blocks : (n by : ℕ) (p q : Worker) (l : Reply) (m : State) (c : Call) → works p l (readable_to m by) (turn.Make c) q → StepsTo m (event.Call by c) (reply.Refused WouldBlock) m → HasWaited n by q (reply.Refused WouldBlock) m
+    blocks : (n by : ℕ) (p q : Worker) (l : Reply) (m : State) (c : Call) → works p l (readable_to m by) (turn.Make c) q
+        → StepsTo m (event.Call by c) (reply.Refused WouldBlock) m → HasWaited n by q (reply.Refused WouldBlock) m
     blocks zero by p q l m c did step = tt
-    blocks (suc zero) by p q l m c did step = refused_stuck m by q (reply.Refused WouldBlock) q.standing (stuck_called m by q c q.standing (call_is p q c l (readable_to m by) did) step)
-    blocks (suc (suc n)) by p q l m c did step = stuck_called m by q c q.standing (call_is p q c l (readable_to m by) did) step
+    blocks (suc zero) by p q l m c did step =
+        refused_stuck m by q (reply.Refused WouldBlock) q.standing
+        (stuck_called m by q c q.standing (call_is p q c l (readable_to m by) did) step)
+    blocks (suc (suc n)) by p q l m c did step =
+        stuck_called m by q c q.standing (call_is p q c l (readable_to m by) did) step
 
-    yields : (n by : ℕ) (p q : Worker) (l : Reply) (m : State) → HasWaited n by p l m → works p l (readable_to m by) turn.Yield q → HasWaited (more_of_two n) by q reply.Done m
+    yields : (n by : ℕ) (p q : Worker) (l : Reply) (m : State) → HasWaited n by p l m
+        → works p l (readable_to m by) turn.Yield q → HasWaited (more_of_two n) by q reply.Done m
     yields zero by p q l m h did = yields_once m by p q p.standing refl (yield_is p q l (readable_to m by) did)
-    yields (suc zero) by p q l m h did = yields_twice m by p q l p.standing refl (yield_is p q l (readable_to m by) did) h
-    yields (suc (suc n)) by p q l m h did = subst (λ (k : ℕ). HasWaited k by q reply.Done m) (sym (stays n)) (yields_twice m by p q l p.standing refl (yield_is p q l (readable_to m by) did) (refused_stuck m by p l p.standing h))
+    yields (suc zero) by p q l m h did =
+        yields_twice m by p q l p.standing refl (yield_is p q l (readable_to m by) did) h
+    yields (suc (suc n)) by p q l m h did =
+        subst (λ (k : ℕ). HasWaited k by q reply.Done m) (sym (stays n))
+        (yields_twice m by p q l p.standing refl (yield_is p q l (readable_to m by) did)
+        (refused_stuck m by p l p.standing h))
 
 pub waiting_is_empty : RefusalsTellWhy → WaitingIsEmpty
-waiting_is_empty why m by j w last h waits goes opened = why.pipe_is_empty m m by 0 j 65536 opened (stuck w.standing goes h)
+waiting_is_empty why m by j w last h waits goes opened =
+    why.pipe_is_empty m m by 0 j 65536 opened (stuck w.standing goes h)
   where
-    stuck : (s : Standing) → is_over s ≡ false → IsStuck m by w last s → StepsTo m (event.Call by (call.IolRead 0 65536)) (reply.Refused WouldBlock) m
+    stuck : (s : Standing) → is_over s ≡ false → IsStuck m by w last s
+        → StepsTo m (event.Call by (call.IolRead 0 65536)) (reply.Refused WouldBlock) m
     stuck standing.Over goes h = absurd (cc)
-    stuck standing.Asks goes h = subst (λ (d : Phase). StepsTo m (event.Call by (phase_call w.job w.step.piece w.step.begun d)) (reply.Refused WouldBlock) m) waits h
-    stuck standing.Asked goes h = subst (λ (d : Phase). StepsTo m (event.Call by (phase_call w.job w.step.piece w.step.begun d)) (reply.Refused WouldBlock) m) waits h.0
+    stuck standing.Asks goes h =
+        subst (λ (d : Phase). StepsTo m (event.Call by (phase_call w.job w.step.piece w.step.begun d))
+        (reply.Refused WouldBlock) m) waits h
+    stuck standing.Asked goes h =
+        subst (λ (d : Phase). StepsTo m (event.Call by (phase_call w.job w.step.piece w.step.begun d))
+        (reply.Refused WouldBlock) m) waits h.0

@@ -41,7 +41,8 @@ pub record LeavesFiles (m : State) (d : ℕ) (n : State) : Type 0 where
 
 -- the bytes of its job pipe are unchanged until the worker reads them
 pub record LeavesJobs (m : State) (process_slot : ProcessSlot Worker) (n : State) : Type 0 where
-  pub same : (j : ℕ) → IsFree m process_slot → descriptor m process_slot.by 0 ≡ Some (on.ReadEnd j) → pipe_at n j ≡ pipe_at m j
+  pub same : (j : ℕ) → IsFree m process_slot → descriptor m process_slot.by 0 ≡ Some (on.ReadEnd j)
+      → pipe_at n j ≡ pipe_at m j
 
 -- Bytes removed from its output pipe were the front of the pending output. If files are unchanged, the outcomes to come
 -- are unchanged.
@@ -50,8 +51,10 @@ pub record Receives (m n : State) (p : ℕ) (process_slot : ProcessSlot Worker) 
   pub after : List Outcome → List ℕ
   pub splits : (os : List Outcome) → unseen os ≡ received ++ after os
   pub runs : RunsJob n p process_slot after
-  pub outcomes : LeavesFiles m process_slot.by n → outcomes_to_come n p process_slot after runs ≡ outcomes_to_come m p process_slot unseen was
-  pub reads : LeavesFiles m process_slot.by n → ReadsItsFile m p process_slot unseen was → ReadsItsFile n p process_slot after runs
+  pub outcomes : LeavesFiles m process_slot.by n
+      → outcomes_to_come n p process_slot after runs ≡ outcomes_to_come m p process_slot unseen was
+  pub reads : LeavesFiles m process_slot.by n → ReadsItsFile m p process_slot unseen was
+      → ReadsItsFile n p process_slot after runs
 
 -- Others leave a worker with its job unchanged, except for the front of its output pipe.
 pub record OthersReceive : Type 0 where
@@ -61,11 +64,14 @@ pub record OthersReceive : Type 0 where
   pub files : (m n : State) (d : ℕ) (e : Event) (r : Reply) → AreFiles m → StepsTo m e r n → changes_files m e ≡ false
       → ((q : ℕ) → admits_to e q ≡ false) → LeavesFiles m d n
   -- bytes of a pipe to which a worker writes are removed only from its front
-  pub front : (m n : State) (d p fd : ℕ) (e : Event) (r : Reply) → IsOrderly m → StepsTo m e r n → is_call_of e d ≡ false
+  pub front : (m n : State) (d p fd : ℕ) (e : Event) (r : Reply) → IsOrderly m → StepsTo m e r n
+      → is_call_of e d ≡ false
       → descriptor m d fd ≡ Some (on.WriteEnd p) → GoesFromFront m p n
-  pub gone : (m n : State) (p : ℕ) (process_slot : ProcessSlot Worker) (unseen : List Outcome → List ℕ) → LeavesWorker m process_slot.by n
+  pub gone : (m n : State) (p : ℕ) (process_slot : ProcessSlot Worker) (unseen : List Outcome → List ℕ)
+      → LeavesWorker m process_slot.by n
       → LeavesJobs m process_slot n → (was : RunsJob m p process_slot unseen) → (goes : GoesFromFront m p n)
       → Receives m n p process_slot unseen was (bytes_of goes.gone)
   -- a read of the pipe returns the bytes removed
-  pub received : (m n : State) (p by count a : ℕ) (bytes : List ℕ) → TakesFromPipe m by p count a n → readable_at n by a ≡ Some bytes
+  pub received : (m n : State) (p by count a : ℕ) (bytes : List ℕ) → TakesFromPipe m by p count a n
+      → readable_at n by a ≡ Some bytes
       → (goes : GoesFromFront m p n) → bytes_of goes.gone ≡ bytes

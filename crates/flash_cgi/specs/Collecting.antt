@@ -1,5 +1,6 @@
 -- The buffered output of a worker: a text, with bytes of files by reference.
-use Rattle.std.specs.Prelude.{ℕ, ◌+◌, ◌==◌, ◌&&◌, ◌||◌, not, nat_le, nat_lt, Bool, List, [], ◌∷◌, ◌++◌, length, take, drop, Option, Some, None, is_none, is_some, unwrap_or, if◌then◌else◌}
+use Rattle.std.specs.Prelude.{ℕ, ◌+◌, ◌==◌, ◌&&◌, ◌||◌, not, nat_le, nat_lt, Bool, List, [], ◌∷◌, ◌++◌, length, take}
+use Rattle.std.specs.Prelude.{drop, Option, Some, None, is_none, is_some, unwrap_or, if◌then◌else◌}
 use Rattle.flash_cgi.specs.declared.line.Line.{Line}
 use Rattle.flash_cgi.specs.declared.piece.Place.{Place}
 use Rattle.flash_cgi.specs.declared.piece.TheConstants.{MIN_PIECE_BYTES, MAX_COLLECTED_BYTES}
@@ -24,7 +25,8 @@ is_nothing x = (length x.text == 0) && (length x.places == 0) && is_none x.held 
 -- the text with the bytes of files inserted, the last first
 abbrev pub interleaved : (text : List ℕ) → List Place → (files : List ℕ) → List ℕ
 interleaved text [] files = text
-interleaved text (p ∷ ps) files = interleaved (take p.at text) ps (take p.from files) ++ (drop p.from files ++ drop p.at text)
+interleaved text (p ∷ ps) files = interleaved (take p.at text) ps (take p.from files)
+    ++ (drop p.from files ++ drop p.at text)
 
 abbrev pub bytes_of_one : (ℕ → Option (List ℕ)) → Option ℕ → List ℕ
 bytes_of_one readable None = []

@@ -65,14 +65,16 @@ pub record HasJobQueue (m : State) (d j p : ℕ) : Type 0 where
   pub apart : j ≢ p
 
 -- the job pipe has the job until it is read, and is empty afterwards
-abbrev pub HasRest : (m : State) → (j p : ℕ) → (process_slot : ProcessSlot Worker) → (unseen : List Outcome → List ℕ) → RunsJob m p process_slot unseen
+abbrev pub HasRest : (m : State) → (j p : ℕ) → (process_slot : ProcessSlot Worker) → (unseen : List Outcome → List ℕ)
+    → RunsJob m p process_slot unseen
     → Type 0
 HasRest m j p process_slot unseen (inl h) = Unit {0}
 HasRest m j p process_slot unseen (inr h) = (pipe_at m j).queue ≡ []
 
 -- Of the output of the running script this text is expected from pipe p, with the current contents of each file that is
 -- still to be read. The job came from pipe j.
-pub record IsExpected (m : State) (j p : ℕ) (process_slot : ProcessSlot Worker) (made : Made) (text : List ℕ) : Type 0 where
+pub record IsExpected (m : State) (j p : ℕ) (process_slot : ProcessSlot Worker) (made : Made) (text : List ℕ) :
+    Type 0 where
   pub unseen : List Outcome → List ℕ
   pub runs : RunsJob m p process_slot unseen
   pub reads : ReadsItsFile m p process_slot unseen runs
@@ -95,7 +97,8 @@ pub record IsWritten (m n : State) (j p : ℕ) (next : ProcessSlot Worker) (text
   pub none : HasNoJob n next.by j
 
 -- the bytes removed from the pipe were the front of the text, and the rest is expected
-pub record GaveFront (m n : State) (j p : ℕ) (process_slot : ProcessSlot Worker) (made : Made) (text : List ℕ) : Type 0 where
+pub record GaveFront (m n : State) (j p : ℕ) (process_slot : ProcessSlot Worker) (made : Made) (text : List ℕ) :
+    Type 0 where
   pub goes : GoesFromFront m p n
   pub rest : List ℕ
   pub splits : text ≡ bytes_of goes.gone ++ rest
@@ -103,7 +106,8 @@ pub record GaveFront (m n : State) (j p : ℕ) (process_slot : ProcessSlot Worke
 
 -- A turn of its worker keeps a text expected, the same or its replacement, until all is written, or the pipe has no
 -- reader.
-pub record Goes (m n : State) (j p : ℕ) (next : ProcessSlot Worker) (made : Made) (text : List ℕ) (r : Reply) : Type 0 where
+pub record Goes (m n : State) (j p : ℕ) (next : ProcessSlot Worker) (made : Made) (text : List ℕ) (r : Reply) :
+    Type 0 where
   pub after : Made
   pub later : List ℕ
   pub instead : Instead r made after text later
@@ -113,17 +117,27 @@ pub record Goes (m n : State) (j p : ℕ) (next : ProcessSlot Worker) (made : Ma
 -- file got it.
 pub record ScriptsPutOut : Type 0 where
   -- for a job that waits for a free worker: the output of its lines, after the bytes already in the pipe
-  pub begins : (m : State) (j p fd : ℕ) (process_slot : ProcessSlot Worker) (query script : List ℕ) (lines : List Line) → IsFree m process_slot
+  pub begins : (m : State) (j p fd : ℕ) (process_slot : ProcessSlot Worker) (query script : List ℕ) (lines : List Line)
+      → IsFree m process_slot
       → HasJob m process_slot.by j p fd query script lines → (pipe_at m j).writing ≡ true
       → IsExpected m j p process_slot
-      (record { before = bytes_of (pipe_at m p).queue; query = query; lines = lines; outcomes = outcomes_in m process_slot.by lines })
+      (record {
+        before = bytes_of (pipe_at m p).queue;
+        query = query;
+        lines = lines;
+        outcomes =
+            outcomes_in m process_slot.by lines;
+      })
       (bytes_of (pipe_at m p).queue ++ output query lines (outcomes_in m process_slot.by lines))
   -- a turn of the worker keeps it expected, until all is written, or the pipe has no reader, whatever its reply
-  pub turns : (m n : State) (j p : ℕ) (process_slot next : ProcessSlot Worker) (yields : Bool) (r : Reply) (made : Made) (text : List ℕ)
+  pub turns : (m n : State) (j p : ℕ) (process_slot next : ProcessSlot Worker) (yields : Bool) (r : Reply) (made : Made)
+      (text : List ℕ)
       → IsOrderly m → ArePlaced m → AreFiles m → IsExpected m j p process_slot made text
       → ProcessSlotTurn copying worker_turns m process_slot yields r n next → Goes m n j p next made text r
   -- calls of others and external events take the front of the text, if they do not change the files and the job pipe
-  pub others : (m n : State) (j p : ℕ) (process_slot : ProcessSlot Worker) (e : Event) (r : Reply) (made : Made) (text : List ℕ) → IsOrderly m
+  pub others : (m n : State) (j p : ℕ) (process_slot : ProcessSlot Worker) (e : Event) (r : Reply) (made : Made)
+      (text : List ℕ) → IsOrderly m
       → ArePlaced m
-      → StepsTo m e r n → is_call_of e process_slot.by ≡ false → LeavesFiles m process_slot.by n → pipe_at n j ≡ pipe_at m j
+      → StepsTo m e r n → is_call_of e process_slot.by ≡ false → LeavesFiles m process_slot.by n
+      → pipe_at n j ≡ pipe_at m j
       → IsExpected m j p process_slot made text → GaveFront m n j p process_slot made text

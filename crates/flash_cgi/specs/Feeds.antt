@@ -1,6 +1,7 @@
 -- The pending output of a running script: the bytes in its pipe, followed by the bytes that its worker has still to
 -- write.
-use Rattle.std.specs.Prelude.{◌≡◌, ◌≢◌, ◌⊎◌, ℕ, Bool, true, false, List, [], ◌∷◌, ◌++◌, length, take, drop, Option, Some, None, slice_get}
+use Rattle.std.specs.Prelude.{◌≡◌, ◌≢◌, ◌⊎◌, ℕ, Bool, true, false, List, [], ◌∷◌, ◌++◌, length, take, drop, Option}
+use Rattle.std.specs.Prelude.{Some, None, slice_get}
 use Rattle.iol_core.specs.Text.{bytes_of}
 use Rattle.iol_core.specs.State.{State, descriptor, pipe_at, file, may_read, is_live}
 use Rattle.iol_core.specs.Run.{StepsTo}
@@ -48,16 +49,21 @@ still_phase job begun readable x (phase.Skips agg) os = []
 still_phase job begun readable x (phase.Breaks agg) os = []
 still_phase job begun readable x phase.Runs os = then_rest job begun readable x os
 still_phase job begun readable x (phase.Drops agg) os = then_rest job begun readable x os
-still_phase job begun readable x (phase.Reads file p) os = collected readable x ++ by_first (put_out p) (rest_of job begun) os
-still_phase job begun readable x (phase.Counted file agg s) os = collected readable x ++ (said_text s ++ rest_of job begun os)
-still_phase job begun readable x (phase.ShutsToSay file s) os = collected readable x ++ (said_text s ++ rest_of job begun os)
-still_phase job begun readable x (phase.Shuts file agg) os = collected readable x ++ (bytes_at readable agg ++ rest_of job begun os)
+still_phase job begun readable x (phase.Reads file p) os =
+    collected readable x ++ by_first (put_out p) (rest_of job begun) os
+still_phase job begun readable x (phase.Counted file agg s) os =
+    collected readable x ++ (said_text s ++ rest_of job begun os)
+still_phase job begun readable x (phase.ShutsToSay file s) os =
+    collected readable x ++ (said_text s ++ rest_of job begun os)
+still_phase job begun readable x (phase.Shuts file agg) os =
+    collected readable x ++ (bytes_at readable agg ++ rest_of job begun os)
 still_phase job begun readable x (phase.JoiningFile held agg from len) os =
     collected readable x ++ (bytes_at readable agg ++ rest_of job begun os)
 still_phase job begun readable x (phase.CuttingPart held agg from) os =
     collected_in readable (bytes_at readable agg) x ++ rest_of job begun os
 still_phase job begun readable x (phase.ReplacingPart agg part at) os =
-    collected_in readable (set_in (bytes_at readable agg) at (bytes_at readable part)) (without_last x) ++ rest_of job begun os
+    collected_in readable (set_in (bytes_at readable agg) at (bytes_at readable part)) (without_last x)
+    ++ rest_of job begun os
 still_phase job begun readable x (phase.DroppingText agg part made) os =
     collected_in readable (bytes_at readable made) x ++ rest_of job begun os
 still_phase job begun readable x (phase.DroppingPart part made) os =
@@ -135,7 +141,8 @@ resolved_begun true l r = []
 resolved_begun false l r = resolved_open l r
 
 abbrev pub resolved_phase : Task → Collected → (begun : ℕ) → (ℕ → Option (List ℕ)) → Phase → Reply → List Outcome
-resolved_phase job x begun readable phase.Runs r = resolved_begun (expected_now job x begun) (slice_get job.lines begun) r
+resolved_phase job x begun readable phase.Runs r =
+    resolved_begun (expected_now job x begun) (slice_get job.lines begun) r
 resolved_phase job x begun readable (phase.Reads file p) r = resolved_read readable r
 resolved_phase job x begun readable d r = []
 
@@ -144,7 +151,8 @@ abbrev pub resolved : Task → Step → (ℕ → Option (List ℕ)) → Reply �
 resolved job step readable r = resolved_phase job step.piece step.begun readable step.phase r
 
 -- the script is over: all of its output was written, and the pipe's write end is closed
-pub record Ends (m : State) (d p : ℕ) (unseen : List Outcome → List ℕ) (r : Reply) (next : Step) (n : State) : Type 0 where
+pub record Ends (m : State) (d p : ℕ) (unseen : List Outcome → List ℕ) (r : Reply) (next : Step) (n : State) :
+    Type 0 where
   pub free : next.phase ≡ phase.Waits
   pub all : (os : List Outcome) → unseen os ≡ bytes_of (pipe_at m p).queue
   pub done : r ≡ reply.Done

@@ -27,11 +27,17 @@ pub record LeavesAllBut (m : State) (d p : ℕ) (n : State) : Type 0 where
 
 pub record WorkersAreQuiet : Type 0 where
   -- a free worker changes only its job pipe, and will read it again
-  pub free : (m n : State) (j : ℕ) (process_slot next : ProcessSlot Worker) (yields : Bool) (r : Reply) → is_live m process_slot.by ≡ true
-      → IsFree m process_slot → descriptor m process_slot.by 0 ≡ Some (on.ReadEnd j) → ProcessSlotTurn copying worker_turns m process_slot yields r n next
+  pub free : (m n : State) (j : ℕ) (process_slot next : ProcessSlot Worker) (yields : Bool) (r : Reply)
+      → is_live m process_slot.by ≡ true
+      → IsFree m process_slot → descriptor m process_slot.by 0 ≡ Some (on.ReadEnd j)
+      → ProcessSlotTurn copying worker_turns m process_slot yields r n next
       → LeavesAllBut m process_slot.by j n × (descriptor n process_slot.by 0 ≡ Some (on.ReadEnd j))
   -- a worker that has read its job, or runs it, changes only its output pipe
-  pub begins : (m n : State) (p : ℕ) (process_slot next : ProcessSlot Worker) (yields : Bool) (r : Reply) (unseen : List Outcome → List ℕ)
-      → HasRead m p process_slot unseen → ProcessSlotTurn copying worker_turns m process_slot yields r n next → LeavesAllBut m process_slot.by p n
-  pub runs : (m n : State) (p : ℕ) (process_slot next : ProcessSlot Worker) (yields : Bool) (r : Reply) (unseen : List Outcome → List ℕ)
-      → IsRunning m p process_slot unseen → ProcessSlotTurn copying worker_turns m process_slot yields r n next → LeavesAllBut m process_slot.by p n
+  pub begins : (m n : State) (p : ℕ) (process_slot next : ProcessSlot Worker) (yields : Bool) (r : Reply)
+      (unseen : List Outcome → List ℕ)
+      → HasRead m p process_slot unseen → ProcessSlotTurn copying worker_turns m process_slot yields r n next
+      → LeavesAllBut m process_slot.by p n
+  pub runs : (m n : State) (p : ℕ) (process_slot next : ProcessSlot Worker) (yields : Bool) (r : Reply)
+      (unseen : List Outcome → List ℕ)
+      → IsRunning m p process_slot unseen → ProcessSlotTurn copying worker_turns m process_slot yields r n next
+      → LeavesAllBut m process_slot.by p n

@@ -27,14 +27,19 @@ pub record WorkersStayFree : Type 0 where
   -- a new one is free
   pub new : (m : State) (d : ℕ) (w : Worker) → IsNew w → IsFree m (process_slot_of (d, w))
   -- its turn changes nothing while there is no job, and it stays free
-  pub turns : (m n : State) (j : ℕ) (process_slot next : ProcessSlot Worker) (yields : Bool) (r : Reply) → IsOrderly m → HasNoJob m process_slot.by j
-      → IsFree m process_slot → ProcessSlotTurn copying worker_turns m process_slot yields r n next → (n ≡ m) × IsFree n next
+  pub turns : (m n : State) (j : ℕ) (process_slot next : ProcessSlot Worker) (yields : Bool) (r : Reply) → IsOrderly m
+      → HasNoJob m process_slot.by j
+      → IsFree m process_slot → ProcessSlotTurn copying worker_turns m process_slot yields r n next
+      → (n ≡ m) × IsFree n next
   -- the same for events of others
   pub others : (m n : State) (process_slot : ProcessSlot Worker) → IsFree m process_slot → IsFree n process_slot
   -- a worker that has read a text that is no job is free after its turn, or ran out of memory and will be called again
   -- with the same reply
-  pub skips : (m n : State) (agg b : ℕ) (bs : List ℕ) (process_slot next : ProcessSlot Worker) (yields : Bool) (r : Reply)
+  pub skips : (m n : State) (agg b : ℕ) (bs : List ℕ) (process_slot next : ProcessSlot Worker) (yields : Bool)
+      (r : Reply)
       → is_live m process_slot.by ≡ true
-      → process_slot.process.step.phase ≡ phase.Waits → process_slot.process.standing ≡ standing.Asked → process_slot.last ≡ reply.Agg agg
-      → readable_at m process_slot.by agg ≡ Some (b ∷ bs) → job_of (b ∷ bs) ≡ None → ProcessSlotTurn copying worker_turns m process_slot yields r n next
+      → process_slot.process.step.phase ≡ phase.Waits → process_slot.process.standing ≡ standing.Asked
+      → process_slot.last ≡ reply.Agg agg
+      → readable_at m process_slot.by agg ≡ Some (b ∷ bs) → job_of (b ∷ bs) ≡ None
+      → ProcessSlotTurn copying worker_turns m process_slot yields r n next
       → IsFree n next ⊎ (next ≡ process_slot)

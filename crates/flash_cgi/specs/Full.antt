@@ -12,5 +12,7 @@ use Rattle.flash_cgi.specs.declared.worker.Worker.{Worker}
 
 -- Nothing else can block it: an unread job can be read, and of its calls only a write to the pipe may block.
 abbrev pub RunningIsFull : Type 0
-RunningIsFull = (m : State) (p : ℕ) (process_slot : ProcessSlot Worker) (unseen : List Outcome → List ℕ) → IsOrderly m → HasAccess m
-    → RunsJob m p process_slot unseen → HasWaited 2 process_slot.by process_slot.process process_slot.last m → MAX_QUEUE_BYTES ≤ length (pipe_at m p).queue
+RunningIsFull = (m : State) (p : ℕ) (process_slot : ProcessSlot Worker) (unseen : List Outcome → List ℕ) → IsOrderly m
+    → HasAccess m
+    → RunsJob m p process_slot unseen → HasWaited 2 process_slot.by process_slot.process process_slot.last m
+    → MAX_QUEUE_BYTES ≤ length (pipe_at m p).queue

@@ -18,10 +18,12 @@ pub record IsCounted (readable : ℕ → Option (List ℕ)) (x : Collected) : Ty
 pub record PiecesAreLong : Type 0 where
   -- the invariant is preserved as texts and files are buffered: a file's bytes are appended to those of earlier files
   pub starts : (readable : ℕ → Option (List ℕ)) → IsCounted readable nothing
-  pub texts : (readable : ℕ → Option (List ℕ)) (x : Collected) (text : List ℕ) → IsCounted readable x → IsCounted readable (with_text x text)
+  pub texts : (readable : ℕ → Option (List ℕ)) (x : Collected) (text : List ℕ) → IsCounted readable x
+      → IsCounted readable (with_text x text)
   pub files : (readable now : ℕ → Option (List ℕ)) (x : Collected) (a : ℕ) (bytes : List ℕ) → IsCounted readable x
       → now a ≡ Some (bytes_of_one readable x.held ++ bytes)
       → IsCounted now (with_file x a (length (bytes_of_one readable x.held)) (length bytes))
   -- a write before a line is long, or a file of its own follows it
-  pub long : (readable : ℕ → Option (List ℕ)) (x : Collected) (l : Line) → IsCounted readable x → is_expected x (Some l) ≡ true
+  pub long : (readable : ℕ → Option (List ℕ)) (x : Collected) (l : Line) → IsCounted readable x
+      → is_expected x (Some l) ≡ true
       → (MIN_PIECE_BYTES ≤ length (collected readable x)) ⊎ (x.next ≢ None)

@@ -1,5 +1,6 @@
 -- The outcomes of the files that a script names, with the current files and lists.
-use Rattle.std.specs.Prelude.{◌≡◌, ◌⊎◌, ℕ, ◌-◌, ◌≤◌, true, List, [], ◌∷◌, ◌++◌, length, drop, Option, Some, None, if◌then◌else◌}
+use Rattle.std.specs.Prelude.{◌≡◌, ◌⊎◌, ℕ, ◌-◌, ◌≤◌, true, List, [], ◌∷◌, ◌++◌, length, drop, Option, Some, None}
+use Rattle.std.specs.Prelude.{if◌then◌else◌}
 use Rattle.iol_core.specs.State.{State, descriptor, file, content, may_read, is_pool}
 use Rattle.iol_core.specs.Calls.Files.{file_called}
 use Rattle.iol_core.specs.NumberedLists.{is_numbered}
@@ -55,20 +56,23 @@ to_come m d job step = to_come_phase m d job step.begun step.phase
 pub record IsReading (m : State) (d : ℕ) (job : Task) (begun fd : ℕ) : Type 0 where
   pub number : ℕ
   pub open_on : descriptor m d fd ≡ Some (on.File number 0 Read)
-  pub names : outcomes_in m d (drop (begun - 1) job.lines) ≡ Found (content m number) ∷ outcomes_in m d (drop begun job.lines)
+  pub names : outcomes_in m d (drop (begun - 1) job.lines) ≡ Found (content m number)
+      ∷ outcomes_in m d (drop begun job.lines)
 
 abbrev pub ReadsNamed : State → (d : ℕ) → Task → (begun : ℕ) → Phase → Type 0
 ReadsNamed m d job begun (phase.Reads file u) = IsReading m d job begun file
 ReadsNamed m d job begun x = Unit {0}
 
 -- the settled outcome is the one that was to come
-pub record SettlesTruly (m : State) (d : ℕ) (job : Task) (step : Step) (r : Reply) (n : State) (next : Step) : Type 0 where
+pub record SettlesTruly (m : State) (d : ℕ) (job : Task) (step : Step) (r : Reply) (n : State) (next : Step) :
+    Type 0 where
   pub same : to_come m d job step ≡ resolved job step (readable_at n d) r ++ to_come n d job next
   pub reads : ReadsNamed n d job next.begun next.phase
 
 -- The call for a file was refused with TooMany, NoRoom, Fault or Memory: it settles this refusal instead of the file's
 -- outcome.
-pub record SettlesByRefusal (m : State) (d : ℕ) (job : Task) (step : Step) (r : Reply) (n : State) (next : Step) : Type 0 where
+pub record SettlesByRefusal (m : State) (d : ℕ) (job : Task) (step : Step) (r : Reply) (n : State) (next : Step) :
+    Type 0 where
   pub why : Refusal
   pub answer : r ≡ reply.Refused why
   pub resource_failure : is_resource_failure r ≡ true

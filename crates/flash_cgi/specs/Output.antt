@@ -24,8 +24,8 @@ abbrev pub by_first : (Outcome → List ℕ) → (List Outcome → List ℕ) →
 by_first text rest [] = []
 by_first text rest (o ∷ os) = text o ++ rest os
 
--- The output of a script with this query, if the files that its lines name have these outcomes, in order: one for each `cat` or
--- `wc`. A line with an outcome that is still to come, and all later lines, have no output yet.
+-- The output of a script with this query, if the files that its lines name have these outcomes, in order: one for each
+-- `cat` or `wc`. A line with an outcome that is still to come, and all later lines, have no output yet.
 abbrev pub output : (query : List ℕ) → List Line → List Outcome → List ℕ
 output query [] os = []
 output query (Emit text ∷ lines) os = line_text text ++ output query lines os

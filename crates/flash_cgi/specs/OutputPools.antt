@@ -46,8 +46,10 @@ PhaseLies pools m d (phase.Reads fd u) =
 PhaseLies pools m d (phase.Shuts fd a) = lie_in pools (text m d a) ≡ true
 PhaseLies pools m d (phase.JoiningFile held a from len) =
     (lie_in pools (text m d held) ≡ true) × (lie_in pools (text m d a) ≡ true)
-PhaseLies pools m d (phase.CuttingPart held a from) = (lie_in pools (text m d held) ≡ true) × (lie_in pools (text m d a) ≡ true)
-PhaseLies pools m d (phase.ReplacingPart a part at) = (lie_in pools (text m d a) ≡ true) × (lie_in pools (text m d part) ≡ true)
+PhaseLies pools m d (phase.CuttingPart held a from) = (lie_in pools (text m d held) ≡ true)
+    × (lie_in pools (text m d a) ≡ true)
+PhaseLies pools m d (phase.ReplacingPart a part at) = (lie_in pools (text m d a) ≡ true)
+    × (lie_in pools (text m d part) ≡ true)
 PhaseLies pools m d (phase.DroppingText a part made) = lie_in pools (text m d made) ≡ true
 PhaseLies pools m d (phase.DroppingPart part made) = lie_in pools (text m d made) ≡ true
 PhaseLies pools m d (phase.Writes a) = lie_in pools (text m d a) ≡ true
@@ -69,11 +71,16 @@ pub record IsShown (pools : ℕ → Bool) (m : State) (p : ℕ) (process_slot : 
 pub record OutputsAreShown : Type 0 where
   -- for a worker that is free, and a pipe to which no other bytes were written
   pub free : (pools : ℕ → Bool) (m : State) (p : ℕ) (process_slot : ProcessSlot Worker) → IsFree m process_slot
-      → pools (default_pool m process_slot.by) ≡ true → lie_in pools (pipe_at m p).queue ≡ true → IsShown pools m p process_slot
+      → pools (default_pool m process_slot.by) ≡ true → lie_in pools (pipe_at m p).queue ≡ true
+      → IsShown pools m p process_slot
   -- its turns and events of others preserve this
-  pub turns : (pools : ℕ → Bool) (m n : State) (p : ℕ) (process_slot next : ProcessSlot Worker) (yields : Bool) (r : Reply)
-      (unseen : List Outcome → List ℕ) → IsOrderly m → HoldFiles pools m process_slot.by → RunsJob m p process_slot unseen
-      → IsShown pools m p process_slot → ProcessSlotTurn copying worker_turns m process_slot yields r n next → IsShown pools n p next
+  pub turns : (pools : ℕ → Bool) (m n : State) (p : ℕ) (process_slot next : ProcessSlot Worker) (yields : Bool)
+      (r : Reply)
+      (unseen : List Outcome → List ℕ) → IsOrderly m → HoldFiles pools m process_slot.by
+      → RunsJob m p process_slot unseen
+      → IsShown pools m p process_slot → ProcessSlotTurn copying worker_turns m process_slot yields r n next
+      → IsShown pools n p next
   pub others : (pools : ℕ → Bool) (m n : State) (p : ℕ) (process_slot : ProcessSlot Worker) (e : Event) (r : Reply)
-      (unseen : List Outcome → List ℕ) → IsOrderly m → ArePlaced m → RunsJob m p process_slot unseen → IsShown pools m p process_slot
+      (unseen : List Outcome → List ℕ) → IsOrderly m → ArePlaced m → RunsJob m p process_slot unseen
+      → IsShown pools m p process_slot
       → StepsTo m e r n → is_call_of e process_slot.by ≡ false → IsShown pools n p process_slot

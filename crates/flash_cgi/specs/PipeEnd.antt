@@ -32,7 +32,8 @@ pub record WorkersStop : Type 0 where
       → StepsTo m (event.Call d (call.IolRead 0 65536)) (reply.Agg a) n → bytes_at (readable_at n d) a ≡ []
       → ((pipe_at m j).queue ≡ []) × ((pipe_at m j).writing ≡ false)
   -- a worker with such a reply drops the aggregate, and is over
-  pub ends : (w v : Worker) (last : Reply) (readable : ℕ → Option (List ℕ)) (t : Turn) → (is : ReadNothing w last readable)
+  pub ends : (w v : Worker) (last : Reply) (readable : ℕ → Option (List ℕ)) (t : Turn)
+      → (is : ReadNothing w last readable)
       → works w last readable t v → (t ≡ turn.Make (call.AggDrop is.agg)) × (v.standing ≡ standing.Over)
   -- no other worker becomes over
   pub only : (w v : Worker) (last : Reply) (readable : ℕ → Option (List ℕ)) (t : Turn) → is_over w.standing ≡ false

@@ -11,7 +11,8 @@ use Rattle.flash_cgi.specs.declared.worker.Worker.{Worker}
 
 -- The worker takes such a turn, with no call that returns a copy of bytes. Or it runs out of memory, which `may_want`
 -- permits, and is unchanged.
-pub record TakesTurn {E : Type 0} (goes : Turn → Worker → Type 0) (may_want : Type 0) (old : Worker) (result : Result Turn E)
+pub record TakesTurn {E : Type 0} (goes : Turn → Worker → Type 0) (may_want : Type 0) (old : Worker)
+    (result : Result Turn E)
     (new : Worker) : Type 0 where
   pub turn : IfOk result (λ made. goes made new)
   pub quiet : IfOk result IsCopyFree
@@ -31,15 +32,18 @@ abbrev pub next_step : Worker → Reply → (ℕ → Option (List ℕ)) → Opti
 next_step w last readable = after_reply w.job w.step readable last
 
 -- it continues by the reply
-abbrev pub ProceedsBy : {E : Type 0} → (old : Worker) → Reply → (ℕ → Option (List ℕ)) → Result Turn E → (new : Worker) → Type 0
+abbrev pub ProceedsBy : {E : Type 0} → (old : Worker) → Reply → (ℕ → Option (List ℕ)) → Result Turn E → (new : Worker)
+    → Type 0
 ProceedsBy old last readable result new =
     TakesTurn (proceeds old (next_step old last readable)) (WantsByReply old last readable) old result new
 
 -- it takes this text, read from its job pipe under this number
-abbrev pub TakesText : {E : Type 0} → (old : Worker) → (text : List ℕ) → (agg : ℕ) → Result Turn E → (new : Worker) → Type 0
+abbrev pub TakesText : {E : Type 0} → (old : Worker) → (text : List ℕ) → (agg : ℕ) → Result Turn E → (new : Worker)
+    → Type 0
 TakesText old text agg result new = TakesTurn (takes old text agg) (0 < length text) old result new
 
 -- it processes the reply to its call
-abbrev pub FilesReply : {E : Type 0} → (old : Worker) → Reply → (ℕ → Option (List ℕ)) → Result Turn E → (new : Worker) → Type 0
+abbrev pub FilesReply : {E : Type 0} → (old : Worker) → Reply → (ℕ → Option (List ℕ)) → Result Turn E → (new : Worker)
+    → Type 0
 FilesReply old last readable result new =
     TakesTurn (files old old.step.phase last readable) (WantsToFile old old.step.phase last readable) old result new

@@ -38,7 +38,8 @@ filed_step standing.Asked w readable last = or_again (after_reply w.job w.step r
 filed_step s w readable last = w.step
 
 abbrev pub step_of : State → ProcessSlot Worker → Step
-step_of m process_slot = filed_step process_slot.process.standing process_slot.process (readable_at m process_slot.by) process_slot.last
+step_of m process_slot = filed_step process_slot.process.standing process_slot.process (readable_at m process_slot.by)
+    process_slot.last
 
 -- whether a reply gives it a text from its job pipe
 abbrev pub is_given : Phase → Reply → Bool
@@ -49,10 +50,12 @@ is_given x r = false
 pub record IsFree (m : State) (process_slot : ProcessSlot Worker) : Type 0 where
   pub not_over : is_over process_slot.process.standing ≡ false
   pub waits : (step_of m process_slot).phase ≡ phase.Waits
-  pub not_given : process_slot.process.standing ≡ standing.Asked → is_given process_slot.process.step.phase process_slot.last ≡ false
+  pub not_given : process_slot.process.standing ≡ standing.Asked
+      → is_given process_slot.process.step.phase process_slot.last ≡ false
 
 -- A job waits for it, and is not yet read.
-pub record Awaits (m : State) (p : ℕ) (process_slot : ProcessSlot Worker) (unseen : List Outcome → List ℕ) : Type 0 where
+pub record Awaits (m : State) (p : ℕ) (process_slot : ProcessSlot Worker) (unseen : List Outcome → List ℕ) :
+    Type 0 where
   pub jobs : ℕ
   pub fd : ℕ
   pub query : List ℕ
@@ -63,7 +66,8 @@ pub record Awaits (m : State) (p : ℕ) (process_slot : ProcessSlot Worker) (uns
   pub is : (os : List Outcome) → unseen os ≡ bytes_of (pipe_at m p).queue ++ output query lines os
 
 -- It has read the job, and its next turn processes that reply.
-pub record HasRead (m : State) (p : ℕ) (process_slot : ProcessSlot Worker) (unseen : List Outcome → List ℕ) : Type 0 where
+pub record HasRead (m : State) (p : ℕ) (process_slot : ProcessSlot Worker) (unseen : List Outcome → List ℕ) :
+    Type 0 where
   pub job : Task
   pub agg : ℕ
   pub waits : process_slot.process.step.phase ≡ phase.Waits
@@ -72,28 +76,33 @@ pub record HasRead (m : State) (p : ℕ) (process_slot : ProcessSlot Worker) (un
   pub begins : Begins m process_slot.by p job agg unseen
 
 -- It runs the script; its last reply counts as processed.
-pub record IsRunning (m : State) (p : ℕ) (process_slot : ProcessSlot Worker) (unseen : List Outcome → List ℕ) : Type 0 where
+pub record IsRunning (m : State) (p : ℕ) (process_slot : ProcessSlot Worker) (unseen : List Outcome → List ℕ) :
+    Type 0 where
   pub not_over : is_over process_slot.process.standing ≡ false
   pub feeds : Feeds m process_slot.by p process_slot.process.job (step_of m process_slot) unseen
 
 -- The worker in this process slot has a job with output to pipe p: for all outcomes of the files still to be read, the
 -- pending output is the bytes in the pipe, followed by the bytes still to be written.
 abbrev pub RunsJob : (m : State) → (p : ℕ) → ProcessSlot Worker → (unseen : List Outcome → List ℕ) → Type 0
-RunsJob m p process_slot unseen = Awaits m p process_slot unseen ⊎ HasRead m p process_slot unseen ⊎ IsRunning m p process_slot unseen
+RunsJob m p process_slot unseen = Awaits m p process_slot unseen ⊎ HasRead m p process_slot unseen
+    ⊎ IsRunning m p process_slot unseen
 
 -- the outcomes to come, with the current files and lists
-abbrev pub outcomes_to_come : (m : State) (p : ℕ) (process_slot : ProcessSlot Worker) (unseen : List Outcome → List ℕ) → RunsJob m p process_slot unseen
+abbrev pub outcomes_to_come : (m : State) (p : ℕ) (process_slot : ProcessSlot Worker) (unseen : List Outcome → List ℕ)
+    → RunsJob m p process_slot unseen
     → List Outcome
 outcomes_to_come m p process_slot unseen (inl h) = outcomes_in m process_slot.by h.lines
 outcomes_to_come m p process_slot unseen (inr (inl h)) = outcomes_in m process_slot.by h.job.lines
-outcomes_to_come m p process_slot unseen (inr (inr i)) = to_come m process_slot.by process_slot.process.job (step_of m process_slot)
+outcomes_to_come m p process_slot unseen (inr (inr i)) =
+    to_come m process_slot.by process_slot.process.job (step_of m process_slot)
 
 -- the file that it is reading, if any, is the one that its line names
 abbrev pub ReadsItsFile : (m : State) (p : ℕ) (process_slot : ProcessSlot Worker) (unseen : List Outcome → List ℕ)
     → RunsJob m p process_slot unseen → Type 0
 ReadsItsFile m p process_slot unseen (inl h) = Unit {0}
 ReadsItsFile m p process_slot unseen (inr (inl h)) = Unit {0}
-ReadsItsFile m p process_slot unseen (inr (inr i)) = ReadsNamed m process_slot.by process_slot.process.job (step_of m process_slot).begun (step_of m process_slot).phase
+ReadsItsFile m p process_slot unseen (inr (inr i)) =
+    ReadsNamed m process_slot.by process_slot.process.job (step_of m process_slot).begun (step_of m process_slot).phase
 
 -- A call for a file was refused with TooMany, NoRoom, Fault or Memory: it settles this refusal instead of the first
 -- outcome to come.
@@ -119,14 +128,18 @@ pub record Proceeds (m n : State) (p : ℕ) (next : ProcessSlot Worker) (r : Rep
       × ReadsItsFile n p next (λ os. unseen (resolved ++ os)) runs
 
 -- all of its output is written, the pipe's write end is closed, and it is free for the next job
-pub record IsOver (m n : State) (d p : ℕ) (next : ProcessSlot Worker) (unseen : List Outcome → List ℕ) (r : Reply) : Type 0 where
+pub record IsOver (m n : State) (d p : ℕ) (next : ProcessSlot Worker) (unseen : List Outcome → List ℕ) (r : Reply) :
+    Type 0 where
   pub step : Step
   pub ends : Ends m d p unseen r step n
   pub free : IsFree n next
 
 -- A turn of a worker preserves the pending output, until all of it is written or the pipe has no reader.
 abbrev pub TurnsFeed : Type 0
-TurnsFeed = (m n : State) (p : ℕ) (process_slot next : ProcessSlot Worker) (yields : Bool) (r : Reply) (unseen : List Outcome → List ℕ)
-    → IsOrderly m → (runs : RunsJob m p process_slot unseen) → ProcessSlotTurn copying worker_turns m process_slot yields r n next
-    → Proceeds m n p next r unseen (outcomes_to_come m p process_slot unseen runs) (ReadsItsFile m p process_slot unseen runs)
+TurnsFeed = (m n : State) (p : ℕ) (process_slot next : ProcessSlot Worker) (yields : Bool) (r : Reply)
+    (unseen : List Outcome → List ℕ)
+    → IsOrderly m → (runs : RunsJob m p process_slot unseen)
+    → ProcessSlotTurn copying worker_turns m process_slot yields r n next
+    → Proceeds m n p next r unseen (outcomes_to_come m p process_slot unseen runs)
+    (ReadsItsFile m p process_slot unseen runs)
     ⊎ IsOver m n process_slot.by p next unseen r ⊎ ((pipe_at n p).reading ≡ false)

@@ -74,19 +74,24 @@ held_phase standing.Asked phase.Waits (reply.Agg agg) step = phase.Skips agg
 held_phase s x r step = step.phase
 
 abbrev pub KeepsJust : State → (fds aggs : ℕ → Bool) → ProcessSlot Worker → Type 0
-KeepsJust m fds aggs process_slot = HasJust m process_slot.by fds aggs process_slot.process.job (step_of m process_slot).piece
-    (held_phase process_slot.process.standing process_slot.process.step.phase process_slot.last (step_of m process_slot))
+KeepsJust m fds aggs process_slot =
+    HasJust m process_slot.by fds aggs process_slot.process.job (step_of m process_slot).piece
+    (held_phase process_slot.process.standing process_slot.process.step.phase process_slot.last
+    (step_of m process_slot))
 
 -- A worker has what it uses, and nothing else. So after the end of its script, while it waits, it has what it had
 -- before its job: only its job pipe.
 pub record WorkersKeepNothing : Type 0 where
   -- after its call it has what it then uses
   pub calls : (m n : State) (d : ℕ) (fds aggs : ℕ → Bool) (job : Task) (step next : Step) (r : Reply) → IsOrderly m
-      → is_live m d ≡ true → HasJust m d fds aggs job step.piece step.phase → StepsTo m (event.Call d (call_at job step)) r n
+      → is_live m d ≡ true → HasJust m d fds aggs job step.piece step.phase
+      → StepsTo m (event.Call d (call_at job step)) r n
       → after_reply job step (readable_at n d) r ≡ Some next → HasJust n d fds aggs job next.piece next.phase
   -- the same after each of its turns, including those that read a job or a text that is no job
-  pub turns : (m n : State) (fds aggs : ℕ → Bool) (process_slot next : ProcessSlot Worker) (yields : Bool) (r : Reply) → IsOrderly m
-      → is_live m process_slot.by ≡ true → KeepsJust m fds aggs process_slot → ProcessSlotTurn copying worker_turns m process_slot yields r n next
+  pub turns : (m n : State) (fds aggs : ℕ → Bool) (process_slot next : ProcessSlot Worker) (yields : Bool) (r : Reply)
+      → IsOrderly m
+      → is_live m process_slot.by ≡ true → KeepsJust m fds aggs process_slot
+      → ProcessSlotTurn copying worker_turns m process_slot yields r n next
       → KeepsJust n fds aggs next
   -- the output descriptor belongs to the job, though another domain gave it: after the script the worker does not have
   -- it any more

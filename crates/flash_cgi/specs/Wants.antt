@@ -1,5 +1,6 @@
 -- The uses of memory by a worker: to parse a job, for the bytes of a call, and to buffer output.
-use Rattle.std.specs.Prelude.{◌≡◌, ◌<◌, ℕ, Bool, true, false, List, length, Option, Some, None, is_some, slice_get, if◌then◌else◌}
+use Rattle.std.specs.Prelude.{◌≡◌, ◌<◌, ℕ, Bool, true, false, List, length, Option, Some, None, is_some, slice_get}
+use Rattle.std.specs.Prelude.{if◌then◌else◌}
 use Rattle.iol_core.specs.declared.events.Reply.{Reply}
 use Rattle.iol_core.specs.declared.events.Reply.TheVariants as reply
 use Rattle.flash_cgi.specs.Collecting.{Collected}
@@ -56,7 +57,8 @@ WantsOn job (Some step) = has_bytes job step ≡ true
 
 -- if it copies nothing, it needs memory only for its next call
 abbrev pub WantsByReply : Worker → Reply → (ℕ → Option (List ℕ)) → Type 0
-WantsByReply w last readable = may_copy w.step.piece w.step.phase ≡ false → WantsOn w.job (after_reply w.job w.step readable last)
+WantsByReply w last readable = may_copy w.step.piece w.step.phase ≡ false
+    → WantsOn w.job (after_reply w.job w.step readable last)
 
 -- it processes a reply: a text of at least one byte is parsed as a job
 abbrev pub WantsToFile : Worker → Phase → Reply → (ℕ → Option (List ℕ)) → Type 0

@@ -1,7 +1,8 @@
 -- The steps of a worker: the call that it makes, and its phase and buffered output after the reply.
 --
 -- If a reply does not fit the call and is no outcome of a file, the step is unchanged: the call is retried.
-use Rattle.std.specs.Prelude.{ℕ, ◌+◌, ◌==◌, nat_le, Bool, List, [], ◌∷◌, ◌++◌, length, count_by, Option, Some, None, unwrap_or, if◌then◌else◌, slice_get}
+use Rattle.std.specs.Prelude.{ℕ, ◌+◌, ◌==◌, nat_le, Bool, List, [], ◌∷◌, ◌++◌, length, count_by, Option, Some, None}
+use Rattle.std.specs.Prelude.{unwrap_or, if◌then◌else◌, slice_get}
 use Rattle.std.specs.Fmt.{decimal}
 use Rattle.iol_core.specs.Refusals.{name_of}
 use Rattle.iol_core.specs.declared.descriptors.Mode.TheVariants.{Read}
@@ -10,7 +11,9 @@ use Rattle.iol_core.specs.declared.events.Call.{Call}
 use Rattle.iol_core.specs.declared.events.Call.TheVariants as call
 use Rattle.iol_core.specs.declared.events.Reply.{Reply}
 use Rattle.iol_core.specs.declared.events.Reply.TheVariants as reply
-use Rattle.flash_cgi.specs.Collecting.{Collected, bytes_of_one, is_expected, is_nothing, last_place, with_file, with_held, with_line, with_next, with_text, without_files, without_last, without_next, without_text}
+use Rattle.flash_cgi.specs.Collecting.{Collected, bytes_of_one, is_expected, is_nothing, last_place, with_file}
+use Rattle.flash_cgi.specs.Collecting.{with_held, with_line, with_next, with_text, without_files, without_last}
+use Rattle.flash_cgi.specs.Collecting.{without_next, without_text}
 use Rattle.flash_cgi.specs.Job.{Task}
 pub use Rattle.flash_cgi.specs.Script.{is_line_feed}
 use Rattle.flash_cgi.specs.declared.line.Line.{Line}
@@ -67,7 +70,8 @@ abbrev pub expected_now : Task → Collected → (begun : ℕ) → Bool
 expected_now job x begun = is_expected x (slice_get job.lines begun)
 
 abbrev pub begin_call : Task → Collected → (begun : ℕ) → Call
-begin_call job x begun = if expected_now job x begun then make_call x.text else next_call job (slice_get job.lines begun)
+begin_call job x begun =
+    if expected_now job x begun then make_call x.text else next_call job (slice_get job.lines begun)
 
 abbrev pub phase_call : Task → Collected → (begun : ℕ) → Phase → Call
 phase_call job x begun phase.Waits = call.IolRead 0 65536
@@ -203,7 +207,8 @@ module _ (readable : ℕ → Option (List ℕ)) where
 
   -- after a file is closed
   abbrev pub after_closing : Collected → (agg begun : ℕ) → Option Step
-  after_closing x agg begun = shut_by x (length (bytes_of_one readable x.held)) agg (length (bytes_at readable agg)) begun
+  after_closing x agg begun =
+      shut_by x (length (bytes_of_one readable x.held)) agg (length (bytes_at readable agg)) begun
 
   abbrev pub after_phase : Task → Collected → (begun : ℕ) → Phase → Reply → Option Step
   after_phase job x begun phase.Waits r = None

@@ -34,7 +34,8 @@ proceeds w None t v = (t ≡ turn.Yield) × (v ≡ record w { standing = standin
 
 -- the worker with this job, if any, read as the aggregate of this number
 abbrev pub with_job : Worker → Option Task → (agg : ℕ) → Worker
-with_job w (Some job) agg = record w { job = job; step = record { phase = phase.Drops agg; begun = 0; piece = nothing } }
+with_job w (Some job) agg =
+    record w { job = job; step = record { phase = phase.Drops agg; begun = 0; piece = nothing } }
 with_job w None agg = record w { step = record { phase = phase.Skips agg; begun = w.step.begun; piece = w.step.piece } }
 
 -- the worker that has read this text from its job pipe; an empty text is the pipe's end

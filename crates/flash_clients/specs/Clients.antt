@@ -67,7 +67,8 @@ pub record Splits (site_contents : SiteContents) (Rest : (s bytes : List ℕ) �
   pub rest : Rest back next
 
 -- The stream is answered by these sites in turn: by each except the last, whole requests have their whole responses.
-abbrev pub InTurn : (Last : SiteContents → (s bytes : List ℕ) → Type 0) → List SiteContents → (s bytes : List ℕ) → Type 0
+abbrev pub InTurn : (Last : SiteContents → (s bytes : List ℕ) → Type 0) → List SiteContents → (s bytes : List ℕ)
+    → Type 0
 InTurn Last [] s bytes = bytes ≡ []
 InTurn Last (x ∷ []) s bytes = Last x s bytes
 InTurn Last (x ∷ y ∷ xs) s bytes = Splits x (λ t more. InTurn Last (y ∷ xs) t more) s bytes
@@ -83,9 +84,11 @@ pub record BeginsInTurn (shelves : List SiteContents) (s bytes : List ℕ) : Typ
 -- it ended well.
 pub record ClientsGetAnswers : Type 0 where
   -- if one site served all its connections
-  pub begins : (site_contents : SiteContents) (vs : List Visit) (supplied accepted : List ℕ) → AllByRecursion (λ v. v.site_contents ≡ site_contents) vs
+  pub begins : (site_contents : SiteContents) (vs : List Visit) (supplied accepted : List ℕ)
+      → AllByRecursion (λ v. v.site_contents ≡ site_contents) vs
       → IsServed vs supplied accepted → Begins site_contents supplied accepted
-  pub whole : (site_contents : SiteContents) (vs : List Visit) (supplied accepted : List ℕ) → AllByRecursion (λ v. v.site_contents ≡ site_contents) vs
+  pub whole : (site_contents : SiteContents) (vs : List Visit) (supplied accepted : List ℕ)
+      → AllByRecursion (λ v. v.site_contents ≡ site_contents) vs
       → IsServedWhole vs supplied accepted → IsAnswer site_contents supplied accepted
   -- if several did: an answer by the sites of its connections in turn
   pub begins_in_turn : (vs : List Visit) (supplied accepted : List ℕ) → IsServed vs supplied accepted

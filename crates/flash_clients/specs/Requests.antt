@@ -21,8 +21,8 @@ pub record Closes (s : List ℕ) : Type 0 where
   pub reads : Reads s qs rest
   pub close : list_all (λ q. keeps q) qs ≡ false
 
--- By the window of these bytes, their first request is the first `size` bytes, with the empty lines before it, and this is its
--- answer. Of a head that is too long it is the bytes of a whole window.
+-- By the window of these bytes, their first request is the first `size` bytes, with the empty lines before it, and this
+-- is its answer. Of a head that is too long it is the bytes of a whole window.
 abbrev pub IsFirst : Window → List ℕ → (size : ℕ) → Answer → Type 0
 IsFirst Wait s size q = ⊥
 IsFirst (Head skip len) s size q = IsAnswerTo (take len (drop skip s)) q × (size ≡ skip + len)
@@ -35,5 +35,6 @@ pub record RequestsAreKept : Type 0 where
   pub keep : (came waiting : List ℕ) (size : ℕ) (q : Answer) → AreKept came → IsFirst (window_in waiting) waiting size q
       → keeps q ≡ true → AreKept (came ++ take size waiting)
   -- it closes the connection
-  pub close : (came waiting : List ℕ) (size : ℕ) (q : Answer) → AreKept came → IsFirst (window_in waiting) waiting size q
+  pub close : (came waiting : List ℕ) (size : ℕ) (q : Answer) → AreKept came
+      → IsFirst (window_in waiting) waiting size q
       → keeps q ≡ false → Closes (came ++ take size waiting)

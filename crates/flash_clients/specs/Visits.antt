@@ -21,7 +21,8 @@ use Rattle.flash_laws.specs.World.Consistency.{Actor, actor_turns}
 
 -- In the world w a connection of the net is created, and then site-preserving choices are made. On it, these bytes are
 -- received and these are sent; gone is whether one of the choices reports that its peer is gone.
-pub record IsVisit {W : Type 0} (works : TransitionRelation W) (c : ℕ) (came sent : List ℕ) (gone : Bool) (w after : Stage State (Actor W))
+pub record IsVisit {W : Type 0} (works : TransitionRelation W) (c : ℕ) (came sent : List ℕ) (gone : Bool)
+    (w after : Stage State (Actor W))
     : Type 0 where
   pub begun : Stage State (Actor W)
   pub made : OutsideStep copying (actor_turns in_rounds works) w (event.ConnNew net_pool) (reply.Conn c) begun
@@ -33,7 +34,8 @@ pub record IsVisit {W : Type 0} (works : TransitionRelation W) (c : ℕ) (came s
   pub goes : sent_over c choices replies ≡ sent
   pub reports : list_any (λ x. drops_with x c) choices ≡ gone
 
-module _ (worker_set : WorkerSet) (site_contents : SiteContents) (past : List Choice) (ps : List Reply) (c : ℕ) (came sent : List ℕ) (gone : Bool)
+module _ (worker_set : WorkerSet) (site_contents : SiteContents) (past : List Choice) (ps : List Reply) (c : ℕ)
+    (came sent : List ℕ) (gone : Bool)
     (w after : Stage State (Actor worker_set.Worker)) (visit : IsVisit worker_set.turns c came sent gone w after) where
   pub record IsVisitAnswered : Type 0 where
     -- the bytes sent begin an answer to the bytes received
@@ -41,12 +43,15 @@ module _ (worker_set : WorkerSet) (site_contents : SiteContents) (past : List Ch
     -- and are an answer once the connection is removed, unless its peer was reported as gone
     pub whole : gone ≡ false → lacks_conn after.machine c ≡ true → IsAnswer site_contents came sent
     -- the world satisfies the server's invariant
-    pub consistent : Consistent site_contents worker_set (past ++ choice.Outside (event.ConnNew net_pool) ∷ visit.choices) (ps ++ reply.Conn c ∷ visit.replies) after
+    pub consistent : Consistent site_contents worker_set (past ++ choice.Outside (event.ConnNew net_pool)
+        ∷ visit.choices) (ps ++ reply.Conn c ∷ visit.replies) after
 
 -- In a world that satisfies the server's invariant, each connection of the net is answered, whatever happens on others,
 -- if the choices since its creation are fair.
 abbrev pub VisitsAreAnswered : WorkerSet → Type 0
-VisitsAreAnswered worker_set = (site_contents : SiteContents) (past : List Choice) (ps : List Reply) (c : ℕ) (came sent : List ℕ) (gone : Bool)
+VisitsAreAnswered worker_set =
+    (site_contents : SiteContents) (past : List Choice) (ps : List Reply) (c : ℕ) (came sent : List ℕ) (gone : Bool)
     (w after : Stage State (Actor worker_set.Worker)) → Consistent site_contents worker_set past ps w
-    → (visit : IsVisit worker_set.turns c came sent gone w after) → AreFair site_contents.refuses visit.choices visit.replies
+    → (visit : IsVisit worker_set.turns c came sent gone w after)
+    → AreFair site_contents.refuses visit.choices visit.replies
     → IsVisitAnswered worker_set site_contents past ps c came sent gone w after visit

@@ -8,7 +8,8 @@ use Rattle.flash_folder.specs.Folder.{AreFilesOf}
 use Rattle.flash_lite.specs.declared.site.SiteFile.{SiteFile}
 
 -- one file more
-pub filed_more : (names : List (List ℕ)) (k : ℕ) (files : List SiteFile) (f : SiteFile) → AreFilesOf (take k names) files
+pub filed_more : (names : List (List ℕ)) (k : ℕ) (files : List SiteFile) (f : SiteFile)
+    → AreFilesOf (take k names) files
     → slice_get names k ≡ Some f.name.items → f.private ≡ false → AreFilesOf (take (k + 1) names) (files ++ f ∷ [])
 filed_more names k files f are named shared = record {
   named = map-append (λ (g : SiteFile). g.name.items) files (f ∷ [])

@@ -14,10 +14,12 @@ one_reading bytes (Some r) (Some q) a b =
     let same = request_unique bytes a.0 b.0 [] [] a.1.0 b.1.0 in
     ap (λ x. Some x) (a.2 ∙ ap reading_of same.0 ∙ sym b.2)
 
-one_name : (target name query other more : List ℕ) → Names target name query → Names target other more → (name ≡ other) × (query ≡ more)
+one_name : (target name query other more : List ℕ) → Names target name query → Names target other more
+    → (name ≡ other) × (query ≡ more)
 one_name target name query other more a b = (
   a.is_name ∙ ap (λ p. file_name p) (same_path target a.uri b.uri a.is_uri.spells b.is_uri.spells) ∙ sym b.is_name,
-  a.is_query ∙ ap (λ q. unwrap_or q []) (same_query target a.uri b.uri a.is_uri.spells b.is_uri.spells) ∙ sym b.is_query,
+  a.is_query ∙ ap (λ q. unwrap_or q []) (same_query target a.uri b.uri a.is_uri.spells b.is_uri.spells)
+      ∙ sym b.is_query,
 )
 
 one_file : (target : List ℕ) (f g : Option (List ℕ × List ℕ)) → TargetIs target f → TargetIs target g → f ≡ g
@@ -31,8 +33,10 @@ one_file target (Some f) (Some g) a b =
     ap (λ x. Some x) (first ∙ second)
 
 one_of : (r : Reading) (o : Option Answer) (a b : Answer)
-    → MatchOption o ((file : Option (List ℕ × List ℕ)) × TargetIs r.target file × (a ≡ served r file)) (λ refused. a ≡ refused)
-    → MatchOption o ((file : Option (List ℕ × List ℕ)) × TargetIs r.target file × (b ≡ served r file)) (λ refused. b ≡ refused)
+    → MatchOption o ((file : Option (List ℕ × List ℕ)) × TargetIs r.target file × (a ≡ served r file))
+    (λ refused. a ≡ refused)
+    → MatchOption o ((file : Option (List ℕ × List ℕ)) × TargetIs r.target file × (b ≡ served r file))
+    (λ refused. b ≡ refused)
     → a ≡ b
 one_of r None a b h g = h.2 ∙ ap (served r) (one_file r.target h.0 g.0 h.1 g.1) ∙ sym g.2
 one_of r (Some refused) a b h g = h ∙ sym g

@@ -1,5 +1,6 @@
 -- A query is no longer than its head.
-use Rattle.std.proofs.Common.{inl, inr, ◌≡◌, ◌≤◌, ℕ, ◌+◌, Bool, true, false, List, [], ◌∷◌, ◌++◌, length, take, drop, Option, Some, None, refl, ap, arith, length-append, length-drop}
+use Rattle.std.proofs.Common.{inl, inr, ◌≡◌, ◌≤◌, ℕ, ◌+◌, Bool, true, false, List, [], ◌∷◌, ◌++◌, length, take, drop}
+use Rattle.std.proofs.Common.{Option, Some, None, refl, ap, arith, length-append, length-drop}
 use Rattle.std.specs.Prelude.{unwrap_or, nat_lt, codes, if◌then◌else◌}
 use Rattle.std.proofs.lemmas.Bool.Decides.{nat_tests}
 use Rattle.std.proofs.lemmas.List.{length-take}
@@ -31,9 +32,12 @@ back-less text = by (nat_lt (index_of question_mark text) (length text))
 
 tail-kept : (tail kept : List ℕ) → IsTail tail kept → length kept ≤ length tail + 1
 tail-kept tail kept (inl none) = (let e = ap (λ (l : List ℕ). length l) none.1 in omega (arith, e))
-tail-kept tail kept (inr some) = (let e = ap (λ (l : List ℕ). length l) some.2 in let l = taken-less (index_of hash_sign tail) tail in omega (arith, e, l))
+tail-kept tail kept (inr some) =
+    (let e = ap (λ (l : List ℕ). length l) some.2 in let l = taken-less (index_of hash_sign tail) tail in
+    omega (arith, e, l))
 
-absolute-kept : (text scheme authority kept : List ℕ) → IsAbsoluteForm text scheme authority kept → length kept ≤ length text
+absolute-kept : (text scheme authority kept : List ℕ) → IsAbsoluteForm text scheme authority kept
+    → length kept ≤ length text
 absolute-kept text scheme authority kept h =
     let e = ap (λ (l : List ℕ). length l) h.spelled in
     let a = length-append (h.name ++ codes "://" ++ authority) h.tail in
@@ -43,8 +47,11 @@ absolute-kept text scheme authority kept h =
     let three : length (codes "://") ≡ 3 = refl in
     omega (arith, e, a, b, c, t, three)
 
-form-kept : (text : List ℕ) (scheme authority : Option (List ℕ)) (kept : List ℕ) → IsForm text scheme authority kept → length kept ≤ length text
-form-kept text None None kept h = (let e = ap (λ (l : List ℕ). length l) h.1 in let l = taken-less (index_of hash_sign text) text in omega (arith, e, l))
+form-kept : (text : List ℕ) (scheme authority : Option (List ℕ)) (kept : List ℕ) → IsForm text scheme authority kept
+    → length kept ≤ length text
+form-kept text None None kept h =
+    (let e = ap (λ (l : List ℕ). length l) h.1 in let l = taken-less (index_of hash_sign text) text in
+    omega (arith, e, l))
 form-kept text None (Some authority) kept h = (let e = ap (λ (l : List ℕ). length l) h.3 in omega (arith, e))
 form-kept text (Some scheme) None kept h = absurd h
 form-kept text (Some scheme) (Some authority) kept h = absolute-kept text scheme authority kept h
@@ -84,12 +91,16 @@ query_of : Answer → List ℕ
 query_of (serve w) = w.query
 query_of (refuse status head_only close) = []
 
-served-query : (r : Reading) (w : Wanted) (file : Option (List ℕ × List ℕ)) → TargetIs r.target file → serve w ≡ served r file → length w.query ≤ length r.target
+served-query : (r : Reading) (w : Wanted) (file : Option (List ℕ × List ℕ)) → TargetIs r.target file
+    → serve w ≡ served r file → length w.query ≤ length r.target
 unfolding query_of
 served-query r w None h e = cc
-served-query r w (Some file) h e = (let l = query-less r.target file.0 file.1 h in let q = ap (λ (l : List ℕ). length l) (ap query_of e) in omega (arith, l, q))
+served-query r w (Some file) h e =
+    (let l = query-less r.target file.0 file.1 h in let q = ap (λ (l : List ℕ). length l) (ap query_of e) in
+    omega (arith, l, q))
 
-by-reading : (head : List ℕ) (o : Option Reading) (w : Wanted) → Reads head o → Asks o (serve w) → length w.query ≤ length head
+by-reading : (head : List ℕ) (o : Option Reading) (w : Wanted) → Reads head o → Asks o (serve w)
+    → length w.query ≤ length head
 by-reading head None w reads asks = cc
 by-reading head (Some r) w reads asks =
     let f = from_reading r w asks in

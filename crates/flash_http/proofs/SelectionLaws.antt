@@ -10,14 +10,16 @@ use Rattle.flash_http.specs.Range.{LiesWithin, SelectionsLieWithin, bytes_betwee
 between-within : (first last len : ℕ) → first ≤ last → LiesWithin len (bytes_between first last len)
 between-within first last len le = by (nat_le len first) refl
   where
-    by : (b : Bool) → nat_le len first ≡ b → LiesWithin len (if b then Unsatisfiable else Bytes first (min last (len - 1)))
+    by : (b : Bool) → nat_le len first ≡ b
+        → LiesWithin len (if b then Unsatisfiable else Bytes first (min last (len - 1)))
     by true is = tt
     by false is = (grind (arith, nat_tests, is, le), grind (arith, nat_tests, is, le))
 
 part-within : (p : Part) (len : ℕ) → 0 < len → LiesWithin len (part_selected p len)
 part-within (From first None) len some = by (nat_le len first) refl
   where
-    by : (b : Bool) → nat_le len first ≡ b → LiesWithin len (if b then Unsatisfiable else Bytes first (min (len - 1) (len - 1)))
+    by : (b : Bool) → nat_le len first ≡ b
+        → LiesWithin len (if b then Unsatisfiable else Bytes first (min (len - 1) (len - 1)))
     by true is = tt
     by false is = (grind (arith, nat_tests, is), grind (arith, nat_tests, is))
 part-within (From first (Some last)) len some = by (nat_lt last first) refl

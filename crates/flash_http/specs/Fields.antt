@@ -1,5 +1,6 @@
 -- The fields and the method of a head, and their meaning.
-use Rattle.std.specs.Prelude.{◌≡◌, ℕ, ◌&&◌, ◌||◌, ◌==◌, not, Bool, false, List, [], ◌∷◌, length, map, filter, codes, bytes_eq, Option, Some, None, if◌then◌else◌}
+use Rattle.std.specs.Prelude.{◌≡◌, ℕ, ◌&&◌, ◌||◌, ◌==◌, not, Bool, false, List, [], ◌∷◌, length, map, filter, codes}
+use Rattle.std.specs.Prelude.{bytes_eq, Option, Some, None, if◌then◌else◌}
 use Rattle.std.specs.List.{list_all, list_any, slice_split}
 use Rattle.std.specs.Int.{is_in_range}
 use Rattle.std.specs.Str.{str_eq_ignore_ascii_case}

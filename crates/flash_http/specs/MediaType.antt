@@ -2,7 +2,8 @@
 use Rattle.std.specs.Prelude.{ℕ, Bool, List, codes, nat_eq, if◌then◌else◌}
 use Rattle.std.specs.List.{ends_with}
 use Rattle.flash_http.specs.declared.names.MediaType.{MediaType}
-use Rattle.flash_http.specs.declared.names.MediaType.TheVariants.{Html, PlainText, Css, JavaScript, Json, Png, Jpeg, OctetStream}
+use Rattle.flash_http.specs.declared.names.MediaType.TheVariants.{Html, PlainText, Css, JavaScript, Json, Png, Jpeg}
+use Rattle.flash_http.specs.declared.names.MediaType.TheVariants.{OctetStream}
 
 abbrev pub is_script : (name : List ℕ) → Bool
 is_script name = ends_with nat_eq name (codes ".cgi")

@@ -1,6 +1,7 @@
--- Byte ranges: the part that a Range field requests, and the bytes of a file that it selects (RFC 9110, sections 14.1 and
--- 14.2).
-use Rattle.std.specs.Prelude.{ℕ, ◌+◌, ◌-◌, ◌<◌, ◌≤◌, ◌==◌, ◌&&◌, Bool, List, length, take, drop, codes, bytes_eq, nat_lt, nat_le, min, Option, Some, None, option_map, ⊤, if◌then◌else◌}
+-- Byte ranges: the part that a Range field requests, and the bytes of a file that it selects (RFC 9110, sections 14.1
+-- and 14.2).
+use Rattle.std.specs.Prelude.{ℕ, ◌+◌, ◌-◌, ◌<◌, ◌≤◌, ◌==◌, ◌&&◌, Bool, List, length, take, drop, codes, bytes_eq}
+use Rattle.std.specs.Prelude.{nat_lt, nat_le, min, Option, Some, None, option_map, ⊤, if◌then◌else◌}
 use Rattle.std.specs.List.{list_all, position}
 use Rattle.std.specs.Char.{is_ascii_digit}
 use Rattle.std.specs.Str.Parse.{digits_value}

@@ -1,5 +1,6 @@
 -- The meaning of a head, as a relation between its bytes and an answer.
-use Rattle.std.specs.Prelude.{◌≡◌, ◌≢◌, ℕ, ◌≤◌, ◌||◌, ◌==◌, not, string_bytes, Bool, true, false, List, [], length, map, codes, bytes_eq, Option, Some, None, MatchOption, option_and_then, if◌then◌else◌}
+use Rattle.std.specs.Prelude.{◌≡◌, ◌≢◌, ℕ, ◌≤◌, ◌||◌, ◌==◌, not, string_bytes, Bool, true, false, List, [], length, map}
+use Rattle.std.specs.Prelude.{codes, bytes_eq, Option, Some, None, MatchOption, option_and_then, if◌then◌else◌}
 use Rattle.std.specs.List.{list_any}
 use Rattle.httparse.specs.Grammar.{RequestHead, ReadsRequest}
 use Rattle.httparse.specs.Spans.{name_and_value}
@@ -8,7 +9,8 @@ use Rattle.flash_http.specs.declared.requests.Request.{Request}
 use Rattle.flash_http.specs.declared.requests.Asked.{Asked}
 use Rattle.flash_http.specs.declared.requests.Asked.TheVariants as asked
 use Rattle.flash_http.specs.declared.heads.TheConstants.{MAX_FIELDS}
-use Rattle.flash_http.specs.Fields.{Field, one_range, has_one_host, has_content, asks_to_close, is_served_method, is_known_method}
+use Rattle.flash_http.specs.Fields.{Field, one_range, has_one_host, has_content, asks_to_close, is_served_method}
+use Rattle.flash_http.specs.Fields.{is_known_method}
 use Rattle.flash_http.specs.Target.{TargetIs, has_fragment, segments, is_dot_segment}
 use Rattle.flash_http.specs.Range.{part_of_value}
 use Rattle.flash_http.specs.MediaType.{is_script}

@@ -1,5 +1,6 @@
 -- The head of a response, and the body of a refusal (RFC 9110; RFC 9112, sections 4 to 6: a line ends with CR LF).
-use Rattle.std.specs.Prelude.{ℕ, ◌+◌, ◌-◌, ◌==◌, ◌||◌, not, Bool, List, [], ◌++◌, length, codes, decimal, Option, Some, None, if◌then◌else◌}
+use Rattle.std.specs.Prelude.{ℕ, ◌+◌, ◌-◌, ◌==◌, ◌||◌, not, Bool, List, [], ◌++◌, length, codes, decimal, Option, Some}
+use Rattle.std.specs.Prelude.{None, if◌then◌else◌}
 use Rattle.http.specs.StatusCode.{status_text}
 use Rattle.flash_http.specs.declared.names.MediaType.{MediaType}
 use Rattle.flash_http.specs.declared.names.MediaType.TheVariants.{PlainText}
@@ -77,8 +78,8 @@ file_head media (select.Bytes first last) len close = record {
 }
 file_head media select.Unsatisfiable len close = record (refusal_head 416 close) { range = Some (Unsatisfied len) }
 
--- for a script, whose output has unknown length: in chunks, or up to the close of the connection, which the head then announces
--- (RFC 9112, section 6.3)
+-- for a script, whose output has unknown length: in chunks, or up to the close of the connection, which the head then
+-- announces (RFC 9112, section 6.3)
 abbrev pub script_head : (chunked close : Bool) → ResponseHead
 script_head chunked close = record {
   status = 200;

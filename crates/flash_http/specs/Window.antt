@@ -1,5 +1,6 @@
 -- The window of a stream: the position of its next head.
-use Rattle.std.specs.Prelude.{ℕ, ◌+◌, ◌<◌, ◌≤◌, ◌==◌, ◌≡◌, ◌≢◌, Bool, true, false, List, [], ◌∷◌, ◌++◌, length, Option, Some, None, option_map, nat_lt, nat_le, if◌then◌else◌}
+use Rattle.std.specs.Prelude.{ℕ, ◌+◌, ◌<◌, ◌≤◌, ◌==◌, ◌≡◌, ◌≢◌, Bool, true, false, List, [], ◌∷◌, ◌++◌, length, Option}
+use Rattle.std.specs.Prelude.{Some, None, option_map, nat_lt, nat_le, if◌then◌else◌}
 use Rattle.flash_http.specs.declared.windows.Window.{Window}
 use Rattle.flash_http.specs.declared.windows.Window.TheVariants.{Wait, Head, TooLarge}
 use Rattle.flash_http.specs.declared.windows.TheConstants.{MAX_HEAD_BYTES}

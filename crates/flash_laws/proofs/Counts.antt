@@ -30,5 +30,7 @@ when-false x false is = refl
 pub made-short : (s t : State) (d n : ℕ) (bytes : List ℕ)
     → StepsTo s (event.Call d (call.AggMake bytes)) (reply.Agg n) t → length bytes ≤ 16777216
 made-short s t d n bytes step =
-    let not_long : nat_lt MAX_AGGREGATE_BYTES (length bytes) ≡ false = when-false refuse.TooLong (nat_lt MAX_AGGREGATE_BYTES (length bytes)) (passed (meaning s (event.Call d (call.AggMake bytes))).refusals 2 step.0) in
+    let not_long : nat_lt MAX_AGGREGATE_BYTES (length bytes) ≡ false =
+    when-false refuse.TooLong (nat_lt MAX_AGGREGATE_BYTES (length bytes))
+    (passed (meaning s (event.Call d (call.AggMake bytes))).refusals 2 step.0) in
     grind (arith, nat_tests, not_long)

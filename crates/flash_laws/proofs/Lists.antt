@@ -1,5 +1,6 @@
 -- Lists, numbers and tests, for the proofs of phases.
-use Rattle.std.proofs.Common.{◌≡◌, ◌≢◌, ℕ, zero, suc, ◌+◌, ◌-◌, ◌==◌, ◌<◌, ◌≤◌, List, [], ◌∷◌, ◌++◌, length, take, drop, ap, ◌∙◌, refl, sym, arith, true, false, Bool, length-append, length-drop}
+use Rattle.std.proofs.Common.{◌≡◌, ◌≢◌, ℕ, zero, suc, ◌+◌, ◌-◌, ◌==◌, ◌<◌, ◌≤◌, List, [], ◌∷◌, ◌++◌, length, take, drop}
+use Rattle.std.proofs.Common.{ap, ◌∙◌, refl, sym, arith, true, false, Bool, length-append, length-drop}
 use Rattle.std.specs.Prelude.{min, nat_lt, ◌||◌, ◌&&◌, not, slice_range}
 use Rattle.std.proofs.lemmas.List.{take-append-le, drop-append-le, drop_all, drop-drop, length-take, length-take-le}
 use Rattle.std.proofs.lemmas.Bool.Decides.{nat_tests}
@@ -91,21 +92,26 @@ take-none (suc k) = refl
 pub take-plus : (t k : ℕ) (l : List ℕ) → take (t + k) l ≡ take t l ++ take k (drop t l)
 take-plus zero k l = (let e : zero + k ≡ k = omega arith in ap (λ z. take z l) e)
 take-plus (suc t) k [] = take-none (suc t + k) ∙ sym (take-none k)
-take-plus (suc t) k (x ∷ l) = (let e : suc t + k ≡ suc (t + k) = omega arith in ap (λ z. take z (x ∷ l)) e ∙ ap (λ (w : List ℕ). x ∷ w) (take-plus t k l))
+take-plus (suc t) k (x ∷ l) =
+    (let e : suc t + k ≡ suc (t + k) = omega arith in ap (λ z. take z (x ∷ l)) e
+    ∙ ap (λ (w : List ℕ). x ∷ w) (take-plus t k l))
 
 -- of what is next the first k bytes, and what comes after them
 pub next-front : (k : ℕ) (bytes after expected : List ℕ) → bytes ++ after ≡ expected → k ≤ length bytes
     → take k expected ≡ take k bytes
-next-front k bytes after expected next within = sym (ap (λ (l : List ℕ). take k l) next) ∙ take-append-le k bytes after within
+next-front k bytes after expected next within = sym (ap (λ (l : List ℕ). take k l) next)
+    ∙ take-append-le k bytes after within
 
 pub next-rest : (k taken : ℕ) (bytes after expected : List ℕ) → bytes ++ after ≡ drop taken expected
     → k ≤ length bytes → drop k bytes ++ after ≡ drop (taken + k) expected
-next-rest k taken bytes after expected next within = sym (drop-append-le k bytes after within) ∙ (ap (λ (l : List ℕ). drop k l) next ∙ drop-drop k taken expected)
+next-rest k taken bytes after expected next within = sym (drop-append-le k bytes after within)
+    ∙ (ap (λ (l : List ℕ). drop k l) next ∙ drop-drop k taken expected)
 
 -- where all is taken only what follows is left
 pub none-left : (bytes after : List ℕ) (from len : ℕ) → len ≡ length bytes → nat_lt from len ≡ false
     → after ≡ drop from bytes ++ after
-none-left bytes after from len size is = let all : length bytes ≤ from = grind (arith, nat_tests, is, size) in ap (λ (l : List ℕ). l ++ after) (sym (drop_all from bytes all))
+none-left bytes after from len size is = let all : length bytes ≤ from = grind (arith, nat_tests, is, size) in
+    ap (λ (l : List ℕ). l ++ after) (sym (drop_all from bytes all))
 
 pub both-long : (xs ys : List ℕ) (size len : ℕ) → size ≡ length xs → len ≡ length ys → size + len ≡ length (xs ++ ys)
 both-long xs ys size len is_x is_y = let e = length-append xs ys in omega (arith, e, is_x, is_y)
@@ -115,7 +121,9 @@ take-within : (k j : ℕ) (l : List ℕ) → k ≤ length (take j l) → (take k
 take-within zero j l le = (refl, omega arith)
 take-within (suc k) zero l le = absurd (omega (arith, le))
 take-within (suc k) (suc j) [] le = absurd (omega (arith, le))
-take-within (suc k) (suc j) (x ∷ l) le = (let r = take-within k j l (omega (arith, le)) in (ap (λ (t : List ℕ). x ∷ t) r.0, (let e = r.1 in omega (arith, e))))
+take-within (suc k) (suc j) (x ∷ l) le =
+    (let r = take-within k j l (omega (arith, le)) in
+    (ap (λ (t : List ℕ). x ∷ t) r.0, (let e = r.1 in omega (arith, e))))
 
 pub take-slice : (k from to : ℕ) (bytes : List ℕ) → k ≤ length (slice_range bytes from to)
     → take k (drop from bytes) ≡ take k (slice_range bytes from to)
@@ -144,7 +152,8 @@ pub length-part : (bytes : List ℕ) (first last : ℕ) → first ≤ last → l
 length-part bytes first last le lt = let e = length-range bytes first last le lt in omega (arith, e, le)
 
 -- a part that has as many bytes as its bounds tell, and some, lies within
-pub within-part : (from to : ℕ) (bytes : List ℕ) → from < to → to - from ≡ length (slice_range bytes from to) → to ≤ length bytes
+pub within-part : (from to : ℕ) (bytes : List ℕ) → from < to → to - from ≡ length (slice_range bytes from to)
+    → to ≤ length bytes
 within-part from to bytes some count =
     let few = length-take (to - from) (drop from bytes) in
     let all = length-drop from bytes in

@@ -1,6 +1,7 @@
 -- The premises of the law can be met: a small site, a new world with only the server, and an undisturbed run of that
 -- world.
-use Rattle.std.proofs.Common.{inl, inr, ◌≡◌, ◌≢◌, ℕ, zero, suc, ◌+◌, ◌≤◌, ◌<◌, ◌⊎◌, List, [], ◌∷◌, length, replicate, ap, refl, sym, subst, arith, Some, true, false, Bool}
+use Rattle.std.proofs.Common.{inl, inr, ◌≡◌, ◌≢◌, ℕ, zero, suc, ◌+◌, ◌≤◌, ◌<◌, ◌⊎◌, List, [], ◌∷◌, length, replicate}
+use Rattle.std.proofs.Common.{ap, refl, sym, subst, arith, Some, true, false, Bool}
 use Rattle.std.specs.Prelude.{codes, bytes_eq, position, option_map, ◌||◌}
 use Rattle.std.proofs.lemmas.Bool.Decides.{nat_tests}
 use Rattle.std.proofs.lemmas.Grind.{common_steps}
@@ -8,7 +9,8 @@ use Rattle.std.proofs.lemmas.List.{length-replicate}
 use Rattle.iol_core.specs.Access.{HasAccess}
 use Rattle.iol_core.specs.NumberedLists.{is_numbered}
 use Rattle.iol_core.specs.Positions.{ArePlaced}
-use Rattle.iol_core.specs.State.{State, File, new_state, domain, pool, file, content, conn_at, is_pool, may_read, with_domain, with_conn, with_content}
+use Rattle.iol_core.specs.State.{State, File, new_state, domain, pool, file, content, conn_at, is_pool, may_read}
+use Rattle.iol_core.specs.State.{with_domain, with_conn, with_content}
 use Rattle.iol_core.specs.Run.{meaning, StepsTo}
 use Rattle.iol_core.specs.declared.events.Event.{Event}
 use Rattle.iol_core.specs.declared.events.Event.TheVariants as event
@@ -79,12 +81,15 @@ with_file = then_on with_vault (event.Call 1 (call.FileNew (codes "a.txt") 1))
 abbrev site : State
 site = then_on with_file (event.Call 2 (call.FileNew (codes "b.txt") 4))
 
-site_pools : (with_vault.pools) ≡ (record { domains = 1 ∷ 2 ∷ []; closed = false } ∷ record { domains = 1 ∷ []; closed = false } ∷ record { domains = 1 ∷ 2 ∷ []; closed = false } ∷ record { domains = 2 ∷ []; closed = false } ∷ [])
+site_pools : (with_vault.pools)
+    ≡ (record { domains = 1 ∷ 2 ∷ []; closed = false } ∷ record { domains = 1 ∷ []; closed = false }
+    ∷ record { domains = 1 ∷ 2 ∷ []; closed = false } ∷ record { domains = 2 ∷ []; closed = false } ∷ [])
 unfolding domain pool file content with_domain with_content
 site_pools = refl
 
 -- a file is found, one is hidden from the server, and one is unknown
-site_outcomes : (outcome_in site (codes "a.txt") ≡ Found (codes "hello")) × (outcome_in site (codes "b.txt") ≡ Failed 403) × (outcome_in site (codes "c.txt") ≡ Failed 404)
+site_outcomes : (outcome_in site (codes "a.txt") ≡ Found (codes "hello"))
+    × (outcome_in site (codes "b.txt") ≡ Failed 403) × (outcome_in site (codes "c.txt") ≡ Failed 404)
 unfolding domain pool file content with_domain with_content
 site_outcomes = (refl, refl, refl)
 
@@ -97,7 +102,8 @@ site_net d differ = ap (λ b. b || false) (not-equal 1 d (λ same. differ (same_
     same_turned e = cc
 
 -- what each step keeps, and a new state has, the site has
-over_steps : (Q : State → Type 0) → ((s t : State) (e : Event) (r : Reply) → Q s → StepsTo s e r t → Q t) → Q begun → Q site
+over_steps : (Q : State → Type 0) → ((s t : State) (e : Event) (r : Reply) → Q s → StepsTo s e r t → Q t) → Q begun
+    → Q site
 unfolding domain pool file content with_domain with_content
 over_steps Q step first =
     step with_file site (event.Call 2 (call.FileNew (codes "b.txt") 4)) (reply.File 2)
@@ -106,7 +112,8 @@ over_steps Q step first =
     (step with_net with_work (event.Call 1 (call.PoolCreate 1 (1 ∷ 2 ∷ []))) (reply.Pool 3)
     (step with_site with_net (event.Call 1 (call.PoolCreate 1 (1 ∷ []))) (reply.Pool 2)
     (step with_guest with_site (event.Call 1 (call.PoolCreate 1 (1 ∷ 2 ∷ []))) (reply.Pool 1)
-    (step begun with_guest (event.Call 1 call.DomainNew) (reply.Domain 2) first (refl, refl, refl)) (refl, refl, refl)) (refl, refl, refl)) (refl, refl, refl)) (refl, refl, refl)) (refl, refl, refl)) (refl, refl, refl)
+    (step begun with_guest (event.Call 1 call.DomainNew) (reply.Domain 2) first (refl, refl, refl)) (refl, refl, refl))
+    (refl, refl, refl)) (refl, refl, refl)) (refl, refl, refl)) (refl, refl, refl)) (refl, refl, refl)
 
 -- the file that has a name is one of these
 one_of_two : (a b : Bool) (f : ℕ)
@@ -131,7 +138,8 @@ site_fixed = record {
   lives = refl;
   outcomes = λ name. refl;
   lengths = λ name f is. site_short f (one_of_two (bytes_eq (codes "a.txt") name) (bytes_eq (codes "b.txt") name) f is);
-  read_by = λ name f is. site_readers f (one_of_two (bytes_eq (codes "a.txt") name) (bytes_eq (codes "b.txt") name) f is);
+  read_by =
+      λ name f is. site_readers f (one_of_two (bytes_eq (codes "a.txt") name) (bytes_eq (codes "b.txt") name) f is);
   net_read = refl;
   net_alone = site_net;
 }
@@ -148,7 +156,8 @@ of_two a b f is = by f (grind (arith, nat_tests, common_steps, is)) (grind (arit
 
 two_files : (f : ℕ) → is_numbered site.files f ≡ true → (f ≡ 1) ⊎ (f ≡ 2)
 unfolding domain pool file content with_domain with_content
-two_files f is = of_two {A = File} (record { name = codes "a.txt"; pool = 1 }) (record { name = codes "b.txt"; pool = 4 }) f is
+two_files f is =
+    of_two {A = File} (record { name = codes "a.txt"; pool = 1 }) (record { name = codes "b.txt"; pool = 4 }) f is
 
 site_within : (f : ℕ) → (f ≡ 1) ⊎ (f ≡ 2) → length (content site f) ≤ MAX_FILE_BYTES
 unfolding domain pool file content with_domain with_content
@@ -169,12 +178,20 @@ site_files = record {
 
 -- nothing is shown, since no script runs
 abbrev site_contents : SiteContents
-site_contents = record { finds = outcome_in site; shows = λ name. script.Failed refusal.NoFile; scripts = false; refuses = no_refusal }
+site_contents = record {
+  finds = outcome_in site;
+  shows = λ name. script.Failed refusal.NoFile;
+  scripts =
+      false;
+  refuses = no_refusal;
+}
 
 -- A world with the server alone: it is new. A connection comes, and is accepted: this run is undisturbed, and the
 -- connection is the net's.
-module _ (orders : EachStepKeepsOrder) (descriptors : DescriptorsComeByReplies) {W : Type 0} (works : TransitionRelation W) (quiescent : Claim W)
-    (free : (ℕ → Bool) → State → ℕ → ProcessSlot W → Type 0) (expected : (ℕ → Bool) → State → ℕ → ℕ → ProcessSlot W → Made → List ℕ → Type 0) where
+module _ (orders : EachStepKeepsOrder) (descriptors : DescriptorsComeByReplies) {W : Type 0}
+    (works : TransitionRelation W) (quiescent : Claim W)
+    (free : (ℕ → Bool) → State → ℕ → ProcessSlot W → Type 0) (expected : (ℕ → Bool) → State → ℕ → ℕ → ProcessSlot W
+    → Made → List ℕ → Type 0) where
   -- no workers, and so no job queues, and no pools of theirs
   abbrev alone : WorkerSet
   alone = worker_set_with works quiescent free expected 0 (λ k. 0) (λ q. false) (λ q. true)
@@ -196,7 +213,13 @@ module _ (orders : EachStepKeepsOrder) (descriptors : DescriptorsComeByReplies) 
   }
 
   abbrev new_world : Stage State (Actor W)
-  new_world = record { machine = site; process_slots = record { by = server; process = Serving new_server; last = reply.Done } ∷ []; resource_failure = false }
+  new_world =
+      record {
+        machine = site;
+        process_slots = record { by = server; process = Serving new_server; last = reply.Done }
+            ∷ [];
+        resource_failure = false;
+      }
 
   world_is_new : IsNew site_contents alone new_world
   unfolding conn_at domain with_domain
@@ -221,7 +244,13 @@ module _ (orders : EachStepKeepsOrder) (descriptors : DescriptorsComeByReplies) 
   abbrev accepted_1 : Stage State (Actor W)
   accepted_1 = record {
     machine = then_on (then_on site (event.ConnNew 2)) (event.Call 1 call.Accept);
-    process_slots = record { by = server; process = Serving (record { clients = []; pending_call = Accepting; workers = 0 }); last = reply.Fd 0 } ∷ [];
+    process_slots =
+        record {
+          by = server;
+          process = Serving (record { clients = []; pending_call = Accepting; workers = 0 });
+          last =
+              reply.Fd 0;
+        } ∷ [];
     resource_failure = false;
   }
 
@@ -250,9 +279,23 @@ module _ (orders : EachStepKeepsOrder) (descriptors : DescriptorsComeByReplies) 
           yields = false;
           turn = record {
             process_slot = record { by = server; process = Serving new_server; last = reply.Done };
-            next = record { by = server; process = Serving (record { clients = []; pending_call = Accepting; workers = 0 }); last = reply.Fd 0 };
+            next =
+                record {
+                  by = server;
+                  process =
+                      Serving (record { clients = []; pending_call = Accepting; workers = 0 });
+                  last = reply.Fd 0;
+                };
             sits = refl;
-            turn = inr (record { turn = turn.Make call.Accept; proceeds = (refl, (refl, refl), refl); comes = (refl, (refl, refl, refl)); after_reply = refl; domain_stays = refl });
+            turn =
+                inr (record {
+                  turn = turn.Make call.Accept;
+                  proceeds = (refl, (refl, refl), refl);
+                  comes =
+                      (refl, (refl, refl, refl));
+                  after_reply = refl;
+                  domain_stays = refl;
+                });
             others_stay = refl;
             notes = refl;
           };

@@ -1,7 +1,8 @@
 -- The answer to a stream: the responses to its requests, in order, up to the first after which the connection closes
 -- (RFC 9112, sections 9.3.2 and 9.6).
 pub mod Scripts
-use Rattle.std.specs.Prelude.{◌≡◌, ℕ, ◌+◌, Bool, true, false, not, ◌&&◌, List, [], ◌∷◌, ◌++◌, length, take, drop, slice_range}
+use Rattle.std.specs.Prelude.{◌≡◌, ℕ, ◌+◌, Bool, true, false, not, ◌&&◌, List, [], ◌∷◌, ◌++◌, length, take, drop}
+use Rattle.std.specs.Prelude.{slice_range}
 use Rattle.flash_http.specs.declared.windows.Window.{Window}
 use Rattle.flash_http.specs.declared.windows.Window.TheVariants.{Wait, Head, TooLarge}
 use Rattle.flash_http.specs.declared.ranges.Selection.{Selection}

@@ -176,7 +176,8 @@ after_run y = phase.Closes
 -- the run advances from y to z, or is over with it
 abbrev pub proceeds : (was over : Bool) → Client → (y z : Running) → Client
 proceeds false true x y z = record { conn = record x.conn { phase = after_run z }; run = None; script = [] }
-proceeds was over x y z = record { conn = x.conn; run = Some z; script = text_on (keeps_text y) (keeps_text z) x.script }
+proceeds was over x y z =
+    record { conn = x.conn; run = Some z; script = text_on (keeps_text y) (keeps_text z) x.script }
 
 abbrev pub run_on : Client → (y z : Running) → Client
 run_on x y z = proceeds (is_over y) (is_over z) x y z

@@ -6,7 +6,8 @@ pub mod ShortHeads
 pub mod Holdings
 pub mod Policy
 pub mod Wants
-use Rattle.std.specs.Prelude.{◌≡◌, ℕ, ◌+◌, ◌-◌, ◌==◌, ◌||◌, ◌⊎◌, min, nat_lt, nat_le, Bool, true, false, not, List, [], ◌∷◌, ◌++◌, length, Option, Some, None, if◌then◌else◌}
+use Rattle.std.specs.Prelude.{◌≡◌, ℕ, ◌+◌, ◌-◌, ◌==◌, ◌||◌, ◌⊎◌, min, nat_lt, nat_le, Bool, true, false, not, List, []}
+use Rattle.std.specs.Prelude.{◌∷◌, ◌++◌, length, Option, Some, None, if◌then◌else◌}
 use Rattle.iol_core.specs.declared.limits.TheConstants.{MAX_AGGREGATE_BYTES, MAX_QUEUE_BYTES}
 use Rattle.iol_core.specs.declared.descriptors.Mode.TheVariants as modes
 use Rattle.iol_core.specs.declared.refusals.Refusal.{Refusal}
@@ -26,7 +27,9 @@ use Rattle.flash_laws.specs.declared.phase.FileResult.TheVariants.{File, Length,
 use Rattle.flash_laws.specs.declared.phase.Payload.{Payload}
 use Rattle.flash_laws.specs.declared.phase.Payload.TheVariants.{Body, Bare, Error, Script}
 use Rattle.flash_laws.specs.declared.phase.Phase.{Phase}
-use Rattle.flash_laws.specs.declared.phase.Phase.TheVariants.{Rests, Got, Opens, Reads, Shuts, Picks, Spares, Heads, Joins, Sends, Cuts, Offers, Swaps, Sent, Breaks, Drops, Closes, Over}
+use Rattle.flash_laws.specs.declared.phase.Phase.TheVariants.{Rests, Got, Opens, Reads, Shuts, Picks, Spares, Heads}
+use Rattle.flash_laws.specs.declared.phase.Phase.TheVariants.{Joins, Sends, Cuts, Offers, Swaps, Sent, Breaks, Drops}
+use Rattle.flash_laws.specs.declared.phase.Phase.TheVariants.{Closes, Over}
 use Rattle.flash_laws.specs.Answers.{keeps, body_unless, file_text, script_text, error_text, unsatisfiable, Next}
 
 -- the aggregate to be sent after the current one, with its length
@@ -230,7 +233,8 @@ following k = None
 -- a head of head bytes is joined with its body, if both fit into an aggregate
 abbrev pub headed : (head size : ℕ) → Following → Phase
 headed a size None = Sends a size 0 None
-headed a size (Some x) = if nat_le (size + x.1) MAX_AGGREGATE_BYTES then Joins a size x.0 x.1 else Sends a size 0 (Some x)
+headed a size (Some x) =
+    if nat_le (size + x.1) MAX_AGGREGATE_BYTES then Joins a size x.0 x.1 else Sends a size 0 (Some x)
 
 abbrev pub after_head : Payload → Reply → (received : List ℕ) → Phase
 after_head k (reply.Agg n) received = headed n (count_of received) (following k)
@@ -242,7 +246,8 @@ after_join a size body len r = Joins a size body len
 
 -- all is taken, or the rest is sent in pieces
 abbrev pub after_send : (agg len taken : ℕ) → Following → Reply → Phase
-after_send a len taken more (reply.Count n) = if nat_lt n len then Cuts a n len (taken + n) more else Sent a (taken + len) more
+after_send a len taken more (reply.Count n) =
+    if nat_lt n len then Cuts a n len (taken + n) more else Sent a (taken + len) more
 after_send a len taken more (reply.Refused no.BrokenPipe) = Drops a more
 after_send a len taken more r = Sends a len taken more
 
@@ -260,7 +265,8 @@ after_offer a from len piece taken more (reply.Refused no.BrokenPipe) = Breaks p
 after_offer a from len piece taken more r = Offers a from len piece taken more
 
 abbrev pub after_swap : (agg from len piece taken : ℕ) → Following → Reply → Phase
-after_swap a from len piece taken more reply.Done = if nat_lt from len then Cuts a from len taken more else Sent a taken more
+after_swap a from len piece taken more reply.Done =
+    if nat_lt from len then Cuts a from len taken more else Sent a taken more
 after_swap a from len piece taken more r = Swaps a from len piece taken more
 
 -- the aggregate after it, or the end of the response

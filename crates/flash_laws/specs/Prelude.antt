@@ -15,7 +15,8 @@ pub use Rattle.flash_laws.specs.Site.Places.{NoneRuns, runs_scripts}
 pub use Rattle.flash_laws.specs.Site.OtherConns.{grown, with_at}
 pub use Rattle.flash_laws.specs.Workers.{IsExpectedOf, IsFreeFor}
 pub use Rattle.flash_laws.specs.Workers.OwnWorkers.{IsShared}
-pub use Rattle.flash_laws.specs.World.{RunKeepsConsistency, StepKeepsConsistency, ConsistentAtFirst, ConsistentIsAnswered, ConsistentIsWhole}
+pub use Rattle.flash_laws.specs.World.{RunKeepsConsistency, StepKeepsConsistency, ConsistentAtFirst}
+pub use Rattle.flash_laws.specs.World.{ConsistentIsAnswered, ConsistentIsWhole}
 pub use Rattle.flash_laws.specs.World.Done.{IdleIsDone}
 pub use Rattle.flash_laws.specs.World.Host.{HostIsRight}
 pub use Rattle.flash_laws.specs.World.Idle.{actor_quiescent}

@@ -7,7 +7,8 @@ pub mod OfferedBytes
 pub mod Holdings
 pub mod Wants
 pub mod Stages
-use Rattle.std.specs.Prelude.{ℕ, min, ◌+◌, ◌-◌, ◌==◌, ◌&&◌, ◌||◌, nat_lt, not, Bool, true, false, List, [], ◌∷◌, Option, Some, None, if◌then◌else◌}
+use Rattle.std.specs.Prelude.{ℕ, min, ◌+◌, ◌-◌, ◌==◌, ◌&&◌, ◌||◌, nat_lt, not, Bool, true, false, List, [], ◌∷◌, Option}
+use Rattle.std.specs.Prelude.{Some, None, if◌then◌else◌}
 use Rattle.iol_core.specs.declared.refusals.Refusal.{Refusal}
 use Rattle.iol_core.specs.declared.refusals.Refusal.TheVariants as no
 use Rattle.iol_core.specs.declared.events.Call.{Call}
@@ -24,7 +25,10 @@ use Rattle.flash_laws.specs.declared.phase.Phase.TheVariants as phase
 use Rattle.flash_laws.specs.declared.script_run.TheConstants.{CHUNK_BYTES}
 use Rattle.flash_laws.specs.declared.script_run.Run.{Run}
 use Rattle.flash_laws.specs.declared.script_run.Step.{Step}
-use Rattle.flash_laws.specs.declared.script_run.Step.TheVariants.{Gives, Makes, Hands, Lets, Heads, Sending, Receives, Spills, Gathers, Frames, Wraps, Trims, Ended, Unholds, Stops, Unframes, Lasts, WrapsLast, TrimsLast, Unwraps, Returns, Lapses, Fails}
+use Rattle.flash_laws.specs.declared.script_run.Step.TheVariants.{Gives, Makes, Hands, Lets, Heads, Sending, Receives}
+use Rattle.flash_laws.specs.declared.script_run.Step.TheVariants.{Spills, Gathers, Frames, Wraps, Trims, Ended, Unholds}
+use Rattle.flash_laws.specs.declared.script_run.Step.TheVariants.{Stops, Unframes, Lasts, WrapsLast, TrimsLast, Unwraps}
+use Rattle.flash_laws.specs.declared.script_run.Step.TheVariants.{Returns, Lapses, Fails}
 use Rattle.flash_laws.specs.declared.script_run.Running.{Running}
 use Rattle.flash_laws.specs.declared.script_run.Running.TheVariants.{Awaits, Runs, Leaves, Closes}
 
@@ -133,14 +137,16 @@ module _ (job : (fd : ℕ) → List ℕ) where
   step_wants fd w run (Spills a frame) = call.AggDrop a
   step_wants fd w run (Gathers held size piece len frame) = call.AggJoin held piece
   step_wants fd w run (Frames held) = call.AggMake (frame_of CHUNK_BYTES)
-  step_wants fd w run (Wraps held frame) = call.AggReplace frame (place_in_frame CHUNK_BYTES) (place_in_frame CHUNK_BYTES) held
+  step_wants fd w run (Wraps held frame) =
+      call.AggReplace frame (place_in_frame CHUNK_BYTES) (place_in_frame CHUNK_BYTES) held
   step_wants fd w run (Trims held chunk len frame) = call.AggDrop held
   step_wants fd w run (Ended a held frame) = call.AggDrop a
   step_wants fd w run (Unholds held frame) = call.AggDrop held
   step_wants fd w run (Stops held frame) = call.Close run.from
   step_wants fd w run (Unframes frame held) = call.AggDrop frame
   step_wants fd w run (Lasts held) = call.AggMake (end_around held)
-  step_wants fd w run (WrapsLast held size frame) = call.AggReplace frame (place_in_frame size) (place_in_frame size) held
+  step_wants fd w run (WrapsLast held size frame) =
+      call.AggReplace frame (place_in_frame size) (place_in_frame size) held
   step_wants fd w run (TrimsLast held chunk len frame) = call.AggDrop held
   step_wants fd w run (Unwraps frame chunk len) = call.AggDrop frame
   step_wants fd w run (Returns write) = call.Close write

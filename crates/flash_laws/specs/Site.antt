@@ -52,5 +52,6 @@ pub record KeepsSite (m n : State) : Type 0 where
 
 -- each step that may change no file, and that admits no domain to a pool, leaves the site unchanged
 abbrev pub SiteStays : Type 0
-SiteStays = (site_contents : SiteContents) (m n : State) (e : Event) (r : Reply) → IsFixed site_contents m → StepsTo m e r n
+SiteStays = (site_contents : SiteContents) (m n : State) (e : Event) (r : Reply) → IsFixed site_contents m
+    → StepsTo m e r n
     → changes_files m e ≡ false → ((p : ℕ) → admits_to e p ≡ false) → KeepsSite m n

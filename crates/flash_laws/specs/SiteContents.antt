@@ -18,7 +18,8 @@ use Rattle.flash_cgi.specs.declared.line.Line.{Line}
 use Rattle.flash_laws.specs.Answers.Scripts.{script_response}
 use Rattle.flash_laws.specs.Client.{is_for_script}
 use Rattle.flash_laws.specs.Conn.{status_of}
-use Rattle.flash_laws.specs.Answers.{Outcome, Found, Failed, response, outcome_of, script_text, Reads, last_may_close, last_closes}
+use Rattle.flash_laws.specs.Answers.{Outcome, Found, Failed, response, outcome_of, script_text, Reads, last_may_close}
+use Rattle.flash_laws.specs.Answers.{last_closes}
 use Rattle.flash_laws.specs.SiteContents.Expected.{Seen, expected, outcomes_by}
 
 -- The refusals among TooMany, NoRoom, Fault and Memory that calls for files may get: those of the server, and those of
@@ -49,7 +50,8 @@ module _ (site_contents : SiteContents) where
 
   -- The possible results of a worker's calls for a file: its outcome, or a refusal that calls of workers may get.
   abbrev pub MayShow : (there got : script.Outcome) → Type 0
-  MayShow there got = (got ≡ there) ⊎ ((x : Refusal) × (site_contents.refuses.of_workers x ≡ true) × (got ≡ script.Failed x))
+  MayShow there got =
+      (got ≡ there) ⊎ ((x : Refusal) × (site_contents.refuses.of_workers x ≡ true) × (got ≡ script.Failed x))
 
   -- the same for each file that it names
   abbrev pub AllMayShow : (there got : List script.Outcome) → Type 0
@@ -76,7 +78,8 @@ module _ (site_contents : SiteContents) where
 
   -- A possible response to a request.
   abbrev pub MayBeExpected : Answer → List ℕ → Type 0
-  MayBeExpected q r = (o : Outcome) × MayFind (outcome_of site_contents.finds q) o × MayGive (is_for_script site_contents.scripts q) q o r
+  MayBeExpected q r = (o : Outcome) × MayFind (outcome_of site_contents.finds q) o
+      × MayGive (is_for_script site_contents.scripts q) q o r
 
   -- a possible response to each of these requests, in order
   abbrev pub AllMayBeExpected : List Answer → List (List ℕ) → Type 0

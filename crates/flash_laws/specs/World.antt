@@ -8,7 +8,8 @@ pub mod Remains
 pub mod Done
 pub mod Fair
 pub mod Host
-use Rattle.std.specs.Prelude.{◌≡◌, ◌==◌, Bool, ◌<◌, ℕ, true, false, List, [], ◌∷◌, ◌++◌, length, map, Some, None, slice_get, if◌then◌else◌}
+use Rattle.std.specs.Prelude.{◌≡◌, ◌==◌, Bool, ◌<◌, ℕ, true, false, List, [], ◌∷◌, ◌++◌, length, map, Some, None}
+use Rattle.std.specs.Prelude.{slice_get, if◌then◌else◌}
 use Rattle.iol_core.specs.Text.{bytes_of}
 use Rattle.iol_core.specs.State.{State, conn_at, no_conn}
 use Rattle.iol_core.specs.declared.events.Reply.{Reply}
@@ -36,11 +37,18 @@ use Rattle.flash_laws.specs.World.Consistency.{past_of, made_over, gone_over, Ac
 
 -- a worker at its process slot, as a process of the world
 abbrev pub as_actor : {W : Type 0} → ProcessSlot W → ProcessSlot (Actor W)
-as_actor process_slot = record { by = process_slot.by; process = Working process_slot.process; last = process_slot.last }
+as_actor process_slot = record {
+  by = process_slot.by;
+  process = Working process_slot.process;
+  last =
+      process_slot.last;
+}
 
 -- the server has the first process slot, and each worker one after it
-abbrev pub process_slots_of : {W : Type 0} → Server → (last : Reply) → List (ProcessSlot W) → List (ProcessSlot (Actor W))
-process_slots_of s last workers = record { by = server; process = Serving s; last = last } ∷ map (λ w. as_actor w) workers
+abbrev pub process_slots_of : {W : Type 0} → Server → (last : Reply) → List (ProcessSlot W)
+    → List (ProcessSlot (Actor W))
+process_slots_of s last workers = record { by = server; process = Serving s; last = last }
+    ∷ map (λ w. as_actor w) workers
 
 -- a server with this number of workers, and nothing else
 abbrev pub server_with : (workers : ℕ) → Server
@@ -49,7 +57,8 @@ server_with workers = record new_server { workers = workers }
 module _ (site_contents : SiteContents) (worker_set : WorkerSet) where
   -- Between two turns of the server all clients have their invariants, and it has only the aggregates that its clients
   -- use or that external calls gave it; the reply to the pending call counts as processed.
-  pub record IsServing (m : State) (p : Past) (s : Server) (last : Reply) (process_slots : List (ProcessSlot worker_set.Worker)) : Type 0 where
+  pub record IsServing (m : State) (p : Past) (s : Server) (last : Reply)
+      (process_slots : List (ProcessSlot worker_set.Worker)) : Type 0 where
     pub count : s.workers ≡ worker_set.count
     pub received : List ℕ
     pub names : Names m last received
@@ -64,7 +73,8 @@ module _ (site_contents : SiteContents) (worker_set : WorkerSet) where
     pub serves : IsServing w.machine p state last workers
 
   -- The invariant of a world, by the choices that were made and their replies.
-  pub record Consistent (choices : List Choice) (replies : List Reply) (w : Stage State (Actor worker_set.Worker)) : Type 0 where
+  pub record Consistent (choices : List Choice) (replies : List Reply) (w : Stage State (Actor worker_set.Worker)) :
+      Type 0 where
     pub even : length choices ≡ length replies
     pub order : IsOrderly w.machine
     pub fixed : IsFixedFor site_contents worker_set w.machine
@@ -77,7 +87,8 @@ module _ (site_contents : SiteContents) (worker_set : WorkerSet) where
     pub workers : List (ProcessSlot worker_set.Worker)
     pub process_slots : w.process_slots ≡ process_slots_of (server_with worker_set.count) reply.Done workers
     pub job_queues : AreAtJobQueues worker_set w.machine workers
-    pub free : (k : ℕ) (process_slot : ProcessSlot worker_set.Worker) → slice_get workers k ≡ Some process_slot → worker_set.Free w.machine (worker_set.job_queue k) process_slot
+    pub free : (k : ℕ) (process_slot : ProcessSlot worker_set.Worker) → slice_get workers k ≡ Some process_slot
+        → worker_set.Free w.machine (worker_set.job_queue k) process_slot
     pub no_aggs : (a : ℕ) → readable_at w.machine server a ≡ None
     pub no_conns : (c : ℕ) → conn_at w.machine c ≡ no_conn
 
@@ -106,21 +117,25 @@ AreFair refuses xs rs = Unit {0}
 
 -- job pipes are distinct
 abbrev pub JobQueuesAreApart : WorkerSet → Type 0
-JobQueuesAreApart worker_set = (k l : ℕ) → k < worker_set.count → l < worker_set.count → worker_set.job_queue k ≡ worker_set.job_queue l → k ≡ l
+JobQueuesAreApart worker_set = (k l : ℕ) → k < worker_set.count → l < worker_set.count
+    → worker_set.job_queue k ≡ worker_set.job_queue l → k ≡ l
 
 module _ (worker_set : WorkerSet) where
   -- A new world has the invariant.
   abbrev pub ConsistentAtFirst : Type 0
-  ConsistentAtFirst = (site_contents : SiteContents) (w : Stage State (Actor worker_set.Worker)) → IsNew site_contents worker_set w → Consistent site_contents worker_set [] [] w
+  ConsistentAtFirst = (site_contents : SiteContents) (w : Stage State (Actor worker_set.Worker))
+      → IsNew site_contents worker_set w → Consistent site_contents worker_set [] [] w
 
   -- In a world with the invariant, the output of each connection of the net begins its answer, and is all of it if the
   -- connection is closed, unless its peer left.
   abbrev pub ConsistentIsAnswered : Type 0
-  ConsistentIsAnswered = (site_contents : SiteContents) (xs : List Choice) (rs : List Reply) (w : Stage State (Actor worker_set.Worker))
+  ConsistentIsAnswered =
+      (site_contents : SiteContents) (xs : List Choice) (rs : List Reply) (w : Stage State (Actor worker_set.Worker))
       → Consistent site_contents worker_set xs rs w → AllAnswered site_contents xs rs w.machine
 
   abbrev pub ConsistentIsWhole : Type 0
-  ConsistentIsWhole = (site_contents : SiteContents) (xs : List Choice) (rs : List Reply) (w : Stage State (Actor worker_set.Worker))
+  ConsistentIsWhole =
+      (site_contents : SiteContents) (xs : List Choice) (rs : List Reply) (w : Stage State (Actor worker_set.Worker))
       → Consistent site_contents worker_set xs rs w → ClosedAreWhole site_contents xs rs w.machine
 
 module _ (may : Policy) (worker_set : WorkerSet) where
@@ -128,15 +143,20 @@ module _ (may : Policy) (worker_set : WorkerSet) where
   abbrev pub StepKeepsConsistency : Type 0
   StepKeepsConsistency = (site_contents : SiteContents) (xs : List Choice) (rs : List Reply) (x : Choice) (r : Reply)
       (w after : Stage State (Actor worker_set.Worker))
-      → WorldStep copying (actor_turns may worker_set.turns) w x r after → IsSitePreserving w x after → AreFair site_contents.refuses (x ∷ []) (r ∷ [])
-      → Consistent site_contents worker_set xs rs w → Consistent site_contents worker_set (xs ++ x ∷ []) (rs ++ r ∷ []) after
+      → WorldStep copying (actor_turns may worker_set.turns) w x r after
+      → IsSitePreserving w x after → AreFair site_contents.refuses (x ∷ []) (r ∷ [])
+      → Consistent site_contents worker_set xs rs w
+      → Consistent site_contents worker_set (xs ++ x ∷ []) (rs ++ r ∷ []) after
 
   -- The same for a run of such steps.
   abbrev pub RunKeepsConsistency : Type 0
-  RunKeepsConsistency = (site_contents : SiteContents) (past xs : List Choice) (ps rs : List Reply) (w after : Stage State (Actor worker_set.Worker))
+  RunKeepsConsistency =
+      (site_contents : SiteContents) (past xs : List Choice) (ps rs : List Reply)
+      (w after : Stage State (Actor worker_set.Worker))
       → (run : WorldRun copying (actor_turns may worker_set.turns) w xs rs after)
       → AreSitePreserving (actor_turns may worker_set.turns) w xs rs after run
-      → AreFair site_contents.refuses xs rs → Consistent site_contents worker_set past ps w → Consistent site_contents worker_set (past ++ xs) (ps ++ rs) after
+      → AreFair site_contents.refuses xs rs → Consistent site_contents worker_set past ps w
+      → Consistent site_contents worker_set (past ++ xs) (ps ++ rs) after
 
 -- The premises can be met: there are files, a new world with them, and an undisturbed run of it in which a connection
 -- of the net is created and accepted.

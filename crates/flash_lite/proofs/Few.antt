@@ -1,5 +1,6 @@
 -- The number of connections of the server is bounded.
-use Rattle.std.proofs.Common.{◌≡◌, ℕ, zero, suc, ◌+◌, ◌-◌, ◌≤◌, List, [], ◌∷◌, ◌++◌, length, replicate, refl, sym, subst, ap, arith, Option, Some, None, Bool, true, false, if◌then◌else◌}
+use Rattle.std.proofs.Common.{◌≡◌, ℕ, zero, suc, ◌+◌, ◌-◌, ◌≤◌, List, [], ◌∷◌, ◌++◌, length, replicate, refl, sym}
+use Rattle.std.proofs.Common.{subst, ap, arith, Option, Some, None, Bool, true, false, if◌then◌else◌}
 use Rattle.std.specs.Prelude.{slice_set, nat_lt}
 use Rattle.std.proofs.lemmas.Bool.Decides.{nat_tests}
 use Rattle.iol_core.specs.NumberedLists.{in_place, taken}
@@ -40,18 +41,25 @@ none_more (None ∷ l) (suc i) = none_more l i
 none_more (Some z ∷ l) (suc i) = let h = none_more l i in omega (arith, h)
 
 -- another client in its place, or none
-no_more_set : (l : List (Option Client)) (fd : ℕ) (x : Client) (o : Option Client) → in_place l fd ≡ Some x → taken (slice_set l fd o) ≤ taken l
+no_more_set : (l : List (Option Client)) (fd : ℕ) (x : Client) (o : Option Client) → in_place l fd ≡ Some x
+    → taken (slice_set l fd o) ≤ taken l
 no_more_set l fd x None there = none_more l fd
 no_more_set l fd x (Some y) there = let e = taken_kept l fd x y there in omega (arith, e)
 
-no_more_at : (l : List (Option Client)) (fd : ℕ) (x : Client) (o : Option Client) → in_place l fd ≡ Some x → taken (with_at l fd o) ≤ taken l
-no_more_at l fd x o there = subst (λ (m : List (Option Client)). taken m ≤ taken l) (sym (at_within l fd o (within l fd x there))) (no_more_set l fd x o there)
+no_more_at : (l : List (Option Client)) (fd : ℕ) (x : Client) (o : Option Client) → in_place l fd ≡ Some x
+    → taken (with_at l fd o) ≤ taken l
+no_more_at l fd x o there =
+    subst (λ (m : List (Option Client)). taken m ≤ taken l) (sym (at_within l fd o (within l fd x there)))
+    (no_more_set l fd x o there)
 
 -- a client more, where one was being accepted
-pub few_admitted : (clients : List (Option Client)) (fd : ℕ) (x : Client) → IsFew clients Accepting → taken (with_at clients fd (Some x)) ≤ 256
+pub few_admitted : (clients : List (Option Client)) (fd : ℕ) (x : Client) → IsFew clients Accepting
+    → taken (with_at clients fd (Some x)) ≤ 256
 few_admitted clients fd x few =
-    let grown : taken (clients ++ replicate (fd + 1 - length clients) None) ≡ taken clients = grown_same clients (fd + 1 - length clients) in
-    let more : taken (with_at clients fd (Some x)) ≤ taken (clients ++ replicate (fd + 1 - length clients) None) + 1 = one_more (clients ++ replicate (fd + 1 - length clients) None) fd x in
+    let grown : taken (clients ++ replicate (fd + 1 - length clients) None) ≡ taken clients =
+    grown_same clients (fd + 1 - length clients) in
+    let more : taken (with_at clients fd (Some x)) ≤ taken (clients ++ replicate (fd + 1 - length clients) None) + 1 =
+    one_more (clients ++ replicate (fd + 1 - length clients) None) fd x in
     omega (arith, grown, more, few)
 
 -- ---- what is picked
@@ -63,19 +71,22 @@ few_accept_step clients few = by (nat_lt (taken clients) most_conns) refl
     by true lt = grind (arith, nat_tests, lt)
     by false lt = few
 
-few_to : (clients : List (Option Client)) (found : Option ℕ) → taken clients ≤ 256 → IsFew clients (pending_call_to clients found)
+few_to : (clients : List (Option Client)) (found : Option ℕ) → taken clients ≤ 256
+    → IsFew clients (pending_call_to clients found)
 few_to clients None few = few_accept_step clients few
 few_to clients (Some place) few = few
 
 -- ---- a turn
 
-few_next : (workers : ℕ) (l : List (Option Client)) (was : PendingCall) (r : Reply) → taken l ≤ 256 → IsFew l (next_pending_call workers l was r)
+few_next : (workers : ℕ) (l : List (Option Client)) (was : PendingCall) (r : Reply) → taken l ≤ 256
+    → IsFew l (next_pending_call workers l was r)
 few_next workers l Nothing r few = few_to l (next_place workers l 0) few
 few_next workers l (At fd) r few = few_to l (next_place workers l (place_after fd (in_place l fd) r)) few
 few_next workers l Accepting (reply.Fd fd) few = few_accept_step l few
 few_next workers l Accepting r few = few
 
-few_filed : (workers : ℕ) (clients : List (Option Client)) (was : PendingCall) (r : Reply) (received : List ℕ) → IsFew clients was → taken (filed workers clients was r received) ≤ 256
+few_filed : (workers : ℕ) (clients : List (Option Client)) (was : PendingCall) (r : Reply) (received : List ℕ)
+    → IsFew clients was → taken (filed workers clients was r received) ≤ 256
 few_filed workers clients Nothing r received few = few
 few_filed workers clients Accepting (reply.Fd fd) received few = few_admitted clients fd new_client few
 few_filed workers clients Accepting r received few = omega (arith, few)
@@ -83,18 +94,29 @@ few_filed workers clients (At fd) r received few = by (in_place clients fd) refl
   where
     by : (o : Option Client) → in_place clients fd ≡ o → taken (after_reply_at workers clients fd o r received) ≤ 256
     by None is = few
-    by (Some x) is = let less = no_more_at clients fd x (left_over (after_reply (runs_scripts workers) (first_free workers clients) x r received)) is in omega (arith, less, few)
+    by (Some x) is = let less =
+        no_more_at clients fd x
+        (left_over (after_reply (runs_scripts workers) (first_free workers clients) x r received)) is in
+        omega (arith, less, few)
 
-few_picks : (workers : ℕ) (l : List (Option Client)) (pending_call : PendingCall) (made : Turn) (after : List (Option Client)) → IsFew l pending_call → Picks workers l pending_call made after → IsFew after pending_call
+few_picks : (workers : ℕ) (l : List (Option Client)) (pending_call : PendingCall) (made : Turn)
+    (after : List (Option Client)) → IsFew l pending_call → Picks workers l pending_call made after
+    → IsFew after pending_call
 few_picks workers l Nothing made after few p = subst (λ (m : List (Option Client)). IsFew m Nothing) (sym p.0) few
 few_picks workers l Accepting made after few p = subst (λ (m : List (Option Client)). IsFew m Accepting) (sym p.0) few
 few_picks workers l (At fd) made after few p =
     let less = no_more_at l fd p.was (Some p.ready) p.there in
-    subst (λ (m : List (Option Client)). taken m ≤ 256) (sym p.after_is) (let small : taken (with_at l fd (Some p.ready)) ≤ 256 = omega (arith, less, few) in small)
+    subst (λ (m : List (Option Client)). taken m ≤ 256) (sym p.after_is)
+    (let small : taken (with_at l fd (Some p.ready)) ≤ 256 = omega (arith, less, few) in small)
 
 -- it leaves few where there were few
-pub few_turn : (workers : ℕ) (clients : List (Option Client)) (was : PendingCall) (r : Reply) (received : List ℕ) (pending_call : PendingCall) (made : Turn) (after : List (Option Client)) → IsFew clients was
-    → Picks workers (filed workers clients was r received) pending_call made after → pending_call ≡ next_pending_call workers (filed workers clients was r received) was r → IsFew after pending_call
+pub few_turn : (workers : ℕ) (clients : List (Option Client)) (was : PendingCall) (r : Reply) (received : List ℕ)
+    (pending_call : PendingCall) (made : Turn) (after : List (Option Client)) → IsFew clients was
+    → Picks workers (filed workers clients was r received) pending_call made after
+    → pending_call ≡ next_pending_call workers (filed workers clients was r received) was r
+    → IsFew after pending_call
 few_turn workers clients was r received pending_call made after few picks policy =
     let l : List (Option Client) = filed workers clients was r received in
-    few_picks workers l pending_call made after (subst (λ (f : PendingCall). IsFew l f) (sym policy) (few_next workers l was r (few_filed workers clients was r received few))) picks
+    few_picks workers l pending_call made after
+    (subst (λ (f : PendingCall). IsFew l f) (sym policy)
+    (few_next workers l was r (few_filed workers clients was r received few))) picks

@@ -1,12 +1,14 @@
 -- The action of a client after a reply to its call; `t` is the client after the reply is processed, by the
 -- specification.
-use Rattle.std.specs.Prelude.{◌≡◌, ◌<◌, ℕ, Bool, true, false, not, if◌then◌else◌, List, [], length, Option, Some, None, Result, IfOk, OnErr}
+use Rattle.std.specs.Prelude.{◌≡◌, ◌<◌, ℕ, Bool, true, false, not, if◌then◌else◌, List, [], length, Option, Some, None}
+use Rattle.std.specs.Prelude.{Result, IfOk, OnErr}
 use Rattle.iol_core.specs.declared.events.Call.{Call}
 use Rattle.iol_core.specs.declared.events.Call.TheVariants as call
 use Rattle.iol_core.specs.declared.events.Reply.{Reply}
 use Rattle.iol_core.specs.declared.events.Reply.TheVariants as reply
 use Rattle.flash_http.specs.Request.{Answer, serve, refuse}
-use Rattle.flash_laws.specs.Client.{Client, Readies, can_run, conn_after_reply, file_after_reply, is_for_script, kept_if, left_over, run_after_reply, run_wants, after_reply, wants}
+use Rattle.flash_laws.specs.Client.{Client, Readies, can_run, conn_after_reply, file_after_reply, is_for_script}
+use Rattle.flash_laws.specs.Client.{kept_if, left_over, run_after_reply, run_wants, after_reply, wants}
 use Rattle.flash_laws.specs.Client.Wants.{WantsOn, needs_memory}
 use Rattle.flash_laws.specs.Site.OtherConns.{left_by}
 use Rattle.flash_laws.specs.Conn.{Conn, most_read, is_head_only}
@@ -162,41 +164,50 @@ pub record TakesCourse {E : Type 0} (scripts : Bool) (fd : ℕ) (t x : Client) (
   pub wants : OnErr result may_want
 
 -- A client takes an action, and may need memory to buffer bytes that it read, or to continue at once.
-abbrev pub TakesAsAfterReply : {E : Type 0} → (scripts : Bool) → (fd : ℕ) → (t x : Client) → Reply → (received : List ℕ) → Result Course E
+abbrev pub TakesAsAfterReply : {E : Type 0} → (scripts : Bool) → (fd : ℕ) → (t x : Client) → Reply → (received : List ℕ)
+    → Result Course E
     → (y : Client) → Type 0
-TakesAsAfterReply scripts fd t x r received result y = TakesCourse scripts fd t x r (WantsOn scripts t x r received) result y
+TakesAsAfterReply scripts fd t x r received result y =
+    TakesCourse scripts fd t x r (WantsOn scripts t x r received) result y
 
 -- The action of a client after a reply to its call; `worker` is free.
-abbrev pub ProceedsAfterReply : {E : Type 0} → (scripts : Bool) → (fd worker : ℕ) → (x : Client) → Reply → (received : List ℕ)
+abbrev pub ProceedsAfterReply : {E : Type 0} → (scripts : Bool) → (fd worker : ℕ) → (x : Client) → Reply
+    → (received : List ℕ)
     → Result Course E → (y : Client) → Type 0
-ProceedsAfterReply scripts fd worker x r received result y = TakesAsAfterReply scripts fd (after_reply scripts worker x r received) x r received result y
+ProceedsAfterReply scripts fd worker x r received result y =
+    TakesAsAfterReply scripts fd (after_reply scripts worker x r received) x r received result y
 
 -- The action of a client after a reply to the call of its run, which is this.
-abbrev pub RunsOn : {E : Type 0} → (scripts : Bool) → (fd worker : ℕ) → Running → (x : Client) → Reply → (received : List ℕ)
+abbrev pub RunsOn : {E : Type 0} → (scripts : Bool) → (fd worker : ℕ) → Running → (x : Client) → Reply
+    → (received : List ℕ)
     → Result Course E → (y : Client) → Type 0
 RunsOn scripts fd worker run x r received result y =
     TakesAsAfterReply scripts fd (run_after_reply worker x.conn.q x run r received) x r received result y
 
 -- The action of a client after a reply to a call for a file, or for a script that does not run yet.
-abbrev pub ProceedsFile : {E : Type 0} → (scripts : Bool) → (fd : ℕ) → (x : Client) → Reply → (received : List ℕ) → Result Course E
+abbrev pub ProceedsFile : {E : Type 0} → (scripts : Bool) → (fd : ℕ) → (x : Client) → Reply → (received : List ℕ)
+    → Result Course E
     → (y : Client) → Type 0
 ProceedsFile scripts fd x r received result y =
     TakesAsAfterReply scripts fd (file_after_reply (is_for_script scripts x.conn.q) x r received) x r received result y
 
 -- The action of a client after a reply that concerns only its connection.
-abbrev pub ProceedsAlone : {E : Type 0} → (scripts : Bool) → (fd : ℕ) → (x : Client) → Reply → (received : List ℕ) → Result Course E
+abbrev pub ProceedsAlone : {E : Type 0} → (scripts : Bool) → (fd : ℕ) → (x : Client) → Reply → (received : List ℕ)
+    → Result Course E
     → (y : Client) → Type 0
 ProceedsAlone scripts fd x r received result y =
     TakesCourse scripts fd (conn_after_reply x r received) x r (wanting.WantsOn x.conn r received) result y
 
 -- The action of a client after the text of a script was read: it may need memory if a byte was read.
-abbrev pub ReceivesText : {E : Type 0} → (scripts : Bool) → (fd file agg : ℕ) → (x : Client) → (received : List ℕ) → Result Course E
+abbrev pub ReceivesText : {E : Type 0} → (scripts : Bool) → (fd file agg : ℕ) → (x : Client) → (received : List ℕ)
+    → Result Course E
     → (y : Client) → Type 0
 ReceivesText scripts fd file agg x received result y =
     TakesCourse scripts fd (text_received x file agg received) x reply.Done (0 < length received) result y
 
 -- The action of a client after its run is over, with its connection in this phase.
-abbrev pub EndsRun : {E : Type 0} → (scripts : Bool) → (fd : ℕ) → Phase → (x : Client) → (may_want : Type 0) → Result Course E
+abbrev pub EndsRun : {E : Type 0} → (scripts : Bool) → (fd : ℕ) → Phase → (x : Client) → (may_want : Type 0)
+    → Result Course E
     → (y : Client) → Type 0
 EndsRun scripts fd d x may_want result y = TakesCourse scripts fd (ended x d) x reply.Done may_want result y
 

@@ -18,7 +18,8 @@ use Rattle.flash_lite.specs.declared.site.Site.{Site}
 
 -- The site has no scripts, and external calls are site-preserving. When the turns in rounds begin, the pool `work` is
 -- open, and their number suffices. None of them is refused for lack of table entries, pages or memory.
-pub record IsHostedLongEnough (s : Site) (slots : List (List ℕ)) (xs : List Choice) (rs : List Reply) (turns : ℕ) (idle : Bool)
+pub record IsHostedLongEnough (s : Site) (slots : List (List ℕ)) (xs : List Choice) (rs : List Reply) (turns : ℕ)
+    (idle : Bool)
     (after : Stage State (Actor Worker)) (hosts : Hosts s slots xs rs turns idle after) : Type 0 where
   pub files : workers_used s ≡ 0
   pub site_preserving : IsMildlyUsed s slots xs rs turns idle after hosts
@@ -35,4 +36,5 @@ HostedFilesBecomeIdle = (s : Site) (slots : List (List ℕ)) (xs : List Choice) 
     → (idle ≡ true)
     × ((refuses : Refusals) → HasFairTurns s slots xs rs turns idle after hosts refuses
     → AreServed (worker_set_of s) (library_of s slots refuses)
-    (xs ++ rounds (domains_of hosts.mid.process_slots) 0 (length hosts.ends.went)) (rs ++ map (λ t. t.1) hosts.ends.went) after)
+    (xs ++ rounds (domains_of hosts.mid.process_slots) 0 (length hosts.ends.went))
+    (rs ++ map (λ t. t.1) hosts.ends.went) after)

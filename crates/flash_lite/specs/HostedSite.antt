@@ -64,7 +64,8 @@ IsNewIfHonest store s w = IfHonest store (IsNewWorld s (slots_of store.slots) (c
 -- Over an honest store the site is hosted over the store's slots, and this is the system's world after it.
 abbrev pub HostsIfHonest : (store : Disk) → Site → List Choice → List Reply → (turns : ℕ) → (idle : Bool)
     → (after : Stage SystemState (Actor Worker)) → Type 0
-HostsIfHonest store s xs rs turns idle after = IfHonest store (Hosts s (slots_of store.slots) xs rs turns idle (copied after))
+HostsIfHonest store s xs rs turns idle after =
+    IfHonest store (Hosts s (slots_of store.slots) xs rs turns idle (copied after))
 
 module _ (s : Site) (slots : List (List ℕ)) (xs : List Choice) (rs : List Reply) (turns : ℕ) (idle : Bool)
     (after : Stage State (Actor Worker)) (hosts : Hosts s slots xs rs turns idle after) where
@@ -75,7 +76,8 @@ module _ (s : Site) (slots : List (List ℕ)) (xs : List Choice) (rs : List Repl
   -- the turns among the choices, and those in rounds, were fair if these refusals are allowed
   abbrev pub HasFairTurns : (refuses : Refusals) → Type 0
   HasFairTurns refuses = AreFair refuses xs rs
-      × AreFair refuses (rounds (domains_of hosts.mid.process_slots) 0 (length hosts.ends.went)) (map (λ t. t.1) hosts.ends.went)
+      × AreFair refuses (rounds (domains_of hosts.mid.process_slots) 0 (length hosts.ends.went))
+      (map (λ t. t.1) hosts.ends.went)
 
   -- the refusals among TooMany, NoRoom, Fault and Memory that its turns got
   abbrev pub refusals_of : Refusals

@@ -16,6 +16,7 @@ use Rattle.flash_laws.specs.declared.phase.PendingCall.TheVariants.{At}
 -- request in progress, with the known results; or it writes the job of that client's script to a worker. This holds
 -- over any machine that has what this response needs.
 abbrev pub OffersNext : Server → Turn → Type 0
-OffersNext t made = (m : State) (fd g a : ℕ) (x : Client) (known : Known) → t.pending_call ≡ At fd → in_place t.clients fd ≡ Some x
+OffersNext t made = (m : State) (fd g a : ℕ) (x : Client) (known : Known) → t.pending_call ≡ At fd
+    → in_place t.clients fd ≡ Some x
     → made ≡ turn.Make (call.IolWrite g a) → HasKnown (runs_scripts t.workers) m x known
     → ((g ≡ fd) × IsNextOf m x.conn.q known a (taken_by x)) ⊎ HandsJob x g a

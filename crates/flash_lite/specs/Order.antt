@@ -35,7 +35,8 @@ pub record CanNote (free : Bool) (clients : List (Option Client)) (places : List
 
 -- These are the indices of all clients, and of those that may take a turn while no worker is free; there is room for
 -- each index.
-pub record ReportsWhoGoes (clients : List (Option Client)) (held going : List ℕ) (held_room going_room : ℕ) : Type 0 where
+pub record ReportsWhoGoes (clients : List (Option Client)) (held going : List ℕ) (held_room going_room : ℕ) :
+    Type 0 where
   pub held_is : held ≡ goers true clients
   pub going_is : going ≡ goers false clients
   pub holds : length clients ≤ held_room

@@ -11,7 +11,8 @@ use Rattle.flash_laws.specs.declared.phase.Phase.{Phase}
 use Rattle.flash_laws.specs.declared.script_run.TheConstants.{CHUNK_BYTES}
 use Rattle.flash_laws.specs.declared.script_run.Run.{Run}
 use Rattle.flash_laws.specs.declared.script_run.Step.{Step}
-use Rattle.flash_laws.specs.declared.script_run.Step.TheVariants.{Sending, Receives, Gathers, Ended, Stops, Unframes, Lasts, WrapsLast}
+use Rattle.flash_laws.specs.declared.script_run.Step.TheVariants.{Sending, Receives, Gathers, Ended, Stops, Unframes}
+use Rattle.flash_laws.specs.declared.script_run.Step.TheVariants.{Lasts, WrapsLast}
 use Rattle.flash_laws.specs.declared.script_run.Running.{Running}
 use Rattle.flash_laws.specs.declared.script_run.Running.TheVariants.{Awaits, Runs, Leaves}
 use Rattle.flash_lite.specs.Small.{IsSmall}
@@ -78,4 +79,5 @@ after_reply_left w d r received = (conn.after_reply (in_phase w d) r received).p
 
 -- len bytes of output were read, or its end
 abbrev pub reading : (broken chunked : Bool) → (held : Following) → (frame : Option ℕ) → (agg len : ℕ) → Step
-reading broken chunked held frame a len = if len == 0 then Ended a held frame else hearing broken chunked held frame a len
+reading broken chunked held frame a len =
+    if len == 0 then Ended a held frame else hearing broken chunked held frame a len

@@ -1,5 +1,7 @@
 -- A turn of the server, as its code makes it.
-use Rattle.std.specs.Prelude.{◌≡◌, ℕ, ◌<◌, ◌≤◌, ◌+◌, ◌==◌, ◌||◌, ◌&&◌, not, Bool, true, false, nat_lt, List, length, get_or, take, Option, Some, None, slice_set, if◌then◌else◌, Result, IfOk, OnErr, MatchOption}
+use Rattle.std.specs.Prelude.{◌≡◌, ℕ, ◌<◌, ◌≤◌, ◌+◌, ◌==◌, ◌||◌, ◌&&◌, not, Bool, true, false, nat_lt, List, length}
+use Rattle.std.specs.Prelude.{get_or, take, Option, Some, None, slice_set, if◌then◌else◌, Result, IfOk, OnErr}
+use Rattle.std.specs.Prelude.{MatchOption}
 use Rattle.std.specs.List.{position_or_len}
 use Rattle.iol_core.specs.NumberedLists.{in_place, taken}
 use Rattle.iol_core.specs.declared.events.Call.{Call}
@@ -26,7 +28,8 @@ use Rattle.flash_lite.specs.declared.site.TheConstants.{MAX_WORKERS}
 -- ---- the action of one client
 
 -- the client at an index, and its action after a reply; `worker` is free
-pub record CourseAt (scripts : Bool) (worker : ℕ) (clients : List (Option Client)) (fd : ℕ) (r : Reply) (received : List ℕ)
+pub record CourseAt (scripts : Bool) (worker : ℕ) (clients : List (Option Client)) (fd : ℕ) (r : Reply)
+    (received : List ℕ)
     (o : Course) (after : List (Option Client)) : Type 0 where
   pub was : Client
   pub now : Client
@@ -99,7 +102,8 @@ pub record CallAt (scripts : Bool) (clients : List (Option Client)) (place : ℕ
 abbrev pub Makes : (scripts : Bool) → List (Option Client) → (from : ℕ) → PendingCall → Turn → Type 0
 Makes scripts clients from Nothing made = made ≡ turn.Yield
 Makes scripts clients from Accepting made = made ≡ turn.Make call.Accept
-Makes scripts clients from (At place) made = (from ≤ place) × (k : Call) × (made ≡ turn.Make k) × CallAt scripts clients place k
+Makes scripts clients from (At place) made = (from ≤ place) × (k : Call) × (made ≡ turn.Make k)
+    × CallAt scripts clients place k
 
 -- after the last index a connection is accepted, or the round is over
 abbrev pub AtAcceptStep : PendingCall → Turn → Type 0
@@ -158,7 +162,8 @@ pub record ProceedsAt {E : Type 0} (scripts : Bool) (worker : ℕ) (clients : Li
 -- some.
 pub record MakesCallAt {E : Type 0} (scripts : Bool) (clients : List (Option Client)) (place : ℕ)
     (result : Result (Option Call) E) : Type 0 where
-  pub call : IfOk result (λ found. MatchOption found (in_place clients place ≡ None) (λ k. CallAt scripts clients place k))
+  pub call :
+      IfOk result (λ found. MatchOption found (in_place clients place ≡ None) (λ k. CallAt scripts clients place k))
   pub wants : OnErr result (wants_there (in_place clients place) ≡ true)
 
 -- The first client from an index on that may take a turn is picked; or after the last index a connection is accepted,
@@ -166,8 +171,15 @@ pub record MakesCallAt {E : Type 0} (scripts : Bool) (clients : List (Option Cli
 -- nothing changes.
 pub record PicksNext {E : Type 0} (from : ℕ) (s : Table) (result : Result Turn E) (t : Table) : Type 0 where
   pub picks : IfOk result
-      (λ made. PicksFrom (runs_scripts s.workers) (has_in s.workers s.free) s.clients from MAX_CONNS t.pending_call made)
-  pub same : IfOk result (λ made. t ≡ record { clients = s.clients; pending_call = t.pending_call; workers = s.workers; free = s.free })
+      (λ made. PicksFrom (runs_scripts s.workers) (has_in s.workers s.free) s.clients from MAX_CONNS t.pending_call
+      made)
+  pub same : IfOk result (λ made. t ≡ record {
+    clients = s.clients;
+    pending_call = t.pending_call;
+    workers =
+        s.workers;
+    free = s.free;
+  })
   pub err : OnErr result (t ≡ s)
   pub wants : OnErr result (WantsFrom (has_in s.workers s.free) s.clients from)
 
@@ -178,9 +190,16 @@ pub record PicksNext {E : Type 0} (from : ℕ) (s : Table) (result : Result Turn
 pub record LeavesPlace {E : Type 0} (fd : ℕ) (l : Left) (free : List Bool) (s : Table) (result : Result Turn E)
     (t : Table) : Type 0 where
   pub picks : IfOk result
-      (λ made. PicksFrom (runs_scripts s.workers) (has_in s.workers free) s.clients (fd + 1) (most_with l) t.pending_call made)
+      (λ made. PicksFrom (runs_scripts s.workers) (has_in s.workers free) s.clients (fd + 1) (most_with l)
+      t.pending_call made)
   pub left : IfOk result
-      (λ made. t ≡ record { clients = left_at s.clients fd l; pending_call = t.pending_call; workers = s.workers; free = free })
+      (λ made. t ≡ record {
+        clients = left_at s.clients fd l;
+        pending_call = t.pending_call;
+        workers = s.workers;
+        free =
+            free;
+      })
   pub err : OnErr result (t ≡ s)
   pub wants : OnErr result (WantsFrom (has_in s.workers free) s.clients (fd + 1))
 

@@ -1,5 +1,6 @@
 -- The calls that set a site up.
-use Rattle.std.specs.Prelude.{◌≡◌, ◌⊎◌, ℕ, ◌+◌, ◌&&◌, ◌||◌, not, nat_le, nat_lt, Bool, true, List, [], ◌∷◌, ◌++◌, length, map, Option, Some, None, if◌then◌else◌}
+use Rattle.std.specs.Prelude.{◌≡◌, ◌⊎◌, ℕ, ◌+◌, ◌&&◌, ◌||◌, not, nat_le, nat_lt, Bool, true, List, [], ◌∷◌, ◌++◌}
+use Rattle.std.specs.Prelude.{length, map, Option, Some, None, if◌then◌else◌}
 use Rattle.std.specs.List.{range_with_len, list_any, flat_map, slice_get}
 use Rattle.iol_core.specs.State.{State}
 use Rattle.iol_core.specs.Run.{Run}

@@ -40,5 +40,6 @@ SetsUpIfHonest s old new = IfHonest old.disk (SetsUpWorld s old new)
 -- The world of a site within its limits is new after the site's calls, none refused, with its processes in their
 -- process slots, if the machine was new and had enough slots.
 abbrev pub SetUpIsANewWorld : Type 0
-SetUpIsANewWorld = (s : Site) (old : State) (w : Stage State (Actor Worker)) → is_in_range s ≡ true → SetsUp s old w.machine
+SetUpIsANewWorld = (s : Site) (old : State) (w : Stage State (Actor Worker)) → is_in_range s ≡ true
+    → SetsUp s old w.machine
     → AreInSlots s w.process_slots → IsNewFor s old w

@@ -1,5 +1,6 @@
 -- Lines of the Common Log Format.
-use Rattle.std.specs.Prelude.{◌≡◌, ℕ, ◌+◌, ◌/◌, ◌%◌, ◌==◌, ◌||◌, ◌&&◌, Bool, true, if◌then◌else◌, nat_le, nat_lt, List, [], ◌∷◌, ◌++◌, codes, flat_map}
+use Rattle.std.specs.Prelude.{◌≡◌, ℕ, ◌+◌, ◌/◌, ◌%◌, ◌==◌, ◌||◌, ◌&&◌, Bool, true, if◌then◌else◌, nat_le, nat_lt, List}
+use Rattle.std.specs.Prelude.{[], ◌∷◌, ◌++◌, codes, flat_map}
 use Rattle.std.specs.Fmt.{decimal}
 use Rattle.std.specs.List.{list_all}
 use Rattle.flash_log.specs.declared.lines.Entry.{Entry}
@@ -8,8 +9,8 @@ use Rattle.flash_log.specs.declared.lines.Entry.{Entry}
 abbrev pub hex_digit : ℕ → ℕ
 hex_digit n = if nat_lt n 10 then 48 + n else 87 + n
 
--- A byte in a log: a backslash precedes a quotation mark and a backslash, other printable ASCII is unchanged, and any other
--- byte is `\x` and two digits.
+-- A byte in a log: a backslash precedes a quotation mark and a backslash, other printable ASCII is unchanged, and any
+-- other byte is `\x` and two digits.
 abbrev pub escaped_byte : ℕ → List ℕ
 escaped_byte b =
     if (b == 34) || (b == 92) then 92 ∷ b ∷ []

@@ -1,5 +1,6 @@
 -- The bound is at least the measure.
-use Rattle.std.proofs.Common.{◌≡◌, ℕ, ◌+◌, ◌*◌, ◌-◌, ◌≤◌, List, ◌++◌, length, drop, ap, refl, arith, Option, Some, None, true, false, Bool, length-append, length-drop, if◌then◌else◌}
+use Rattle.std.proofs.Common.{◌≡◌, ℕ, ◌+◌, ◌*◌, ◌-◌, ◌≤◌, List, ◌++◌, length, drop, ap, refl, arith, Option, Some, None}
+use Rattle.std.proofs.Common.{true, false, Bool, length-append, length-drop, if◌then◌else◌}
 use Rattle.iol_core.specs.NumberedLists.{in_place}
 use Rattle.iol_core.specs.State.{State, conn_at}
 use Rattle.iol_core.specs.declared.limits.TheConstants.{MAX_OPEN}
@@ -14,29 +15,35 @@ use Rattle.flash_laws.specs.Site.ClientConsistency.{AllFit}
 use Rattle.flash_laws.specs.Site.Past.{Past}
 use Rattle.flash_laws.specs.Workers.WorkerSet.{WorkerSet}
 use Rattle.flash_laws.specs.declared.phase.Phase.{Phase}
-use Rattle.flash_laws.specs.declared.phase.Phase.TheVariants.{Rests, Got, Opens, Reads as Reading, Shuts, Picks, Spares, Heads, Joins, Sends, Cuts, Offers, Swaps, Sent, Breaks, Drops, Closes, Over}
+use Rattle.flash_laws.specs.declared.phase.Phase.TheVariants.{Rests, Got, Opens, Reads as Reading, Shuts, Picks, Spares}
+use Rattle.flash_laws.specs.declared.phase.Phase.TheVariants.{Heads, Joins, Sends, Cuts, Offers, Swaps, Sent, Breaks}
+use Rattle.flash_laws.specs.declared.phase.Phase.TheVariants.{Drops, Closes, Over}
 use Rattle.flash_laws.specs.declared.script_run.Running.{Running}
 use Rattle.flash_laws.proofs.Conn.Progress.{sent_after}
 use Rattle.flash_laws.proofs.Lists.{clash}
 use Rattle.flash_progress.specs.Bound.{turns_for, turns_of, turns_at, turns_of_waiting, unread_at, sum_to}
 use Rattle.flash_progress.proofs.Measure.{request_turns, ahead, reads_on, kept_turns, unread_turns}
 use Rattle.flash_progress.proofs.RequestProgress.{conn_turns, made-short, few-drops}
-use Rattle.flash_progress.proofs.TurnsLeft.{AreShort, expected-short, no-script, no_more, of_place, place_turns, accept_step_turns, all_left}
+use Rattle.flash_progress.proofs.TurnsLeft.{AreShort, expected-short, no-script, no_more, of_place, place_turns}
+use Rattle.flash_progress.proofs.TurnsLeft.{accept_step_turns, all_left}
 
 -- ---- a request in progress
 
-more-calls : (m : State) (more : Following) (bytes : List ℕ) → MoreIsReadable m more bytes → sent_after more ≤ 3 * length bytes + 4
+more-calls : (m : State) (more : Following) (bytes : List ℕ) → MoreIsReadable m more bytes
+    → sent_after more ≤ 3 * length bytes + 4
 more-calls m None bytes is_readable = omega arith
 more-calls m (Some x) bytes is_readable = let size = is_readable.1 in omega (arith, size)
 
-rest-long : (expected bytes after : List ℕ) (taken : ℕ) → bytes ++ after ≡ drop taken expected → length bytes + length after ≤ length expected
+rest-long : (expected bytes after : List ℕ) (taken : ℕ) → bytes ++ after ≡ drop taken expected
+    → length bytes + length after ≤ length expected
 rest-long expected bytes after taken is =
     let all = ap (λ (l : List ℕ). length l) is in
     let both = length-append bytes after in
     let rest = length-drop taken expected in
     omega (arith, all, both, rest)
 
-from-long : (m : State) (expected : List ℕ) (a from len taken : ℕ) (more : Following) → HoldsRestFrom m expected a from len taken more
+from-long : (m : State) (expected : List ℕ) (a from len taken : ℕ) (more : Following)
+    → HoldsRestFrom m expected a from len taken more
     → 3 * (len - from) + sent_after more ≤ 3 * length expected + 4
 from-long m expected a from len taken more h =
     let calls = more-calls m more h.after h.follows in
@@ -45,15 +52,19 @@ from-long m expected a from len taken more h =
     let size = h.size in
     omega (arith, calls, long, part, size)
 
-pub ahead-short : (m : State) (q : Answer) (expected : List ℕ) (longest : ℕ) (d : Phase) → Has m q expected d → length expected ≤ longest → ahead longest q d ≤ 3 * longest + 21
+pub ahead-short : (m : State) (q : Answer) (expected : List ℕ) (longest : ℕ) (d : Phase) → Has m q expected d
+    → length expected ≤ longest → ahead longest q d ≤ 3 * longest + 21
 ahead-short m q expected longest Rests has short = omega arith
 ahead-short m q expected longest (Got a) has short = omega arith
 ahead-short m q expected longest Opens has short = omega arith
 ahead-short m q expected longest (Reading f) has short = omega arith
 ahead-short m q expected longest (Shuts f k) has short = omega arith
-ahead-short m q expected longest (Picks a from to len) has short = let few = made-short m q expected longest (Picks a from to len) refl has short in omega (arith, few)
-ahead-short m q expected longest (Spares a k) has short = let few = made-short m q expected longest (Spares a k) refl has short in omega (arith, few)
-ahead-short m q expected longest (Heads k) has short = let few = made-short m q expected longest (Heads k) refl has short in omega (arith, few)
+ahead-short m q expected longest (Picks a from to len) has short = let few =
+    made-short m q expected longest (Picks a from to len) refl has short in omega (arith, few)
+ahead-short m q expected longest (Spares a k) has short = let few =
+    made-short m q expected longest (Spares a k) refl has short in omega (arith, few)
+ahead-short m q expected longest (Heads k) has short = let few =
+    made-short m q expected longest (Heads k) refl has short in omega (arith, few)
 ahead-short m q expected longest (Joins a size body len) has short =
     let h : HoldsRest m expected a size 0 (Some (body, len)) = has.0 in
     let long = rest-long expected h.bytes h.after 0 h.next in
@@ -65,9 +76,12 @@ ahead-short m q expected longest (Sends a len taken more) has short =
     let long = rest-long expected has.bytes has.after taken has.next in
     let size = has.size in
     omega (arith, calls, long, size, short)
-ahead-short m q expected longest (Cuts a from len taken more) has short = let few = from-long m expected a from len taken more has.0 in omega (arith, few, short)
-ahead-short m q expected longest (Offers a from len piece taken more) has short = let few = from-long m expected a from len taken more has.whole in omega (arith, few, short)
-ahead-short m q expected longest (Swaps a from len piece taken more) has short = let few = from-long m expected a from len taken more has.2 in omega (arith, few, short)
+ahead-short m q expected longest (Cuts a from len taken more) has short = let few =
+    from-long m expected a from len taken more has.0 in omega (arith, few, short)
+ahead-short m q expected longest (Offers a from len piece taken more) has short = let few =
+    from-long m expected a from len taken more has.whole in omega (arith, few, short)
+ahead-short m q expected longest (Swaps a from len piece taken more) has short = let few =
+    from-long m expected a from len taken more has.2 in omega (arith, few, short)
 ahead-short m q expected longest (Sent a taken more) has short =
     let calls = more-calls m more has.after has.follows in
     let rest = ap (λ (l : List ℕ). length l) has.next in
@@ -84,34 +98,46 @@ ahead-short m q expected longest Over has short = omega arith
 within : (longest unread kept ahead kept_now : ℕ) → ahead ≤ 3 * longest + 21 → kept_now ≤ request_turns longest * kept
     → ahead + (kept_now + (request_turns longest + 2) * unread) ≤ (3 * longest + 22) * (kept + unread + 1)
 within longest unread kept ahead kept_now few less =
-    let split : (3 * longest + 22) * (kept + unread + 1) ≡ request_turns longest * kept + 6 * kept + ((request_turns longest + 2) * unread + 4 * unread) + (3 * longest + 22) = grind (arith) in
+    let split : (3 * longest + 22) * (kept + unread + 1) ≡ request_turns longest * kept + 6 * kept
+    + ((request_turns longest + 2) * unread + 4 * unread) + (3 * longest + 22) = grind (arith) in
     omega (arith, few, less, split)
 
 kept-most : (longest : ℕ) (on : Bool) (kept : List ℕ) → kept_turns longest on kept ≤ request_turns longest * length kept
 kept-most longest true kept = omega arith
 kept-most longest false kept = omega arith
 
-conn-within : (m : State) (expected : List ℕ) (longest unread : ℕ) (x : Conn) → Has m x.q expected x.phase → length expected ≤ longest
+conn-within : (m : State) (expected : List ℕ) (longest unread : ℕ) (x : Conn) → Has m x.q expected x.phase
+    → length expected ≤ longest
     → conn_turns longest unread x ≤ turns_for longest (length x.kept + unread)
 conn-within m expected longest unread x has short =
-    within longest unread (length x.kept) (ahead longest x.q x.phase) (kept_turns longest (reads_on x.q x.phase) x.kept) (ahead-short m x.q expected longest x.phase has short)
+    within longest unread (length x.kept) (ahead longest x.q x.phase) (kept_turns longest (reads_on x.q x.phase) x.kept)
+    (ahead-short m x.q expected longest x.phase has short)
     (kept-most longest (reads_on x.q x.phase) x.kept)
 
 -- ---- all
 
-module _ (site_contents : SiteContents) (worker_set : WorkerSet) (files : site_contents.scripts ≡ false) (longest : ℕ) (short : AreShort site_contents longest) (m : State) (p : Past) (clients : List (Option Client))
-    (process_slots : List (ProcessSlot worker_set.Worker)) (fit : AllFit site_contents worker_set m p clients process_slots) where
-  client-within : (unread fd c : ℕ) (x : Client) (run : Option Running) → FitsBy site_contents worker_set run m (p.came c) (p.sent c) fd c x process_slots
+module _ (site_contents : SiteContents) (worker_set : WorkerSet) (files : site_contents.scripts ≡ false) (longest : ℕ)
+    (short : AreShort site_contents longest) (m : State) (p : Past) (clients : List (Option Client))
+    (process_slots : List (ProcessSlot worker_set.Worker))
+    (fit : AllFit site_contents worker_set m p clients process_slots) where
+  client-within : (unread fd c : ℕ) (x : Client) (run : Option Running)
+      → FitsBy site_contents worker_set run m (p.came c) (p.sent c) fd c x process_slots
       → conn_turns longest unread x.conn ≤ turns_for longest (length x.conn.kept + unread)
-  client-within unread fd c x None f = conn-within m _ longest unread x.conn f.has (expected-short site_contents longest x.conn.q f.expected x.conn.phase f.proper short f.may)
-  client-within unread fd c x (Some y) f = absurd (clash (is_for_script site_contents.scripts (serve f.wanted)) f.script.is_for (no-script site_contents.scripts (serve f.wanted) files))
+  client-within unread fd c x None f =
+      conn-within m _ longest unread x.conn f.has
+      (expected-short site_contents longest x.conn.q f.expected x.conn.phase f.proper short f.may)
+  client-within unread fd c x (Some y) f =
+      absurd (clash (is_for_script site_contents.scripts (serve f.wanted)) f.script.is_for
+      (no-script site_contents.scripts (serve f.wanted) files))
 
   place-within : (fd : ℕ) → place_turns longest m clients fd ≤ turns_at longest m clients fd
   place-within fd = by (in_place clients fd) refl
     where
-      by : (o : Option Client) → in_place clients fd ≡ o → of_place longest (unread_at m fd) o ≤ turns_of longest (unread_at m fd) o
+      by : (o : Option Client) → in_place clients fd ≡ o
+          → of_place longest (unread_at m fd) o ≤ turns_of longest (unread_at m fd) o
       by None none = omega arith
-      by (Some x) there = client-within (unread_at m fd) fd (fit.each fd x there).conn x x.run (fit.each fd x there).fits
+      by (Some x) there =
+          client-within (unread_at m fd) fd (fit.each fd x there).conn x x.run (fit.each fd x there).fits
 
   accept_step-within : (c : ℕ) → accept_step_turns longest m c ≤ turns_of_waiting longest m c
   accept_step-within c = by (conn_at m c).accepted
@@ -122,11 +148,14 @@ module _ (site_contents : SiteContents) (worker_set : WorkerSet) (files : site_c
       by : (b : Bool) → (if b then 0 else unread_turns longest unread + 7) ≤ (if b then 0 else turns_for longest unread)
       by true = omega arith
       by false =
-          let split : (3 * longest + 22) * (unread + 1) ≡ (request_turns longest + 2) * unread + 4 * unread + (3 * longest + 22) = grind (arith) in
+          let split : (3 * longest + 22) * (unread + 1) ≡ (request_turns longest + 2) * unread + 4 * unread
+          + (3 * longest + 22) = grind (arith) in
           omega (arith, split)
 
   -- The measure of all is at most what the bound counts.
-  pub left-within : (conns : ℕ) → all_left longest MAX_OPEN conns m clients ≤ sum_to MAX_OPEN (turns_at longest m clients) + sum_to conns (turns_of_waiting longest m)
+  pub left-within : (conns : ℕ)
+      → all_left longest MAX_OPEN conns m clients ≤ sum_to MAX_OPEN (turns_at longest m clients) + sum_to conns
+      (turns_of_waiting longest m)
   left-within conns =
       let places = no_more MAX_OPEN (turns_at longest m clients) (place_turns longest m clients) place-within in
       let accept_steps = no_more conns (turns_of_waiting longest m) (accept_step_turns longest m) accept_step-within in

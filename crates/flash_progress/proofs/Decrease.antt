@@ -14,10 +14,12 @@ use Rattle.flash_progress.specs.Bound.{turns_in_rounds}
 -- `left` is the measure of a world with one process, and `polls` the number of calls that the process still makes
 -- before it yields, as long as each returns WouldBlock. `Holds` is the invariant of the world, and `Allows` says which
 -- replies its turns may have.
-pub record Decreases {P : Type 0} (turns : TransitionRelation P) (Holds : Stage State P → Type 0) (Allows : Reply → Type 0) (left polls : Stage State P → ℕ) (round : ℕ) : Type 0 where
+pub record Decreases {P : Type 0} (turns : TransitionRelation P) (Holds : Stage State P → Type 0) (Allows : Reply
+    → Type 0) (left polls : Stage State P → ℕ) (round : ℕ) : Type 0 where
   pub one : (w : Stage State P) → Holds w → length w.process_slots ≡ 1
   -- a turn with an allowed reply keeps the invariant
-  pub keeps : (w after : Stage State P) (yields : Bool) (r : Reply) → Holds w → PlaceTurn copying turns w 0 yields r after
+  pub keeps : (w after : Stage State P) (yields : Bool) (r : Reply) → Holds w
+      → PlaceTurn copying turns w 0 yields r after
       → Allows r → Holds after
   -- a call that returns another allowed reply than WouldBlock decreases the measure
   pub falls : (w after : Stage State P) (r : Reply) → Holds w → PlaceTurn copying turns w 0 false r after → Allows r
@@ -32,6 +34,8 @@ pub record Decreases {P : Type 0} (turns : TransitionRelation P) (Holds : Stage 
   pub most : (w : Stage State P) → Holds w → polls w ≤ round
 
 -- Turns in rounds, each with an allowed reply, end where all is idle, if their number suffices.
-abbrev pub IdleComes : {P : Type 0} → TransitionRelation P → (Stage State P → Type 0) → (Reply → Type 0) → (left : Stage State P → ℕ) → (round : ℕ) → Type 0
+abbrev pub IdleComes : {P : Type 0} → TransitionRelation P → (Stage State P → Type 0) → (Reply → Type 0)
+    → (left : Stage State P → ℕ) → (round : ℕ) → Type 0
 IdleComes {P} turns Holds Allows left round = (w after : Stage State P) (most : ℕ) (idle : Bool) → Holds w
-    → (ends : Idles copying turns w most idle after) → AllByRecursion (λ t. Allows t.1) ends.went → turns_in_rounds (left w) round ≤ most → idle ≡ true
+    → (ends : Idles copying turns w most idle after) → AllByRecursion (λ t. Allows t.1) ends.went
+    → turns_in_rounds (left w) round ≤ most → idle ≡ true

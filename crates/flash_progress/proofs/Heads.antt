@@ -1,12 +1,14 @@
 -- Heads are short: each names a file that the server reads at once, or an error status of this server.
-use Rattle.std.proofs.Common.{◌≡◌, ℕ, ◌+◌, ◌^◌, ◌<◌, ◌≤◌, ◌==◌, ◌||◌, List, [], ◌∷◌, ◌++◌, length, ap, refl, subst, arith, Option, Some, true, false, Bool, length-append, if◌then◌else◌}
+use Rattle.std.proofs.Common.{◌≡◌, ℕ, ◌+◌, ◌^◌, ◌<◌, ◌≤◌, ◌==◌, ◌||◌, List, [], ◌∷◌, ◌++◌, length, ap, refl, subst}
+use Rattle.std.proofs.Common.{arith, Option, Some, true, false, Bool, length-append, if◌then◌else◌}
 use Rattle.std.specs.Prelude.{codes, decimal, unwrap_or, not}
 use Rattle.std.specs.List.{list_any}
 use Rattle.std.proofs.lemmas.Bool.Decides.{nat_tests}
 use Rattle.std.proofs.lemmas.Fmt.{length-decimal-le}
 use Rattle.http.specs.StatusCode.{status_text, reason_phrase}
 use Rattle.flash_http.specs.declared.names.MediaType.{MediaType}
-use Rattle.flash_http.specs.declared.names.MediaType.TheVariants.{Html, PlainText, Css, JavaScript, Json, Png, Jpeg, OctetStream}
+use Rattle.flash_http.specs.declared.names.MediaType.TheVariants.{Html, PlainText, Css, JavaScript, Json, Png, Jpeg}
+use Rattle.flash_http.specs.declared.names.MediaType.TheVariants.{OctetStream}
 use Rattle.flash_http.specs.declared.ranges.Selection.{Selection}
 use Rattle.flash_http.specs.declared.ranges.Selection.TheVariants as select
 use Rattle.flash_http.specs.declared.responses.ContentRange.TheVariants as of
@@ -16,7 +18,8 @@ use Rattle.flash_http.specs.declared.responses.ResponseHead.{ResponseHead}
 use Rattle.flash_http.specs.MediaType.{media_text, media_type}
 use Rattle.flash_http.specs.Range.{selected, LiesWithin}
 use Rattle.flash_http.specs.Request.{Wanted}
-use Rattle.flash_http.specs.Response.{framing_line, range_line, allow_line, connection_line, head_text, error_body, refusal_head, file_head, script_head}
+use Rattle.flash_http.specs.Response.{framing_line, range_line, allow_line, connection_line, head_text, error_body}
+use Rattle.flash_http.specs.Response.{refusal_head, file_head, script_head}
 use Rattle.flash_http.proofs.SelectionLaws.{selected-within}
 use Rattle.flash_laws.specs.Answers.{body_unless, file_text, error_text, unsatisfiable, script_text}
 use Rattle.flash_laws.specs.Conn.ShortHeads.{is_error_status}
@@ -32,12 +35,14 @@ of-one : (P : ℕ → Type 0) (xs : List ℕ) (s : ℕ) → OfAll P xs → list_
 of-one P [] s all is = absurd (cc (is))
 of-one P (x ∷ xs) s all is = by (x == s) refl is (λ rest. of-one P xs s all.1 rest)
   where
-    by : (b : Bool) → (x == s) ≡ b → (b || list_any (λ y. y == s) xs) ≡ true → (list_any (λ y. y == s) xs ≡ true → P s) → P s
+    by : (b : Bool) → (x == s) ≡ b → (b || list_any (λ y. y == s) xs) ≡ true → (list_any (λ y. y == s) xs ≡ true → P s)
+        → P s
     by true same is later = (let e : x ≡ s = grind (arith, nat_tests, same) in subst P e all.0)
     by false differ is later = later is
 
 -- the number, a blank and the phrase
-phrase-short : (s : ℕ) (phrase : List ℕ) → s < 1000 → reason_phrase s ≡ Some phrase → length phrase ≤ 31 → length (status_text s) ≤ 35
+phrase-short : (s : ℕ) (phrase : List ℕ) → s < 1000 → reason_phrase s ≡ Some phrase → length phrase ≤ 31
+    → length (status_text s) ≤ 35
 phrase-short s phrase low is short =
     let thousand : 10 ^ 3 ≡ 1000 = refl in
     let wide : 2 ^ 64 ≡ 18446744073709551616 = refl in
@@ -49,40 +54,54 @@ phrase-short s phrase low is short =
     omega (arith, digits, all, rest, blank, text, short)
 
 pub status-short : (s : ℕ) → is_error_status s ≡ true → length (status_text s) ≤ 35
-status-short s is = of-one (λ s. length (status_text s) ≤ 35) (400 ∷ 403 ∷ 404 ∷ 405 ∷ 416 ∷ 431 ∷ 500 ∷ 501 ∷ 503 ∷ []) s (
-  phrase-short 400 (codes "Bad Request") (omega arith) refl (let e : length (codes "Bad Request") ≡ 11 = refl in omega (arith, e)),
-  (
-    phrase-short 403 (codes "Forbidden") (omega arith) refl (let e : length (codes "Forbidden") ≡ 9 = refl in omega (arith, e)),
-    (
-      phrase-short 404 (codes "Not Found") (omega arith) refl (let e : length (codes "Not Found") ≡ 9 = refl in omega (arith, e)),
+status-short s is = of-one (λ s. length (status_text s) ≤ 35) (400 ∷ 403 ∷ 404 ∷ 405 ∷ 416 ∷ 431 ∷ 500 ∷ 501 ∷ 503 ∷ [])
+    s (
+      phrase-short 400 (codes "Bad Request") (omega arith) refl (let e : length (codes "Bad Request") ≡ 11 = refl in
+          omega (arith, e)),
       (
-        phrase-short 405 (codes "Method Not Allowed") (omega arith) refl (let e : length (codes "Method Not Allowed") ≡ 18 = refl in omega (arith, e)),
+        phrase-short 403 (codes "Forbidden") (omega arith) refl (let e : length (codes "Forbidden") ≡ 9 = refl in
+            omega (arith, e)),
         (
-          phrase-short 416 (codes "Range Not Satisfiable") (omega arith) refl (let e : length (codes "Range Not Satisfiable") ≡ 21 = refl in omega (arith, e)),
+          phrase-short 404 (codes "Not Found") (omega arith) refl (let e : length (codes "Not Found") ≡ 9 = refl in
+              omega (arith, e)),
           (
-            phrase-short 431 (codes "Request Header Fields Too Large") (omega arith) refl (let e : length (codes "Request Header Fields Too Large") ≡ 31 = refl in omega (arith, e)),
+            phrase-short 405 (codes "Method Not Allowed") (omega arith) refl
+                (let e : length (codes "Method Not Allowed")
+                ≡ 18 = refl in omega (arith, e)),
             (
-              phrase-short 500 (codes "Internal Server Error") (omega arith) refl (let e : length (codes "Internal Server Error") ≡ 21 = refl in omega (arith, e)),
+              phrase-short 416 (codes "Range Not Satisfiable") (omega arith) refl
+                  (let e : length (codes "Range Not Satisfiable") ≡ 21 = refl in omega (arith, e)),
               (
-                phrase-short 501 (codes "Not Implemented") (omega arith) refl (let e : length (codes "Not Implemented") ≡ 15 = refl in omega (arith, e)),
+                phrase-short 431 (codes "Request Header Fields Too Large") (omega arith) refl
+                    (let e : length (codes "Request Header Fields Too Large") ≡ 31 = refl in omega (arith, e)),
                 (
-                  phrase-short 503 (codes "Service Unavailable") (omega arith) refl (let e : length (codes "Service Unavailable") ≡ 19 = refl in omega (arith, e)),
-                  tt,
+                  phrase-short 500 (codes "Internal Server Error") (omega arith) refl
+                      (let e : length (codes "Internal Server Error") ≡ 21 = refl in omega (arith, e)),
+                  (
+                    phrase-short 501 (codes "Not Implemented") (omega arith) refl
+                        (let e : length (codes "Not Implemented")
+                        ≡ 15 = refl in omega (arith, e)),
+                    (
+                      phrase-short 503 (codes "Service Unavailable") (omega arith) refl
+                          (let e : length (codes "Service Unavailable") ≡ 19 = refl in omega (arith, e)),
+                      tt,
+                    ),
+                  ),
                 ),
               ),
             ),
           ),
         ),
       ),
-    ),
-  ),
-) is
+    ) is
 
 ok-short : length (status_text 200) ≤ 35
 ok-short = phrase-short 200 (codes "OK") (omega arith) refl (let e : length (codes "OK") ≡ 2 = refl in omega (arith, e))
 
 part-short : length (status_text 206) ≤ 35
-part-short = phrase-short 206 (codes "Partial Content") (omega arith) refl (let e : length (codes "Partial Content") ≡ 15 = refl in omega (arith, e))
+part-short =
+    phrase-short 206 (codes "Partial Content") (omega arith) refl (let e : length (codes "Partial Content") ≡ 15 =
+    refl in omega (arith, e))
 
 -- ---- lines
 
@@ -119,7 +138,8 @@ framing-short Chunked low = let e : length (codes "Transfer-Encoding: chunked\r\
 framing-short UntilClose low = omega arith
 
 -- the bytes from `first` to `last` of `len`
-part-line : (first last len : ℕ) → first ≤ 16777216 → last ≤ 16777216 → len ≤ 16777216 → length (range_line (Some (of.Bytes first last len))) ≤ 49
+part-line : (first last len : ℕ) → first ≤ 16777216 → last ≤ 16777216 → len ≤ 16777216
+    → length (range_line (Some (of.Bytes first last len))) ≤ 49
 part-line first last len a b c =
     let one = eight first a in
     let two = eight last b in
@@ -128,8 +148,11 @@ part-line first last len a b c =
     let to : length (codes "-") ≡ 1 = refl in
     let slash : length (codes "/") ≡ 1 = refl in
     let end : length (codes "\r\n") ≡ 2 = refl in
-    let p = length-append (codes "Content-Range: bytes ") (decimal first ++ (codes "-" ++ (decimal last ++ (codes "/" ++ (decimal len ++ codes "\r\n"))))) in
-    let q = length-append (decimal first) (codes "-" ++ (decimal last ++ (codes "/" ++ (decimal len ++ codes "\r\n")))) in
+    let p =
+    length-append (codes "Content-Range: bytes ")
+    (decimal first ++ (codes "-" ++ (decimal last ++ (codes "/" ++ (decimal len ++ codes "\r\n"))))) in
+    let q =
+    length-append (decimal first) (codes "-" ++ (decimal last ++ (codes "/" ++ (decimal len ++ codes "\r\n")))) in
     let r = length-append (codes "-") (decimal last ++ (codes "/" ++ (decimal len ++ codes "\r\n"))) in
     let s = length-append (decimal last) (codes "/" ++ (decimal len ++ codes "\r\n")) in
     let t = length-append (codes "/") (decimal len ++ codes "\r\n") in
@@ -161,7 +184,8 @@ connection-short false = omega arith
 -- ---- heads
 
 -- the status, the framing and the range
-head-length : (h : ResponseHead) → LengthFits h.framing → length (status_text h.status) ≤ 35 → length (range_line h.range) ≤ 49
+head-length : (h : ResponseHead) → LengthFits h.framing → length (status_text h.status) ≤ 35
+    → length (range_line h.range) ≤ 49
     → length (head_text h) ≤ 153 + length (range_line h.range)
 head-length h fits status range =
     let media = media-short h.media_type in
@@ -212,23 +236,29 @@ pub file-text-short : (w : Wanted) (len : ℕ) → len ≤ 16777216 → length (
 unfolding file_text
 file-text-short w len low = by (selected w.range len) (selected-within w.range len)
   where
-    by : (sel : Selection) → LiesWithin len sel → length (head_text (file_head (media_type w.name) sel len (not w.keep))) ≤ 202
+    by : (sel : Selection) → LiesWithin len sel
+        → length (head_text (file_head (media_type w.name) sel len (not w.keep))) ≤ 202
     by select.Whole within =
-        let all = head-length (file_head (media_type w.name) select.Whole len (not w.keep)) low ok-short (omega arith) in omega (arith, all)
+        let all = head-length (file_head (media_type w.name) select.Whole len (not w.keep)) low ok-short
+        (omega arith) in omega (arith, all)
     by (select.Bytes first last) within =
         let one = within.0 in
         let two = within.1 in
         let line = part-line first last len (omega (arith, one, two, low)) (omega (arith, two, low)) low in
-        let all = head-length (file_head (media_type w.name) (select.Bytes first last) len (not w.keep)) (omega (arith, one, two, low)) part-short line in
+        let all = head-length (file_head (media_type w.name) (select.Bytes first last) len (not w.keep))
+        (omega (arith, one, two, low)) part-short line in
         omega (arith, all, line)
     by select.Unsatisfiable within =
         let line = no-part-line len low in
         let body = body-short 416 refl in
-        let all = head-length (file_head (media_type w.name) select.Unsatisfiable len (not w.keep)) (omega (arith, body)) (status-short 416 refl) line in
+        let all =
+        head-length (file_head (media_type w.name) select.Unsatisfiable len (not w.keep)) (omega (arith, body))
+        (status-short 416 refl) line in
         omega (arith, all, line)
 
 -- an error, with its body
-pub error-text-short : (status : ℕ) (head_only close : Bool) → is_error_status status ≡ true → length (error_text status head_only close) ≤ 189
+pub error-text-short : (status : ℕ) (head_only close : Bool) → is_error_status status ≡ true
+    → length (error_text status head_only close) ≤ 189
 unfolding error_text
 error-text-short status head_only close is =
     let body = body-short status is in

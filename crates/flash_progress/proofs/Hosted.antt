@@ -1,5 +1,6 @@
 -- A site of files becomes idle, from its new world.
-use Rattle.std.proofs.Common.{inl, inr, ◌≡◌, ◌⊎◌, ℕ, List, [], ◌∷◌, ap, ◌∙◌, refl, sym, subst, arith, Option, Some, None, true, Bool}
+use Rattle.std.proofs.Common.{inl, inr, ◌≡◌, ◌⊎◌, ℕ, List, [], ◌∷◌, ap, ◌∙◌, refl, sym, subst, arith, Option, Some}
+use Rattle.std.proofs.Common.{None, true, Bool}
 use Rattle.std.specs.Prelude.{unwrap_or}
 use Rattle.std.specs.List.{list_all}
 use Rattle.std.proofs.lemmas.Bool.{cases_eq}
@@ -37,9 +38,11 @@ use Rattle.flash_progress.proofs.Served.{becomes_idle, serves_all}
 -- ---- what came can be read, from a new world on
 
 -- without connections there are no unread bytes
-none-at-home : (es : List (ℕ × Connection)) → Once es → ((c : ℕ) → unwrap_or (lookup es c) no_conn ≡ no_conn) → list_all (λ e. lies_in e.1.pool e.1.incoming) es ≡ true
+none-at-home : (es : List (ℕ × Connection)) → Once es → ((c : ℕ) → unwrap_or (lookup es c) no_conn ≡ no_conn)
+    → list_all (λ e. lies_in e.1.pool e.1.incoming) es ≡ true
 none-at-home [] once none = refl
-none-at-home (e ∷ es) once none = both (λ (k : Connection). lies_in k.pool k.incoming) first (none-at-home es once.1 others)
+none-at-home (e ∷ es) once none =
+    both (λ (k : Connection). lies_in k.pool k.incoming) first (none-at-home es once.1 others)
   where
     first : lies_in e.1.pool e.1.incoming ≡ true
     first =
@@ -55,7 +58,8 @@ none-at-home (e ∷ es) once none = both (λ (k : Connection). lies_in k.pool k.
           ap (λ (o : Option Connection). unwrap_or o no_conn) (sym there) ∙ none c)
     ]
 
-    both : (P : Connection → Bool) → P e.1 ≡ true → list_all (λ (x : ℕ × Connection). P x.1) es ≡ true → list_all (λ (x : ℕ × Connection). P x.1) (e ∷ es) ≡ true
+    both : (P : Connection → Bool) → P e.1 ≡ true → list_all (λ (x : ℕ × Connection). P x.1) es ≡ true
+        → list_all (λ (x : ℕ × Connection). P x.1) (e ∷ es) ≡ true
     both P one rest = grind (arith, common_steps, one, rest)
 
 all-unmade : (m : State) (c : ℕ) → conn_at m c ≡ no_conn → unwrap_or (lookup m.conns c) no_conn ≡ no_conn
@@ -65,7 +69,8 @@ all-unmade m c is = is
 new-reads : (m : State) → IsOrderly m → ((c : ℕ) → conn_at m c ≡ no_conn) → CanRead m
 new-reads m order none = record {
   home = none-at-home m.conns order.once (λ c. all-unmade m c (none c));
-  holders = λ d fd c is. absurd (let gone = ap (λ (k : Connection). k.closed) (none c) in let stands = (opened-conn m d fd c order is).1 in cc (gone, stands));
+  holders = λ d fd c is. absurd (let gone = ap (λ (k : Connection). k.closed) (none c) in let stands =
+      (opened-conn m d fd c order is).1 in cc (gone, stands));
 }
 
 module _ {P : Type 0} (turns : TransitionRelation P) where
@@ -73,21 +78,27 @@ module _ {P : Type 0} (turns : TransitionRelation P) where
   abbrev Moved : State → State → Type 0
   Moved m n = (n ≡ m) ⊎ ((e : Event) × (r : Reply) × StepsTo m e r n)
 
-  of-turn : (m n : State) (by : ℕ) (made : Turn) (yields : Bool) (r : Reply) → Comes copying turns m by made yields r n → Moved m n
+  of-turn : (m n : State) (by : ℕ) (made : Turn) (yields : Bool) (r : Reply) → Comes copying turns m by made yields r n
+      → Moved m n
   of-turn m n by turn.Yield yields r comes = inl comes.2
   of-turn m n by (turn.Make k) yields r comes = inr (event.Call by k, r, comes.1)
 
-  of-process_slot : (m n : State) (process_slot next : ProcessSlot P) (yields : Bool) (r : Reply) → ProcessSlotTurn copying turns m process_slot yields r n next → Moved m n
+  of-process_slot : (m n : State) (process_slot next : ProcessSlot P) (yields : Bool) (r : Reply)
+      → ProcessSlotTurn copying turns m process_slot yields r n next → Moved m n
   of-process_slot m n process_slot next yields r (inl starves) = inl starves.machine_stays
-  of-process_slot m n process_slot next yields r (inr moves) = of-turn m n process_slot.by moves.turn yields r moves.comes
+  of-process_slot m n process_slot next yields r (inr moves) =
+      of-turn m n process_slot.by moves.turn yields r moves.comes
 
-  of-step : (w after : Stage State P) (x : Choice) (r : Reply) → WorldStep copying turns w x r after → Moved w.machine after.machine
+  of-step : (w after : Stage State P) (x : Choice) (r : Reply) → WorldStep copying turns w x r after
+      → Moved w.machine after.machine
   of-step w after (choice.Turn by) r (inl absent) = inl (ap (λ (v : Stage State P). v.machine) absent.stays)
   of-step w after (choice.Turn by) r (inr present) =
-      of-process_slot w.machine after.machine present.turn.process_slot present.turn.next present.yields r present.turn.turn
+      of-process_slot w.machine after.machine present.turn.process_slot present.turn.next present.yields r
+      present.turn.turn
   of-step w after (choice.Outside e) r step = inr (e, r, step.step)
 
-  reads-run : (step : (s t : State) (e : Event) (r : Reply) → IsOrderly s → CanRead s → StepsTo s e r t → IsOrderly t × CanRead t)
+  reads-run : (step : (s t : State) (e : Event) (r : Reply) → IsOrderly s → CanRead s → StepsTo s e r t
+      → IsOrderly t × CanRead t)
       → (xs : List Choice) (rs : List Reply) (w after : Stage State P) → IsOrderly w.machine → CanRead w.machine
       → WorldRun copying turns w xs rs after → CanRead after.machine
   reads-run step [] [] w after order reads run = subst (λ (v : Stage State P). CanRead v.machine) (sym run) reads
@@ -104,18 +115,24 @@ module _ {P : Type 0} (turns : TransitionRelation P) where
 
 module _ (worker_set : WorkerSet) (laws : AllLaws worker_set) (more : MoreLaws) where
   pub hosted_becomes_idle : Quiesces worker_set.quiescent worker_set.turns → HostedBecomesIdle worker_set
-  hosted_becomes_idle quiesces site_contents xs rs w mid most idle after has =
-      (becomes_idle worker_set laws more site_contents xs rs mid most idle after turns_in_rounds, serves_all worker_set laws more quiesces site_contents xs rs mid most idle after turns_in_rounds)
+  hosted_becomes_idle quiesces site_contents xs rs w mid most idle after has = (
+    becomes_idle worker_set laws more site_contents xs rs mid most idle after turns_in_rounds,
+    serves_all worker_set laws more quiesces site_contents xs rs mid most idle after turns_in_rounds,
+  )
     where
       first : Consistent site_contents worker_set [] [] w
       first = first_consistent site_contents worker_set w has.new
 
       consistent : Consistent site_contents worker_set xs rs mid
-      consistent = run_keeps in_rounds site_contents worker_set laws xs rs w mid [] [] has.run has.site_preserving has.fair first
+      consistent = run_keeps in_rounds site_contents worker_set laws xs rs w mid [] [] has.run has.site_preserving
+          has.fair first
 
       reads : CanRead mid.machine
       reads = reads-run (actor_turns in_rounds worker_set.turns)
-          (λ s t e r order can step. (laws.the.orders.step s t e r order step, read-step more.homes laws.the.steps laws.the.orders s t e r order can step))
+          (λ s t e r order can step. (
+            laws.the.orders.step s t e r order step,
+            read-step more.homes laws.the.steps laws.the.orders s t e r order can step,
+          ))
           xs rs w mid has.new.order (new-reads w.machine has.new.order has.new.no_conns) has.run
 
       turns_in_rounds : RunsLongEnough worker_set site_contents xs rs mid most idle after

@@ -1,5 +1,6 @@
 -- The server's requirements on the machine hold after each of its own turns; and their consequences.
-use Rattle.std.proofs.Common.{◌≡◌, ℕ, ◌<◌, ◌≤◌, ◌==◌, List, [], ◌∷◌, length, ap, ◌∙◌, refl, sym, subst, arith, Some, true, false, Bool, length-append}
+use Rattle.std.proofs.Common.{◌≡◌, ℕ, ◌<◌, ◌≤◌, ◌==◌, List, [], ◌∷◌, length, ap, ◌∙◌, refl, sym, subst, arith, Some}
+use Rattle.std.proofs.Common.{true, false, Bool, length-append}
 use Rattle.std.specs.Prelude.{nat_lt, ◌&&◌}
 use Rattle.std.specs.List.{list_all}
 use Rattle.std.proofs.lemmas.Bool.Decides.{nat_tests}
@@ -54,7 +55,8 @@ few-now m order c waits = by (nat_lt c m.next_conn) refl
 -- ---- what is known
 
 -- a call adds no unread bytes
-none-come : HistoriesAddUp → (m n : State) (k : Call) (r : Reply) (c : ℕ) → IsOrderly m → StepsTo m (event.Call server k) r n
+none-come : HistoriesAddUp → (m n : State) (k : Call) (r : Reply) (c : ℕ) → IsOrderly m
+    → StepsTo m (event.Call server k) r n
     → length (conn_at n c).incoming ≤ length (conn_at m c).incoming
 unfolding stream_of
 none-come histories m n k r c order step =
@@ -68,12 +70,15 @@ none-come histories m n k r c order step =
     omega (arith, all, one, none, two, was, now)
 
 -- the server may read the unread bytes of its connections
-all-seen : ArrivalsLieInTheirPool → (m : State) → CanRead m → (fd c q : ℕ) → descriptor m server fd ≡ Some (on.Connection c) → IsHidden m server q (conn_at m c).incoming → ⊥
+all-seen : ArrivalsLieInTheirPool → (m : State) → CanRead m → (fd c q : ℕ)
+    → descriptor m server fd ≡ Some (on.Connection c) → IsHidden m server q (conn_at m c).incoming → ⊥
 all-seen homes m reads fd c q opened hidden =
-    let all : lies_in (conn_at m c).pool ((hidden.byte, q) ∷ hidden.rest) ≡ true = subst (λ (t : Text). lies_in (conn_at m c).pool t ≡ true) hidden.text_is (homes.each m c reads.home) in
+    let all : lies_in (conn_at m c).pool ((hidden.byte, q) ∷ hidden.rest) ≡ true =
+    subst (λ (t : Text). lies_in (conn_at m c).pool t ≡ true) hidden.text_is (homes.each m c reads.home) in
     let first : (q == (conn_at m c).pool) ≡ true = first-lies q (conn_at m c).pool hidden.byte hidden.rest all in
     let same : q ≡ (conn_at m c).pool = grind (arith, nat_tests, first) in
-    clash (may_read m server q) (subst (λ z. may_read m server z ≡ true) (sym same) (reads.holders server fd c opened)) hidden.may_not
+    clash (may_read m server q) (subst (λ z. may_read m server z ≡ true) (sym same) (reads.holders server fd c opened))
+    hidden.may_not
   where
     first-lies : (q pool byte : ℕ) (rest : Text) → lies_in pool ((byte, q) ∷ rest) ≡ true → (q == pool) ≡ true
     first-lies q pool byte rest all = by (q == pool) all
@@ -82,9 +87,16 @@ all-seen homes m reads fd c q opened hidden =
         by true is = refl
         by false is = absurd (cc (is))
 
-pub known-of : (more : MoreLaws) (conns : ℕ) (m : State) → IsOrderly m → AreLow m → CanRead m → CanPlace m → AreFew conns m → IsKnown MAX_OPEN conns m
+pub known-of : (more : MoreLaws) (conns : ℕ) (m : State) → IsOrderly m → AreLow m → CanRead m → CanPlace m
+    → AreFew conns m → IsKnown MAX_OPEN conns m
 known-of more conns m order low reads places few = record {
-  room = λ q k proper short. record { place = places.place; default = places.default; open_yet = places.open_yet; fits = (let text = text-fits q k proper short in omega (arith, text)) };
+  room = λ q k proper short. record {
+    place = places.place;
+    default = places.default;
+    open_yet = places.open_yet;
+    fits =
+        (let text = text-fits q k proper short in omega (arith, text));
+  };
   seen = all-seen more.homes m reads;
   low = λ fd c opened. low server fd (on.Connection c) opened;
   few = few;
@@ -94,27 +106,36 @@ known-of more conns m order low reads places few = record {
 -- ---- after an event
 
 -- arrivals can be read
-pub read-step : ArrivalsLieInTheirPool → EachStepLeavesTheRest → EachStepKeepsOrder → (s t : State) (e : Event) (r : Reply) → IsOrderly s → CanRead s → StepsTo s e r t → CanRead t
+pub read-step : ArrivalsLieInTheirPool → EachStepLeavesTheRest → EachStepKeepsOrder
+    → (s t : State) (e : Event) (r : Reply) → IsOrderly s → CanRead s → StepsTo s e r t → CanRead t
 read-step homes steps orders s t e r order reads step = record {
   home = homes.step s t e r reads.home step;
-  holders = holds-step s t order (orders.step s t e r order step) (λ d p may. (steps.leaves s t e r step).readers d p may) reads.holders e r step;
+  holders =
+      holds-step s t order (orders.step s t e r order step) (λ d p may. (steps.leaves s t e r step).readers d p may)
+      reads.holders e r step;
 }
 
-module _ (site_contents : SiteContents) (worker_set : WorkerSet) (laws : AllLaws worker_set) (m n : State) (k : Call) (r : Reply) (order : IsOrderly m) (fixed : IsFixedFor site_contents worker_set m)
+module _ (site_contents : SiteContents) (worker_set : WorkerSet) (laws : AllLaws worker_set) (m n : State) (k : Call)
+    (r : Reply) (order : IsOrderly m) (fixed : IsFixedFor site_contents worker_set m)
     (step : StepsTo m (event.Call server k) r n) where
   -- the default pool stays open over a call for a client that closes none
-  pub places-on : CanPlace m → is_client_call k ≡ true → ((q : ℕ) → closes_pool (event.Call server k) q ≡ false) → CanPlace n
+  pub places-on : CanPlace m → is_client_call k ≡ true → ((q : ℕ) → closes_pool (event.Call server k) q ≡ false)
+      → CanPlace n
   places-on places kind closes =
       let leaves = laws.the.steps.leaves m n (event.Call server k) r step in
       record {
         place = places.place;
         default = leaves.defaults server fixed.site.lives (kind-default k kind) ∙ places.default;
-        open_yet = ap (λ (x : Pool). x.closed) (leaves.pools places.place (there (is_pool m places.place) refl) (closes places.place) (kind-admits k places.place kind)) ∙ places.open_yet;
+        open_yet =
+            ap (λ (x : Pool). x.closed)
+            (leaves.pools places.place (there (is_pool m places.place) refl) (closes places.place)
+            (kind-admits k places.place kind)) ∙ places.open_yet;
       }
     where
       there : (b : Bool) → is_pool m places.place ≡ b → is_pool m places.place ≡ true
       there true is = is
-      there false is = absurd (none-listed m server places.place is (fixed.access.default server places.place places.default))
+      there false is =
+          absurd (none-listed m server places.place is (fixed.access.default server places.place places.default))
 
   -- no connection becomes unaccepted
   pub few-calls : (conns : ℕ) → AreFew conns m → AreFew conns n

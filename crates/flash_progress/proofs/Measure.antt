@@ -4,7 +4,8 @@ use Rattle.std.specs.Prelude.{ℕ, ◌+◌, ◌*◌, Bool, true, false, List, le
 use Rattle.flash_http.specs.Request.{Answer}
 use Rattle.flash_laws.specs.Answers.{keeps}
 use Rattle.flash_laws.specs.declared.phase.Phase.{Phase}
-use Rattle.flash_laws.specs.declared.phase.Phase.TheVariants.{Rests, Got, Opens, Reads, Shuts, Breaks, Drops, Closes, Over}
+use Rattle.flash_laws.specs.declared.phase.Phase.TheVariants.{Rests, Got, Opens, Reads, Shuts, Breaks, Drops, Closes}
+use Rattle.flash_laws.specs.declared.phase.Phase.TheVariants.{Over}
 use Rattle.flash_laws.proofs.Conn.Progress.{calls_left}
 
 -- the most turns that one request takes: three per byte of its response, and a constant
@@ -42,4 +43,5 @@ abbrev pub unread_turns : (longest unread : ℕ) → ℕ
 unread_turns longest unread = (request_turns longest + 2) * unread
 
 abbrev pub turns_left : (longest unread : ℕ) → (kept : List ℕ) → Answer → Phase → ℕ
-turns_left longest unread kept q d = ahead longest q d + (kept_turns longest (reads_on q d) kept + unread_turns longest unread)
+turns_left longest unread kept q d =
+    ahead longest q d + (kept_turns longest (reads_on q d) kept + unread_turns longest unread)

@@ -8,7 +8,8 @@ use Rattle.iol_core.specs.declared.events.Event.TheVariants as event
 use Rattle.iol_core.specs.declared.events.Reply.{Reply}
 use Rattle.iol_core.specs.declared.events.Reply.TheVariants as reply
 use Rattle.iol_laws.specs.Order.{Once}
-use Rattle.iol_laws.proofs.ConnChanges.{Change, Reads, Writes, Closes, Takes, all_turned, changed_by, changes, conns_turned, once_turned, turned}
+use Rattle.iol_laws.proofs.ConnChanges.{Change, Reads, Writes, Closes, Takes, all_turned, changed_by, changes}
+use Rattle.iol_laws.proofs.ConnChanges.{conns_turned, once_turned, turned}
 use Rattle.iol_laws.proofs.Connections.{after-with_conn, conns_conn, conns_same}
 
 -- it is closed, or of this pool
@@ -21,9 +22,11 @@ pool-changed pool (Writes w) k has = has
 pool-changed pool Closes k has = inl refl
 pool-changed pool Takes k has = has
 
-pool-turned : (pool : ℕ) (s : State) (e : ℕ × Change) (c : ℕ) → Once s.conns → HasPool pool (conn_at s c) → HasPool pool (conn_at (turned s e) c)
+pool-turned : (pool : ℕ) (s : State) (e : ℕ × Change) (c : ℕ) → Once s.conns → HasPool pool (conn_at s c)
+    → HasPool pool (conn_at (turned s e) c)
 pool-turned pool s e c once has = elim (cases_eq e.0 c) [
-  | inr differ ↦ subst (λ (k : Connection). HasPool pool k) (sym (conns_conn s e.0 (changed_by e.1 (conn_at s e.0)) c differ)) has
+  | inr differ ↦
+      subst (λ (k : Connection). HasPool pool k) (sym (conns_conn s e.0 (changed_by e.1 (conn_at s e.0)) c differ)) has
   | inl same ↦ subst (λ n. HasPool pool (conn_at (turned s e) n)) same
       (elim (after-with_conn s e.0 (changed_by e.1 (conn_at s e.0)) once) [
         | inl there ↦ subst (λ (k : Connection). HasPool pool k) (sym there)
@@ -32,21 +35,27 @@ pool-turned pool s e c once has = elim (cases_eq e.0 c) [
       ])
 ]
 
-pool-all : (pool : ℕ) (s : State) (es : List (ℕ × Change)) (c : ℕ) → Once s.conns → HasPool pool (conn_at s c) → HasPool pool (conn_at (all_turned s es) c)
+pool-all : (pool : ℕ) (s : State) (es : List (ℕ × Change)) (c : ℕ) → Once s.conns → HasPool pool (conn_at s c)
+    → HasPool pool (conn_at (all_turned s es) c)
 pool-all pool s [] c once has = has
-pool-all pool s (e ∷ es) c once has = pool-all pool (turned s e) es c (once_turned s e once) (pool-turned pool s e c once has)
+pool-all pool s (e ∷ es) c once has =
+    pool-all pool (turned s e) es c (once_turned s e once) (pool-turned pool s e c once has)
 
-pool-called : (s : State) (d : ℕ) (k : Call) (c : ℕ) → Once s.conns → HasPool (conn_at s c).pool (conn_at (called s d k).after c)
+pool-called : (s : State) (d : ℕ) (k : Call) (c : ℕ) → Once s.conns
+    → HasPool (conn_at s c).pool (conn_at (called s d k).after c)
 pool-called s d k c once =
     subst (λ (x : Connection). HasPool (conn_at s c).pool x)
-    (sym (conns_same (all_turned s (changes s d k)) (called s d k).after (λ n. false) (conns_turned s d k).conns c refl))
+    (sym (conns_same (all_turned s (changes s d k)) (called s d k).after (λ n. false) (conns_turned s d k).conns c
+    refl))
     (pool-all (conn_at s c).pool s (changes s d k) c once (inr refl))
 
 -- One that is not closed has the pool that it had.
-pub pool-stays : (s t : State) (d : ℕ) (k : Call) (r : Reply) (c : ℕ) → Once s.conns → StepsTo s (event.Call d k) r t → (conn_at t c).closed ≡ false
+pub pool-stays : (s t : State) (d : ℕ) (k : Call) (r : Reply) (c : ℕ) → Once s.conns → StepsTo s (event.Call d k) r t
+    → (conn_at t c).closed ≡ false
     → (conn_at t c).pool ≡ (conn_at s c).pool
 pool-stays s t d k (reply.Refused x) c once step open_yet = ap (λ (u : State). (conn_at u c).pool) step.1
-pool-stays s t d k r c once step open_yet = elim (subst (λ (u : State). HasPool (conn_at s c).pool (conn_at u c)) (sym step.2) (pool-called s d k c once)) [
-  | inl closed ↦ absurd (cc (closed, open_yet))
-  | inr same ↦ same
-]
+pool-stays s t d k r c once step open_yet =
+    elim (subst (λ (u : State). HasPool (conn_at s c).pool (conn_at u c)) (sym step.2) (pool-called s d k c once)) [
+      | inl closed ↦ absurd (cc (closed, open_yet))
+      | inr same ↦ same
+    ]

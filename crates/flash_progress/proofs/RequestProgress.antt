@@ -1,5 +1,7 @@
 -- Each call for a connection of files that is not retried later decreases the measure of the connection.
-use Rattle.std.proofs.Common.{inl, inr, ◌≡◌, ℕ, suc, ◌+◌, ◌*◌, ◌-◌, ◌<◌, ◌≤◌, List, [], ◌∷◌, ◌++◌, length, ap, ◌∙◌, refl, sym, subst, arith, Some, None, true, false, Bool, length-append, length-drop, if◌then◌else◌}
+use Rattle.std.proofs.Common.{inl, inr, ◌≡◌, ℕ, suc, ◌+◌, ◌*◌, ◌-◌, ◌<◌, ◌≤◌, List, [], ◌∷◌, ◌++◌, length, ap, ◌∙◌}
+use Rattle.std.proofs.Common.{refl, sym, subst, arith, Some, None, true, false, Bool, length-append, length-drop}
+use Rattle.std.proofs.Common.{if◌then◌else◌}
 use Rattle.std.specs.Prelude.{nat_lt, nat_le, slice_range}
 use Rattle.std.proofs.Math.Nat.{mul-le-mul_left}
 use Rattle.iol_core.specs.State.{State, Connection, descriptor, is_live, conn_at}
@@ -26,7 +28,9 @@ use Rattle.flash_http.specs.Range.{selected}
 use Rattle.flash_http.specs.Window.{window_in, FitsIn}
 use Rattle.flash_http.specs.Request.{Answer, serve, refuse}
 use Rattle.flash_laws.specs.Answers.{keeps, Next, NextIn}
-use Rattle.flash_laws.specs.Conn.{Conn, Following, Readies, begins, most_kept, text_of, wants, sends_of, count_of, following, headed, proceeds, resolved, after_open, after_read, after_close_file, after_receive, after_disconnect, after_break, after_drop, after_reply}
+use Rattle.flash_laws.specs.Conn.{Conn, Following, Readies, begins, most_kept, text_of, wants, sends_of, count_of}
+use Rattle.flash_laws.specs.Conn.{following, headed, proceeds, resolved, after_open, after_read, after_close_file}
+use Rattle.flash_laws.specs.Conn.{after_receive, after_disconnect, after_break, after_drop, after_reply}
 use Rattle.flash_laws.specs.Conn.Fits.{Has, HasContent, Names, is_closing}
 use Rattle.flash_laws.specs.Conn.Policy.{is_later}
 use Rattle.flash_laws.specs.Conn.Progress.{Nears, CanMake, is_busy}
@@ -36,7 +40,9 @@ use Rattle.flash_laws.specs.declared.phase.FileResult.TheVariants.{File}
 use Rattle.flash_laws.specs.declared.phase.Payload.{Payload}
 use Rattle.flash_laws.specs.declared.phase.Payload.TheVariants.{Body, Error}
 use Rattle.flash_laws.specs.declared.phase.Phase.{Phase}
-use Rattle.flash_laws.specs.declared.phase.Phase.TheVariants.{Rests, Got, Opens, Reads as Reading, Shuts, Picks, Spares, Heads, Joins, Sends, Cuts, Offers, Swaps, Sent, Breaks, Drops, Closes, Over}
+use Rattle.flash_laws.specs.declared.phase.Phase.TheVariants.{Rests, Got, Opens, Reads as Reading, Shuts, Picks, Spares}
+use Rattle.flash_laws.specs.declared.phase.Phase.TheVariants.{Heads, Joins, Sends, Cuts, Offers, Swaps, Sent, Breaks}
+use Rattle.flash_laws.specs.declared.phase.Phase.TheVariants.{Drops, Closes, Over}
 use Rattle.flash_laws.proofs.Forms.{at}
 use Rattle.flash_laws.proofs.Lists.{clash}
 use Rattle.flash_laws.proofs.Conn.Progress.{near, rank, stage, calls_left, head_calls, ready}
@@ -54,7 +60,8 @@ is_made (Spares a k) = true
 is_made (Heads k) = true
 is_made d = false
 
-content-short : (m : State) (q : Answer) (expected : List ℕ) (k : Payload) → HasContent m q expected k → head_calls q k ≤ 3 * length expected + 7
+content-short : (m : State) (q : Answer) (expected : List ℕ) (k : Payload) → HasContent m q expected k
+    → head_calls q k ≤ 3 * length expected + 7
 content-short m q expected (Body a size len) has =
     let e = ap (λ (l : List ℕ). length l) has.expected_is in
     let both = length-append (text_of q (Body a size len)) has.bytes in
@@ -62,7 +69,8 @@ content-short m q expected (Body a size len) has =
     omega (arith, e, both, size)
 content-short m q expected k has = let e = ap (λ (l : List ℕ). length l) has in omega (arith, e)
 
-pub made-short : (m : State) (q : Answer) (expected : List ℕ) (longest : ℕ) (d : Phase) → is_made d ≡ true → Has m q expected d → length expected ≤ longest
+pub made-short : (m : State) (q : Answer) (expected : List ℕ) (longest : ℕ) (d : Phase) → is_made d ≡ true
+    → Has m q expected d → length expected ≤ longest
     → ahead longest q d ≤ 3 * longest + 15
 made-short m q expected longest (Picks a from to len) is has short =
     let e = ap (λ (l : List ℕ). length l) has.expected_is in
@@ -70,8 +78,10 @@ made-short m q expected longest (Picks a from to len) is has short =
     let size = has.count in
     let same = ap (λ (l : List ℕ). length l) (text-same q a a (to - from) 0 len) in
     omega (arith, e, both, size, same, short)
-made-short m q expected longest (Spares a k) is has short = let few = content-short m q expected k has.2 in omega (arith, few, short)
-made-short m q expected longest (Heads k) is has short = let few = content-short m q expected k has in omega (arith, few, short)
+made-short m q expected longest (Spares a k) is has short = let few = content-short m q expected k has.2 in
+    omega (arith, few, short)
+made-short m q expected longest (Heads k) is has short = let few = content-short m q expected k has in
+    omega (arith, few, short)
 made-short m q expected longest d is has short = absurd (cc (is))
 
 resolved-made : (q : Answer) (k : FileResult) → is_made (resolved q k) ≡ true
@@ -119,7 +129,8 @@ ahead-most longest q Closes late = omega arith
 ahead-most longest q Over late = omega arith
 ahead-most longest q d late = omega arith
 
-ahead-is : (longest : ℕ) (q : Answer) (d : Phase) → is_answering d ≡ true → (ahead longest q d ≡ calls_left q d + 6) × (stage d ≡ 0)
+ahead-is : (longest : ℕ) (q : Answer) (d : Phase) → is_answering d ≡ true → (ahead longest q d ≡ calls_left q d + 6)
+    × (stage d ≡ 0)
 ahead-is longest q Rests is = absurd (cc (is))
 ahead-is longest q Opens is = absurd (cc (is))
 ahead-is longest q (Reading f) is = absurd (cc (is))
@@ -152,7 +163,8 @@ ends-goes q a taken None = by (keeps q) refl
     by true on = (refl, λ is. absurd (let e = sym on ∙ is in cc (e)))
     by false off = (refl, λ is. refl)
 
-goes : (kept : List ℕ) (q : Answer) (d : Phase) (r : Reply) (received : List ℕ) → is_answering d ≡ true → Goes q d (after_reply (at kept q d) r received).phase
+goes : (kept : List ℕ) (q : Answer) (d : Phase) (r : Reply) (received : List ℕ) → is_answering d ≡ true
+    → Goes q d (after_reply (at kept q d) r received).phase
 goes kept q (Got a) reply.Done received is = (refl, λ no. absurd (cc (no)))
 goes kept q (Got a) r received is = (refl, λ no. no)
 goes kept q (Picks a from to len) (reply.Agg n) received is = (refl, λ no. no)
@@ -165,7 +177,8 @@ goes kept q (Joins a size body len) (reply.Agg n) received is = (refl, λ no. no
 goes kept q (Joins a size body len) r received is = (refl, λ no. no)
 goes kept q (Sends a len taken more) (reply.Count n) received is = by (nat_lt n len)
   where
-    by : (b : Bool) → Goes q (Sends a len taken more) (if b then Cuts a n len (taken + n) more else Sent a (taken + len) more)
+    by : (b : Bool)
+        → Goes q (Sends a len taken more) (if b then Cuts a n len (taken + n) more else Sent a (taken + len) more)
     by true = (refl, λ no. no)
     by false = (refl, λ no. no)
 goes kept q (Sends a len taken more) (reply.Refused no.BrokenPipe) received is = (refl, λ no. refl)
@@ -177,7 +190,8 @@ goes kept q (Offers a from len piece taken more) (reply.Refused no.BrokenPipe) r
 goes kept q (Offers a from len piece taken more) r received is = (refl, λ no. no)
 goes kept q (Swaps a from len piece taken more) reply.Done received is = by (nat_lt from len)
   where
-    by : (b : Bool) → Goes q (Swaps a from len piece taken more) (if b then Cuts a from len taken more else Sent a taken more)
+    by : (b : Bool)
+        → Goes q (Swaps a from len piece taken more) (if b then Cuts a from len taken more else Sent a taken more)
     by true = (refl, λ no. no)
     by false = (refl, λ no. no)
 goes kept q (Swaps a from len piece taken more) r received is = (refl, λ no. no)
@@ -197,112 +211,139 @@ made-on q (Spares a k) is = refl
 made-on q (Heads k) is = refl
 made-on q d is = absurd (cc (is))
 
-module _ (n : State) (longest : ℕ) (kept : List ℕ) (q : Answer) (expected : List ℕ) (short : length expected ≤ longest) where
-  -- less is left of the request, and the stream is read on only where it was
-  abbrev Falls : (d e : Phase) → Type 0
-  Falls d e = (ahead longest q e < ahead longest q d) × (reads_on q d ≡ false → reads_on q e ≡ false)
+module _ (n : State) (longest : ℕ) (kept : List ℕ) (q : Answer) (expected : List ℕ) (short : length expected ≤ longest)
+  where
+    -- less is left of the request, and the stream is read on only where it was
+    abbrev Falls : (d e : Phase) → Type 0
+    Falls d e = (ahead longest q e < ahead longest q d) × (reads_on q d ≡ false → reads_on q e ≡ false)
 
-  answering : (d : Phase) (r : Reply) (received : List ℕ) → is_answering d ≡ true → Nears (rank q) d r (after_reply (at kept q d) r received).phase
-      → is_later r ≡ false → Falls d (after_reply (at kept q d) r received).phase
-  answering d r received is near on = (by near, after.1)
-    where
-      after : Goes q d (after_reply (at kept q d) r received).phase
-      after = goes kept q d r received is
+    answering : (d : Phase) (r : Reply) (received : List ℕ) → is_answering d ≡ true
+        → Nears (rank q) d r (after_reply (at kept q d) r received).phase
+        → is_later r ≡ false → Falls d (after_reply (at kept q d) r received).phase
+    answering d r received is near on = (by near, after.1)
+      where
+        after : Goes q d (after_reply (at kept q d) r received).phase
+        after = goes kept q d r received is
 
-      here : (ahead longest q d ≡ calls_left q d + 6) × (stage d ≡ 0)
-      here = ahead-is longest q d is
+        here : (ahead longest q d ≡ calls_left q d + 6) × (stage d ≡ 0)
+        here = ahead-is longest q d is
 
-      most : ahead longest q (after_reply (at kept q d) r received).phase ≤ calls_left q (after_reply (at kept q d) r received).phase + 6
-      most = ahead-most longest q (after_reply (at kept q d) r received).phase after.0
+        most : ahead longest q (after_reply (at kept q d) r received).phase ≤ calls_left q
+            (after_reply (at kept q d) r received).phase + 6
+        most = ahead-most longest q (after_reply (at kept q d) r received).phase after.0
 
-      by : Nears (rank q) d r (after_reply (at kept q d) r received).phase → ahead longest q (after_reply (at kept q d) r received).phase < ahead longest q d
-      by (inl (inl less)) = absurd (let none = here.1 in omega (arith, less, none))
-      by (inl (inr fewer)) = (let less = fewer.1 in let now = here.0 in omega (arith, less, now, most))
-      by (inr same) = absurd (clash (is_later r) same.1 on)
+        by : Nears (rank q) d r (after_reply (at kept q d) r received).phase
+            → ahead longest q (after_reply (at kept q d) r received).phase < ahead longest q d
+        by (inl (inl less)) = absurd (let none = here.1 in omega (arith, less, none))
+        by (inl (inr fewer)) = (let less = fewer.1 in let now = here.0 in omega (arith, less, now, most))
+        by (inr same) = absurd (clash (is_later r) same.1 on)
 
-  made : (d e : Phase) (more : ℕ) → is_made e ≡ true → Has n q expected e → ahead longest q d ≡ 3 * longest + 16 + more → reads_on q d ≡ keeps q → Falls d e
-  made d e more is has much on =
-      let few = made-short n q expected longest e is has short in
-      (omega (arith, few, much), λ no. made-on q e is ∙ (sym on ∙ no))
+    made : (d e : Phase) (more : ℕ) → is_made e ≡ true → Has n q expected e
+        → ahead longest q d ≡ 3 * longest + 16 + more
+        → reads_on q d ≡ keeps q → Falls d e
+    made d e more is has much on =
+        let few = made-short n q expected longest e is has short in
+        (omega (arith, few, much), λ no. made-on q e is ∙ (sym on ∙ no))
 
-  opens : (r : Reply) → Nears (rank q) Opens r (after_open r) → is_later r ≡ false → Has n q expected (after_open r) → Falls Opens (after_open r)
-  opens (reply.Fd f) near on has = (omega arith, λ no. no)
-  opens (reply.Refused no.WouldBlock) near on has = absurd (cc (on))
-  opens (reply.Refused z) near on has = made Opens (after_open (reply.Refused z)) 5 refl has (omega arith) refl
-  opens r near on has = absurd (not-same q Opens r near on)
+    opens : (r : Reply) → Nears (rank q) Opens r (after_open r) → is_later r ≡ false → Has n q expected (after_open r)
+        → Falls Opens (after_open r)
+    opens (reply.Fd f) near on has = (omega arith, λ no. no)
+    opens (reply.Refused no.WouldBlock) near on has = absurd (cc (on))
+    opens (reply.Refused z) near on has = made Opens (after_open (reply.Refused z)) 5 refl has (omega arith) refl
+    opens r near on has = absurd (not-same q Opens r near on)
 
-  reads : (f : ℕ) (r : Reply) (received : List ℕ) → Nears (rank q) (Reading f) r (after_read f r received) → is_later r ≡ false
-      → Falls (Reading f) (after_read f r received)
-  reads f (reply.Agg k) received near on = (omega arith, λ no. no)
-  reads f (reply.Count k) received near on = (omega arith, λ no. no)
-  reads f (reply.Refused no.WouldBlock) received near on = absurd (cc (on))
-  reads f (reply.Refused z) received near on = (omega arith, λ no. no)
-  reads f r received near on = absurd (not-same q (Reading f) r near on)
+    reads : (f : ℕ) (r : Reply) (received : List ℕ) → Nears (rank q) (Reading f) r (after_read f r received)
+        → is_later r ≡ false
+        → Falls (Reading f) (after_read f r received)
+    reads f (reply.Agg k) received near on = (omega arith, λ no. no)
+    reads f (reply.Count k) received near on = (omega arith, λ no. no)
+    reads f (reply.Refused no.WouldBlock) received near on = absurd (cc (on))
+    reads f (reply.Refused z) received near on = (omega arith, λ no. no)
+    reads f r received near on = absurd (not-same q (Reading f) r near on)
 
-  shuts : (f : ℕ) (k : FileResult) (r : Reply) → Nears (rank q) (Shuts f k) r (after_close_file q f k r) → is_later r ≡ false
-      → Has n q expected (after_close_file q f k r) → Falls (Shuts f k) (after_close_file q f k r)
-  shuts f k reply.Done near on has = made (Shuts f k) (resolved q k) 3 (resolved-made q k) has (omega arith) refl
-  shuts f k r near on has = absurd (not-same q (Shuts f k) r near on)
+    shuts : (f : ℕ) (k : FileResult) (r : Reply) → Nears (rank q) (Shuts f k) r (after_close_file q f k r)
+        → is_later r ≡ false
+        → Has n q expected (after_close_file q f k r) → Falls (Shuts f k) (after_close_file q f k r)
+    shuts f k reply.Done near on has = made (Shuts f k) (resolved q k) 3 (resolved-made q k) has (omega arith) refl
+    shuts f k r near on has = absurd (not-same q (Shuts f k) r near on)
 
-  breaks : (piece a : ℕ) (more : Following) (r : Reply) → Nears (rank q) (Breaks piece a more) r (after_break piece a more r) → is_later r ≡ false
-      → Falls (Breaks piece a more) (after_break piece a more r)
-  breaks piece a more reply.Done near on = (let few = few-drops q a more in omega (arith, few), λ no. refl)
-  breaks piece a more r near on = absurd (not-same q (Breaks piece a more) r near on)
+    breaks : (piece a : ℕ) (more : Following) (r : Reply)
+        → Nears (rank q) (Breaks piece a more) r (after_break piece a more r) → is_later r ≡ false
+        → Falls (Breaks piece a more) (after_break piece a more r)
+    breaks piece a more reply.Done near on = (let few = few-drops q a more in omega (arith, few), λ no. refl)
+    breaks piece a more r near on = absurd (not-same q (Breaks piece a more) r near on)
 
-  drops : (a : ℕ) (more : Following) (r : Reply) → Nears (rank q) (Drops a more) r (after_drop a more r) → is_later r ≡ false
-      → Falls (Drops a more) (after_drop a more r)
-  drops a None reply.Done near on = (omega arith, λ no. refl)
-  drops a (Some x) reply.Done near on = (omega arith, λ no. refl)
-  drops a more r near on = absurd (not-same q (Drops a more) r near on)
+    drops : (a : ℕ) (more : Following) (r : Reply) → Nears (rank q) (Drops a more) r (after_drop a more r)
+        → is_later r ≡ false
+        → Falls (Drops a more) (after_drop a more r)
+    drops a None reply.Done near on = (omega arith, λ no. refl)
+    drops a (Some x) reply.Done near on = (omega arith, λ no. refl)
+    drops a more r near on = absurd (not-same q (Drops a more) r near on)
 
-  -- each busy phase
-  pub busy-falls : (d : Phase) (r : Reply) (received : List ℕ) → is_busy d ≡ true → Nears (rank q) d r (after_reply (at kept q d) r received).phase
-      → is_later r ≡ false → Has n q expected (after_reply (at kept q d) r received).phase → Falls d (after_reply (at kept q d) r received).phase
-  busy-falls Rests r received busy near on has = absurd (cc (busy))
-  busy-falls Closes r received busy near on has = absurd (cc (busy))
-  busy-falls Over r received busy near on has = absurd (cc (busy))
-  busy-falls Opens r received busy near on has = opens r near on has
-  busy-falls (Reading f) r received busy near on has = reads f r received near on
-  busy-falls (Shuts f k) r received busy near on has = shuts f k r near on has
-  busy-falls (Breaks piece a more) r received busy near on has = breaks piece a more r near on
-  busy-falls (Drops a more) r received busy near on has = drops a more r near on
-  busy-falls d r received busy near on has = answering d r received refl near on
+    -- each busy phase
+    pub busy-falls : (d : Phase) (r : Reply) (received : List ℕ) → is_busy d ≡ true
+        → Nears (rank q) d r (after_reply (at kept q d) r received).phase
+        → is_later r ≡ false → Has n q expected (after_reply (at kept q d) r received).phase
+        → Falls d (after_reply (at kept q d) r received).phase
+    busy-falls Rests r received busy near on has = absurd (cc (busy))
+    busy-falls Closes r received busy near on has = absurd (cc (busy))
+    busy-falls Over r received busy near on has = absurd (cc (busy))
+    busy-falls Opens r received busy near on has = opens r near on has
+    busy-falls (Reading f) r received busy near on has = reads f r received near on
+    busy-falls (Shuts f k) r received busy near on has = shuts f k r near on has
+    busy-falls (Breaks piece a more) r received busy near on has = breaks piece a more r near on
+    busy-falls (Drops a more) r received busy near on has = drops a more r near on
+    busy-falls d r received busy near on has = answering d r received refl near on
 
 -- ---- with what is kept and unread
 
-kept-less : (longest : ℕ) (b c : Bool) (kept : List ℕ) → (b ≡ false → c ≡ false) → kept_turns longest c kept ≤ kept_turns longest b kept
+kept-less : (longest : ℕ) (b c : Bool) (kept : List ℕ) → (b ≡ false → c ≡ false)
+    → kept_turns longest c kept ≤ kept_turns longest b kept
 kept-less longest true true kept only = omega arith
 kept-less longest true false kept only = omega arith
-kept-less longest false c kept only = subst (λ (x : Bool). kept_turns longest x kept ≤ 0) (sym (only refl)) (omega arith)
+kept-less longest false c kept only =
+    subst (λ (x : Bool). kept_turns longest x kept ≤ 0) (sym (only refl)) (omega arith)
 
 -- Of a request in progress: each reply, but where its call is to be made again later.
-pub progress-falls : (n : State) (longest unread : ℕ) (kept : List ℕ) (q : Answer) (d : Phase) (expected : List ℕ) (r : Reply) (received : List ℕ) → length expected ≤ longest
-    → is_busy d ≡ true → Nears (rank q) d r (after_reply (at kept q d) r received).phase → is_later r ≡ false → Has n q expected (after_reply (at kept q d) r received).phase
+pub progress-falls : (n : State) (longest unread : ℕ) (kept : List ℕ) (q : Answer) (d : Phase) (expected : List ℕ)
+    (r : Reply) (received : List ℕ) → length expected ≤ longest
+    → is_busy d ≡ true → Nears (rank q) d r (after_reply (at kept q d) r received).phase → is_later r ≡ false
+    → Has n q expected (after_reply (at kept q d) r received).phase
     → turns_left longest unread kept q (after_reply (at kept q d) r received).phase < turns_left longest unread kept q d
 progress-falls n longest unread kept q d expected r received short busy near on has =
     let falls = busy-falls n longest kept q expected short d r received busy near on has in
     let less = falls.0 in
-    let keeps_less = kept-less longest (reads_on q d) (reads_on q (after_reply (at kept q d) r received).phase) kept falls.1 in
+    let keeps_less = kept-less longest (reads_on q d) (reads_on q (after_reply (at kept q d) r received).phase) kept
+    falls.1 in
     omega (arith, less, keeps_less)
 
 -- The end of a connection.
-pub closes-falls : (longest unread : ℕ) (kept : List ℕ) (q : Answer) → turns_left longest unread kept q Over < turns_left longest unread kept q Closes
+pub closes-falls : (longest unread : ℕ) (kept : List ℕ) (q : Answer)
+    → turns_left longest unread kept q Over < turns_left longest unread kept q Closes
 closes-falls longest unread kept q = omega arith
 
 -- What is read of the stream.
-pub reads-falls : (longest unread later : ℕ) (kept : List ℕ) (q : Answer) (a : ℕ) (received : List ℕ) → unread ≡ length received + later
-    → turns_left longest later (after_receive kept q (reply.Agg a) received).kept q (after_receive kept q (reply.Agg a) received).phase < turns_left longest unread kept q Rests
+pub reads-falls : (longest unread later : ℕ) (kept : List ℕ) (q : Answer) (a : ℕ) (received : List ℕ)
+    → unread ≡ length received + later
+    → turns_left longest later (after_receive kept q (reply.Agg a) received).kept q
+    (after_receive kept q (reply.Agg a) received).phase < turns_left longest unread kept q Rests
 reads-falls longest unread later kept q a [] all =
-    let same : unread_turns longest unread ≡ unread_turns longest later = ap (λ (k : ℕ). unread_turns longest k) (none all) in
+    let same : unread_turns longest unread ≡ unread_turns longest later =
+    ap (λ (k : ℕ). unread_turns longest k) (none all) in
     omega (arith, same)
   where
     none : unread ≡ 0 + later → unread ≡ later
     none e = omega (arith, e)
 reads-falls longest unread later kept q a (b ∷ received) all =
     let long = length-append kept (b ∷ received) in
-    let kept_is : request_turns longest * length (kept ++ (b ∷ received)) ≡ request_turns longest * length kept + request_turns longest * length (b ∷ received) = ap (λ (k : ℕ). request_turns longest * k) long ∙ spread (request_turns longest) (length kept) (length (b ∷ received)) in
-    let unread_is : (request_turns longest + 2) * unread ≡ (request_turns longest + 2) * length (b ∷ received) + (request_turns longest + 2) * later = ap (λ (k : ℕ). (request_turns longest + 2) * k) all ∙ spread (request_turns longest + 2) (length (b ∷ received)) later in
-    let two : (request_turns longest + 2) * length (b ∷ received) ≡ request_turns longest * length (b ∷ received) + 2 * length (b ∷ received) = grind (arith) in
+    let kept_is : request_turns longest * length (kept ++ (b ∷ received)) ≡ request_turns longest * length kept
+    + request_turns longest * length (b ∷ received) = ap (λ (k : ℕ). request_turns longest * k) long
+    ∙ spread (request_turns longest) (length kept) (length (b ∷ received)) in
+    let unread_is : (request_turns longest + 2) * unread ≡ (request_turns longest + 2) * length (b ∷ received)
+    + (request_turns longest + 2) * later = ap (λ (k : ℕ). (request_turns longest + 2) * k) all
+    ∙ spread (request_turns longest + 2) (length (b ∷ received)) later in
+    let two : (request_turns longest + 2) * length (b ∷ received) ≡ request_turns longest * length (b ∷ received)
+    + 2 * length (b ∷ received) = grind (arith) in
     omega (arith, kept_is, unread_is, two)
   where
     spread : (k a b : ℕ) → k * (a + b) ≡ k * a + k * b
@@ -310,10 +351,12 @@ reads-falls longest unread later kept q a (b ∷ received) all =
 
 -- ---- a request begins
 
-next-shorter : (laws : WindowLaws) (s : List ℕ) (q : Answer) (rest : List ℕ) → Next s q rest → (1 ≤ length s) × (keeps q ≡ true → suc (length rest) ≤ length s)
+next-shorter : (laws : WindowLaws) (s : List ℕ) (q : Answer) (rest : List ℕ) → Next s q rest
+    → (1 ≤ length s) × (keeps q ≡ true → suc (length rest) ≤ length s)
 next-shorter laws s q rest next = by (window_in s) refl next
   where
-    by : (w : Window) → window_in s ≡ w → NextIn w s q rest → (1 ≤ length s) × (keeps q ≡ true → suc (length rest) ≤ length s)
+    by : (w : Window) → window_in s ≡ w → NextIn w s q rest
+        → (1 ≤ length s) × (keeps q ≡ true → suc (length rest) ≤ length s)
     by Wait is next = absurd next
     by (Head skip len) is next =
         let fits : FitsIn (length s) (Head skip len) = subst (λ (w : Window). FitsIn (length s) w) is (laws.fit s) in
@@ -327,14 +370,19 @@ begins-on : (q : Answer) → reads_on q (begins q) ≡ keeps q
 begins-on (serve w) = refl
 begins-on (refuse status head_only close) = refl
 
-begins-short : (m : State) (longest : ℕ) (q : Answer) → ((status : ℕ) (head_only close : Bool) → q ≡ refuse status head_only close → length (text_of q (Error status)) ≤ longest) → ahead longest q (begins q) ≤ 3 * longest + 21
+begins-short : (m : State) (longest : ℕ) (q : Answer)
+    → ((status : ℕ) (head_only close : Bool) → q ≡ refuse status head_only close
+    → length (text_of q (Error status)) ≤ longest) → ahead longest q (begins q) ≤ 3 * longest + 21
 begins-short m longest (serve w) short = omega arith
 begins-short m longest (refuse status head_only close) short =
-    let few = made-short m (refuse status head_only close) (text_of (refuse status head_only close) (Error status)) longest (Heads (Error status)) refl refl (short status head_only close refl) in omega (arith, few)
+    let few = made-short m (refuse status head_only close) (text_of (refuse status head_only close) (Error status))
+    longest (Heads (Error status)) refl refl (short status head_only close refl) in omega (arith, few)
 
 -- Where the first request that is kept begins, less is left, too.
-pub begins-falls : (laws : WindowLaws) (m : State) (longest unread : ℕ) (kept : List ℕ) (was q : Answer) (rest : List ℕ) → Next kept q rest
-    → ((status : ℕ) (head_only close : Bool) → q ≡ refuse status head_only close → length (text_of q (Error status)) ≤ longest)
+pub begins-falls : (laws : WindowLaws) (m : State) (longest unread : ℕ) (kept : List ℕ) (was q : Answer) (rest : List ℕ)
+    → Next kept q rest
+    → ((status : ℕ) (head_only close : Bool) → q ≡ refuse status head_only close
+    → length (text_of q (Error status)) ≤ longest)
     → turns_left longest unread rest q (begins q) < turns_left longest unread kept was Rests
 begins-falls laws m longest unread kept was q rest next short = by (keeps q) refl
   where
@@ -347,15 +395,19 @@ begins-falls laws m longest unread kept was q rest next short = by (keeps q) ref
     on : (b : Bool) → keeps q ≡ b → kept_turns longest (reads_on q (begins q)) rest ≡ kept_turns longest b rest
     on b is = ap (λ (x : Bool). kept_turns longest x rest) (begins-on q ∙ is)
 
-    by : (b : Bool) → keeps q ≡ b → turns_left longest unread rest q (begins q) < turns_left longest unread kept was Rests
+    by : (b : Bool) → keeps q ≡ b
+        → turns_left longest unread rest q (begins q) < turns_left longest unread kept was Rests
     by true is =
         let now = on true is in
-        let step : request_turns longest * suc (length rest) ≤ request_turns longest * length kept = mul-le-mul_left (request_turns longest) (shorter.1 is) in
-        let split : request_turns longest * suc (length rest) ≡ request_turns longest * length rest + request_turns longest = grind (arith) in
+        let step : request_turns longest * suc (length rest) ≤ request_turns longest * length kept =
+        mul-le-mul_left (request_turns longest) (shorter.1 is) in
+        let split : request_turns longest * suc (length rest) ≡ request_turns longest * length rest + request_turns
+        longest = grind (arith) in
         omega (arith, few, now, step, split)
     by false is =
         let now = on false is in
-        let step : request_turns longest * 1 ≤ request_turns longest * length kept = mul-le-mul_left (request_turns longest) shorter.0 in
+        let step : request_turns longest * 1 ≤ request_turns longest * length kept =
+        mul-le-mul_left (request_turns longest) shorter.0 in
         let one : request_turns longest * 1 ≡ request_turns longest = grind (arith) in
         omega (arith, few, now, step, one)
 
@@ -374,93 +426,125 @@ abbrev pub conn_turns : (longest unread : ℕ) → Conn → ℕ
 conn_turns longest unread x = turns_left longest unread x.kept x.q x.phase
 
 abbrev pub IsShort : (longest : ℕ) → Type 0
-IsShort longest = (s rest : List ℕ) (q : Answer) → Next s q rest → (status : ℕ) (head_only close : Bool) → q ≡ refuse status head_only close → length (text_of q (Error status)) ≤ longest
+IsShort longest = (s rest : List ℕ) (q : Answer) → Next s q rest → (status : ℕ) (head_only close : Bool)
+    → q ≡ refuse status head_only close → length (text_of q (Error status)) ≤ longest
 
-module _ (own : CallsServeTheirDomain) (may : RefusalsThatAreLeft) (why : RefusalsTellWhy) (laws : WindowLaws) (m n : State) (longest fd c : ℕ)
-    (order : IsOrderly m) (lives : is_live m server ≡ true) (open_on : descriptor m server fd ≡ Some (on.Connection c)) where
-  abbrev before : ℕ
-  before = length (conn_at m c).incoming
+module _ (own : CallsServeTheirDomain) (may : RefusalsThatAreLeft) (why : RefusalsTellWhy) (laws : WindowLaws)
+    (m n : State) (longest fd c : ℕ)
+    (order : IsOrderly m) (lives : is_live m server ≡ true) (open_on : descriptor m server fd ≡ Some (on.Connection c))
+  where
+    abbrev before : ℕ
+    before = length (conn_at m c).incoming
 
-  abbrev now : ℕ
-  now = length (conn_at n c).incoming
+    abbrev now : ℕ
+    now = length (conn_at n c).incoming
 
-  -- to be made ready leaves no more
-  pub readies-falls : (was ready : Conn) → IsShort longest → Readies was ready → conn_turns longest before ready ≤ conn_turns longest before was
-  readies-falls was ready short readies = by was.phase refl readies
-    where
-      stays : ready ≡ was → conn_turns longest before ready ≤ conn_turns longest before was
-      stays same = subst (λ (x : Conn). conn_turns longest before x ≤ conn_turns longest before was) (sym same) (omega arith)
+    -- to be made ready leaves no more
+    pub readies-falls : (was ready : Conn) → IsShort longest → Readies was ready
+        → conn_turns longest before ready ≤ conn_turns longest before was
+    readies-falls was ready short readies = by was.phase refl readies
+      where
+        stays : ready ≡ was → conn_turns longest before ready ≤ conn_turns longest before was
+        stays same = subst (λ (x : Conn). conn_turns longest before x ≤ conn_turns longest before was) (sym same)
+            (omega arith)
 
-      by : (d : Phase) → was.phase ≡ d → Readies (record was { phase = d }) ready → conn_turns longest before ready ≤ conn_turns longest before was
-      by Rests is (inl waits) = stays (waits.1 ∙ ap (λ (d : Phase). record was { phase = d }) (sym is))
-      by Rests is (inr some) =
-          let less = begins-falls laws m longest before was.kept was.q some.0 some.1 some.2 (short was.kept some.1 some.0 some.2) in
-          let here = ap (λ (d : Phase). turns_left longest before was.kept was.q d) is in
-          subst (λ (x : Conn). conn_turns longest before x ≤ conn_turns longest before was) (sym some.3) (omega (arith, less, here))
-      by d is readies = stays (readies-same d is readies)
-        where
-          readies-same : (d : Phase) → was.phase ≡ d → ready ≡ record was { phase = d } → ready ≡ was
-          readies-same d is same = same ∙ ap (λ (d : Phase). record was { phase = d }) (sym is)
+        by : (d : Phase) → was.phase ≡ d → Readies (record was { phase = d }) ready
+            → conn_turns longest before ready ≤ conn_turns longest before was
+        by Rests is (inl waits) = stays (waits.1 ∙ ap (λ (d : Phase). record was { phase = d }) (sym is))
+        by Rests is (inr some) =
+            let less =
+            begins-falls laws m longest before was.kept was.q some.0 some.1 some.2
+            (short was.kept some.1 some.0 some.2) in
+            let here = ap (λ (d : Phase). turns_left longest before was.kept was.q d) is in
+            subst (λ (x : Conn). conn_turns longest before x ≤ conn_turns longest before was) (sym some.3)
+            (omega (arith, less, here))
+        by d is readies = stays (readies-same d is readies)
+          where
+            readies-same : (d : Phase) → was.phase ≡ d → ready ≡ record was { phase = d } → ready ≡ was
+            readies-same d is same = same ∙ ap (λ (d : Phase). record was { phase = d }) (sym is)
 
-  -- what is read is no longer unread
-  rests : (kept : List ℕ) (q : Answer) (r : Reply) (received : List ℕ) → ((p : ℕ) → IsHidden m server p (conn_at m c).incoming → ⊥)
-      → StepsTo m (event.Call server (call.IolRead fd (most_kept - length kept))) r n → Names n r received → is_later r ≡ false
-      → conn_turns longest now (after_receive kept q r received) < turns_left longest before kept q Rests
-  rests kept q r received seen step names sure = by r (own.read_conn m n server fd c (most_kept - length kept) r order open_on step) step names sure
-    where
-      by : (r : Reply) → o.ReadsConn m server c (most_kept - length kept) r n
-          → StepsTo m (event.Call server (call.IolRead fd (most_kept - length kept))) r n → Names n r received → is_later r ≡ false
-          → conn_turns longest now (after_receive kept q r received) < turns_left longest before kept q Rests
-      by (reply.Agg a) takes step names sure =
-          subst (λ (k : ℕ). conn_turns longest k (after_receive kept q (reply.Agg a) received) < turns_left longest before kept q Rests) (sym later)
-          (after_reply-q received (reads-falls longest before (length takes.incoming) kept q a received all))
-        where
-          later : now ≡ length takes.incoming
-          later = ap (λ (k : Connection). length k.incoming) takes.conn
+    -- what is read is no longer unread
+    rests : (kept : List ℕ) (q : Answer) (r : Reply) (received : List ℕ)
+        → ((p : ℕ) → IsHidden m server p (conn_at m c).incoming → ⊥)
+        → StepsTo m (event.Call server (call.IolRead fd (most_kept - length kept))) r n → Names n r received
+        → is_later r ≡ false
+        → conn_turns longest now (after_receive kept q r received) < turns_left longest before kept q Rests
+    rests kept q r received seen step names sure =
+        by r (own.read_conn m n server fd c (most_kept - length kept) r order open_on step) step names sure
+      where
+        by : (r : Reply) → o.ReadsConn m server c (most_kept - length kept) r n
+            → StepsTo m (event.Call server (call.IolRead fd (most_kept - length kept))) r n → Names n r received
+            → is_later r ≡ false
+            → conn_turns longest now (after_receive kept q r received) < turns_left longest before kept q Rests
+        by (reply.Agg a) takes step names sure =
+            subst (λ (k : ℕ). conn_turns longest k (after_receive kept q (reply.Agg a) received) < turns_left longest
+            before kept q Rests) (sym later)
+            (after_reply-q received (reads-falls longest before (length takes.incoming) kept q a received all))
+          where
+            later : now ≡ length takes.incoming
+            later = ap (λ (k : Connection). length k.incoming) takes.conn
 
-          all : before ≡ length received + length takes.incoming
-          all =
-              let parts = ap (λ (t : Text). length t) takes.was ∙ length-append takes.text takes.incoming in
-              let bytes = length-map takes.text (λ b. b.0) in
-              let received_is = ap (λ (l : List ℕ). length l) (some-inj (bytes_of takes.text) received (sym takes.is_readable ∙ names)) in
-              omega (arith, parts, bytes, received_is)
+            all : before ≡ length received + length takes.incoming
+            all =
+                let parts = ap (λ (t : Text). length t) takes.was ∙ length-append takes.text takes.incoming in
+                let bytes = length-map takes.text (λ b. b.0) in
+                let received_is =
+                ap (λ (l : List ℕ). length l) (some-inj (bytes_of takes.text) received (sym takes.is_readable
+                ∙ names)) in
+                omega (arith, parts, bytes, received_is)
 
-          after_reply-q : (l : List ℕ) → turns_left longest (length takes.incoming) (after_receive kept q (reply.Agg a) l).kept q (after_receive kept q (reply.Agg a) l).phase < turns_left longest before kept q Rests
-              → conn_turns longest (length takes.incoming) (after_receive kept q (reply.Agg a) l) < turns_left longest before kept q Rests
-          after_reply-q [] less = less
-          after_reply-q (b ∷ l) less = less
-      by (reply.Refused z) did step names sure = absurd (refused z (may.reads_queue m n server fd (most_kept - length kept) (on.Connection c) z lives open_on refl refl step) step sure)
-        where
-          refused : (z : Refusal) → LacksNumbersOrHasNothingToRead z → StepsTo m (event.Call server (call.IolRead fd (most_kept - length kept))) (reply.Refused z) n
-              → is_later (reply.Refused z) ≡ false → ⊥
-          refused no.TooMany left step sure = cc (sure)
-          refused no.WouldBlock left step sure = cc (sure)
-          refused no.Memory left step sure = cc (sure)
-          refused (no.Denied p) left step sure = seen p (why.conn_is_hidden m n server fd c (most_kept - length kept) p open_on step)
-          refused z left step sure = left
-      by r did step names sure = absurd did
+            after_reply-q : (l : List ℕ)
+                → turns_left longest (length takes.incoming) (after_receive kept q (reply.Agg a) l).kept q
+                (after_receive kept q (reply.Agg a) l).phase < turns_left longest before kept q Rests
+                → conn_turns longest (length takes.incoming) (after_receive kept q (reply.Agg a) l) < turns_left longest
+                before kept q Rests
+            after_reply-q [] less = less
+            after_reply-q (b ∷ l) less = less
+        by (reply.Refused z) did step names sure =
+            absurd
+            (refused z (may.reads_queue m n server fd (most_kept - length kept) (on.Connection c) z lives open_on refl
+            refl step) step sure)
+          where
+            refused : (z : Refusal) → LacksNumbersOrHasNothingToRead z
+                → StepsTo m (event.Call server (call.IolRead fd (most_kept - length kept))) (reply.Refused z) n
+                → is_later (reply.Refused z) ≡ false → ⊥
+            refused no.TooMany left step sure = cc (sure)
+            refused no.WouldBlock left step sure = cc (sure)
+            refused no.Memory left step sure = cc (sure)
+            refused (no.Denied p) left step sure =
+                seen p (why.conn_is_hidden m n server fd c (most_kept - length kept) p open_on step)
+            refused z left step sure = left
+        by r did step names sure = absurd did
 
-  -- it is closed
-  closes : (kept : List ℕ) (q : Answer) (r : Reply) → now ≤ before → StepsTo m (event.Call server (call.Close fd)) r n → is_later r ≡ false
-      → turns_left longest now kept q (after_disconnect r) < turns_left longest before kept q Closes
-  closes kept q r few step sure = by r (own.closes_conn m n server fd c r order open_on step) step
-    where
-      by : (r : Reply) → o.ClosesConn m c r n → StepsTo m (event.Call server (call.Close fd)) r n
-          → turns_left longest now kept q (after_disconnect r) < turns_left longest before kept q Closes
-      by reply.Done did step = (let less = unread-less longest now before few in omega (arith, less))
-      by (reply.Refused z) did step = absurd (may.closes m n server fd (on.Connection c) z lives open_on step)
-      by r did step = absurd did
+    -- it is closed
+    closes : (kept : List ℕ) (q : Answer) (r : Reply) → now ≤ before → StepsTo m (event.Call server (call.Close fd)) r n
+        → is_later r ≡ false
+        → turns_left longest now kept q (after_disconnect r) < turns_left longest before kept q Closes
+    closes kept q r few step sure = by r (own.closes_conn m n server fd c r order open_on step) step
+      where
+        by : (r : Reply) → o.ClosesConn m c r n → StepsTo m (event.Call server (call.Close fd)) r n
+            → turns_left longest now kept q (after_disconnect r) < turns_left longest before kept q Closes
+        by reply.Done did step = (let less = unread-less longest now before few in omega (arith, less))
+        by (reply.Refused z) did step = absurd (may.closes m n server fd (on.Connection c) z lives open_on step)
+        by r did step = absurd did
 
-  -- Its call is answered, and is not to be made again later: less is left for it.
-  pub turn-falls : (kept : List ℕ) (q : Answer) (d : Phase) (was expected : List ℕ) (r : Reply) (received : List ℕ) → length expected ≤ longest → now ≤ before
-      → ((p : ℕ) → IsHidden m server p (conn_at m c).incoming → ⊥)
-      → Has m q was d → (is_closing d ≡ false → Has n q expected (after_reply (at kept q d) r received).phase) → CanMake m (wants fd (at kept q d))
-      → StepsTo m (event.Call server (wants fd (at kept q d))) r n → Names n r received → is_later r ≡ false
-      → conn_turns longest now (after_reply (at kept q d) r received) < conn_turns longest before (at kept q d)
-  turn-falls kept q Rests was expected r received short few seen has later can step names sure = rests kept q r received seen step names sure
-  turn-falls kept q Closes was expected r received short few seen has later can step names sure = closes kept q r few step sure
-  turn-falls kept q Over was expected r received short few seen has later can step names sure = absurd has
-  turn-falls kept q d was expected r received short few seen has later can step names sure =
-      let less = progress-falls n longest before kept q d expected r received short refl (near own may m n order lives fd c kept q d was r received open_on refl has can step names) sure (later refl) in
-      let fewer = fewer-unread longest now before kept q (after_reply (at kept q d) r received).phase few in
-      omega (arith, less, fewer)
+    -- Its call is answered, and is not to be made again later: less is left for it.
+    pub turn-falls : (kept : List ℕ) (q : Answer) (d : Phase) (was expected : List ℕ) (r : Reply) (received : List ℕ)
+        → length expected ≤ longest → now ≤ before
+        → ((p : ℕ) → IsHidden m server p (conn_at m c).incoming → ⊥)
+        → Has m q was d → (is_closing d ≡ false → Has n q expected (after_reply (at kept q d) r received).phase)
+        → CanMake m (wants fd (at kept q d))
+        → StepsTo m (event.Call server (wants fd (at kept q d))) r n → Names n r received → is_later r ≡ false
+        → conn_turns longest now (after_reply (at kept q d) r received) < conn_turns longest before (at kept q d)
+    turn-falls kept q Rests was expected r received short few seen has later can step names sure =
+        rests kept q r received seen step names sure
+    turn-falls kept q Closes was expected r received short few seen has later can step names sure =
+        closes kept q r few step sure
+    turn-falls kept q Over was expected r received short few seen has later can step names sure = absurd has
+    turn-falls kept q d was expected r received short few seen has later can step names sure =
+        let less =
+        progress-falls n longest before kept q d expected r received short refl
+        (near own may m n order lives fd c kept q d was r received open_on refl has can step names) sure
+        (later refl) in
+        let fewer = fewer-unread longest now before kept q (after_reply (at kept q d) r received).phase few in
+        omega (arith, less, fewer)

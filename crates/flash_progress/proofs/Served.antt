@@ -1,5 +1,6 @@
 -- Progress of a server of files: it becomes idle, and then each connection is served.
-use Rattle.std.proofs.Common.{inl, inr, ◌≡◌, ℕ, suc, ◌+◌, ◌*◌, ◌%◌, ◌≤◌, List, [], ◌∷◌, ◌++◌, length, map, ap, ◌∙◌, refl, sym, subst, arith, true, false, Bool}
+use Rattle.std.proofs.Common.{inl, inr, ◌≡◌, ℕ, suc, ◌+◌, ◌*◌, ◌%◌, ◌≤◌, List, [], ◌∷◌, ◌++◌, length, map, ap, ◌∙◌}
+use Rattle.std.proofs.Common.{refl, sym, subst, arith, true, false, Bool}
 use Rattle.std.proofs.Math.Nat.{mul-le-mul_left}
 use Rattle.std.specs.List.{AllByRecursion}
 use Rattle.std.specs.Prelude.{slice_index}
@@ -35,7 +36,8 @@ use Rattle.flash_laws.proofs.World.Idle.Whole.{idle_done}
 use Rattle.flash_laws.proofs.World.Fair.{server-among}
 use Rattle.flash_laws.proofs.World.Steps.{run_keeps}
 use Rattle.flash_progress.specs.Bound.{turns_in_rounds, turns_of_all, longest_response}
-use Rattle.flash_progress.specs.Served.{CanRead, NoneLacksResource, clients_in, RunsLongEnough, IsServed, BecomesIdle, ServesAll, ArrivalsCanBeRead}
+use Rattle.flash_progress.specs.Served.{CanRead, NoneLacksResource, clients_in, RunsLongEnough, IsServed, BecomesIdle}
+use Rattle.flash_progress.specs.Served.{ServesAll, ArrivalsCanBeRead}
 use Rattle.flash_progress.proofs.TurnsLeft.{AreShort}
 use Rattle.flash_progress.proofs.Lengths.{are-short}
 use Rattle.flash_progress.proofs.Holders.{holds-new}
@@ -58,18 +60,23 @@ arrivals_can_be_read homes steps orders = record {
     over : (s t : State) (es : List Event) (rs : List Reply) → IsOrderly s → CanRead s → Run s es rs t → CanRead t
     over s t [] [] order reads run = subst CanRead (sym run) reads
     over s t (e ∷ es) (r ∷ rs) order reads run =
-        over run.0 t es rs (orders.step s run.0 e r order run.1) (read-step homes steps orders s run.0 e r order reads run.1) run.2
+        over run.0 t es rs (orders.step s run.0 e r order run.1)
+        (read-step homes steps orders s run.0 e r order reads run.1) run.2
     over s t [] (r ∷ rs) order reads run = absurd run
     over s t (e ∷ es) [] order reads run = absurd run
 
 -- ---- the theorem
 
 -- Turns of the server, none of which lacks a resource, that are fair have allowed replies.
-allowed-all : (site_contents : SiteContents) (ds : List ℕ) → ds ≡ server ∷ [] → (i : ℕ) (ts : List Went) → NoneLacksResource ts
-    → AreFair site_contents.refuses (rounds ds i (length ts)) (map (λ t. t.1) ts) → AllByRecursion (λ t. Allowed site_contents t.1) ts
+allowed-all : (site_contents : SiteContents) (ds : List ℕ) → ds ≡ server ∷ [] → (i : ℕ) (ts : List Went)
+    → NoneLacksResource ts
+    → AreFair site_contents.refuses (rounds ds i (length ts)) (map (λ t. t.1) ts)
+    → AllByRecursion (λ t. Allowed site_contents t.1) ts
 allowed-all site_contents ds is i [] none fair = tt
-allowed-all site_contents ds is i (t ∷ ts) none fair =
-    ((none.0, server-among site_contents.refuses (slice_index ds (i % length ds)) t.1 here fair.0), allowed-all site_contents ds is (suc i) ts none.1 fair.1)
+allowed-all site_contents ds is i (t ∷ ts) none fair = (
+  (none.0, server-among site_contents.refuses (slice_index ds (i % length ds)) t.1 here fair.0),
+  allowed-all site_contents ds is (suc i) ts none.1 fair.1,
+)
   where
     first : i % 1 ≡ 0
     first = omega arith
@@ -78,10 +85,12 @@ allowed-all site_contents ds is i (t ∷ ts) none fair =
     here = ap (λ (l : List ℕ). slice_index l (i % length l)) is ∙ ap (λ k. slice_index (server ∷ []) k) first
 
 module _ (worker_set : WorkerSet) (laws : AllLaws worker_set) (more : MoreLaws) where
-  no-scripts : (site_contents : SiteContents) (m : State) → IsFixedFor site_contents worker_set m → worker_set.count ≡ 0 → site_contents.scripts ≡ false
+  no-scripts : (site_contents : SiteContents) (m : State) → IsFixedFor site_contents worker_set m → worker_set.count ≡ 0
+      → site_contents.scripts ≡ false
   no-scripts site_contents m fixed none = fixed.scripts ∙ ap (λ (k : ℕ). runs_scripts k) none
 
-  module _ (site_contents : SiteContents) (xs : List Choice) (rs : List Reply) (w after : Stage State (Actor worker_set.Worker)) (most : ℕ) (idle : Bool)
+  module _ (site_contents : SiteContents) (xs : List Choice) (rs : List Reply)
+      (w after : Stage State (Actor worker_set.Worker)) (most : ℕ) (idle : Bool)
       (has : RunsLongEnough worker_set site_contents xs rs w most idle after) where
     plain : site_contents.scripts ≡ false
     plain = no-scripts site_contents w.machine has.consistent.fixed has.files
@@ -89,14 +98,28 @@ module _ (worker_set : WorkerSet) (laws : AllLaws worker_set) (more : MoreLaws) 
     short : AreShort site_contents (longest_response w.machine)
     short = are-short site_contents w.machine has.consistent.fixed.site plain worker_set laws
 
-    quiet : Quiet site_contents worker_set laws more plain has.files (longest_response w.machine) short w.machine.next_conn w
-    quiet = record { xs = xs; rs = rs; consistent = has.consistent; reads = has.reads; places = has.places; few = few-now w.machine has.consistent.order }
+    quiet : Quiet site_contents worker_set laws more plain has.files (longest_response w.machine) short
+        w.machine.next_conn w
+    quiet = record {
+      xs = xs;
+      rs = rs;
+      consistent = has.consistent;
+      reads = has.reads;
+      places = has.places;
+      few =
+          few-now w.machine has.consistent.order;
+    }
 
-    suffices : turns_in_rounds (left site_contents worker_set laws more plain has.files (longest_response w.machine) short w.machine.next_conn w) (MAX_OPEN + 2) ≤ most
+    suffices : turns_in_rounds (left site_contents worker_set laws more plain has.files (longest_response w.machine)
+        short w.machine.next_conn w) (MAX_OPEN + 2) ≤ most
     suffices =
-        let less = left-most-of site_contents worker_set laws more plain has.files (longest_response w.machine) short w.machine.next_conn w quiet in
+        let less = left-most-of site_contents worker_set laws more plain has.files (longest_response w.machine) short
+        w.machine.next_conn w quiet in
         let all = has.suffices in
-        let product : (2 * (MAX_OPEN + 2) + 3) * (left site_contents worker_set laws more plain has.files (longest_response w.machine) short w.machine.next_conn w + 1) ≤ (2 * (MAX_OPEN + 2) + 3) * (turns_of_all w.machine (clients_in w) + 1) =
+        let product :
+        (2 * (MAX_OPEN + 2) + 3) *
+        (left site_contents worker_set laws more plain has.files (longest_response w.machine) short
+        w.machine.next_conn w + 1) ≤ (2 * (MAX_OPEN + 2) + 3) * (turns_of_all w.machine (clients_in w) + 1) =
         mul-le-mul_left (2 * (MAX_OPEN + 2) + 3) (omega (arith, less)) in
         omega (arith, all, product)
 
@@ -104,10 +127,14 @@ module _ (worker_set : WorkerSet) (laws : AllLaws worker_set) (more : MoreLaws) 
     allowed = allowed-all site_contents (domains_of w.process_slots) one 0 has.ends.went has.lacks_none has.fair
       where
         one : domains_of w.process_slots ≡ server ∷ []
-        one = ap (λ (l : List (ProcessSlot (Actor worker_set.Worker))). domains_of l) (alone site_contents worker_set laws more plain has.files (longest_response w.machine) short w.machine.next_conn w quiet)
+        one =
+            ap (λ (l : List (ProcessSlot (Actor worker_set.Worker))). domains_of l)
+            (alone site_contents worker_set laws more plain has.files (longest_response w.machine) short
+            w.machine.next_conn w quiet)
 
     rests : idle ≡ true
-    rests = file_server_becomes_idle site_contents worker_set laws more plain has.files (longest_response w.machine) short w.machine.next_conn w after most idle quiet has.ends allowed suffices
+    rests = file_server_becomes_idle site_contents worker_set laws more plain has.files (longest_response w.machine)
+        short w.machine.next_conn w after most idle quiet has.ends allowed suffices
 
     abbrev choices : List Choice
     choices = rounds (domains_of w.process_slots) 0 (length has.ends.went)
@@ -117,32 +144,44 @@ module _ (worker_set : WorkerSet) (laws : AllLaws worker_set) (more : MoreLaws) 
 
     consistent_after : Consistent site_contents worker_set (xs ++ choices) (rs ++ replies) after
     consistent_after = run_keeps in_rounds site_contents worker_set laws choices replies w after xs rs has.ends.run
-        (rounds-site_preserving (actor_turns in_rounds worker_set.turns) (domains_of w.process_slots) 0 (length has.ends.went) replies w after has.ends.run) has.fair has.consistent
+        (rounds-site_preserving (actor_turns in_rounds worker_set.turns) (domains_of w.process_slots) 0
+        (length has.ends.went) replies w after has.ends.run) has.fair has.consistent
 
     module _ (quiesces : Quiesces worker_set.quiescent worker_set.turns) where
       quiescent : ActorsAreQuiescent worker_set.turns worker_set.quiescent
       quiescent = record {
-        all = λ v end many ends. quiescent_idle (actor_quiescent worker_set.quiescent) (actor_turns in_rounds worker_set.turns) (actor_quiesces laws.left.waits worker_set.turns worker_set.quiescent quiesces) v many end ends;
+        all =
+            λ v end many ends. quiescent_idle (actor_quiescent worker_set.quiescent)
+            (actor_turns in_rounds worker_set.turns)
+            (actor_quiesces laws.left.waits worker_set.turns worker_set.quiescent quiesces) v many end ends;
         each = λ v end many place process_slot ends there.
-            each_quiescent (actor_quiescent worker_set.quiescent) (actor_turns in_rounds worker_set.turns) (actor_quiesces laws.left.waits worker_set.turns worker_set.quiescent quiesces) v many place end process_slot ends there;
+            each_quiescent (actor_quiescent worker_set.quiescent) (actor_turns in_rounds worker_set.turns)
+            (actor_quiesces laws.left.waits worker_set.turns worker_set.quiescent quiesces) v many place end
+            process_slot ends there;
       }
 
-      done : IsDone site_contents worker_set.count after.machine (past_of (xs ++ choices) (rs ++ replies)) consistent_after.in_slots.state.clients
+      done : IsDone site_contents worker_set.count after.machine (past_of (xs ++ choices) (rs ++ replies))
+          consistent_after.in_slots.state.clients
       done = idle_done worker_set laws quiescent site_contents (xs ++ choices) (rs ++ replies) w after most
-          (subst (λ b. Idles copying (actor_turns in_rounds worker_set.turns) w most b after) rests has.ends) consistent_after
+          (subst (λ b. Idles copying (actor_turns in_rounds worker_set.turns) w most b after) rests has.ends)
+          consistent_after
 
       served : (c : ℕ) → (past_of (xs ++ choices) (rs ++ replies)).net c ≡ true
-          → IsServed site_contents after.machine (past_of (xs ++ choices) (rs ++ replies)) consistent_after.in_slots.state.clients c
+          → IsServed site_contents after.machine (past_of (xs ++ choices) (rs ++ replies))
+          consistent_after.in_slots.state.clients c
       served c net = elim (done.accepted c net) [
         | inl taken ↦ accepted taken
         | inr full ↦ which (conn_at after.machine c).accepted refl full
       ]
         where
-          accepted : (conn_at after.machine c).accepted ≡ true → IsServed site_contents after.machine (past_of (xs ++ choices) (rs ++ replies)) consistent_after.in_slots.state.clients c
+          accepted : (conn_at after.machine c).accepted ≡ true
+              → IsServed site_contents after.machine (past_of (xs ++ choices) (rs ++ replies))
+              consistent_after.in_slots.state.clients c
           accepted taken = gone ((past_of (xs ++ choices) (rs ++ replies)).gone c) refl
             where
               gone : (b : Bool) → (past_of (xs ++ choices) (rs ++ replies)).gone c ≡ b
-                  → IsServed site_contents after.machine (past_of (xs ++ choices) (rs ++ replies)) consistent_after.in_slots.state.clients c
+                  → IsServed site_contents after.machine (past_of (xs ++ choices) (rs ++ replies))
+                  consistent_after.in_slots.state.clients c
               gone true is = inr (inl is)
               gone false is = elim (done.answered c net taken is) [
                 | inl whole ↦ inl whole
@@ -152,7 +191,10 @@ module _ (worker_set : WorkerSet) (laws : AllLaws worker_set) (more : MoreLaws) 
                 ]
               ]
 
-          which : (b : Bool) → (conn_at after.machine c).accepted ≡ b → IsFull after.machine consistent_after.in_slots.state.clients → IsServed site_contents after.machine (past_of (xs ++ choices) (rs ++ replies)) consistent_after.in_slots.state.clients c
+          which : (b : Bool) → (conn_at after.machine c).accepted ≡ b
+              → IsFull after.machine consistent_after.in_slots.state.clients
+              → IsServed site_contents after.machine (past_of (xs ++ choices) (rs ++ replies))
+              consistent_after.in_slots.state.clients c
           which true is full = accepted is
           which false is full = inr (inr (inr (is, full)))
 

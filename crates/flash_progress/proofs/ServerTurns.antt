@@ -1,5 +1,6 @@
 -- A call of the server that is not retried later decreases the measure.
-use Rattle.std.proofs.Common.{inl, inr, ◌≡◌, ℕ, ◌<◌, ◌≤◌, List, ap, ◌∙◌, refl, sym, subst, arith, Option, Some, None, true, false, Bool, length, if◌then◌else◌}
+use Rattle.std.proofs.Common.{inl, inr, ◌≡◌, ℕ, ◌<◌, ◌≤◌, List, ap, ◌∙◌, refl, sym, subst, arith, Option, Some, None}
+use Rattle.std.proofs.Common.{true, false, Bool, length, if◌then◌else◌}
 use Rattle.iol_core.specs.NumberedLists.{in_place}
 use Rattle.iol_core.specs.State.{State, descriptor, conn_at}
 use Rattle.iol_core.specs.Run.{StepsTo}
@@ -44,7 +45,8 @@ use Rattle.flash_laws.specs.declared.script_run.Running.{Running}
 use Rattle.flash_laws.proofs.Forms.{of, at as conn-at}
 use Rattle.flash_progress.specs.Bound.{unread_at}
 use Rattle.flash_progress.proofs.OpenPools.{never-closed}
-use Rattle.flash_progress.proofs.TurnsLeft.{AreShort, HasRoom, can-make, all_left, place_turns, of_place, no_more, left-most, no-script, ready-left, call-falls, accept-falls}
+use Rattle.flash_progress.proofs.TurnsLeft.{AreShort, HasRoom, can-make, all_left, place_turns, of_place, no_more}
+use Rattle.flash_progress.proofs.TurnsLeft.{left-most, no-script, ready-left, call-falls, accept-falls}
 use Rattle.flash_laws.proofs.Lists.{clash}
 use Rattle.flash_laws.proofs.Site.InPlaces.{at-same, at-other}
 use Rattle.flash_laws.proofs.Site.OwnWorkers.{own-picked}
@@ -57,10 +59,12 @@ use Rattle.flash_laws.proofs.World.ServerTurn.{client-awaits}
 -- low, and a call adds no unread bytes.
 pub record IsKnown (places conns : ℕ) (m : State) : Type 0 where
   pub room : HasRoom m
-  pub seen : (fd c q : ℕ) → descriptor m server fd ≡ Some (on.Connection c) → IsHidden m server q (conn_at m c).incoming → ⊥
+  pub seen : (fd c q : ℕ) → descriptor m server fd ≡ Some (on.Connection c) → IsHidden m server q (conn_at m c).incoming
+      → ⊥
   pub low : (fd c : ℕ) → descriptor m server fd ≡ Some (on.Connection c) → fd < places
   pub few : (c : ℕ) → (conn_at m c).accepted ≡ false → c < conns
-  pub none_come : (n : State) (k : Call) (r : Reply) (c : ℕ) → StepsTo m (event.Call server k) r n → length (conn_at n c).incoming ≤ length (conn_at m c).incoming
+  pub none_come : (n : State) (k : Call) (r : Reply) (c : ℕ) → StepsTo m (event.Call server k) r n
+      → length (conn_at n c).incoming ≤ length (conn_at m c).incoming
 
 -- the call of a turn
 abbrev made-call : Turn → Call
@@ -68,24 +72,37 @@ made-call (turn.Make k) = k
 made-call turn.Yield = call.Accept
 
 -- a connection's call closes no pool
-closes-none : (fd : ℕ) (kept : List ℕ) (q : Answer) (d : Phase) (p : ℕ) → closes_pool (event.Call server (conn.wants fd (conn-at kept q d))) p ≡ false
+closes-none : (fd : ℕ) (kept : List ℕ) (q : Answer) (d : Phase) (p : ℕ)
+    → closes_pool (event.Call server (conn.wants fd (conn-at kept q d))) p ≡ false
 closes-none fd kept q (phase.Reads f) p = by (conn.is_head_only q)
   where
-    by : (b : Bool) → closes_pool (event.Call server (if b then call.Length f else call.IolRead f conn.most_read)) p ≡ false
+    by : (b : Bool) → closes_pool (event.Call server (if b then call.Length f else call.IolRead f conn.most_read)) p
+        ≡ false
     by true = refl
     by false = refl
 closes-none fd kept q d p = refl
 
-module _ (site_contents : SiteContents) (worker_set : WorkerSet) (laws : AllLaws worker_set) (files : site_contents.scripts ≡ false) (longest : ℕ) (short : AreShort site_contents longest) (places conns : ℕ) (m n : State) (p : Past) (clients after : List (Option Client))
-    (next : PendingCall) (r : Reply) (k : Call) (process_slots : List (ProcessSlot worker_set.Worker)) (order : IsOrderly m) (fixed : IsFixedFor site_contents worker_set m) (fit : AllFit site_contents worker_set m p clients process_slots)
-    (known : IsKnown places conns m) (among : IsAmong site_contents.refuses.of_server r) (did : Made m (turn.Make k) r n) where
+module _ (site_contents : SiteContents) (worker_set : WorkerSet) (laws : AllLaws worker_set)
+    (files : site_contents.scripts ≡ false) (longest : ℕ) (short : AreShort site_contents longest) (places conns : ℕ)
+    (m n : State) (p : Past) (clients after : List (Option Client))
+    (next : PendingCall) (r : Reply) (k : Call) (process_slots : List (ProcessSlot worker_set.Worker))
+    (order : IsOrderly m) (fixed : IsFixedFor site_contents worker_set m)
+    (fit : AllFit site_contents worker_set m p clients process_slots)
+    (known : IsKnown places conns m) (among : IsAmong site_contents.refuses.of_server r)
+    (did : Made m (turn.Make k) r n) where
   -- what is left once the reply is filed
   abbrev Falls : (received : List ℕ) → Type 0
-  Falls received = all_left longest places conns n (filed worker_set.count after next r received) < all_left longest places conns m clients
+  Falls received = all_left longest places conns n (filed worker_set.count after next r received) < all_left longest
+      places conns m clients
 
-  accepting : is_later r ≡ false → after ≡ clients → next ≡ Accepting → StepsTo m (event.Call server call.Accept) r n → (received : List ℕ) → Falls received
-  accepting sure same is step received = subst (λ (w : PendingCall). all_left longest places conns n (filed worker_set.count after w r received) < all_left longest places conns m clients) (sym is)
-      (subst (λ (xs : List (Option Client)). all_left longest places conns n (filed worker_set.count xs Accepting r received) < all_left longest places conns m clients) (sym same)
+  accepting : is_later r ≡ false → after ≡ clients → next ≡ Accepting → StepsTo m (event.Call server call.Accept) r n
+      → (received : List ℕ) → Falls received
+  accepting sure same is step received =
+      subst (λ (w : PendingCall). all_left longest places conns n (filed worker_set.count after w r received)
+      < all_left longest places conns m clients) (sym is)
+      (subst
+      (λ (xs : List (Option Client)). all_left longest places conns n
+      (filed worker_set.count xs Accepting r received) < all_left longest places conns m clients) (sym same)
       (by r (laws.the.own.accepts m n server r order step) step sure))
     where
       refused : (z : Refusal) → LacksNumbersOrWaits z → is_later (reply.Refused z) ≡ false → ⊥
@@ -95,22 +112,34 @@ module _ (site_contents : SiteContents) (worker_set : WorkerSet) (laws : AllLaws
       refused z left sure = left
 
       by : (r : Reply) → o.Accepts m server r n → StepsTo m (event.Call server call.Accept) r n → is_later r ≡ false
-          → all_left longest places conns n (filed worker_set.count clients Accepting r received) < all_left longest places conns m clients
-      by (reply.Fd fd) takes step sure = accept-falls site_contents worker_set laws longest places conns m n p clients fd process_slots order fit step takes (known.few takes.conn takes.waited)
-      by (reply.Refused z) did step sure = absurd (refused z (laws.left.accepts m n server z fixed.site.lives step) sure)
+          → all_left longest places conns n (filed worker_set.count clients Accepting r received) < all_left longest
+          places conns m clients
+      by (reply.Fd fd) takes step sure =
+          accept-falls site_contents worker_set laws longest places conns m n p clients fd process_slots order fit step
+          takes (known.few takes.conn takes.waited)
+      by (reply.Refused z) did step sure =
+          absurd (refused z (laws.left.accepts m n server z fixed.site.lives step) sure)
       by r did step sure = absurd did
 
-  module _ (fd : ℕ) (picks : PicksAt worker_set.count clients fd (turn.Make k) after) (is : next ≡ At fd) (received : List ℕ) (names : Names n r received) where
+  module _ (fd : ℕ) (picks : PicksAt worker_set.count clients fd (turn.Make k) after) (is : next ≡ At fd)
+      (received : List ℕ) (names : Names n r received) where
     abbrev number : ℕ
     number = (fit.each fd picks.was picks.there).conn
 
     -- no script runs
     none-runs : (run : Option Running) → picks.was.run ≡ run → run ≡ None
     none-runs None same = refl
-    none-runs (Some y) same = absurd (none (subst (λ (o : Option Running). FitsBy site_contents worker_set o m (p.came number) (p.sent number) fd number picks.was process_slots) same (fit.each fd picks.was picks.there).fits))
+    none-runs (Some y) same =
+        absurd
+        (none
+        (subst (λ (o : Option Running). FitsBy site_contents worker_set o m (p.came number) (p.sent number) fd number
+        picks.was process_slots) same (fit.each fd picks.was picks.there).fits))
       where
-        none : FitsBy site_contents worker_set (Some y) m (p.came number) (p.sent number) fd number picks.was process_slots → ⊥
-        none f = clash (is_for_script site_contents.scripts (serve f.wanted)) f.script.is_for (no-script site_contents.scripts (serve f.wanted) files)
+        none : FitsBy site_contents worker_set (Some y) m (p.came number) (p.sent number) fd number picks.was
+            process_slots → ⊥
+        none f =
+            clash (is_for_script site_contents.scripts (serve f.wanted)) f.script.is_for
+            (no-script site_contents.scripts (serve f.wanted) files)
 
     abbrev cn : Conn
     cn = picks.was.conn
@@ -131,108 +160,187 @@ module _ (site_contents : SiteContents) (worker_set : WorkerSet) (laws : AllLaws
     readied = with_at clients fd (Some picks.ready)
 
     fit-ready : AllFit site_contents worker_set m p readied process_slots
-    fit-ready = ready_turn site_contents worker_set laws m p clients fd picks.was picks.ready process_slots fit picks.there picks.readies
-        (subst (λ (xs : List (Option Client)). EachHasItsOwn worker_set.count xs) picks.after_is (own-picked worker_set.count clients fit.own (turn.Make k) after (At fd) picks))
+    fit-ready = ready_turn site_contents worker_set laws m p clients fd picks.was picks.ready process_slots fit
+        picks.there picks.readies
+        (subst (λ (xs : List (Option Client)). EachHasItsOwn worker_set.count xs) picks.after_is
+        (own-picked worker_set.count clients fit.own (turn.Make k) after (At fd) picks))
 
     there-ready : in_place readied fd ≡ Some (of ready.0 None script)
     there-ready = at-same clients fd (Some picks.ready) ∙ ap (λ (x : Client). Some x) ready.2
 
     call_is : turn.Make k ≡ turn.Make (wants site_contents.scripts fd (of ready.0 None script))
-    call_is = picks.call_is ∙ (ap (λ b. turn.Make (wants b fd picks.ready)) (sym fixed.scripts) ∙ ap (λ (x : Client). turn.Make (wants site_contents.scripts fd x)) ready.2)
+    call_is =
+        picks.call_is
+        ∙ (ap (λ b. turn.Make (wants b fd picks.ready)) (sym fixed.scripts)
+        ∙ ap (λ (x : Client). turn.Make (wants site_contents.scripts fd x)) ready.2)
 
     step : StepsTo m (event.Call server (wants site_contents.scripts fd (of ready.0 None script))) r n
     step = subst (λ (z : Turn). Made m z r n) call_is did
 
-    called : is_later r ≡ false → (worker : ℕ) → all_left longest places conns n (with_at readied fd (left_over (after_reply site_contents.scripts worker (of ready.0 None script) r received))) < all_left longest places conns m clients
+    called : is_later r ≡ false → (worker : ℕ)
+        → all_left longest places conns n
+        (with_at readied fd (left_over (after_reply site_contents.scripts worker (of ready.0 None script) r received)))
+        < all_left longest places conns m clients
     called sure worker =
-        let less = call-falls site_contents worker_set laws files longest places conns m n p readied fd ready.0 script r received process_slots order fixed fit-ready there-ready
-        (client-awaits cn None script (of ready.0 None script) (subst (λ (x : Client). Readies (of cn None script) x) ready.2 ready)) among step names sure short known.room
-        (known.low fd (fit.each fd (of cn None script) there).conn (fit.each fd (of cn None script) there).fits.open_on) (λ c. known.none_come n (wants site_contents.scripts fd (of ready.0 None script)) r c step) (λ c q opened. known.seen fd c q opened) worker in
-        let most = ready-left site_contents worker_set laws longest places conns m p clients fd cn script picks.ready process_slots order fixed fit there ready short in
+        let less = call-falls site_contents worker_set laws files longest places conns m n p readied fd ready.0 script r
+        received process_slots order fixed fit-ready there-ready
+        (client-awaits cn None script (of ready.0 None script)
+        (subst (λ (x : Client). Readies (of cn None script) x) ready.2 ready)) among step names sure short
+        known.room
+        (known.low fd (fit.each fd (of cn None script) there).conn (fit.each fd (of cn None script) there).fits.open_on)
+        (λ c. known.none_come n (wants site_contents.scripts fd (of ready.0 None script)) r c step)
+        (λ c q opened. known.seen fd c q opened) worker in
+        let most = ready-left site_contents worker_set laws longest places conns m p clients fd cn script picks.ready
+        process_slots order fixed fit there ready short in
         omega (arith, less, most)
 
-    at : is_later r ≡ false → all_left longest places conns n (filed worker_set.count after next r received) < all_left longest places conns m clients
-    at sure = subst (λ (w : PendingCall). all_left longest places conns n (filed worker_set.count after w r received) < all_left longest places conns m clients) (sym is)
-        (subst (λ (xs : List (Option Client)). all_left longest places conns n (filed worker_set.count xs (At fd) r received) < all_left longest places conns m clients) (sym picks.after_is)
-        (subst (λ (o : Option Client). all_left longest places conns n (after_reply_at worker_set.count readied fd o r received) < all_left longest places conns m clients) (sym there-ready)
-        (subst (λ b. all_left longest places conns n (with_at readied fd (left_over (after_reply b (first_free worker_set.count readied) (of ready.0 None script) r received))) < all_left longest places conns m clients) fixed.scripts
+    at : is_later r ≡ false → all_left longest places conns n (filed worker_set.count after next r received)
+        < all_left longest places conns m clients
+    at sure =
+        subst (λ (w : PendingCall). all_left longest places conns n (filed worker_set.count after w r received)
+        < all_left longest places conns m clients) (sym is)
+        (subst
+        (λ (xs : List (Option Client)). all_left longest places conns n
+        (filed worker_set.count xs (At fd) r received) < all_left longest places conns m clients)
+        (sym picks.after_is)
+        (subst
+        (λ (o : Option Client). all_left longest places conns n
+        (after_reply_at worker_set.count readied fd o r received) < all_left longest places conns m clients)
+        (sym there-ready)
+        (subst
+        (λ b. all_left longest places conns n
+        (with_at readied fd
+        (left_over (after_reply b (first_free worker_set.count readied) (of ready.0 None script) r received)))
+        < all_left longest places conns m clients) fixed.scripts
         (called sure (first_free worker_set.count readied)))))
 
     -- the call is one for a client, and closes no pool
     kind-at : (is_client_call k ≡ true) × ((q : ℕ) → closes_pool (event.Call server k) q ≡ false)
-    kind-at = subst (λ (z : Turn). (is_client_call (made-call z) ≡ true) × ((q : ℕ) → closes_pool (event.Call server (made-call z)) q ≡ false)) (sym call_is) (
-      (calls-alone site_contents worker_set laws m (p.came (fit-ready.each fd (of ready.0 None script) there-ready).conn) (p.sent (fit-ready.each fd (of ready.0 None script) there-ready).conn) fd
-          (fit-ready.each fd (of ready.0 None script) there-ready).conn process_slots ready.0 None script (fit-ready.each fd (of ready.0 None script) there-ready).fits).kind,
-      λ q. subst (λ (z : Call). closes_pool (event.Call server z) q ≡ false)
-          (sym (ap (λ (b : Bool). client.conn_wants b fd ready.0) (no-script site_contents.scripts ready.0.q files))) (closes-none fd ready.0.kept ready.0.q ready.0.phase q),
-    )
+    kind-at =
+        subst (λ (z : Turn). (is_client_call (made-call z) ≡ true)
+        × ((q : ℕ) → closes_pool (event.Call server (made-call z)) q ≡ false)) (sym call_is) (
+          (calls-alone site_contents worker_set laws m
+              (p.came (fit-ready.each fd (of ready.0 None script) there-ready).conn)
+              (p.sent (fit-ready.each fd (of ready.0 None script) there-ready).conn) fd
+              (fit-ready.each fd (of ready.0 None script) there-ready).conn process_slots ready.0 None script
+              (fit-ready.each fd (of ready.0 None script) there-ready).fits).kind,
+          λ q. subst (λ (z : Call). closes_pool (event.Call server z) q ≡ false)
+              (sym
+              (ap (λ (b : Bool). client.conn_wants b fd ready.0) (no-script site_contents.scripts ready.0.q files)))
+              (closes-none fd ready.0.kept ready.0.q ready.0.phase q),
+        )
 
     -- its call meets no closed pool
     open-at : (q : ℕ) → r ≡ reply.Refused (no.PoolClosed q) → ⊥
     open-at q closed =
-        let g : FitsAlone site_contents m (p.came (fit-ready.each fd (of ready.0 None script) there-ready).conn) (p.sent (fit-ready.each fd (of ready.0 None script) there-ready).conn) fd
-        (fit-ready.each fd (of ready.0 None script) there-ready).conn (of ready.0 None script) = (fit-ready.each fd (of ready.0 None script) there-ready).fits in
-        never-closed site_contents worker_set laws m n fd (fit-ready.each fd (of ready.0 None script) there-ready).conn ready.0.kept script g.expected order fixed.site.lives g.open_on q ready.0.q ready.0.phase g.has g.finds
+        let g : FitsAlone site_contents m (p.came (fit-ready.each fd (of ready.0 None script) there-ready).conn)
+        (p.sent (fit-ready.each fd (of ready.0 None script) there-ready).conn) fd
+        (fit-ready.each fd (of ready.0 None script) there-ready).conn (of ready.0 None script) =
+        (fit-ready.each fd (of ready.0 None script) there-ready).fits in
+        never-closed site_contents worker_set laws m n fd (fit-ready.each fd (of ready.0 None script) there-ready).conn
+        ready.0.kept script g.expected order fixed.site.lives g.open_on q ready.0.q ready.0.phase g.has g.finds
         (can-make site_contents m fd ready.0.kept ready.0.q script ready.0.phase g.proper g.finds known.room)
         (subst (λ (z : Reply). StepsTo m (event.Call server (conn.wants fd ready.0)) z n) closed
-        (subst (λ (z : Call). StepsTo m (event.Call server z) r n) (ap (λ (b : Bool). client.conn_wants b fd ready.0) (no-script site_contents.scripts ready.0.q files)) step))
+        (subst (λ (z : Call). StepsTo m (event.Call server z) r n)
+        (ap (λ (b : Bool). client.conn_wants b fd ready.0) (no-script site_contents.scripts ready.0.q files)) step))
 
     -- where it would block as much is left
-    after_reply-blocked : (kept : List ℕ) (q : Answer) (d : Phase) (l : List ℕ) → conn.after_reply (conn-at kept q d) (reply.Refused no.WouldBlock) l ≡ conn-at kept q d
+    after_reply-blocked : (kept : List ℕ) (q : Answer) (d : Phase) (l : List ℕ)
+        → conn.after_reply (conn-at kept q d) (reply.Refused no.WouldBlock) l ≡ conn-at kept q d
     after_reply-blocked kept q phase.Rests l = refl
     after_reply-blocked kept q d l = refl
 
-    blocked : r ≡ reply.Refused no.WouldBlock → n ≡ m → all_left longest places conns n (filed worker_set.count after next r received) ≤ all_left longest places conns m clients
+    blocked : r ≡ reply.Refused no.WouldBlock → n ≡ m
+        → all_left longest places conns n (filed worker_set.count after next r received) ≤ all_left longest places conns
+        m clients
     blocked blocks same =
-        subst (λ (s : State). all_left longest places conns s (filed worker_set.count after next r received) ≤ all_left longest places conns m clients) (sym same)
-        (subst (λ (w : PendingCall). all_left longest places conns m (filed worker_set.count after w r received) ≤ all_left longest places conns m clients) (sym is)
-        (subst (λ (xs : List (Option Client)). all_left longest places conns m (filed worker_set.count xs (At fd) r received) ≤ all_left longest places conns m clients) (sym picks.after_is)
-        (subst (λ (o : Option Client). all_left longest places conns m (after_reply_at worker_set.count readied fd o r received) ≤ all_left longest places conns m clients) (sym there-ready)
-        (subst (λ (x : Client). all_left longest places conns m (with_at readied fd (left_over x)) ≤ all_left longest places conns m clients) (sym as-it-was) still))))
+        subst (λ (s : State). all_left longest places conns s (filed worker_set.count after next r received)
+        ≤ all_left longest places conns m clients) (sym same)
+        (subst (λ (w : PendingCall). all_left longest places conns m (filed worker_set.count after w r received)
+        ≤ all_left longest places conns m clients) (sym is)
+        (subst
+        (λ (xs : List (Option Client)). all_left longest places conns m
+        (filed worker_set.count xs (At fd) r received) ≤ all_left longest places conns m clients)
+        (sym picks.after_is)
+        (subst
+        (λ (o : Option Client). all_left longest places conns m
+        (after_reply_at worker_set.count readied fd o r received) ≤ all_left longest places conns m clients)
+        (sym there-ready)
+        (subst (λ (x : Client). all_left longest places conns m (with_at readied fd (left_over x)) ≤ all_left longest
+        places conns m clients) (sym as-it-was) still))))
       where
-        as-it-was : after_reply (runs_scripts worker_set.count) (first_free worker_set.count readied) (of ready.0 None script) r received ≡ of ready.0 None script
-        as-it-was = ap (λ (b : Bool). after_reply b (first_free worker_set.count readied) (of ready.0 None script) r received) (sym fixed.scripts)
-            ∙ (ap (λ (b : Bool). file_after_reply b (of ready.0 None script) r received) (no-script site_contents.scripts ready.0.q files)
-            ∙ (ap (λ (z : Reply). of (conn.after_reply ready.0 z received) None script) blocks ∙ ap (λ (z : Conn). of z None script) (after_reply-blocked ready.0.kept ready.0.q ready.0.phase received)))
+        as-it-was : after_reply (runs_scripts worker_set.count) (first_free worker_set.count readied)
+            (of ready.0 None script) r received ≡ of ready.0 None script
+        as-it-was =
+            ap (λ (b : Bool). after_reply b (first_free worker_set.count readied) (of ready.0 None script) r received)
+            (sym fixed.scripts)
+            ∙ (ap (λ (b : Bool). file_after_reply b (of ready.0 None script) r received)
+            (no-script site_contents.scripts ready.0.q files)
+            ∙ (ap (λ (z : Reply). of (conn.after_reply ready.0 z received) None script) blocks
+            ∙ ap (λ (z : Conn). of z None script)
+            (after_reply-blocked ready.0.kept ready.0.q ready.0.phase received)))
 
-        each : (gd : ℕ) → place_turns longest m (with_at readied fd (left_over (of ready.0 None script))) gd ≤ place_turns longest m readied gd
+        each : (gd : ℕ) → place_turns longest m (with_at readied fd (left_over (of ready.0 None script))) gd
+            ≤ place_turns longest m readied gd
         each gd = elim (cases_eq fd gd) [
-          | inl here ↦ subst (λ (g : ℕ). place_turns longest m (with_at readied fd (left_over (of ready.0 None script))) g ≤ place_turns longest m readied g) here
-              (let now = ap (λ (x : Option Client). of_place longest (unread_at m fd) x) (at-same readied fd (left_over (of ready.0 None script))) in
+          | inl here ↦
+              subst (λ (g : ℕ). place_turns longest m (with_at readied fd (left_over (of ready.0 None script))) g
+              ≤ place_turns longest m readied g) here
+              (let now =
+              ap (λ (x : Option Client). of_place longest (unread_at m fd) x)
+              (at-same readied fd (left_over (of ready.0 None script))) in
               let was = ap (λ (x : Option Client). of_place longest (unread_at m fd) x) there-ready in
-              let most = left-most longest (unread_at m fd) ready.0.phase (of ready.0 None script) in omega (arith, now, was, most))
-          | inr differ ↦ (let e = ap (λ (x : Option Client). of_place longest (unread_at m gd) x) (at-other readied fd gd (left_over (of ready.0 None script)) differ) in omega (arith, e))
+              let most = left-most longest (unread_at m fd) ready.0.phase (of ready.0 None script) in
+              omega (arith, now, was, most))
+          | inr differ ↦
+              (let e =
+              ap (λ (x : Option Client). of_place longest (unread_at m gd) x)
+              (at-other readied fd gd (left_over (of ready.0 None script)) differ) in omega (arith, e))
         ]
 
-        still : all_left longest places conns m (with_at readied fd (left_over (of ready.0 None script))) ≤ all_left longest places conns m clients
+        still : all_left longest places conns m (with_at readied fd (left_over (of ready.0 None script)))
+            ≤ all_left longest places conns m clients
         still =
-            let sums = no_more places (place_turns longest m readied) (place_turns longest m (with_at readied fd (left_over (of ready.0 None script)))) each in
-            let most = ready-left site_contents worker_set laws longest places conns m p clients fd cn script picks.ready process_slots order fixed fit there ready short in
+            let sums =
+            no_more places (place_turns longest m readied)
+            (place_turns longest m (with_at readied fd (left_over (of ready.0 None script)))) each in
+            let most = ready-left site_contents worker_set laws longest places conns m p clients fd cn script
+            picks.ready process_slots order fixed fit there ready short in
             omega (arith, sums, most)
 
   -- Where it would block no more is left.
-  pub server-waits : r ≡ reply.Refused no.WouldBlock → n ≡ m → Picks worker_set.count clients next (turn.Make k) after → (received : List ℕ) → Names n r received
-      → all_left longest places conns n (filed worker_set.count after next r received) ≤ all_left longest places conns m clients
+  pub server-waits : r ≡ reply.Refused no.WouldBlock → n ≡ m → Picks worker_set.count clients next (turn.Make k) after
+      → (received : List ℕ) → Names n r received
+      → all_left longest places conns n (filed worker_set.count after next r received) ≤ all_left longest places conns m
+      clients
   server-waits blocks same picks received names = by next refl picks
     where
-      by : (w : PendingCall) → next ≡ w → Picks worker_set.count clients w (turn.Make k) after → all_left longest places conns n (filed worker_set.count after next r received) ≤ all_left longest places conns m clients
+      by : (w : PendingCall) → next ≡ w → Picks worker_set.count clients w (turn.Make k) after
+          → all_left longest places conns n (filed worker_set.count after next r received) ≤ all_left longest places
+          conns m clients
       by Nothing is picks = absurd (let bad = picks.1 in cc (bad))
       by Accepting is picks =
-          let here = ap (λ (s : State). all_left longest places conns s (filed worker_set.count after next r received)) same in
-          let one = ap (λ (w : PendingCall). all_left longest places conns m (filed worker_set.count after w r received)) is in
+          let here = ap (λ (s : State). all_left longest places conns s (filed worker_set.count after next r received))
+          same in
+          let one =
+          ap (λ (w : PendingCall). all_left longest places conns m (filed worker_set.count after w r received))
+          is in
           let two = ap (λ (z : Reply). all_left longest places conns m (accepted after z)) blocks in
           let three = ap (λ (l : List (Option Client)). all_left longest places conns m l) picks.0 in
           omega (arith, here, one, two, three)
       by (At fd) is picks = blocked fd picks is received names blocks same
 
   -- No call of the server meets a closed pool.
-  pub server-open : Picks worker_set.count clients next (turn.Make k) after → (received : List ℕ) → Names n r received → (q : ℕ) → r ≡ reply.Refused (no.PoolClosed q) → ⊥
+  pub server-open : Picks worker_set.count clients next (turn.Make k) after → (received : List ℕ) → Names n r received
+      → (q : ℕ) → r ≡ reply.Refused (no.PoolClosed q) → ⊥
   server-open picks received names q closed = by next refl picks
     where
       by : (w : PendingCall) → next ≡ w → Picks worker_set.count clients w (turn.Make k) after → ⊥
       by Nothing is picks = let bad = picks.1 in cc (bad)
       by Accepting is picks =
-          laws.left.accepts m n server (no.PoolClosed q) fixed.site.lives (subst (λ (z : Reply). StepsTo m (event.Call server call.Accept) z n) closed (subst (λ (z : Turn). Made m z r n) picks.1 did))
+          laws.left.accepts m n server (no.PoolClosed q) fixed.site.lives
+          (subst (λ (z : Reply). StepsTo m (event.Call server call.Accept) z n) closed
+          (subst (λ (z : Turn). Made m z r n) picks.1 did))
       by (At fd) is picks = open-at fd picks is received names q closed
 
   -- Its call is one for a client, and closes no pool.
@@ -240,13 +348,17 @@ module _ (site_contents : SiteContents) (worker_set : WorkerSet) (laws : AllLaws
       → (is_client_call k ≡ true) × ((q : ℕ) → closes_pool (event.Call server k) q ≡ false)
   server-kind picks received names = by next refl picks
     where
-      by : (w : PendingCall) → next ≡ w → Picks worker_set.count clients w (turn.Make k) after → (is_client_call k ≡ true) × ((q : ℕ) → closes_pool (event.Call server k) q ≡ false)
+      by : (w : PendingCall) → next ≡ w → Picks worker_set.count clients w (turn.Make k) after
+          → (is_client_call k ≡ true) × ((q : ℕ) → closes_pool (event.Call server k) q ≡ false)
       by Nothing is picks = absurd (let bad = picks.1 in cc (bad))
-      by Accepting is picks = subst (λ (z : Turn). (is_client_call (made-call z) ≡ true) × ((q : ℕ) → closes_pool (event.Call server (made-call z)) q ≡ false)) (sym picks.1) (refl, λ q. refl)
+      by Accepting is picks =
+          subst (λ (z : Turn). (is_client_call (made-call z) ≡ true)
+          × ((q : ℕ) → closes_pool (event.Call server (made-call z)) q ≡ false)) (sym picks.1) (refl, λ q. refl)
       by (At fd) is picks = kind-at fd picks is received names
 
   -- Whoever is picked.
-  pub server-falls : is_later r ≡ false → Picks worker_set.count clients next (turn.Make k) after → (received : List ℕ) → Names n r received → Falls received
+  pub server-falls : is_later r ≡ false → Picks worker_set.count clients next (turn.Make k) after → (received : List ℕ)
+      → Names n r received → Falls received
   server-falls sure picks received names = by next refl picks
     where
       by : (w : PendingCall) → next ≡ w → Picks worker_set.count clients w (turn.Make k) after → Falls received

@@ -1,6 +1,6 @@
--- The number of turns that suffices for a server of files to become idle, computed from the state. It counts three turns per byte of a
--- response: the server cuts, offers and drops each piece, and a queue may have room for only one byte. It counts one response per
--- unanswered byte of a stream.
+-- The number of turns that suffices for a server of files to become idle, computed from the state. It counts three
+-- turns per byte of a response: the server cuts, offers and drops each piece, and a queue may have room for only one
+-- byte. It counts one response per unanswered byte of a stream.
 use Rattle.std.specs.Prelude.{ℕ, zero, suc, ◌+◌, ◌*◌, max, if◌then◌else◌, List, [], ◌∷◌, length, Option, Some, None}
 use Rattle.iol_core.specs.NumberedLists.{in_place}
 use Rattle.iol_core.specs.State.{State, descriptor, conn_at}
@@ -62,8 +62,8 @@ abbrev pub turns_of_all : State → List (Option Client) → ℕ
 turns_of_all m clients = sum_to MAX_OPEN (turns_at (longest_response m) m clients)
     + sum_to m.next_conn (turns_of_waiting (longest_response m) m)
 
--- The server polls at most `round` times in a round, and then yields. Between two of the `left` turns with an effect it polls
--- for one round, and before it is idle for two more.
+-- The server polls at most `round` times in a round, and then yields. Between two of the `left` turns with an effect it
+-- polls for one round, and before it is idle for two more.
 abbrev pub turns_in_rounds : (left round : ℕ) → ℕ
 turns_in_rounds left round = (2 * round + 3) * (left + 1)
 

@@ -19,7 +19,8 @@ module _ (worker_set : WorkerSet) where
   -- permit. Then it takes turns in rounds, at most `most`. When these begin, the server's default pool is open, and
   -- `most` suffices. None of them is refused for lack of table entries, pages or memory, or with a fault that the site
   -- contents do not permit.
-  pub record HostsLongEnough (site_contents : SiteContents) (xs : List Choice) (rs : List Reply) (w mid : Stage State (Actor worker_set.Worker)) (most : ℕ)
+  pub record HostsLongEnough (site_contents : SiteContents) (xs : List Choice) (rs : List Reply)
+      (w mid : Stage State (Actor worker_set.Worker)) (most : ℕ)
       (idle : Bool) (after : Stage State (Actor worker_set.Worker)) : Type 0 where
     pub files : worker_set.count ≡ 0
     pub new : IsNew site_contents worker_set w
@@ -29,12 +30,17 @@ module _ (worker_set : WorkerSet) where
     pub ends : Idles copying (actor_turns in_rounds worker_set.turns) mid most idle after
     pub lacks_none : NoneLacksResource ends.went
     pub fair : AreFair site_contents.refuses xs rs
-    pub fair_rounds : AreFair site_contents.refuses (rounds (domains_of mid.process_slots) 0 (length ends.went)) (map (λ t. t.1) ends.went)
+    pub fair_rounds : AreFair site_contents.refuses (rounds (domains_of mid.process_slots) 0 (length ends.went))
+        (map (λ t. t.1) ends.went)
     pub suffices : turns_that_suffice mid.machine (clients_in mid) ≤ most
 
   -- All become idle, and each connection of the net is served.
   abbrev pub HostedBecomesIdle : Type 0
-  HostedBecomesIdle = (site_contents : SiteContents) (xs : List Choice) (rs : List Reply) (w mid : Stage State (Actor worker_set.Worker)) (most : ℕ)
-      (idle : Bool) (after : Stage State (Actor worker_set.Worker)) → (has : HostsLongEnough site_contents xs rs w mid most idle after)
+  HostedBecomesIdle =
+      (site_contents : SiteContents) (xs : List Choice) (rs : List Reply)
+      (w mid : Stage State (Actor worker_set.Worker)) (most : ℕ)
+      (idle : Bool) (after : Stage State (Actor worker_set.Worker))
+      → (has : HostsLongEnough site_contents xs rs w mid most idle after)
       → (idle ≡ true)
-      × AreServed worker_set site_contents (xs ++ rounds (domains_of mid.process_slots) 0 (length has.ends.went)) (rs ++ map (λ t. t.1) has.ends.went) after
+      × AreServed worker_set site_contents (xs ++ rounds (domains_of mid.process_slots) 0 (length has.ends.went))
+      (rs ++ map (λ t. t.1) has.ends.went) after

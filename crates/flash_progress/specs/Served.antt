@@ -83,7 +83,8 @@ module _ (worker_set : WorkerSet) where
   -- A world of files with the invariant takes turns in rounds, at most `most`. Before them calls may have been refused
   -- as the site contents permit. None of them is refused for lack of table entries, pages or memory, or with a fault
   -- that the site contents do not permit, and `most` suffices for the state in which they begin.
-  pub record RunsLongEnough (site_contents : SiteContents) (xs : List Choice) (rs : List Reply) (w : Stage State (Actor worker_set.Worker)) (most : ℕ)
+  pub record RunsLongEnough (site_contents : SiteContents) (xs : List Choice) (rs : List Reply)
+      (w : Stage State (Actor worker_set.Worker)) (most : ℕ)
       (idle : Bool) (after : Stage State (Actor worker_set.Worker)) : Type 0 where
     pub files : worker_set.count ≡ 0
     pub consistent : Consistent site_contents worker_set xs rs w
@@ -96,21 +97,31 @@ module _ (worker_set : WorkerSet) where
 
   -- All become idle.
   abbrev pub BecomesIdle : Type 0
-  BecomesIdle = (site_contents : SiteContents) (xs : List Choice) (rs : List Reply) (w : Stage State (Actor worker_set.Worker)) (most : ℕ)
-      (idle : Bool) (after : Stage State (Actor worker_set.Worker)) → RunsLongEnough site_contents xs rs w most idle after → idle ≡ true
+  BecomesIdle =
+      (site_contents : SiteContents) (xs : List Choice) (rs : List Reply) (w : Stage State (Actor worker_set.Worker))
+      (most : ℕ)
+      (idle : Bool) (after : Stage State (Actor worker_set.Worker))
+      → RunsLongEnough site_contents xs rs w most idle after → idle ≡ true
 
   -- The world has the invariant, and each connection of the net is served.
-  pub record AreServed (site_contents : SiteContents) (xs : List Choice) (rs : List Reply) (after : Stage State (Actor worker_set.Worker)) : Type 0 where
+  pub record AreServed (site_contents : SiteContents) (xs : List Choice) (rs : List Reply)
+      (after : Stage State (Actor worker_set.Worker)) : Type 0 where
     pub consistent : Consistent site_contents worker_set xs rs after
-    pub each : (c : ℕ) → (past_of xs rs).net c ≡ true → IsServed site_contents after.machine (past_of xs rs) consistent.in_slots.state.clients c
+    pub each : (c : ℕ) → (past_of xs rs).net c ≡ true
+        → IsServed site_contents after.machine (past_of xs rs) consistent.in_slots.state.clients c
 
   abbrev pub ServesAll : Type 0
-  ServesAll = (site_contents : SiteContents) (xs : List Choice) (rs : List Reply) (w : Stage State (Actor worker_set.Worker)) (most : ℕ)
-      (idle : Bool) (after : Stage State (Actor worker_set.Worker)) → (has : RunsLongEnough site_contents xs rs w most idle after)
-      → AreServed site_contents (xs ++ rounds (domains_of w.process_slots) 0 (length has.ends.went)) (rs ++ map (λ t. t.1) has.ends.went) after
+  ServesAll =
+      (site_contents : SiteContents) (xs : List Choice) (rs : List Reply) (w : Stage State (Actor worker_set.Worker))
+      (most : ℕ)
+      (idle : Bool) (after : Stage State (Actor worker_set.Worker))
+      → (has : RunsLongEnough site_contents xs rs w most idle after)
+      → AreServed site_contents (xs ++ rounds (domains_of w.process_slots) 0 (length has.ends.went))
+      (rs ++ map (λ t. t.1) has.ends.went) after
 
 -- Arrivals can be read in a new state, after each event, and so in each reachable state.
 pub record ArrivalsCanBeRead : Type 0 where
   pub new : (slots : List (List ℕ)) → CanRead (new_state slots)
   pub step : (s t : State) (e : Event) (r : Reply) → IsOrderly s → CanRead s → StepsTo s e r t → CanRead t
-  pub reached : (slots : List (List ℕ)) (t : State) (es : List Event) (rs : List Reply) → Run (new_state slots) es rs t → CanRead t
+  pub reached : (slots : List (List ℕ)) (t : State) (es : List Event) (rs : List Reply) → Run (new_state slots) es rs t
+      → CanRead t

@@ -1,5 +1,6 @@
 -- A served connection of a world with the invariant has its answer.
-use Rattle.std.proofs.Common.{◌≡◌, ℕ, List, [], ◌∷◌, ◌++◌, ap, ◌∙◌, subst, Option, Some, None, true, false, append-nil, is_none, unwrap_or, refl}
+use Rattle.std.proofs.Common.{◌≡◌, ℕ, List, [], ◌∷◌, ◌++◌, ap, ◌∙◌, subst, Option, Some, None, true, false, append-nil}
+use Rattle.std.proofs.Common.{is_none, unwrap_or, refl}
 use Rattle.iol_core.specs.Calls.Outside.{lacks_conn}
 use Rattle.iol_core.specs.NumberedLists.{lookup}
 use Rattle.iol_core.specs.Text.{bytes_of}
@@ -27,7 +28,8 @@ use Rattle.flash_served.proofs.Histories.{stream-both, sent-both, after_reply-th
 -- ---- what happens is site-preserving: no call comes from outside
 
 module _ (worker_set : WorkerSet) where
-  site_preserving-one : (c : ℕ) (x : Choice) (w after : Stage State (Actor worker_set.Worker)) → IsOn c x → IsSitePreserving w x after
+  site_preserving-one : (c : ℕ) (x : Choice) (w after : Stage State (Actor worker_set.Worker)) → IsOn c x
+      → IsSitePreserving w x after
   site_preserving-one c (choice.Outside (event.Call d k)) w after on = absurd on
   site_preserving-one c (choice.Outside (event.Arrive d bytes)) w after on = tt
   site_preserving-one c (choice.Outside (event.PeerClosed d how)) w after on = tt
@@ -40,7 +42,8 @@ module _ (worker_set : WorkerSet) where
       → AreSitePreserving (actor_turns in_rounds worker_set.turns) w xs rs after run
   all-site_preserving c [] rs w after run on = tt
   all-site_preserving c (x ∷ xs) [] w after run on = tt
-  all-site_preserving c (x ∷ xs) (r ∷ rs) w after run on = (site_preserving-one c x w run.0 on.0, all-site_preserving c xs rs run.0 after run.2 on.1)
+  all-site_preserving c (x ∷ xs) (r ∷ rs) w after run on =
+      (site_preserving-one c x w run.0 on.0, all-site_preserving c xs rs run.0 after run.2 on.1)
 
 -- ---- a connection that is not there any more
 
@@ -50,18 +53,24 @@ none-found (Some x) lacks = absurd (cc (lacks))
 
 lacking-is-none : (s : State) (c : ℕ) → lacks_conn s c ≡ true → conn_at s c ≡ no_conn
 unfolding conn_at
-lacking-is-none s c lacks = ap (λ (found : Option Connection). unwrap_or found no_conn) (none-found (lookup s.conns c) lacks)
+lacking-is-none s c lacks =
+    ap (λ (found : Option Connection). unwrap_or found no_conn) (none-found (lookup s.conns c) lacks)
 
 -- ---- the law
 
-pub served_right : (worker_set : WorkerSet) → RunKeepsConsistency in_rounds worker_set → ConsistentIsAnswered worker_set → ConsistentIsWhole worker_set
-    → (site_contents : SiteContents) (past : List Choice) (ps : List Reply) (c : ℕ) (ending : Ending) (came sent : List ℕ)
-    (w after : Stage State (Actor worker_set.Worker)) → Consistent site_contents worker_set past ps w → IsFresh c past ps
+pub served_right : (worker_set : WorkerSet) → RunKeepsConsistency in_rounds worker_set → ConsistentIsAnswered worker_set
+    → ConsistentIsWhole worker_set
+    → (site_contents : SiteContents) (past : List Choice) (ps : List Reply) (c : ℕ) (ending : Ending)
+    (came sent : List ℕ)
+    (w after : Stage State (Actor worker_set.Worker)) → Consistent site_contents worker_set past ps w
+    → IsFresh c past ps
     → (on : Proceeds (actor_turns in_rounds worker_set.turns) c came sent (hung_up ending) w after)
     → (ending ≡ Over → lacks_conn after.machine c ≡ true) → AreFair site_contents.refuses on.choices on.replies
-    → Consistent site_contents worker_set (past ++ on.choices) (ps ++ on.replies) after × IsAnswered site_contents ending came sent
+    → Consistent site_contents worker_set (past ++ on.choices) (ps ++ on.replies) after
+    × IsAnswered site_contents ending came sent
 unfolding made_over gone_over
-served_right worker_set keeps answered whole site_contents past ps c ending came sent w after consistent fresh on lacks fair =
+served_right worker_set keeps answered whole site_contents past ps c ending came sent w after consistent fresh on lacks
+    fair =
     (consistency, record { begins = begun; whole = λ over. all over })
   where
     consistency : Consistent site_contents worker_set (past ++ on.choices) (ps ++ on.replies) after
@@ -82,11 +91,13 @@ served_right worker_set keeps answered whole site_contents past ps c ending came
     begun : Begins site_contents came sent
     begun = subst (λ (l : List ℕ). Begins site_contents l sent) came_is
         (subst (λ (l : List ℕ). Begins site_contents (stream_over c (past ++ on.choices) (ps ++ on.replies)) l) sent_is
-        (begins-less site_contents _ _ (bytes_of (conn_at after.machine c).outgoing) (answered site_contents _ _ after consistency c net)))
+        (begins-less site_contents _ _ (bytes_of (conn_at after.machine c).outgoing)
+        (answered site_contents _ _ after consistency c net)))
 
     all : ending ≡ Over → IsAnswer site_contents came sent
     all over = subst (λ (l : List ℕ). IsAnswer site_contents l sent) came_is
-        (subst (λ (l : List ℕ). IsAnswer site_contents (stream_over c (past ++ on.choices) (ps ++ on.replies)) l) (all_sent ∙ sent_is)
+        (subst (λ (l : List ℕ). IsAnswer site_contents (stream_over c (past ++ on.choices) (ps ++ on.replies)) l)
+        (all_sent ∙ sent_is)
         (whole site_contents _ _ after consistency c net (ap (λ (k : Connection). k.closed) gone) stays))
       where
         gone : conn_at after.machine c ≡ no_conn
@@ -98,5 +109,6 @@ served_right worker_set keeps answered whole site_contents past ps c ending came
 
         all_sent : sent_over c (past ++ on.choices) (ps ++ on.replies) ++ bytes_of (conn_at after.machine c).outgoing
             ≡ sent_over c (past ++ on.choices) (ps ++ on.replies)
-        all_sent = ap (λ (k : Connection). sent_over c (past ++ on.choices) (ps ++ on.replies) ++ bytes_of k.outgoing) gone
+        all_sent = ap (λ (k : Connection). sent_over c (past ++ on.choices) (ps ++ on.replies) ++ bytes_of k.outgoing)
+            gone
             ∙ append-nil (sent_over c (past ++ on.choices) (ps ++ on.replies))

@@ -49,7 +49,8 @@ pub record Session : Type 0 where
 -- a connection is created in the net, and served
 pub record IsSession (it : Session) (w after : Stage State (Actor Worker)) : Type 0 where
   pub begun : Stage State (Actor Worker)
-  pub made : OutsideStep copying (actor_turns in_rounds worker_turns) w (event.ConnNew net_pool) (reply.Conn it.conn) begun
+  pub made : OutsideStep copying (actor_turns in_rounds worker_turns) w (event.ConnNew net_pool) (reply.Conn it.conn)
+      begun
   pub proceeds : Proceeds (actor_turns in_rounds worker_turns) it.conn it.came it.sent (hung_up it.ending) begun after
   pub over : it.ending ≡ Over → lacks_conn after.machine it.conn ≡ true
 
@@ -81,7 +82,8 @@ module _ (s : Site) (slots : List (List ℕ)) where
 
     pub record IsServedRight : Type 0 where
       -- if its turns got no other refusals
-      pub fair : (refuses : Refusals) → Holds refuses past ps w → AreFair refuses served.proceeds.choices served.proceeds.replies
+      pub fair : (refuses : Refusals) → Holds refuses past ps w
+          → AreFair refuses served.proceeds.choices served.proceeds.replies
           → IsRight refuses
       -- with none, if the world's failure flag is clear at the end
       pub failure_free : Holds no_refusal past ps w → after.resource_failure ≡ false → IsRight no_refusal
@@ -98,7 +100,8 @@ module _ (s : Site) (slots : List (List ℕ)) where
     pub replies : List Reply
     pub holds : Holds refuses (past ++ choices) (ps ++ replies) after
 
-  pub record AreServedRight (past : List Choice) (ps : List Reply) (its : List Session) (w after : Stage State (Actor Worker))
+  pub record AreServedRight (past : List Choice) (ps : List Reply) (its : List Session)
+      (w after : Stage State (Actor Worker))
       (sessions : AreSessions its w after) : Type 0 where
     pub fair : (refuses : Refusals) → Holds refuses past ps w → AreFairSessions refuses its w after sessions
         → AreRight refuses past ps its after
@@ -115,7 +118,8 @@ ServedIsRight = (s : Site) (slots : List (List ℕ)) (past : List Choice) (ps : 
 -- A connection is created in the net and served, from a reader and to a writer, with this ending: the bytes received
 -- are those that the reader supplies, and the bytes sent those that the writer accepts. Then it is served right, for
 -- every site and history.
-pub record ServesRight (ending : Ending) (left rest held now : Option (List ℕ)) (w after : Stage State (Actor Worker)) : Type 0 where
+pub record ServesRight (ending : Ending) (left rest held now : Option (List ℕ)) (w after : Stage State (Actor Worker)) :
+    Type 0 where
   pub session : Session
   pub ends : session.ending ≡ ending
   pub given : Consumes left rest session.came
@@ -126,7 +130,8 @@ pub record ServesRight (ending : Ending) (left rest held now : Option (List ℕ)
       → Holds s slots refuses past ps w → AreFair refuses serves.proceeds.choices serves.proceeds.replies
       → AreRight s slots refuses past ps (session ∷ []) after
   -- with TooMany, NoRoom, Fault and Memory, whatever was refused
-  pub any : (s : Site) (slots : List (List ℕ)) (past : List Choice) (ps : List Reply) → Holds s slots any_refusal past ps w
+  pub any : (s : Site) (slots : List (List ℕ)) (past : List Choice) (ps : List Reply)
+      → Holds s slots any_refusal past ps w
       → AreRight s slots any_refusal past ps (session ∷ []) after
 
 -- a reply that is no connection

@@ -7,5 +7,6 @@ use Rattle.flash_cgi.specs.declared.worker.Worker.{Worker}
 use Rattle.flash_laws.specs.World.Consistency.{Actor}
 use Rattle.flash_site.specs.World.{BeginsSite, IsWorldOf}
 
-pub begins_site : (names : List (List ℕ)) (store : Disk) (world : Stage SystemState (Actor Worker)) → IsWorldOf names store world → BeginsSite world
+pub begins_site : (names : List (List ℕ)) (store : Disk) (world : Stage SystemState (Actor Worker))
+    → IsWorldOf names store world → BeginsSite world
 begins_site names store world is = ∣ record { names = names; store = store; is = is } ∣₁

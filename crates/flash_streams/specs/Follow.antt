@@ -18,9 +18,12 @@ pub record StreamsFollow : Type 0 where
   -- an answer
   pub answer : (site_contents : SiteContents) (a b first next : List ℕ) → IsAnsweredWhole site_contents a first → IsAnswer site_contents b next → IsAnswer site_contents (a ++ b) (first ++ next)
   -- the beginning of one
-  pub begins : (site_contents : SiteContents) (a b first next : List ℕ) → IsAnsweredWhole site_contents a first → Begins site_contents b next → Begins site_contents (a ++ b) (first ++ next)
+  pub begins : (site_contents : SiteContents) (a b first next : List ℕ) → IsAnsweredWhole site_contents a first
+      → Begins site_contents b next → Begins site_contents (a ++ b) (first ++ next)
   -- a stream of whole requests
-  pub whole : (site_contents : SiteContents) (a b first next : List ℕ) → IsAnsweredWhole site_contents a first → IsAnsweredWhole site_contents b next
+  pub whole : (site_contents : SiteContents) (a b first next : List ℕ) → IsAnsweredWhole site_contents a first
+      → IsAnsweredWhole site_contents b next
       → IsAnsweredWhole site_contents (a ++ b) (first ++ next)
   -- such responses are an answer
-  pub is : (site_contents : SiteContents) (a first : List ℕ) → IsAnsweredWhole site_contents a first → IsAnswer site_contents a first
+  pub is : (site_contents : SiteContents) (a first : List ℕ) → IsAnsweredWhole site_contents a first
+      → IsAnswer site_contents a first

@@ -18,7 +18,8 @@ use Rattle.flash_workers.specs.Advance.{IsNearer, IsReady, IsTidy, WorkersAdvanc
 use Rattle.flash_workers.proofs.Falls.{falls}
 use Rattle.flash_workers.proofs.Replies.{again, facts, rank-same}
 
-ready : (m : State) (d p : ℕ) (job : Task) (step : Step) (unseen : List Outcome → List ℕ) → Feeds m d p job step unseen → IsReady m d p job step.phase
+ready : (m : State) (d p : ℕ) (job : Task) (step : Step) (unseen : List Outcome → List ℕ) → Feeds m d p job step unseen
+    → IsReady m d p job step.phase
 ready m d p job step unseen feeds = by step.phase feeds.needs
   where
     by : (e : Phase) → Needs m d e → IsReady m d p job e
@@ -27,8 +28,10 @@ ready m d p job step unseen feeds = by step.phase feeds.needs
     by (phase.Swaps agg rest) needs = (needs.0, needs.1)
     by e needs = tt
 
-nears : EachStepLeavesTheRest → CallsServeTheirDomain → (m n : State) (d p : ℕ) (job : Task) (step next : Step) (r : Reply) → IsOrderly m
-    → IsReady m d p job step.phase → IsTidy step → StepsTo m (event.Call d (call_at job step)) r n → after_reply job step (readable_at n d) r ≡ Some next
+nears : EachStepLeavesTheRest → CallsServeTheirDomain
+    → (m n : State) (d p : ℕ) (job : Task) (step next : Step) (r : Reply) → IsOrderly m
+    → IsReady m d p job step.phase → IsTidy step → StepsTo m (event.Call d (call_at job step)) r n
+    → after_reply job step (readable_at n d) r ≡ Some next
     → IsTidy next × IsNearer job (readable_at m d) (readable_at n d) step next
 nears steps own m n d p job step next r order ready tidy did is =
     falls job (readable_at m d) (readable_at n d) step.begun step.piece step.phase r next
@@ -39,6 +42,7 @@ workers_advance steps own = record {
   begins = λ agg. (refl, refl, refl, refl);
   ready = ready;
   nears = nears steps own;
-  stays = λ m n d job step r other did is. again m n d job (readable_at n d) step.piece step.begun step.phase r other did is;
+  stays = λ m n d job step r other did is. again m n d job (readable_at n d) step.piece step.begun step.phase r other
+      did is;
   others = λ m n d p job step e r ready did other. rank-same steps m n d p job step e r ready did other;
 }

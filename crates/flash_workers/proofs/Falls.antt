@@ -1,14 +1,18 @@
 -- The rank falls from step to step, and the buffered output stays tidy.
-use Rattle.std.proofs.Common.{inl, inr, ◌≡◌, ◌≢◌, ℕ, ◌+◌, ◌-◌, ◌*◌, ◌==◌, ◌<◌, ◌≤◌, ◌⊎◌, List, [], ◌∷◌, length, ap, ◌∙◌, refl, sym, subst, arith, Option, Some, None, true, false, Bool, if◌then◌else◌}
+use Rattle.std.proofs.Common.{inl, inr, ◌≡◌, ◌≢◌, ℕ, ◌+◌, ◌-◌, ◌*◌, ◌==◌, ◌<◌, ◌≤◌, ◌⊎◌, List, [], ◌∷◌, length, ap, ◌∙◌}
+use Rattle.std.proofs.Common.{refl, sym, subst, arith, Option, Some, None, true, false, Bool, if◌then◌else◌}
 use Rattle.std.specs.Prelude.{unwrap_or, ◌||◌, ◌&&◌, not, nat_le, nat_lt, is_none, is_some, slice_get}
 use Rattle.std.proofs.lemmas.Bool.Decides.{nat_tests}
 use Rattle.std.proofs.lemmas.Option.{slice_get_within}
 use Rattle.iol_core.specs.declared.events.Reply.{Reply}
 use Rattle.iol_core.specs.declared.events.Reply.TheVariants as reply
 use Rattle.iol_core.specs.declared.refusals.Refusal.TheVariants as refuse
-use Rattle.flash_cgi.specs.Collecting.{Collected, bytes_of_one, but_last, is_expected, is_nothing, last_place, with_file, with_line, with_next, with_text, without_text}
+use Rattle.flash_cgi.specs.Collecting.{Collected, bytes_of_one, but_last, is_expected, is_nothing, last_place}
+use Rattle.flash_cgi.specs.Collecting.{with_file, with_line, with_next, with_text, without_text}
 use Rattle.flash_cgi.specs.Job.{Task}
-use Rattle.flash_cgi.specs.WorkerSteps.{at, bytes_at, expected_now, file_collected, got, interleave_by, said_text, step_with, after_breaking, after_phase, after_dropping, after_line, after_making, after_next, after_opening, after_reading, after_writing}
+use Rattle.flash_cgi.specs.WorkerSteps.{at, bytes_at, expected_now, file_collected, got, interleave_by, said_text}
+use Rattle.flash_cgi.specs.WorkerSteps.{step_with, after_breaking, after_phase, after_dropping, after_line}
+use Rattle.flash_cgi.specs.WorkerSteps.{after_making, after_next, after_opening, after_reading, after_writing}
 use Rattle.flash_cgi.specs.declared.line.Line.{Line}
 use Rattle.flash_cgi.specs.declared.line.Line.TheVariants as line
 use Rattle.flash_cgi.specs.declared.phase.Purpose.{Purpose}
@@ -42,10 +46,12 @@ has-one [] p is = absurd (cc (is))
 has-one (q ∷ ps) p is = omega arith
 
 -- no line is expected after all is made
-no-text : (t : List ℕ) (f : ℕ) (n : Option ℕ) → t ≡ [] → f ≡ 0 → n ≡ None → (nat_le MIN_PIECE_BYTES (length t + f) || is_some n) ≡ false
+no-text : (t : List ℕ) (f : ℕ) (n : Option ℕ) → t ≡ [] → f ≡ 0 → n ≡ None
+    → (nat_le MIN_PIECE_BYTES (length t + f) || is_some n) ≡ false
 no-text t f n a b c =
     ap (λ (l : List ℕ). nat_le MIN_PIECE_BYTES (length l + f) || is_some n) a
-    ∙ (ap (λ k. nat_le MIN_PIECE_BYTES (0 + k) || is_some n) b ∙ ap (λ (o : Option ℕ). nat_le MIN_PIECE_BYTES 0 || is_some o) c)
+    ∙ (ap (λ k. nat_le MIN_PIECE_BYTES (0 + k) || is_some n) b
+    ∙ ap (λ (o : Option ℕ). nat_le MIN_PIECE_BYTES 0 || is_some o) c)
 
 no-rest : (t : List ℕ) (ps : List Place) (h n : Option ℕ) → t ≡ [] → ps ≡ [] → h ≡ None → n ≡ None
     → not ((length t == 0) && (length ps == 0) && is_none h && is_none n) ≡ false
@@ -60,7 +66,8 @@ not-expected x made none (Some l) = no-text x.text x.files x.next made.0 made.2 
 not-expected x made none None = no-rest x.text x.places x.held x.next made.0 made.3 made.1 none
 
 -- with nothing buffered all is made, since bytes of files are counted only while they are held
-nothing-of : (t : List ℕ) (ps : List Place) (h n : Option ℕ) → ((length t == 0) && (length ps == 0) && is_none h && is_none n) ≡ true
+nothing-of : (t : List ℕ) (ps : List Place) (h n : Option ℕ)
+    → ((length t == 0) && (length ps == 0) && is_none h && is_none n) ≡ true
     → (t ≡ []) × (h ≡ None)
 nothing-of [] [] None n is = (refl, refl)
 nothing-of [] [] (Some h) n is = absurd (cc (is))
@@ -102,28 +109,33 @@ module _ (job : Task) (readable now : ℕ → Option (List ℕ)) (begun : ℕ) w
   reached was a next e good = subst (λ (s : Step). Good was s) (same-step a next e) good
 
   -- a step in the same line, at a lower stage
-  lower : (was k : ℕ) (y : Collected) (d : Phase) → IsTidyIn y d → stage job y begun d < k → Good (8 * left + k, was) (step_with d begun y)
+  lower : (was k : ℕ) (y : Collected) (d : Phase) → IsTidyIn y d → stage job y begun d < k
+      → Good (8 * left + k, was) (step_with d begun y)
   lower was k y d tidy less = (tidy, inr (inl (omega (arith, less))))
 
   -- the text is made, or the bytes of another file are inserted
-  inserts : (was k : ℕ) (h : Option ℕ) (o : Option Place) (y : Collected) (agg : ℕ) → y.held ≡ h → last_place y.places ≡ o → y.text ≡ [] → IsWhole y
+  inserts : (was k : ℕ) (h : Option ℕ) (o : Option Place) (y : Collected) (agg : ℕ) → y.held ≡ h
+      → last_place y.places ≡ o → y.text ≡ [] → IsWhole y
       → 2 < k ⊎ ((2 ≡ k) × (4 * length y.places < was)) → Good (8 * left + k, was) (interleave_by h o begun y agg)
   inserts was k None o y agg held place text whole low =
       ((text, held, (whole held).0, (whole held).1), inr (inl (small (is_some y.next) low)))
     where
-      small : (b : Bool) → 2 < k ⊎ ((2 ≡ k) × (4 * length y.places < was)) → 8 * left + (if b then 1 else 0) < 8 * left + k
+      small : (b : Bool) → 2 < k ⊎ ((2 ≡ k) × (4 * length y.places < was))
+          → 8 * left + (if b then 1 else 0) < 8 * left + k
       small b (inl more) = let one = one-of b in omega (arith, more, one)
       small b (inr same) = let one = one-of b in let two = same.0 in omega (arith, two, one)
   inserts was k (Some h) None y agg held place text whole low =
       ((text, refl, refl, refl), inr (inl (small (is_some y.next) low)))
     where
-      small : (b : Bool) → 2 < k ⊎ ((2 ≡ k) × (4 * length y.places < was)) → 8 * left + (if b then 1 else 0) < 8 * left + k
+      small : (b : Bool) → 2 < k ⊎ ((2 ≡ k) × (4 * length y.places < was))
+          → 8 * left + (if b then 1 else 0) < 8 * left + k
       small b (inl more) = let one = one-of b in omega (arith, more, one)
       small b (inr same) = let one = one-of b in let two = same.0 in omega (arith, two, one)
   inserts was k (Some h) (Some p) y agg held place text whole low =
       ((text, whole, has-one y.places p place), inr (by low))
     where
-      by : 2 < k ⊎ ((2 ≡ k) × (4 * length y.places < was)) → IsBelow (8 * left + 2, 4 * length y.places) (8 * left + k, was)
+      by : 2 < k ⊎ ((2 ≡ k) × (4 * length y.places < was))
+          → IsBelow (8 * left + 2, 4 * length y.places) (8 * left + k, was)
       by (inl more) = inl (omega (arith, more))
       by (inr same) = inr (ap (λ z. 8 * left + z) same.0, same.1)
 
@@ -133,12 +145,15 @@ module _ (job : Task) (readable now : ℕ → Option (List ℕ)) (begun : ℕ) w
       → Good (8 * left + 0, 0) (step_with d (begun + 1) y)
   begins-at d y more tidy low = (tidy, inr (inl (omega (arith, more, low))))
 
-  runs-at : (y : Collected) → begun < length job.lines → IsWhole y → Good (8 * left + 0, 0) (step_with phase.Runs (begun + 1) y)
-  runs-at y more whole = begins-at phase.Runs y more whole (let three = three-of (expected_now job y (begun + 1)) in omega (arith, three))
+  runs-at : (y : Collected) → begun < length job.lines → IsWhole y
+      → Good (8 * left + 0, 0) (step_with phase.Runs (begun + 1) y)
+  runs-at y more whole = begins-at phase.Runs y more whole (let three = three-of (expected_now job y (begun + 1)) in
+      omega (arith, three))
 
   opened : (x : Collected) (p : Purpose) (r : Reply) (next : Step) → begun < length job.lines → IsWhole x
       → after_opening x p (begun + 1) r ≡ Some next → Good (8 * left + 0, 0) next
-  opened x p (reply.Fd file) next more whole e = reached _ _ next e (begins-at (phase.Reads file p) x more whole (omega arith))
+  opened x p (reply.Fd file) next more whole e =
+      reached _ _ next e (begins-at (phase.Reads file p) x more whole (omega arith))
   opened x p (reply.Refused why) next more whole e = reached _ _ next e (runs-at _ more whole)
   opened x p r next more whole e = absurd (cc (e))
 
@@ -155,7 +170,8 @@ module _ (job : Task) (readable now : ℕ → Option (List ℕ)) (begun : ℕ) w
   next-begins x (Some l) r next is whole e = line-begins x l r next (slice_get_within job.lines begun l is) whole e
   next-begins x None r next is whole e = reached _ _ next e (whole, inl refl)
 
-  made : (x : Collected) (r : Reply) (next : Step) → IsWhole x → after_making x begun r ≡ Some next → Good (8 * left + 3, 0) next
+  made : (x : Collected) (r : Reply) (next : Step) → IsWhole x → after_making x begun r ≡ Some next
+      → Good (8 * left + 3, 0) next
   made x (reply.Agg agg) next whole e = reached _ _ next e
       (inserts 0 3 x.held (last_place x.places) (without_text x) agg refl refl refl whole (inl (omega arith)))
   made x r next whole e = absurd (cc (e))
@@ -169,25 +185,34 @@ module _ (job : Task) (readable now : ℕ → Option (List ℕ)) (begun : ℕ) w
   -- ---- within a line
 
   ran : (was k : ℕ) (y : Collected) → 3 < k → IsWhole y → Good (8 * left + k, was) (step_with phase.Runs begun y)
-  ran was k y more whole = lower was k y phase.Runs whole (let three = three-of (expected_now job y begun) in omega (arith, three, more))
+  ran was k y more whole = lower was k y phase.Runs whole (let three = three-of (expected_now job y begun) in
+      omega (arith, three, more))
 
-  read : (x : Collected) (file : ℕ) (p : Purpose) (r : Reply) (next : Step) → IsWhole x → after_reading now x file p begun r ≡ Some next
+  read : (x : Collected) (file : ℕ) (p : Purpose) (r : Reply) (next : Step) → IsWhole x
+      → after_reading now x file p begun r ≡ Some next
       → Good (8 * left + 7, 0) next
-  read x file purpose.Cat (reply.Agg agg) next whole e = reached _ _ next e (lower 0 7 x (got now file agg purpose.Cat) whole (omega arith))
-  read x file purpose.Wc (reply.Agg agg) next whole e = reached _ _ next e (lower 0 7 x (got now file agg purpose.Wc) whole (omega arith))
-  read x file p (reply.Refused why) next whole e = reached _ _ next e (lower 0 7 x (phase.ShutsToSay file _) whole (omega arith))
+  read x file purpose.Cat (reply.Agg agg) next whole e =
+      reached _ _ next e (lower 0 7 x (got now file agg purpose.Cat) whole (omega arith))
+  read x file purpose.Wc (reply.Agg agg) next whole e =
+      reached _ _ next e (lower 0 7 x (got now file agg purpose.Wc) whole (omega arith))
+  read x file p (reply.Refused why) next whole e =
+      reached _ _ next e (lower 0 7 x (phase.ShutsToSay file _) whole (omega arith))
   read x file p r next whole e = absurd (cc (e))
 
-  collected-file : (x : Collected) (o : Option ℕ) (from agg len : ℕ) (next : Step) → IsWhole x → file_collected x o from agg len begun ≡ Some next
+  collected-file : (x : Collected) (o : Option ℕ) (from agg len : ℕ) (next : Step) → IsWhole x
+      → file_collected x o from agg len begun ≡ Some next
       → Good (8 * left + 5, 0) next
-  collected-file x None from agg len next whole e = reached _ _ next e (ran 0 5 (with_file x agg 0 len) (omega arith) (λ none. absurd (cc (none))))
+  collected-file x None from agg len next whole e =
+      reached _ _ next e (ran 0 5 (with_file x agg 0 len) (omega arith) (λ none. absurd (cc (none))))
   collected-file x (Some held) from agg len next whole e =
       reached _ _ next e (lower 0 5 x (phase.JoiningFile held agg from len) whole (omega arith))
 
   written-alone : (x : Collected) (agg : ℕ) (next : Step) (b : Bool) → IsWhole x → is_nothing x ≡ b
-      → (if b then at (phase.Writes agg) begun x else at phase.Runs begun (with_next x agg)) ≡ Some next → Good (8 * left + 5, 0) next
+      → (if b then at (phase.Writes agg) begun x else at phase.Runs begun (with_next x agg)) ≡ Some next
+      → Good (8 * left + 5, 0) next
   written-alone x agg next true whole is e =
-      reached _ _ next e (lower 0 5 x (phase.Writes agg) (made-of x whole is) (let one = one-of (is_some x.next) in omega (arith, one)))
+      reached _ _ next e (lower 0 5 x (phase.Writes agg) (made-of x whole is) (let one = one-of (is_some x.next) in
+      omega (arith, one)))
   written-alone x agg next false whole is e = reached _ _ next e (ran 0 5 (with_next x agg) (omega arith) whole)
 
   shut : (x : Collected) (from agg len : ℕ) (next : Step) (b : Bool) → IsWhole x
@@ -199,22 +224,26 @@ module _ (job : Task) (readable now : ℕ → Option (List ℕ)) (begun : ℕ) w
 
   joined : (x : Collected) (from len : ℕ) (held agg : ℕ) (r : Reply) (next : Step) → IsWhole x
       → after_phase now job x begun (phase.JoiningFile held agg from len) r ≡ Some next → Good (8 * left + 4, 0) next
-  joined x from len held agg (reply.Agg new) next whole e = reached _ _ next e (ran 0 4 (with_file x new from len) (omega arith) (λ none. absurd (cc (none))))
+  joined x from len held agg (reply.Agg new) next whole e =
+      reached _ _ next e (ran 0 4 (with_file x new from len) (omega arith) (λ none. absurd (cc (none))))
   joined x from len held agg r next whole e = absurd (cc (e))
 
   -- ---- the bytes of files are inserted
 
   parted : (x : Collected) (held agg from : ℕ) (r : Reply) (next : Step) → IsTidyIn x (phase.CuttingPart held agg from)
-      → after_phase now job x begun (phase.CuttingPart held agg from) r ≡ Some next → Good (8 * left + 2, 4 * length x.places) next
+      → after_phase now job x begun (phase.CuttingPart held agg from) r ≡ Some next
+      → Good (8 * left + 2, 4 * length x.places) next
   parted x held agg from (reply.Aggs front part) next tidy e =
       let fewer = last-is x.places tidy.2 in
       reached _ _ next e ((tidy.0, λ none. absurd (cc (none))), inr (inr (refl, omega (arith, fewer))))
   parted x held agg from r next tidy e = absurd (cc (e))
 
-  fewer-whole : (h : Option ℕ) (f : ℕ) (ps : List Place) → (h ≡ None → (f ≡ 0) × (ps ≡ [])) → h ≡ None → (f ≡ 0) × (but_last ps ≡ [])
+  fewer-whole : (h : Option ℕ) (f : ℕ) (ps : List Place) → (h ≡ None → (f ≡ 0) × (ps ≡ [])) → h ≡ None
+      → (f ≡ 0) × (but_last ps ≡ [])
   fewer-whole h f ps whole none = ((whole none).0, ap (λ (l : List Place). but_last l) (whole none).1)
 
-  replaced : (x : Collected) (agg part place : ℕ) (r : Reply) (next : Step) → IsTidyIn x (phase.ReplacingPart agg part place)
+  replaced : (x : Collected) (agg part place : ℕ) (r : Reply) (next : Step)
+      → IsTidyIn x (phase.ReplacingPart agg part place)
       → after_phase now job x begun (phase.ReplacingPart agg part place) r ≡ Some next
       → Good (8 * left + 2, 4 * length (but_last x.places) + 3) next
   replaced x agg part place (reply.Agg new) next tidy e =
@@ -241,18 +270,23 @@ module _ (job : Task) (readable now : ℕ → Option (List ℕ)) (begun : ℕ) w
       → after_writing x agg (length (bytes_at now agg)) begun r ≡ Some next
       → Good (8 * left + stage job x begun (phase.Writes agg), 3 * length (bytes_at readable agg) + 2) next
   written x agg (reply.Count k) next tidy facts e =
-      reached _ _ next e (taken x agg k (length (bytes_at now agg)) (k == length (bytes_at now agg)) refl tidy facts.0 facts.1 facts.2)
-  written x agg (reply.Refused refuse.BrokenPipe) next tidy facts e = reached _ _ next e (tidy, inr (inr (refl, omega arith)))
+      reached _ _ next e (taken x agg k (length (bytes_at now agg)) (k == length (bytes_at now agg)) refl tidy facts.0
+      facts.1 facts.2)
+  written x agg (reply.Refused refuse.BrokenPipe) next tidy facts e =
+      reached _ _ next e (tidy, inr (inr (refl, omega arith)))
   written x agg r next tidy facts e = absurd (cc (e))
 
-  cut : (x : Collected) (agg from to : ℕ) (r : Reply) (next : Step) → IsMade x → Facts readable now (phase.Cuts agg from to) r
+  cut : (x : Collected) (agg from to : ℕ) (r : Reply) (next : Step) → IsMade x
+      → Facts readable now (phase.Cuts agg from to) r
       → after_phase now job x begun (phase.Cuts agg from to) r ≡ Some next
       → Good (8 * left + stage job x begun (phase.Cuts agg from to), 3 * (to - from) + 4) next
-  cut x agg from to (reply.Agg rest) next tidy facts e = reached _ _ next e (tidy, inr (inr (refl, omega (arith, facts))))
+  cut x agg from to (reply.Agg rest) next tidy facts e =
+      reached _ _ next e (tidy, inr (inr (refl, omega (arith, facts))))
   cut x agg from to r next tidy facts e = absurd (cc (e))
 
   -- the stage while a file of its own follows, and while none does
-  stage-is : (x : Collected) (o : Option ℕ) → x.next ≡ o → ◌≡◌ {A = ℕ} (if is_some x.next then 1 else 0) (if is_some o then 1 else 0)
+  stage-is : (x : Collected) (o : Option ℕ) → x.next ≡ o
+      → ◌≡◌ {A = ℕ} (if is_some x.next then 1 else 0) (if is_some o then 1 else 0)
   stage-is x o is = ap (λ (p : Option ℕ). if is_some p then 1 else 0) is
 
   -- nothing is expected after all is made
@@ -272,7 +306,8 @@ module _ (job : Task) (readable now : ℕ → Option (List ℕ)) (begun : ℕ) w
       let rests = at-rest x begun tidy is in
       reached _ _ next e (whole-of x tidy, inr (inr (omega (arith, was, rests), omega arith)))
 
-  broken : (x : Collected) (o : Option ℕ) (next : Step) → x.next ≡ o → IsMade x → after_breaking job x o begun ≡ Some next
+  broken : (x : Collected) (o : Option ℕ) (next : Step) → x.next ≡ o → IsMade x
+      → after_breaking job x o begun ≡ Some next
       → Good (8 * left + (if is_some x.next then 1 else 0), 1) next
   broken x (Some agg) next is tidy e =
       let was = stage-is x (Some agg) is in
@@ -280,30 +315,39 @@ module _ (job : Task) (readable now : ℕ → Option (List ℕ)) (begun : ℕ) w
   broken x None next is tidy e =
       reached _ _ next e (
         whole-of x tidy,
-        inr (subst (λ k. IsBelow (8 * (length job.lines - length job.lines) + k, 0) (8 * left + (if is_some x.next then 1 else 0), 1))
+        inr
+            (subst
+            (λ k. IsBelow (8 * (length job.lines - length job.lines) + k, 0)
+            (8 * left + (if is_some x.next then 1 else 0), 1))
             (sym (at-rest x (length job.lines) tidy is)) (below-one _ _ (omega arith))),
       )
 
   -- ---- all
 
-  pub falls : (x : Collected) (d : Phase) (r : Reply) (next : Step) → Facts readable now d r → IsTidyIn x d → after_phase now job x begun d r ≡ Some next
+  pub falls : (x : Collected) (d : Phase) (r : Reply) (next : Step) → Facts readable now d r → IsTidyIn x d
+      → after_phase now job x begun d r ≡ Some next
       → Good (rank job readable (step_with d begun x)) next
   falls x phase.Waits r next facts tidy e = absurd (cc (e))
   falls x phase.Runs r next facts tidy e = runs x r next (expected_now job x begun) tidy e
   falls x (phase.Reads file p) r next facts tidy e = read x file p r next tidy e
   falls x (phase.Shuts file agg) r next facts tidy e =
-      shut x (length (bytes_of_one now x.held)) agg (length (bytes_at now agg)) next (nat_le (length (bytes_at now agg)) MAX_COLLECTED_BYTES) tidy e
-  falls x (phase.ShutsToSay file s) r next facts tidy e = reached _ _ next e (ran 0 5 (with_text x (said_text s)) (omega arith) tidy)
+      shut x (length (bytes_of_one now x.held)) agg (length (bytes_at now agg)) next
+      (nat_le (length (bytes_at now agg)) MAX_COLLECTED_BYTES) tidy e
+  falls x (phase.ShutsToSay file s) r next facts tidy e =
+      reached _ _ next e (ran 0 5 (with_text x (said_text s)) (omega arith) tidy)
   falls x (phase.JoiningFile held agg from len) r next facts tidy e = joined x from len held agg r next tidy e
   falls x (phase.CuttingPart held agg from) r next facts tidy e = parted x held agg from r next tidy e
   falls x (phase.ReplacingPart agg part place) r next facts tidy e = replaced x agg part place r next tidy e
-  falls x (phase.DroppingText agg part new) r next facts tidy e = reached _ _ next e (tidy, inr (inr (refl, omega arith)))
+  falls x (phase.DroppingText agg part new) r next facts tidy e =
+      reached _ _ next e (tidy, inr (inr (refl, omega arith)))
   falls x (phase.DroppingPart part new) r next facts tidy e = reached _ _ next e
-      (inserts (4 * length x.places + 1) 2 x.held (last_place x.places) x new refl refl tidy.0 tidy.1 (inr (refl, omega arith)))
+      (inserts (4 * length x.places + 1) 2 x.held (last_place x.places) x new refl refl tidy.0 tidy.1
+      (inr (refl, omega arith)))
   falls x (phase.Writes agg) r next facts tidy e = written x agg r next tidy facts e
   falls x (phase.Cuts agg from to) r next facts tidy e = cut x agg from to r next tidy facts e
   falls x (phase.Skips agg) r next facts tidy e = reached _ _ next e (tidy, inl refl)
-  falls x (phase.Counted file agg s) r next facts tidy e = reached _ _ next e (lower 0 6 x (phase.ShutsToSay file s) tidy (omega arith))
+  falls x (phase.Counted file agg s) r next facts tidy e =
+      reached _ _ next e (lower 0 6 x (phase.ShutsToSay file s) tidy (omega arith))
   falls x (phase.Swaps agg rest) r next facts tidy e = reached _ _ next e (tidy, inr (inr (refl, omega (arith, facts))))
   falls x (phase.Drops agg) r next facts tidy e = dropped x x.next next refl tidy e
   falls x (phase.Breaks agg) r next facts tidy e = broken x x.next next refl tidy e

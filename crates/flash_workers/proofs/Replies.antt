@@ -1,5 +1,6 @@
 -- What a reply says of the aggregates that a worker writes, and when its call is retried.
-use Rattle.std.proofs.Common.{◌≡◌, ◌≢◌, ℕ, ◌+◌, ◌-◌, ◌*◌, ◌==◌, ◌<◌, ◌≤◌, List, [], length, take, drop, ap, ◌∙◌, refl, sym, subst, arith, Option, Some, None, true, false, Bool, if◌then◌else◌}
+use Rattle.std.proofs.Common.{◌≡◌, ◌≢◌, ℕ, ◌+◌, ◌-◌, ◌*◌, ◌==◌, ◌<◌, ◌≤◌, List, [], length, take, drop, ap, ◌∙◌, refl}
+use Rattle.std.proofs.Common.{sym, subst, arith, Option, Some, None, true, false, Bool, if◌then◌else◌}
 use Rattle.std.specs.Prelude.{unwrap_or, option_map, ◌&&◌, not, nat_le, nat_lt, slice_get, slice_range}
 use Rattle.std.proofs.lemmas.Bool.Decides.{nat_tests}
 use Rattle.std.proofs.lemmas.List.{length-map, length-take}
@@ -24,7 +25,9 @@ use Rattle.flash_cgi.specs.Beside.{is_call_of}
 use Rattle.flash_cgi.specs.Collecting.{Collected, bytes_of_one, is_nothing, with_next}
 use Rattle.flash_cgi.specs.Feeds.{HasBytes}
 use Rattle.flash_cgi.specs.Job.{Task}
-use Rattle.flash_cgi.specs.WorkerSteps.{at, bytes_at, phase_call, expected_now, file_collected, line_call, make_call, next_call, after_breaking, after_phase, after_dropping, after_line, after_making, after_next}
+use Rattle.flash_cgi.specs.WorkerSteps.{at, bytes_at, phase_call, expected_now, file_collected, line_call, make_call}
+use Rattle.flash_cgi.specs.WorkerSteps.{next_call, after_breaking, after_phase, after_dropping, after_line}
+use Rattle.flash_cgi.specs.WorkerSteps.{after_making, after_next}
 use Rattle.flash_cgi.specs.declared.line.Line.{Line}
 use Rattle.flash_cgi.specs.declared.line.Line.TheVariants as line
 use Rattle.flash_cgi.specs.declared.phase.Phase.{Phase}
@@ -49,7 +52,8 @@ abbrev counted : Reply → ℕ
 counted (reply.Count j) = j
 counted r = 0
 
-some-of : (k f l : ℕ) (bytes : List ℕ) → k ≡ f → l ≡ length bytes → (nat_lt 0 l && (f == 0)) ≡ false → 0 < length bytes → 0 < k
+some-of : (k f l : ℕ) (bytes : List ℕ) → k ≡ f → l ≡ length bytes → (nat_lt 0 l && (f == 0)) ≡ false → 0 < length bytes
+    → 0 < k
 some-of k f l bytes after_reply long fits some =
     let big : nat_lt 0 l ≡ true = grind (arith, nat_tests, long, some) in
     let not_none : (f == 0) ≡ false = subst (λ b. (b && (f == 0)) ≡ false) big fits in
@@ -59,28 +63,36 @@ some-taken : (m n : State) (d fd a k : ℕ) (bytes : List ℕ) → readable_at m
     → StepsTo m (event.Call d (call.IolWrite fd a)) (reply.Count k) n → 0 < k
 some-taken m n d fd a k bytes readable some step =
     let to : Option Descriptor = descriptor m d fd in
-    some-of k (fitting m to (length (text m d a))) (length (text m d a)) bytes (ap (λ (z : Reply). counted z) step.1) (text-long m d a bytes readable)
-    (when-none refuse.WouldBlock (takes_none m to (length (text m d a))) (passed (meaning m (event.Call d (call.IolWrite fd a))).refusals 6 step.0)) some
+    some-of k (fitting m to (length (text m d a))) (length (text m d a)) bytes (ap (λ (z : Reply). counted z) step.1)
+    (text-long m d a bytes readable)
+    (when-none refuse.WouldBlock (takes_none m to (length (text m d a)))
+    (passed (meaning m (event.Call d (call.IolWrite fd a))).refusals 6 step.0)) some
 
 part-short : (bytes : List ℕ) (from to : ℕ) → length (slice_range bytes from to) ≤ to - from
 part-short bytes from to = let size = length-take (to - from) (drop from bytes) in omega (arith, size)
 
 -- ---- what a reply says
 
-module _ (steps : EachStepLeavesTheRest) (own : CallsServeTheirDomain) (m n : State) (d p : ℕ) (job : Task) (order : IsOrderly m) where
-  same-length : (e : Event) (r : Reply) (a : ℕ) (bytes : List ℕ) → readable_at m d a ≡ Some bytes → readable_at n d a ≡ Some bytes
+module _ (steps : EachStepLeavesTheRest) (own : CallsServeTheirDomain) (m n : State) (d p : ℕ) (job : Task)
+    (order : IsOrderly m) where
+  same-length : (e : Event) (r : Reply) (a : ℕ) (bytes : List ℕ) → readable_at m d a ≡ Some bytes
+      → readable_at n d a ≡ Some bytes
       → length (bytes_at (readable_at n d) a) ≡ length (bytes_at (readable_at m d) a)
   same-length e r a bytes is now = ap (λ (l : List ℕ). length l) (same_bytes m n d a bytes is now)
 
-  writes : (agg : ℕ) (r : Reply) → IsReady m d p job (phase.Writes agg) → StepsTo m (event.Call d (call.IolWrite job.fd agg)) r n
+  writes : (agg : ℕ) (r : Reply) → IsReady m d p job (phase.Writes agg)
+      → StepsTo m (event.Call d (call.IolWrite job.fd agg)) r n
       → Facts (readable_at m d) (readable_at n d) (phase.Writes agg) r
   writes agg (reply.Count k) ready step =
       let bytes = ready.1.0 in
       let readable : readable_at m d agg ≡ Some bytes = ready.1.1 in
-      let long : length (bytes_at (readable_at m d) agg) ≡ length bytes = ap (λ (l : List ℕ). length l) (is_bytes m d agg bytes readable) in
-      let puts : WritesPipe m p bytes (reply.Count k) n = own.write_pipe m n d job.fd p agg bytes (reply.Count k) order ready.0 readable step in (
+      let long : length (bytes_at (readable_at m d) agg) ≡ length bytes =
+      ap (λ (l : List ℕ). length l) (is_bytes m d agg bytes readable) in
+      let puts : WritesPipe m p bytes (reply.Count k) n =
+      own.write_pipe m n d job.fd p agg bytes (reply.Count k) order ready.0 readable step in (
         same-length (event.Call d (call.IolWrite job.fd agg)) (reply.Count k) agg bytes readable
-            (values_stay m n (event.Call d (call.IolWrite job.fd agg)) d agg bytes (steps.values m n (event.Call d (call.IolWrite job.fd agg)) (reply.Count k) step) readable refl),
+            (values_stay m n (event.Call d (call.IolWrite job.fd agg)) d agg bytes
+            (steps.values m n (event.Call d (call.IolWrite job.fd agg)) (reply.Count k) step) readable refl),
         λ some. some-taken m n d job.fd agg k bytes readable (subst (λ l. 0 < l) long some) step,
         subst (λ l. k ≤ l) (sym long) puts.within,
       )
@@ -89,7 +101,8 @@ module _ (steps : EachStepLeavesTheRest) (own : CallsServeTheirDomain) (m n : St
   cuts : (agg from to : ℕ) (r : Reply) → HasBytes m d agg → StepsTo m (event.Call d (call.AggCut agg from to)) r n
       → Facts (readable_at m d) (readable_at n d) (phase.Cuts agg from to) r
   cuts agg from to (reply.Agg k) has step =
-      let makes : Makes m d (slice_range has.0 from to) (reply.Agg k) n = own.cut m n d agg from to has.0 (reply.Agg k) order has.1 step in
+      let makes : Makes m d (slice_range has.0 from to) (reply.Agg k) n =
+      own.cut m n d agg from to has.0 (reply.Agg k) order has.1 step in
       let same = is_bytes n d k (slice_range has.0 from to) makes.0 in
       subst (λ (l : List ℕ). length l ≤ to - from) (sym same) (part-short has.0 from to)
   cuts agg from to r has step = tt
@@ -97,12 +110,15 @@ module _ (steps : EachStepLeavesTheRest) (own : CallsServeTheirDomain) (m n : St
   swaps : (agg rest : ℕ) (r : Reply) → HasBytes m d rest → agg ≢ rest → StepsTo m (event.Call d (call.AggDrop agg)) r n
       → Facts (readable_at m d) (readable_at n d) (phase.Swaps agg rest) r
   swaps agg rest r has differ step =
-      let now = values_stay m n (event.Call d (call.AggDrop agg)) d rest has.0 (steps.values m n (event.Call d (call.AggDrop agg)) r step) has.1
+      let now =
+      values_stay m n (event.Call d (call.AggDrop agg)) d rest has.0
+      (steps.values m n (event.Call d (call.AggDrop agg)) r step) has.1
       (and_false (d == d) (agg == rest) (not-equal agg rest differ)) in
       let same = same-length (event.Call d (call.AggDrop agg)) r rest has.0 has.1 now in
       omega (arith, same)
 
-  pub facts : (x : Collected) (begun : ℕ) (e : Phase) (r : Reply) → IsReady m d p job e → StepsTo m (event.Call d (phase_call job x begun e)) r n
+  pub facts : (x : Collected) (begun : ℕ) (e : Phase) (r : Reply) → IsReady m d p job e
+      → StepsTo m (event.Call d (phase_call job x begun e)) r n
       → Facts (readable_at m d) (readable_at n d) e r
   facts x begun (phase.Writes agg) r ready step = writes agg r ready step
   facts x begun (phase.Cuts agg from to) r ready step = cuts agg from to r ready step
@@ -115,12 +131,14 @@ abbrev pub Refuses : Reply → (m n : State) → Type 0
 Refuses r m n = (x : Refusal) × (r ≡ reply.Refused x) × (n ≡ m)
 
 module _ (m n : State) (d : ℕ) (job : Task) (readable : ℕ → Option (List ℕ)) (x : Collected) (begun : ℕ) where
-  made-again : (r : Reply) → StepsTo m (event.Call d (make_call x.text)) r n → after_making x begun r ≡ None → Refuses r m n
+  made-again : (r : Reply) → StepsTo m (event.Call d (make_call x.text)) r n → after_making x begun r ≡ None
+      → Refuses r m n
   made-again (reply.Agg a) step e = absurd (cc (e))
   made-again (reply.Refused y) step e = (y, refl, step.1)
   made-again r step e = absurd (let is = step.1 in cc (is))
 
-  line-again : (l : Line) (b : ℕ) (r : Reply) → StepsTo m (event.Call d (line_call l)) r n → after_line job x l b r ≡ None → Refuses r m n
+  line-again : (l : Line) (b : ℕ) (r : Reply) → StepsTo m (event.Call d (line_call l)) r n
+      → after_line job x l b r ≡ None → Refuses r m n
   line-again (line.Cat name) b (reply.Fd file) step e = absurd (cc (e))
   line-again (line.Cat name) b (reply.Refused y) step e = absurd (cc (e))
   line-again (line.Cat name) b r step e = absurd (let is = step.1 in cc (is))
@@ -131,12 +149,15 @@ module _ (m n : State) (d : ℕ) (job : Task) (readable : ℕ → Option (List �
   line-again line.Query b r step e = absurd (cc (e))
   line-again line.Pause b r step e = absurd (cc (e))
 
-  next-again : (o : Option Line) (r : Reply) → StepsTo m (event.Call d (next_call job o)) r n → after_next job x o begun r ≡ None → Refuses r m n
+  next-again : (o : Option Line) (r : Reply) → StepsTo m (event.Call d (next_call job o)) r n
+      → after_next job x o begun r ≡ None → Refuses r m n
   next-again (Some l) r step e = line-again l (begun + 1) r step e
   next-again None r step e = absurd (cc (e))
 
-  runs-again : (b : Bool) (r : Reply) → StepsTo m (event.Call d (if b then make_call x.text else next_call job (slice_get job.lines begun))) r n
-      → (if b then after_making x begun r else after_next job x (slice_get job.lines begun) begun r) ≡ None → Refuses r m n
+  runs-again : (b : Bool) (r : Reply)
+      → StepsTo m (event.Call d (if b then make_call x.text else next_call job (slice_get job.lines begun))) r n
+      → (if b then after_making x begun r else after_next job x (slice_get job.lines begun) begun r) ≡ None
+      → Refuses r m n
   runs-again true r step e = made-again r step e
   runs-again false r step e = next-again (slice_get job.lines begun) r step e
 
@@ -144,7 +165,8 @@ module _ (m n : State) (d : ℕ) (job : Task) (readable : ℕ → Option (List �
   collects None from agg len e = cc (e)
   collects (Some held) from agg len e = cc (e)
 
-  alone : (agg : ℕ) (b : Bool) → (if b then at (phase.Writes agg) begun x else at phase.Runs begun (with_next x agg)) ≡ None → ⊥
+  alone : (agg : ℕ) (b : Bool) → (if b then at (phase.Writes agg) begun x else at phase.Runs begun (with_next x agg))
+      ≡ None → ⊥
   alone agg true e = cc (e)
   alone agg false e = cc (e)
 
@@ -161,7 +183,8 @@ module _ (m n : State) (d : ℕ) (job : Task) (readable : ℕ → Option (List �
   breaks (Some agg) e = cc (e)
   breaks None e = cc (e)
 
-  pub again : (e : Phase) (r : Reply) → e ≢ phase.Waits → StepsTo m (event.Call d (phase_call job x begun e)) r n → after_phase readable job x begun e r ≡ None
+  pub again : (e : Phase) (r : Reply) → e ≢ phase.Waits → StepsTo m (event.Call d (phase_call job x begun e)) r n
+      → after_phase readable job x begun e r ≡ None
       → Refuses r m n
   again phase.Waits r other step e = absurd (other refl)
   again phase.Runs r other step e = runs-again (expected_now job x begun) r step e
@@ -169,7 +192,8 @@ module _ (m n : State) (d : ℕ) (job : Task) (readable : ℕ → Option (List �
   again (phase.Reads file p) (reply.Refused y) other step e = absurd (cc (e))
   again (phase.Reads file p) r other step e = absurd (let is = step.1 in cc (is))
   again (phase.Shuts file agg) r other step e =
-      absurd (shuts (length (bytes_of_one readable x.held)) agg (length (bytes_at readable agg)) (nat_le (length (bytes_at readable agg)) MAX_COLLECTED_BYTES) e)
+      absurd (shuts (length (bytes_of_one readable x.held)) agg (length (bytes_at readable agg))
+      (nat_le (length (bytes_at readable agg)) MAX_COLLECTED_BYTES) e)
   again (phase.ShutsToSay file s) r other step e = absurd (cc (e))
   again (phase.JoiningFile held agg from len) (reply.Agg a) other step e = absurd (cc (e))
   again (phase.JoiningFile held agg from len) (reply.Refused y) other step e = (y, refl, step.1)
@@ -201,15 +225,21 @@ module _ (steps : EachStepLeavesTheRest) (m n : State) (d p : ℕ) (job : Task) 
   bytes-same : (e : Event) (r : Reply) (a : ℕ) → HasBytes m d a → StepsTo m e r n → is_call_of e d ≡ false
       → bytes_at (readable_at n d) a ≡ bytes_at (readable_at m d) a
   bytes-same e r a has step other =
-      same_bytes m n d a has.0 has.1 (values_stay m n e d a has.0 (steps.values m n e r step) has.1 (no_gift e d a other))
+      same_bytes m n d a has.0 has.1
+      (values_stay m n e d a has.0 (steps.values m n e r step) has.1 (no_gift e d a other))
 
-  calls-same : (x : Collected) (y : Phase) (e : Event) (r : Reply) → IsReady m d p job y → StepsTo m e r n → is_call_of e d ≡ false
+  calls-same : (x : Collected) (y : Phase) (e : Event) (r : Reply) → IsReady m d p job y → StepsTo m e r n
+      → is_call_of e d ≡ false
       → calls_left (readable_at n d) x y ≡ calls_left (readable_at m d) x y
-  calls-same x (phase.Writes agg) e r ready step other = ap (λ (l : List ℕ). 3 * length l + 2) (bytes-same e r agg ready.1 step other)
-  calls-same x (phase.Swaps agg rest) e r ready step other = ap (λ (l : List ℕ). 3 * length l + 3) (bytes-same e r rest ready.0 step other)
+  calls-same x (phase.Writes agg) e r ready step other =
+      ap (λ (l : List ℕ). 3 * length l + 2) (bytes-same e r agg ready.1 step other)
+  calls-same x (phase.Swaps agg rest) e r ready step other =
+      ap (λ (l : List ℕ). 3 * length l + 3) (bytes-same e r rest ready.0 step other)
   calls-same x y e r ready step other = refl
 
-  pub rank-same : (step : Step) (e : Event) (r : Reply) → IsReady m d p job step.phase → StepsTo m e r n → is_call_of e d ≡ false
+  pub rank-same : (step : Step) (e : Event) (r : Reply) → IsReady m d p job step.phase → StepsTo m e r n
+      → is_call_of e d ≡ false
       → rank job (readable_at n d) step ≡ rank job (readable_at m d) step
   rank-same step e r ready did other =
-      ap (λ k. (8 * (length job.lines - step.begun) + stage job step.piece step.begun step.phase, k)) (calls-same step.piece step.phase e r ready did other)
+      ap (λ k. (8 * (length job.lines - step.begun) + stage job step.piece step.begun step.phase, k))
+      (calls-same step.piece step.phase e r ready did other)

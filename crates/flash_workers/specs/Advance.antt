@@ -1,5 +1,6 @@
 -- Each step of a worker brings its script nearer to its end, unless its call is to be retried.
-use Rattle.std.specs.Prelude.{◌≡◌, ◌≢◌, ◌<◌, ◌⊎◌, ℕ, ◌+◌, ◌-◌, ◌*◌, false, List, [], length, Option, Some, None, is_some, if◌then◌else◌}
+use Rattle.std.specs.Prelude.{◌≡◌, ◌≢◌, ◌<◌, ◌⊎◌, ℕ, ◌+◌, ◌-◌, ◌*◌, false, List, [], length, Option, Some, None}
+use Rattle.std.specs.Prelude.{is_some, if◌then◌else◌}
 use Rattle.iol_core.specs.State.{State, descriptor}
 use Rattle.iol_core.specs.Run.{StepsTo}
 use Rattle.iol_core.specs.declared.descriptors.Descriptor.TheVariants as on
@@ -106,11 +107,14 @@ pub record WorkersAdvance : Type 0 where
   -- a job begins tidy, with the drop of the aggregate that it was read as
   pub begins : (agg : ℕ) → IsTidy (record { phase = phase.Drops agg; begun = 0; piece = nothing })
   -- a worker that runs a script is ready
-  pub ready : (m : State) (d p : ℕ) (job : Task) (step : Step) (unseen : List Outcome → List ℕ) → Feeds m d p job step unseen
+  pub ready : (m : State) (d p : ℕ) (job : Task) (step : Step) (unseen : List Outcome → List ℕ)
+      → Feeds m d p job step unseen
       → IsReady m d p job step.phase
   -- each step leads to one that is tidy and nearer to the end
-  pub nears : (m n : State) (d p : ℕ) (job : Task) (step next : Step) (r : Reply) → IsOrderly m → IsReady m d p job step.phase
-      → IsTidy step → StepsTo m (event.Call d (call_at job step)) r n → after_reply job step (readable_at n d) r ≡ Some next
+  pub nears : (m n : State) (d p : ℕ) (job : Task) (step next : Step) (r : Reply) → IsOrderly m
+      → IsReady m d p job step.phase
+      → IsTidy step → StepsTo m (event.Call d (call_at job step)) r n
+      → after_reply job step (readable_at n d) r ≡ Some next
       → IsTidy next × IsNearer job (readable_at m d) (readable_at n d) step next
   -- the call is retried only if it was refused, and then nothing changed
   pub stays : (m n : State) (d : ℕ) (job : Task) (step : Step) (r : Reply) → step.phase ≢ phase.Waits

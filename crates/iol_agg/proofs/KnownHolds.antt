@@ -1,5 +1,6 @@
 -- Stores of which all holds are known.
-use Rattle.std.proofs.Common.{◌≡◌, ℕ, zero, suc, ◌<◌, ◌≤◌, ◌^◌, List, [], ◌∷◌, ◌++◌, replicate, get_or, refl, ap, ◌∙◌, arith, subst, Result, Ok, OnOk}
+use Rattle.std.proofs.Common.{◌≡◌, ℕ, zero, suc, ◌<◌, ◌≤◌, ◌^◌, List, [], ◌∷◌, ◌++◌, replicate, get_or, refl, ap, ◌∙◌}
+use Rattle.std.proofs.Common.{arith, subst, Result, Ok, OnOk}
 use Rattle.std.specs.Result.{IfOk}
 use Rattle.iol_core.specs.declared.numbers.BufId.{BufId}
 use Rattle.iol_arena.specs.State.{no_entry}
@@ -28,13 +29,20 @@ free_entry (suc n) (suc q) = free_entry n q
 -- nothing is held where all pages are free
 pub held_none : (s : Stored) (n : ℕ) → s.arena.entries ≡ replicate n no_entry → IsHeldBy s []
 unfolding count_of tally
-held_none s n e = record { each = λ b. ap (λ (x : Entry). count_in x (get_or s.counts b.page 0) b.generation) (ap (λ es. get_or es b.page no_entry) e ∙ free_entry n b.page) }
+held_none s n e =
+    record {
+      each =
+          λ b. ap (λ (x : Entry). count_in x (get_or s.counts b.page 0) b.generation)
+          (ap (λ es. get_or es b.page no_entry) e
+          ∙ free_entry n b.page);
+    }
 
 pub held_on : {s t : Stored} {xs : List BufId} → IsHeldBy s xs → Moves s t [] [] → IsHeldBy t xs
 held_on h m = record { each = λ b. omega (arith, h.each b, m.counts.each b, tally_none b) }
 
 pub held_moves : {s t : Stored} {xs ys : List BufId} → IsHeldBy s xs → Moves s t [] ys → IsHeldBy t (xs ++ ys)
-held_moves {xs = xs} {ys = ys} h m = record { each = λ b. omega (arith, h.each b, m.counts.each b, tally-append b xs ys, tally_none b) }
+held_moves {xs = xs} {ys = ys} h m =
+    record { each = λ b. omega (arith, h.each b, m.counts.each b, tally-append b xs ys, tally_none b) }
 
 pub held_covers : {s : Stored} {xs : List BufId} → IsHeldBy s xs → Covers s xs
 held_covers h = record { each = λ b. omega (arith, h.each b) }
@@ -45,12 +53,15 @@ unfolding tally
 tally-few b [] = omega arith
 tally-few b (x ∷ xs) = omega (arith, tally-few b xs, same_few b x.hold.buf, byte_len-cons x xs, x.some)
 
-pub held_countable : {s : Stored} (xs : List Slice) → IsHeldBy s (bufs_of xs) → byte_len xs < 2 ^ 32 → IsCountable s (bufs_of xs)
+pub held_countable : {s : Stored} (xs : List Slice) → IsHeldBy s (bufs_of xs) → byte_len xs < 2 ^ 32
+    → IsCountable s (bufs_of xs)
 held_countable xs h small = record { each = λ b. omega (arith, h.each b, tally-few b xs) }
 
 -- three holds more on each
-pub held_thrice : {s : Stored} (xs : List Slice) → IsHeldBy s (bufs_of xs) → byte_len xs < 2 ^ 32 → IsCountable s (bufs_of xs ++ bufs_of xs ++ bufs_of xs)
-held_thrice xs h small = record { each = λ b. omega (arith, h.each b, tally-few b xs, tally_thrice b (bufs_of xs) (bufs_of xs)) }
+pub held_thrice : {s : Stored} (xs : List Slice) → IsHeldBy s (bufs_of xs) → byte_len xs < 2 ^ 32
+    → IsCountable s (bufs_of xs ++ bufs_of xs ++ bufs_of xs)
+held_thrice xs h small =
+    record { each = λ b. omega (arith, h.each b, tally-few b xs, tally_thrice b (bufs_of xs) (bufs_of xs)) }
 
 -- what was made is covered
 pub made_covers : {s t : Stored} {ys : List BufId} → Shares s t [] ys → Covers t ys
@@ -60,5 +71,6 @@ pub moved_covers : {s t : Stored} {ys : List BufId} → Moves s t [] ys → Cove
 moved_covers m = record { each = λ b. omega (arith, m.counts.each b, tally_none b) }
 
 -- and is given up
-pub held_again : {s t u : Stored} {xs ys : List BufId} → IsHeldBy s xs → Shares s t [] ys → Moves t u ys [] → IsHeldBy u xs
+pub held_again : {s t u : Stored} {xs ys : List BufId} → IsHeldBy s xs → Shares s t [] ys → Moves t u ys []
+    → IsHeldBy u xs
 held_again h m n = record { each = λ b. omega (arith, h.each b, m.counts.each b, n.counts.each b, tally_none b) }

@@ -1,5 +1,6 @@
 -- Slices divided between two lists.
-use Rattle.std.specs.Prelude.{◌≡◌, ℕ, ◌+◌, ◌<◌, ◌≤◌, ◌^◌, List, [], ◌∷◌, ◌++◌, length, take, drop, slice_index_or, Result, IfOk, IfErr, OnErr}
+use Rattle.std.specs.Prelude.{◌≡◌, ℕ, ◌+◌, ◌<◌, ◌≤◌, ◌^◌, List, [], ◌∷◌, ◌++◌, length, take, drop, slice_index_or}
+use Rattle.std.specs.Prelude.{Result, IfOk, IfErr, OnErr}
 use Rattle.std.specs.declared.alloc.AllocFailed.{AllocFailed}
 use Rattle.std.specs.declared.vec.Vec.{Vec}
 use Rattle.iol_hold.specs.Moves.{Shares}
@@ -31,15 +32,15 @@ pub record Divides (s t : Stored) (x first rest : Slice) (n : ℕ) : Type 0 wher
   pub kept_hold : rest.hold ≡ x.hold
   pub shares : Shares s t [] (x.hold.buf ∷ [])
 
--- The first n bytes of slices may go to another list: n is 0, or less than the length of the first slice, and each buffer of the
--- slices has their holds, and can get as many again.
+-- The first n bytes of slices may go to another list: n is 0, or less than the length of the first slice, and each
+-- buffer of the slices has their holds, and can get as many again.
 pub record MayMoveBytes (s : Stored) (xs : List Slice) (n : ℕ) : Type 0 where
   pub there : 0 < n → 0 < length xs
   pub inside : (d : Slice) → 0 < n → n < (slice_index_or xs 0 d).len
   pub held : AreShareable s (bufs_of xs)
 
--- The first n bytes of the second list of slices went to the end of the first, in a slice of their own, and the slices of both
--- hold their buffers.
+-- The first n bytes of the second list of slices went to the end of the first, in a slice of their own, and the slices
+-- of both hold their buffers.
 pub record MovesBytes {Z : Type 0} (s t : Stored) (first second longer rest : Vec Slice Z) (n : ℕ) : Type 0 where
   pub places : places_of longer.items ≡ places_of first.items ++ take n (places_of second.items)
   pub left : places_of rest.items ≡ drop n (places_of second.items)
@@ -47,8 +48,8 @@ pub record MovesBytes {Z : Type 0} (s t : Stored) (first second longer rest : Ve
   pub left_bufs : bufs_of rest.items ≡ bufs_of second.items
   pub shares : Shares s t (bufs_of first.items ++ bufs_of second.items) (bufs_of longer.items ++ bufs_of rest.items)
 
--- An aggregate was split: the bytes before a place, and those from it on. No slice was divided except the one over the place.
--- If there is no memory, it is returned whole.
+-- An aggregate was split: the bytes before a place, and those from it on. No slice was divided except the one over the
+-- place. If there is no memory, it is returned whole.
 pub record Splits (s t : Stored) (xs : List Slice) (place : ℕ)
     (r : Result (List Slice × List Slice) (AllocFailed (List Slice))) : Type 0 where
   pub first : IfOk r (λ a. places_of a.0 ≡ take place (places_of xs))

@@ -21,13 +21,15 @@ IsReply {A} f r = ((a : A) × (r ≡ f a)) ⊎ ((x : Refusal) × (r ≡ reply.Re
 
 -- The guarantee of a call by a handle: the handle keeps its domain and system, the call has all guarantees of
 -- `System::step` for its event, and the reply is this result.
-pub record Answers {B : Type 0} {A : Type 0} (f : A → Reply) (old : Domain B) (c : Call) (result : Result A Refusal) (new : Domain B) : Type 0 where
+pub record Answers {B : Type 0} {A : Type 0} (f : A → Reply) (old : Domain B) (c : Call) (result : Result A Refusal)
+    (new : Domain B) : Type 0 where
   pub same_reference : new.system.ghost_name ≡ old.system.ghost_name
   pub by : new.by ≡ old.by
   pub promises : Promises old.system.now (event.Call old.by c) (reported f result) new.system.now
 
 -- The same, or there is no memory for the bytes or names in the call, and nothing changes.
-abbrev pub AnswersIfHeld : {B : Type 0} {A : Type 0} → (A → Reply) → Domain B → Call → Result A Refusal → Domain B → Type 0
+abbrev pub AnswersIfHeld : {B : Type 0} {A : Type 0} → (A → Reply) → Domain B → Call → Result A Refusal → Domain B
+    → Type 0
 AnswersIfHeld f old c result new = Answers f old c result new ⊎ ((result ≡ Err Memory) × (new ≡ old))
 
 -- the result of a call without a value
@@ -47,11 +49,13 @@ segment two = reply.Segment two.0 two.1
 
 -- What an outside event promises: the world stays the same one, the event is carried out with all that
 -- `World::step_outside` promises of it, and the reply is this result.
-pub record Happens {B P : Type 0} {A : Type 0} (turns : TransitionRelation P) (f : A → Reply) (old : Outside B P) (e : Event) (result : Result A Refusal) (new : Outside B P) : Type 0 where
+pub record Happens {B P : Type 0} {A : Type 0} (turns : TransitionRelation P) (f : A → Reply) (old : Outside B P)
+    (e : Event) (result : Result A Refusal) (new : Outside B P) : Type 0 where
   pub same_reference : new.world.ghost_name ≡ old.world.ghost_name
   pub step : OutsideStep sharing turns old.world.now e (reported f result) new.world.now
   pub copied : IfHonest old.world.now.machine.disk (CopiedStep turns old.world.now e (reported f result) new.world.now)
 
 -- The same, or there is no memory for the bytes that the event carries, and nothing is done.
-abbrev pub HappensIfHeld : {B P : Type 0} {A : Type 0} → TransitionRelation P → (A → Reply) → Outside B P → Event → Result A Refusal → Outside B P → Type 0
+abbrev pub HappensIfHeld : {B P : Type 0} {A : Type 0} → TransitionRelation P → (A → Reply) → Outside B P → Event
+    → Result A Refusal → Outside B P → Type 0
 HappensIfHeld turns f old e result new = Happens turns f old e result new ⊎ ((result ≡ Err Memory) × (new ≡ old))

@@ -32,8 +32,8 @@ IsAtPage s ps page had need = IsSearching s ps page (page + 1) had need
 abbrev pub IsAtChunk : State → List Part → (chunk had need : ℕ) → Type 0
 IsAtChunk s ps c had need = IsSearching s ps (c * CHUNK_PAGES) ((c + 1) * CHUNK_PAGES) had need
 
--- Of these pages the search has taken the first, as many as were needed yet, after its parts: it has so many now, and its
--- parts are apart from one another and end before page `to`.
+-- Of these pages the search has taken the first, as many as were needed yet, after its parts: it has so many now, and
+-- its parts are apart from one another and end before page `to`.
 pub record TakesPages (old new : List Part) (found : List ℕ) (need had now to : ℕ) : Type 0 where
   pub pages : part_pages new ≡ part_pages old ++ take (need - had) found
   pub have : now ≡ had + length (take (need - had) found)

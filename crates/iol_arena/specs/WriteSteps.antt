@@ -47,7 +47,8 @@ published_entries es p n =
 abbrev pub published_part : State → Part → ℕ → State
 published_part s p n = with_entries s (published_entries s.entries p n)
 
--- The first n bytes of the part are one buffer. Its pages were raised by one, and the part's others are free again, unraised.
+-- The first n bytes of the part are one buffer. Its pages were raised by one, and the part's others are free again,
+-- unraised.
 pub record PublishesPart (old new : State) (p : Part) (n : ℕ) (b : BufId) : Type 0 where
   pub arena : new ≡ published_part old p n
   pub buf : b ≡ begun_on old p

@@ -1,5 +1,6 @@
 -- Names in byte order.
-use Rattle.std.proofs.Common.{◌≡◌, ◌≢◌, ℕ, ◌-◌, List, length, All, Some, slice_get, slice_index_or, arith, inl, inr, sym, ap, subst, ◌∙◌}
+use Rattle.std.proofs.Common.{◌≡◌, ◌≢◌, ℕ, ◌-◌, List, length, All, Some, slice_get, slice_index_or, arith, inl, inr}
+use Rattle.std.proofs.Common.{sym, ap, subst, ◌∙◌}
 use Rattle.std.proofs.lemmas.Cmp.{tied_itself, nat_list_cmp_total}
 use Rattle.std.proofs.lemmas.Bool.{cases_eq}
 use Rattle.std.proofs.lemmas.Option.{get_or_from_slice_get}
@@ -19,10 +20,15 @@ pub distinct_of_rising : (names : List (List ℕ)) → AreRising names → AreDi
 distinct_of_rising names rising i j d below inside = precedes-other _ _ (rising i j d below inside)
 
 -- what the last name is before, all are
-pub all_precede : (names : List (List ℕ)) (place : ℕ) (last name : List ℕ) → AreRising names → place ≡ length names - 1 → slice_get names place ≡ Some last → Precedes last name → All (λ other. Precedes other name) names
+pub all_precede : (names : List (List ℕ)) (place : ℕ) (last name : List ℕ) → AreRising names → place ≡ length names - 1
+    → slice_get names place ≡ Some last → Precedes last name → All (λ other. Precedes other name) names
 all_precede names place last name rising is found before k d inside =
     let end = get_or_from_slice_get names place last d found in
     elim (cases_eq k place) [
-      | inl same ↦ subst (λ (y : List ℕ). Precedes y name) (sym (ap (λ (i : ℕ). slice_index_or names i d) same ∙ end)) before
-      | inr other ↦ nat_list_cmp_total.trans _ last _ (subst (λ (y : List ℕ). Precedes (slice_index_or names k d) y) end (rising k place d (omega (arith, is, inside, other)) (omega (arith, is, inside)))) before
+      | inl same ↦ subst (λ (y : List ℕ). Precedes y name) (sym (ap (λ (i : ℕ). slice_index_or names i d) same ∙ end))
+          before
+      | inr other ↦
+          nat_list_cmp_total.trans _ last _
+          (subst (λ (y : List ℕ). Precedes (slice_index_or names k d) y) end
+          (rising k place d (omega (arith, is, inside, other)) (omega (arith, is, inside)))) before
     ]

@@ -1,5 +1,6 @@
 -- What a contract sees of a backing store.
-use Rattle.std.specs.Prelude.{◌≡◌, ◌≢◌, ℕ, ◌+◌, ◌<◌, ◌≤◌, ◌^◌, ◌-◌, ◌⊎◌, Bool, true, List, [], ◌++◌, length, map, take, drop, min, max, slice_index, Result, Ok, Err, OnOk, OnErr}
+use Rattle.std.specs.Prelude.{◌≡◌, ◌≢◌, ℕ, ◌+◌, ◌<◌, ◌≤◌, ◌^◌, ◌-◌, ◌⊎◌, Bool, true, List, [], ◌++◌, length, map, take}
+use Rattle.std.specs.Prelude.{drop, min, max, slice_index, Result, Ok, Err, OnOk, OnErr}
 use Rattle.iol_core.specs.NumberedLists.{numbered_or}
 use Rattle.iol_core.specs.declared.limits.TheConstants.{MAX_FILES}
 

@@ -15,7 +15,13 @@ calls_to_fault f = f.left
 -- that failed below. Earlier failures of the store below are not counted.
 abbrev pub disk_over : {B : Type 0} → (B → Disk) → FaultyBacking B → Disk
 disk_over disk f =
-    record { slots = (disk f.inner).slots; failures = f.failed; honest = (disk f.inner).honest; reported = (disk f.inner).reported }
+    record {
+      slots = (disk f.inner).slots;
+      failures = f.failed;
+      honest = (disk f.inner).honest;
+      reported =
+          (disk f.inner).reported;
+    }
 
 -- The countdown to the failing call decreases by one. The failing call fails; any other fails if the store below
 -- fails. Once this store has failed too often, it no longer calls the store below.
@@ -43,7 +49,8 @@ abbrev pub first_half : List ℕ → List ℕ
 first_half bytes = take (length bytes / 2) bytes
 
 -- The failing write writes the first half of its bytes to the store below, if that is honest and does not fail.
-abbrev pub WritesHalf : {B : Type 0} → (B → Disk) → (file at : ℕ) → (bytes : List ℕ) → (old new : FaultyBacking B) → Type 0
+abbrev pub WritesHalf : {B : Type 0} → (B → Disk) → (file at : ℕ) → (bytes : List ℕ) → (old new : FaultyBacking B)
+    → Type 0
 WritesHalf disk file at bytes old new =
     calls_to_fault old ≡ 1 → Succeeds (disk (inner_of old)) (disk (inner_of new))
     → IfHonest (disk (inner_of old))

@@ -21,13 +21,15 @@ pub record OverwritesFile {E : Type 0} (file at : ℕ) (bytes : List ℕ) (old n
   pub this : Overwrites at bytes (content old file) (content new file) r
   pub others : OthersStay file old new
 
--- Bytes are written over those of a file from `at` on, for files that are vectors, as `OverwritesFile` says of their items.
-abbrev pub OverwritesList : {E : Type 0} → (file at : ℕ) → (bytes : List ℕ) → (old new : List (Vec ℕ)) → Result (Unit {0}) E
+-- Bytes are written over those of a file from `at` on, for files that are vectors, as `OverwritesFile` says of their
+-- items.
+abbrev pub OverwritesList : {E : Type 0} → (file at : ℕ) → (bytes : List ℕ) → (old new : List (Vec ℕ))
+    → Result (Unit {0}) E
     → Type 0
 OverwritesList file at bytes old new r = OverwritesFile file at bytes (items_of old) (items_of new) r
 
--- At least one byte may be written over those of a file from `at` on: it has a slot, `at` is at most its length, and there are
--- no more lists than slots.
+-- At least one byte may be written over those of a file from `at` on: it has a slot, `at` is at most its length, and
+-- there are no more lists than slots.
 pub record MayOverwrite (file at : ℕ) (bytes : List ℕ) (lists : List (Vec ℕ)) : Type 0 where
   pub slot : IsSlot file
   pub few : length lists ≤ MAX_FILES

@@ -2,8 +2,9 @@
 use Rattle.std.specs.Prelude.{◌≡◌, ℕ, List, length, Result, IsOk, OnOk, OnErr}
 use Rattle.iol_back.specs.Disk.{Disk, CanRead, Counts, IsSlot, OthersStay, Reads, Writes, content}
 
--- A call reads a file of a store in memory from `at` on. If it succeeds, the file has a slot, and the bytes are its own. No file
--- changes, a failed call is counted, and it fails only if the store has failed too often or has no such range.
+-- A call reads a file of a store in memory from `at` on. If it succeeds, the file has a slot, and the bytes are its
+-- own. No file changes, a failed call is counted, and it fails only if the store has failed too often or has no such
+-- range.
 pub record ReadsMemory {E : Type 0} (file at : ℕ) (old new : Disk) (was now : List ℕ)
     (r : Result (Unit {0}) E) : Type 0 where
   pub honest : new.honest ≡ old.honest
@@ -13,9 +14,9 @@ pub record ReadsMemory {E : Type 0} (file at : ℕ) (old new : Disk) (was now : 
   pub read : OnOk r (Reads at (content old.slots file) was now)
   pub succeeds : CanRead old file at (length was) → IsOk r
 
--- A call writes bytes to a file of a store in memory from `at` on. If it succeeds, the file has a slot, and these bytes there.
--- No other file changes, and a failed write changes no file and is counted. A write inside a file that has a slot fails only if
--- the store has failed too often.
+-- A call writes bytes to a file of a store in memory from `at` on. If it succeeds, the file has a slot, and these bytes
+-- there. No other file changes, and a failed write changes no file and is counted. A write inside a file that has a
+-- slot fails only if the store has failed too often.
 pub record WritesMemory {E : Type 0} (file at : ℕ) (bytes : List ℕ) (old new : Disk)
     (r : Result (Unit {0}) E) : Type 0 where
   pub honest : new.honest ≡ old.honest

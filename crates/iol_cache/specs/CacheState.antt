@@ -1,5 +1,6 @@
 -- What a cache of files holds.
-use Rattle.std.specs.Prelude.{◌≡◌, ℕ, ◌+◌, ◌≤◌, ◌&&◌, not, if◌then◌else◌, cond, eqb, List, [], flat_map, length, max, sum_by, Option, Some, None, Result, OnErr, OnOk}
+use Rattle.std.specs.Prelude.{◌≡◌, ℕ, ◌+◌, ◌≤◌, ◌&&◌, not, if◌then◌else◌, cond, eqb, List, [], flat_map, length, max}
+use Rattle.std.specs.Prelude.{sum_by, Option, Some, None, Result, OnErr, OnOk}
 use Rattle.iol_core.specs.NumberedLists.{numbered_or}
 use Rattle.iol_core.specs.Prelude.{with_numbered}
 use Rattle.iol_core.specs.declared.numbers.BufId.{BufId}
@@ -111,7 +112,8 @@ dirty_in_all fs = sum_by (λ x. dirty_count x.extents.extents) fs
 -- Removal of an extent.
 
 abbrev pub lacking : CachedFile → (at : ℕ) → CachedFile
-lacking x at = record { pool = x.pool; extents = record { extents = without_at x.extents.extents at; room = x.extents.room + 1 } }
+lacking x at =
+    record { pool = x.pool; extents = record { extents = without_at x.extents.extents at; room = x.extents.room + 1 } }
 
 -- without the extent that begins at a place of a file
 abbrev pub without_extent : List CachedFile → (f at : ℕ) → List CachedFile

@@ -1,5 +1,6 @@
 -- The bytes of a write, as an aggregate of the file's pool: its own are shared, and each run of others is copied.
-use Rattle.std.specs.Prelude.{◌≡◌, ℕ, ◌+◌, ◌==◌, ◌<◌, ◌≤◌, ◌++◌, if◌then◌else◌, Bool, false, not, List, [], ◌∷◌, All, length, take, drop, slice_index_or, Result, Err, IfErr, IfOk, OnErr}
+use Rattle.std.specs.Prelude.{◌≡◌, ℕ, ◌+◌, ◌==◌, ◌<◌, ◌≤◌, ◌++◌, if◌then◌else◌, Bool, false, not, List, [], ◌∷◌, All}
+use Rattle.std.specs.Prelude.{length, take, drop, slice_index_or, Result, Err, IfErr, IfOk, OnErr}
 use Rattle.iol_core.specs.Meaning.{WantOfRoom}
 use Rattle.iol_core.specs.Text as text
 use Rattle.iol_core.specs.declared.limits.TheConstants.{MAX_AGGREGATE_BYTES}

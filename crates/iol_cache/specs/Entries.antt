@@ -9,7 +9,8 @@ use Rattle.iol_cache.specs.CacheState.{entries_at, parts_in}
 use Rattle.iol_cache.specs.Marks.{AreWithin, HasMarksLeft, Marks}
 use Rattle.iol_cache.specs.RangeReads.{AllBeginAt, AllWithin, AreAbsent, all_entered, parts_of_spans}
 
--- An extent of file f begins at a place, and may enter the order: the order has no entry there, and room, and its pages can be marked.
+-- An extent of file f begins at a place, and may enter the order: the order has no entry there, and room, and its pages
+-- can be marked.
 pub record MayEnter (f at : ℕ) (es : List Extent) (r : Ranking) (marks : List ℕ) : Type 0 where
   pub apart : IsApart 0 es
   pub begins : IsSome (begins_at es at)
@@ -23,8 +24,8 @@ pub record Enters (f at : ℕ) (es : List Extent) (r t : Ranking) (old new : Lis
   pub order : t ≡ entered r f at (byte_len (parts_in (begins_at es at))) 1
   pub marks : Marks old new (parts_in (begins_at es at))
 
--- Extents of file f begin where these spans do, one after another, and may come in: the order has none of them, and room, and
--- their pages can be marked.
+-- Extents of file f begin where these spans do, one after another, and may come in: the order has none of them, and
+-- room, and their pages can be marked.
 pub record MayEnterAll (f : ℕ) (es : List Extent) (ss : List Span) (r : Ranking) (marks : List ℕ) : Type 0 where
   pub apart : IsApart 0 es
   pub begin : AllBeginAt es ss

@@ -1,5 +1,6 @@
 -- Clean extents that go, one after another.
-use Rattle.std.specs.Prelude.{◌≡◌, ◌≢◌, ◌↔◌, ℕ, zero, suc, ◌+◌, ◌<◌, ◌≤◌, Bool, true, false, List, [], ◌∷◌, length, Option, Some, None, MatchOption, IsTrue}
+use Rattle.std.specs.Prelude.{◌≡◌, ◌≢◌, ◌↔◌, ℕ, zero, suc, ◌+◌, ◌<◌, ◌≤◌, Bool, true, false, List, [], ◌∷◌, length}
+use Rattle.std.specs.Prelude.{Option, Some, None, MatchOption, IsTrue}
 use Rattle.std.specs.List.{list_any}
 use Rattle.iol_core.specs.declared.numbers.BufId.{BufId}
 use Rattle.iol_hold.specs.StoreState.{Stored, AllReclaimed, count_of}
@@ -13,7 +14,8 @@ use Rattle.iol_evict.specs.Victims.{AreUsedBelow, IsVictim}
 use Rattle.iol_cache.specs.declared.files.CachedFile.{CachedFile}
 use Rattle.iol_cache.specs.Marks.{is_held_beside}
 use Rattle.iol_cache.specs.Contents.{Mirrors, SameFiles}
-use Rattle.iol_cache.specs.CacheState.{Cached, file_in, extents_in, order_in, parts_at, held, clean_held, without_extent, with_evicted}
+use Rattle.iol_cache.specs.CacheState.{Cached, file_in, extents_in, order_in, parts_at, held, clean_held}
+use Rattle.iol_cache.specs.CacheState.{without_extent, with_evicted}
 use Rattle.iol_cache.specs.PinnedPages.{pinned_beside}
 use Rattle.iol_cache.specs.Sound.{IsSound}
 
@@ -78,7 +80,8 @@ pub record EvictsNext (p : ℕ) (wanted : Option ℕ) (place : ℕ × ℕ) (old 
 -- extents of the pool's files that were evicted, the last first, each while pages were missing
 abbrev pub AreEvicted : (p : ℕ) → (wanted : Option ℕ) → List (ℕ × ℕ) → (old new : Holding) → Type 0
 AreEvicted p wanted [] old new = new ≡ old
-AreEvicted p wanted (v ∷ earlier) old new = (mid : Holding) × AreEvicted p wanted earlier old mid × EvictsNext p wanted v mid new
+AreEvicted p wanted (v ∷ earlier) old new = (mid : Holding) × AreEvicted p wanted earlier old mid
+    × EvictsNext p wanted v mid new
 
 pub record EvictsAll (p : ℕ) (wanted : Option ℕ) (old new : Holding) : Type 0 where
   pub places : List (ℕ × ℕ)
@@ -110,7 +113,8 @@ pub record GivesUp (old new : Holding) : Type 0 where
   pub frees : FreesOnly old.store new.store
   pub lists : SameLists old.store new.store
   pub reclaims : AllReclaimed old.store → AllReclaimed new.store
-  pub mirrors : (slots : List (List ℕ)) → Mirrors old.store slots old.cache.files → Mirrors new.store slots new.cache.files
+  pub mirrors : (slots : List (List ℕ)) → Mirrors old.store slots old.cache.files
+      → Mirrors new.store slots new.cache.files
   pub files : (slots : List (List ℕ)) → Mirrors old.store slots old.cache.files
       → SameFiles old.store old.cache.files new.store new.cache.files slots
   pub keeps : KeepsPlaces old.cache new.cache

@@ -20,7 +20,8 @@ use Rattle.iol_cache.specs.Gaps.{AreOf}
 use Rattle.iol_cache.specs.ReadSteps.{FillsAllOf, Goes}
 use Rattle.iol_cache.specs.PageChanges.{FillsLowest}
 use Rattle.iol_cache.specs.RangeReads.{MayFill}
-use Rattle.iol_cache.specs.ReadResults.{FillsPinned, IsBacked, IsEnd, NoRoomToRead, ReadsFile, RefusesRead, RoomToRead, ReportsFault, ReportsRoom, bytes_read}
+use Rattle.iol_cache.specs.ReadResults.{FillsPinned, IsBacked, IsEnd, NoRoomToRead, ReadsFile, RefusesRead, RoomToRead}
+use Rattle.iol_cache.specs.ReadResults.{ReportsFault, ReportsRoom, bytes_read}
 use Rattle.iol_cache.specs.SharedBytes.{CountsBelow}
 use Rattle.iol_cache.specs.Sound.{IsSound}
 
@@ -52,11 +53,14 @@ pub record MayReadFile (f : ℕ) (h : Holding) : Type 0 where
 -- own bytes. Or the read was refused: for lack of room only if there is none, for lack of memory, or by a fault of the
 -- store. In each case the cache is sound, and over an honest store every file keeps its bytes. Except for extents, only
 -- the result holds new references.
-pub record ServesRead (f at n : ℕ) (disk : Disk) (s : Stored) (c : Cache) (r : Result (List Slice) Refusal) (after : Disk)
+pub record ServesRead (f at n : ℕ) (disk : Disk) (s : Stored) (c : Cache) (r : Result (List Slice) Refusal)
+    (after : Disk)
     (t : Stored) (d : Cache) : Type 0 where
   -- the bytes that are read
   pub text : IsBacked disk (holding s c)
-      → IfOk r (λ a. text_of t a ≡ labelled (file_in (cached_of c).files f).pool (bytes_read s disk.slots (cached_of c) f at n))
+      → IfOk r
+      (λ a. text_of t a ≡ labelled (file_in (cached_of c).files f).pool
+      (bytes_read s disk.slots (cached_of c) f at n))
   pub readable : IfOk r (AllReadable t)
   pub pool : IfOk r (AreOf (file_in (cached_of c).files f).pool)
   pub short : IfOk r (λ a. byte_len a ≤ n)
@@ -76,4 +80,5 @@ pub record ServesRead (f at n : ℕ) (disk : Disk) (s : Stored) (c : Cache) (r :
 -- n is where a read of a file would end now: of a store that backs the cache, the length of the file
 pub record ReportsLength (disk : Disk) (c : Cached) (f n : ℕ) : Type 0 where
   pub end : IsEnd disk c f n
-  pub length : (s : Stored) → IsBacked disk (record { store = s; cache = c }) → n ≡ length (bytes_in_slot s disk.slots c.files f)
+  pub length : (s : Stored) → IsBacked disk (record { store = s; cache = c })
+      → n ≡ length (bytes_in_slot s disk.slots c.files f)

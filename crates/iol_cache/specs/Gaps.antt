@@ -1,5 +1,6 @@
 -- Gaps of a file that become clean extents.
-use Rattle.std.specs.Prelude.{◌≡◌, ℕ, ◌+◌, ◌-◌, ◌≤◌, false, List, [], ◌∷◌, ◌++◌, length, take, drop, IsSome, slice_range, All, Result, IfErr, OnErr, OnOk}
+use Rattle.std.specs.Prelude.{◌≡◌, ℕ, ◌+◌, ◌-◌, ◌≤◌, false, List, [], ◌∷◌, ◌++◌, length, take, drop, IsSome}
+use Rattle.std.specs.Prelude.{slice_range, All, Result, IfErr, OnErr, OnOk}
 use Rattle.std.specs.List.{AllZip}
 use Rattle.iol_core.specs.Prelude.{WantOfRoomOrFault}
 use Rattle.iol_core.specs.Text as text
@@ -93,7 +94,8 @@ pub record FillsGap (s t : Stored) (old new : ExtentMap) (pool : ℕ) (gap : Spa
   pub mirrors : IfHonest disk (Mirrors t pool (content disk.slots file) made)
 
 -- each gap was read into new buffers of the pool, and is a clean extent
-pub record FillsGaps (s t : Stored) (old new : ExtentMap) (pool : ℕ) (gaps : List Span) (disk : Disk) (file : ℕ) : Type 0 where
+pub record FillsGaps (s t : Stored) (old new : ExtentMap) (pool : ℕ) (gaps : List Span) (disk : Disk) (file : ℕ) :
+    Type 0 where
   pub made : List Extent
   pub each : AreMade s t pool gaps made
   pub extents : new.extents ≡ all_put old.extents made
@@ -105,7 +107,8 @@ pub record FillsGaps (s t : Stored) (old new : ExtentMap) (pool : ℕ) (gaps : L
 
 -- A call that reads these gaps of a file into pages of a pool, all of them or none, with one read of the store for
 -- each. After an error, everything else is unchanged, and the placed bytes are released.
-pub record ReadsAllGaps {A : Type 0} (pool file : ℕ) (gaps : List Span) (stays : Type 0) (disk after : Disk) (old new : Stored)
+pub record ReadsAllGaps {A : Type 0} (pool file : ℕ) (gaps : List Span) (stays : Type 0) (disk after : Disk)
+    (old new : Stored)
     (r : Result A Refusal) : Type 0 where
   pub same : OnErr r stays
   pub leaves : PlacesOrReleases pool (gap_pages gaps) old new r

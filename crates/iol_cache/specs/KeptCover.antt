@@ -10,7 +10,8 @@ pub record KeepsDirty (old new : Cached) : Type 0 where
 
 -- each byte under an extent stays in its place
 pub record KeepsCover (old new : Cached) : Type 0 where
-  pub each : (f i : ℕ) (c : Cell) → cover (extents_in old.files f) i ≡ Some c → cover (extents_in new.files f) i ≡ Some c
+  pub each : (f i : ℕ) (c : Cell) → cover (extents_in old.files f) i ≡ Some c
+      → cover (extents_in new.files f) i ≡ Some c
 
 -- the extents of every file are unchanged
 pub record SameExtents (old new : Cached) : Type 0 where

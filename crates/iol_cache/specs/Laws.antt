@@ -15,7 +15,8 @@ WantsOneNumber = (s : Stored) (c : Cached) (f from to : ℕ) → IsSound s c →
 
 -- a range has room, or it lacks it, and never both
 abbrev pub HasOrLacksRoom : Type 0
-HasOrLacksRoom = (s : Stored) (c : Cached) (f from to : ℕ) → IsSound s c → HasRoom s c f from to → LacksRoom s c f from to → ⊥
+HasOrLacksRoom = (s : Stored) (c : Cached) (f from to : ℕ) → IsSound s c → HasRoom s c f from to
+    → LacksRoom s c f from to → ⊥
 
 -- a file has one end, whatever the store under it
 abbrev pub HasOneEnd : Type 0

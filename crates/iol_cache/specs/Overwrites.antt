@@ -1,5 +1,6 @@
 -- The effects of a write on files and on extents.
-use Rattle.std.specs.Prelude.{◌≡◌, ◌≢◌, ◌⊎◌, ℕ, ◌+◌, ◌<◌, ◌≤◌, ◌^◌, ◌++◌, true, List, length, Option, Some, None, Result, Err, IfErr, OnErr, OnOk}
+use Rattle.std.specs.Prelude.{◌≡◌, ◌≢◌, ◌⊎◌, ℕ, ◌+◌, ◌<◌, ◌≤◌, ◌^◌, ◌++◌, true, List, length, Option, Some, None}
+use Rattle.std.specs.Prelude.{Result, Err, IfErr, OnErr, OnOk}
 use Rattle.iol_back.specs.Disk.{overwritten}
 use Rattle.iol_core.specs.Meaning.{WantOfRoom}
 use Rattle.iol_core.specs.NumberedLists.{is_numbered}
@@ -45,11 +46,13 @@ pub record IsWritten (f at : ℕ) (source : List Slice) (old new : Holding) : Ty
 
 -- every other file has the bytes that it had
 pub record KeepsOthers (f : ℕ) (old new : Holding) : Type 0 where
-  pub each : (slots : List (List ℕ)) → MirrorsIn old slots → (g : ℕ) → g ≢ f → bytes_in new slots g ≡ bytes_in old slots g
+  pub each : (slots : List (List ℕ)) → MirrorsIn old slots → (g : ℕ) → g ≢ f
+      → bytes_in new slots g ≡ bytes_in old slots g
 
 -- every file has the bytes that it had
 pub record KeepsFiles (old new : Holding) : Type 0 where
-  pub each : (slots : List (List ℕ)) → MirrorsIn old slots → SameFiles old.store old.cache.files new.store new.cache.files slots
+  pub each : (slots : List (List ℕ)) → MirrorsIn old slots
+      → SameFiles old.store old.cache.files new.store new.cache.files slots
 
 -- the store has the same bytes under clean extents, if it had before
 pub record KeepsMirrors (old new : Holding) : Type 0 where
@@ -156,7 +159,8 @@ pub record MayOverwrite (f at : ℕ) (source : List Slice) (h : Holding) : Type 
 
 -- The bytes of a source were written over those of a file from a place on. After an error, for lack of room or memory,
 -- the cache is unchanged, and the placed bytes are released. The cache is sound.
-pub record OverwritesOrReleases {A : Type 0} (f at : ℕ) (source : List Slice) (s : Stored) (c : Cache) (t : Stored) (d : Cache)
+pub record OverwritesOrReleases {A : Type 0} (f at : ℕ) (source : List Slice) (s : Stored) (c : Cache) (t : Stored)
+    (d : Cache)
     (r : Result A Refusal) : Type 0 where
   pub overwrites : OnOk r (Overwrites f at source (holding s c) (holding t d))
   pub same : OnErr r (d ≡ c)

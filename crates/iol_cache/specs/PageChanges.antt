@@ -5,8 +5,8 @@ use Rattle.iol_hold.specs.Releases.{FreesOnly}
 use Rattle.iol_hold.specs.Room.{free_of}
 use Rattle.iol_hold.specs.StoreState.{Stored}
 
--- Room was made: some pages were freed. Then the lowest free pages of the pool were filled, each generation raised by one. All
--- others are unchanged or were freed, and an open pool keeps its chunks.
+-- Room was made: some pages were freed. Then the lowest free pages of the pool were filled, each generation raised by
+-- one. All others are unchanged or were freed, and an open pool keeps its chunks.
 pub record FillsLowest (pool : ℕ) (old new : Stored) : Type 0 where
   pub roomy : Stored
   pub frees : FreesOnly old roomy

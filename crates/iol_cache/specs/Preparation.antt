@@ -14,8 +14,8 @@ use Rattle.iol_cache.specs.Loads.{PlacesOrReleases}
 use Rattle.iol_cache.specs.SharedBytes.{AreHeld}
 use Rattle.iol_cache.specs.declared.write.cut.Replacement.{Replacement}
 
--- The bytes that a source has lie in the file's pool, as a dirty extent that begins at a place; and the parts of extents
--- on both sides of them are shared.
+-- The bytes that a source has lie in the file's pool, as a dirty extent that begins at a place; and the parts of
+-- extents on both sides of them are shared.
 pub record Prepares (s t : Stored) (pool : ℕ) (es : List Extent) (at : ℕ) (source : List Slice)
     (left right e : Extent) : Type 0 where
   pub before : CutsLeft es at left
@@ -27,16 +27,16 @@ pub record Prepares (s t : Stored) (pool : ℕ) (es : List Extent) (at : ℕ) (s
   pub composes : Composes s mid pool (copied_pages pool source) source e.parts
   pub shares : Shares mid t [] (bufs_of left.parts ++ bufs_of right.parts)
 
--- What a source has, at least a byte, may be put in place of a file's bytes from a place on: it may be composed in the file's
--- pool, and the file's extents are held.
+-- What a source has, at least a byte, may be put in place of a file's bytes from a place on: it may be composed in the
+-- file's pool, and the file's extents are held.
 pub record MayPrepare (s : Stored) (pool : ℕ) (es : List Extent) (at : ℕ) (source : List Slice) : Type 0 where
   pub some : 0 < byte_len source
   pub fits : at + byte_len source < 2 ^ 32
   pub bytes : MayCompose s (2 ^ 61) pool source
   pub extents : AreHeld s es
 
--- The bytes of a source, and the parts of extents on both sides of them, were prepared. After an error, for lack of room or memory,
--- all of them are released.
+-- The bytes of a source, and the parts of extents on both sides of them, were prepared. After an error, for lack of
+-- room or memory, all of them are released.
 pub record PreparesOrReleases (s t : Stored) (pool : ℕ) (es : List Extent) (at : ℕ) (source : List Slice)
     (r : Result Replacement Refusal) : Type 0 where
   pub prepares : IfOk r (λ x. Prepares s t pool es at source x.left x.right x.bytes)

@@ -1,5 +1,6 @@
 -- Reading a range of a file.
-use Rattle.std.specs.Prelude.{◌≡◌, ℕ, ◌≤◌, ◌^◌, true, if◌then◌else◌, List, [], ◌∷◌, ◌++◌, All, length, Option, Some, None, IsSome, Result, IfOk, flat_map}
+use Rattle.std.specs.Prelude.{◌≡◌, ℕ, ◌≤◌, ◌^◌, true, if◌then◌else◌, List, [], ◌∷◌, ◌++◌, All, length, Option, Some}
+use Rattle.std.specs.Prelude.{None, IsSome, Result, IfOk, flat_map}
 use Rattle.iol_core.specs.NumberedLists.{is_numbered}
 use Rattle.iol_core.specs.declared.limits.TheConstants.{MAX_FILE_BYTES}
 use Rattle.iol_core.specs.declared.refusals.Refusal.{Refusal}
@@ -21,7 +22,8 @@ use Rattle.iol_cache.specs.Marks.{AreWithin}
 use Rattle.iol_cache.specs.SharedBytes.{CountsBelow}
 use Rattle.iol_cache.specs.Sound.{IsSound}
 use Rattle.iol_cache.specs.Weave.{HasSlicesWoven, LieBeside, len_beside, woven}
-use Rattle.iol_cache.specs.CacheState.{Cached, file_in, extents_in, order_in, parts_in, all_parts, held, clean_held, clean_at, entries_at}
+use Rattle.iol_cache.specs.CacheState.{Cached, file_in, extents_in, order_in, parts_in, all_parts, held, clean_held}
+use Rattle.iol_cache.specs.CacheState.{clean_at, entries_at}
 
 -- nothing changed except the reserved room
 pub record SameButRoom (old new : Cached) : Type 0 where
@@ -88,8 +90,8 @@ pub record FillsRange (s t : Stored) (old new : ExtentMap) (pool : ℕ) (beside 
   pub shares : Shares mid t [] (bufs_of xs)
   pub lies : places xs ≡ woven beside new.extents from to gaps
 
--- The gaps of a range of a file in memory may be filled, and the range assembled with these slices, which have as many bytes as the
--- range outside the gaps.
+-- The gaps of a range of a file in memory may be filled, and the range assembled with these slices, which have as many
+-- bytes as the range outside the gaps.
 pub record MayFillRange (s : Stored) (x : CachedFile) (from to : ℕ) (gs : List Span) (xs : List Slice) : Type 0 where
   pub gaps : HasGaps s x.extents x.pool from to gs
   pub end : to ≤ MAX_FILE_BYTES
@@ -98,9 +100,10 @@ pub record MayFillRange (s : Stored) (x : CachedFile) (from to : ℕ) (gs : List
   pub beside : LieBeside s from to gs xs
   pub few : CountsBelow s (2 ^ 60)
 
--- The gaps of a part of a file in memory are filled, all of them or none, and the part is assembled with these slices, which have
--- the bytes outside the gaps.
-pub record FillsAll (part : FilePart) (gs : List Span) (xs : List Slice) (disk after : Disk) (s t : Stored) (x y : CachedFile)
+-- The gaps of a part of a file in memory are filled, all of them or none, and the part is assembled with these slices,
+-- which have the bytes outside the gaps.
+pub record FillsAll (part : FilePart) (gs : List Span) (xs : List Slice) (disk after : Disk) (s t : Stored)
+    (x y : CachedFile)
     (r : Result (List Slice) Refusal) : Type 0 where
   pub fills : IfOk r (FillsRange s t x.extents y.extents x.pool (places xs) gs part.from part.to disk part.file)
   pub parts : IfOk r (HasSlicesWoven xs y.extents.extents part.from part.to gs)
@@ -117,8 +120,8 @@ pub record CanFill (c : Cached) (f from to : ℕ) (gs : List Span) : Type 0 wher
   pub room : length gs ≤ (file_in c.files f).extents.room
   pub entries : length gs ≤ (order_in c.orders (file_in c.files f).pool).room
 
--- A range of a file may be filled: these are its gaps, and these slices, which are held in addition to all that the cache holds and
--- can be read, have as many bytes as the range outside the gaps.
+-- A range of a file may be filled: these are its gaps, and these slices, which are held in addition to all that the
+-- cache holds and can be read, have as many bytes as the range outside the gaps.
 pub record MayFill (f from to : ℕ) (gs : List Span) (xs : List Slice) (h : Holding) : Type 0 where
   pub sound : IsSound h.store h.cache
   pub range : CanFill h.cache f from to gs

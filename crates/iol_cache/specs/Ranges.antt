@@ -49,7 +49,8 @@ pub record PinsRange (f from to : ℕ) (old new : Holding) (pins : List Slice) (
 -- The hits of a part of a file were shared and counted, and its gaps are returned; or, after an error, the references
 -- are unchanged, and nothing in the cache changed except the reserved room. The cache is sound, pages were at most
 -- freed, and no pool's list changed.
-pub record SharesHits {E : Type 0} (part : FilePart) (old new : Holding) (r : Result (List Slice × Vec Span) E) : Type 0 where
+pub record SharesHits {E : Type 0} (part : FilePart) (old new : Holding) (r : Result (List Slice × Vec Span) E) :
+    Type 0 where
   pub pinned : IfOk r (λ x. PinsRange part.file part.from part.to old new x.0 x.1.items)
   pub sound : IsSound new.store new.cache
   pub same : OnErr r (SameButRoom old.cache new.cache)

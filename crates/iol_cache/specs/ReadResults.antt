@@ -1,5 +1,6 @@
 -- The effects of a read of a file on a store and a cache over it.
-use Rattle.std.specs.Prelude.{◌≡◌, ◌⊎◌, ℕ, ◌+◌, ◌<◌, ◌≤◌, min, max, true, List, [], length, take, drop, Result, Ok, Err, IfOk, IfErr, OnErr}
+use Rattle.std.specs.Prelude.{◌≡◌, ◌⊎◌, ℕ, ◌+◌, ◌<◌, ◌≤◌, min, max, true, List, [], length, take, drop, Result, Ok, Err}
+use Rattle.std.specs.Prelude.{IfOk, IfErr, OnErr}
 use Rattle.iol_core.specs.NumberedLists.{is_numbered}
 use Rattle.iol_core.specs.Prelude.{WantOfRoomOrFault}
 use Rattle.iol_core.specs.declared.limits.TheConstants.{MAX_FILE_BYTES}
@@ -59,7 +60,8 @@ pub record IsBacked (disk : Disk) (h : Holding) : Type 0 where
 pub record IsEnd (disk : Disk) (c : Cached) (f end : ℕ) : Type 0 where
   pub short : end ≤ MAX_FILE_BYTES
   pub is : end ≡ max (min (length_reported disk.reported f) MAX_FILE_BYTES) (last_end (extents_in c.files f))
-  pub stored : IfHonest disk (end ≡ max (min (length (content disk.slots f)) MAX_FILE_BYTES) (last_end (extents_in c.files f)))
+  pub stored :
+      IfHonest disk (end ≡ max (min (length (content disk.slots f)) MAX_FILE_BYTES) (last_end (extents_in c.files f)))
 
 -- n bytes from `at` on, up to the end of the file
 pub record Range (disk : Disk) (c : Cached) (f at n : ℕ) : Type 0 where
@@ -101,7 +103,9 @@ pub record ReadsRange (f from to : ℕ) (disk : Disk) (old new : Holding) (xs : 
   pub pinned : PinsRange f from to old hit pins gaps
   pub completed : CompletesRange f from to pins gaps disk hit new xs
   pub lies : places xs ≡ places_read (extents_in old.cache.files f) (extents_in new.cache.files f) from to gaps
-  pub parts : length xs ≤ length (slices_read (extents_in old.cache.files f) (extents_in new.cache.files f) from to gaps) + length gaps
+  pub parts :
+      length xs ≤ length (slices_read (extents_in old.cache.files f) (extents_in new.cache.files f) from to gaps)
+      + length gaps
   pub answers : 0 < length gaps → disk.failures < last_failure
 
 -- The hits of a range were shared and counted, and extents were evicted to make room for its gaps. The gaps that were

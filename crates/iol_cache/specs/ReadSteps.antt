@@ -32,9 +32,11 @@ pub record Goes (disk : Disk) (taken given : List BufId) (old new : Holding) : T
   pub pages : page_count new.store.arena ≡ page_count old.store.arena
   pub count : length new.cache.files ≡ length old.cache.files
   pub pools : (f : ℕ) → (file_in new.cache.files f).pool ≡ (file_in old.cache.files f).pool
-  pub mirrors : IfHonest disk (Mirrors old.store disk.slots old.cache.files → Mirrors new.store disk.slots new.cache.files)
+  pub mirrors : IfHonest disk (Mirrors old.store disk.slots old.cache.files
+      → Mirrors new.store disk.slots new.cache.files)
   pub files : IfHonest disk
-      (Mirrors old.store disk.slots old.cache.files → SameFiles old.store old.cache.files new.store new.cache.files disk.slots)
+      (Mirrors old.store disk.slots old.cache.files
+      → SameFiles old.store old.cache.files new.store new.cache.files disk.slots)
 
 -- hits on extents of a file were counted in the order of its pool
 pub record CountsHits (f : ℕ) (hits : List Span) (old new : Cached) : Type 0 where
@@ -72,12 +74,14 @@ pub record LacksRoom (s : Stored) (c : Cached) (f from to : ℕ) : Type 0 where
 pub record FillsFile (f from to : ℕ) (beside : List Place) (gaps : List Span) (disk : Disk) (old new : Holding)
     (xs : List Slice) : Type 0 where
   pub extents : ExtentMap
-  pub range : FillsRange old.store new.store (file_in old.cache.files f).extents extents (file_in old.cache.files f).pool
+  pub range : FillsRange old.store new.store (file_in old.cache.files f).extents extents
+      (file_in old.cache.files f).pool
       beside gaps from to disk f xs
   pub files : new.cache.files ≡ with_file old.cache.files f
       (record { pool = (file_in old.cache.files f).pool; extents = extents })
   pub orders : let p = (file_in old.cache.files f).pool in
-      new.cache.orders ≡ with_order old.cache.orders p (all_entered (order_in old.cache.orders p) f extents.extents gaps)
+      new.cache.orders ≡ with_order old.cache.orders p
+      (all_entered (order_in old.cache.orders p) f extents.extents gaps)
   pub marks : Marks old.cache.marks new.cache.marks (parts_of_spans extents.extents gaps)
 
 -- The gaps of a range of a file are filled, all of them or none, and the range is assembled with these slices, which

@@ -1,10 +1,12 @@
 -- A range of a file that is replaced: which extents stand, their entries in the order and their marks.
-use Rattle.std.specs.Prelude.{◌≡◌, ℕ, ◌+◌, ◌<◌, ◌≤◌, ◌^◌, ◌==◌, max, if◌then◌else◌, List, [], ◌∷◌, length, slice_index, Option, Some, None, IsSome}
+use Rattle.std.specs.Prelude.{◌≡◌, ℕ, ◌+◌, ◌<◌, ◌≤◌, ◌^◌, ◌==◌, max, if◌then◌else◌, List, [], ◌∷◌, length, slice_index}
+use Rattle.std.specs.Prelude.{Option, Some, None, IsSome}
 use Rattle.std.specs.List.{filter}
 use Rattle.iol_arena.specs.Prelude.{page_count}
 use Rattle.iol_evict.specs.Order.{Ranking, entered, left_at, with_one_given_back, with_one_kept}
 use Rattle.iol_extent.specs.Extents.{ExtentMap, put_in, dirty_count}
-use Rattle.iol_extent.specs.Prelude.{Adds, Extent, IsApart, IsGap, begins_at, end_of, last_end, meets, unmet, without_at}
+use Rattle.iol_extent.specs.Prelude.{Adds, Extent, IsApart, IsGap, begins_at, end_of, last_end, meets, unmet}
+use Rattle.iol_extent.specs.Prelude.{without_at}
 use Rattle.iol_hold.specs.Prelude.{Covers, FreesOnly, Moves, SameLists}
 use Rattle.iol_hold.specs.Places.{byte_len}
 use Rattle.iol_hold.specs.StoreState.{AllReclaimed, Stored}
@@ -130,7 +132,8 @@ pub record TakesOut (f at : ℕ) (s t : Stored) (es fs : ExtentMap) (r q : Ranki
   pub gone : LetsGo f s t (indexing_of es r marks) (indexing_of fs q new)
 
 -- the extents of file f that have bytes of a range went
-pub record ClearsRange (f from to : ℕ) (s t : Stored) (es fs : ExtentMap) (r q : Ranking) (marks new : List ℕ) : Type 0 where
+pub record ClearsRange (f from to : ℕ) (s t : Stored) (es fs : ExtentMap) (r q : Ranking) (marks new : List ℕ) :
+    Type 0 where
   pub extents : fs.extents ≡ unmet es.extents from to
   pub order : q ≡ all_forgotten r f (filter (meets from to) es.extents)
   pub gone : LetsGo f s t (indexing_of es r marks) (indexing_of fs q new)

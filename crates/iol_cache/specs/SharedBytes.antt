@@ -1,5 +1,6 @@
 -- Bytes of a file, shared from the extents over them.
-use Rattle.std.specs.Prelude.{◌≡◌, ℕ, ◌+◌, ◌-◌, ◌<◌, ◌≤◌, ◌^◌, ◌++◌, List, [], ◌∷◌, map, Option, Some, None, IsSome, Result, IfOk, OnErr}
+use Rattle.std.specs.Prelude.{◌≡◌, ℕ, ◌+◌, ◌-◌, ◌<◌, ◌≤◌, ◌^◌, ◌++◌, List, [], ◌∷◌, map, Option, Some, None, IsSome}
+use Rattle.std.specs.Prelude.{Result, IfOk, OnErr}
 use Rattle.std.specs.List.{range_with_len}
 use Rattle.iol_core.specs.declared.numbers.BufId.{BufId}
 use Rattle.iol_agg.specs.Pours.{meeting}

@@ -1,5 +1,6 @@
 -- What holds between any two calls of a cache.
-use Rattle.std.specs.Prelude.{◌≡◌, ℕ, ◌+◌, ◌≤◌, ◌<◌, ◌^◌, true, false, List, [], ◌∷◌, ◌++◌, length, Result, IfOk, OnErr, OnOk}
+use Rattle.std.specs.Prelude.{◌≡◌, ℕ, ◌+◌, ◌≤◌, ◌<◌, ◌^◌, true, false, List, [], ◌∷◌, ◌++◌, length, Result, IfOk, OnErr}
+use Rattle.std.specs.Prelude.{OnOk}
 use Rattle.std.specs.List.{All}
 use Rattle.iol_core.specs.NumberedLists.{is_numbered}
 use Rattle.iol_core.specs.declared.limits.TheConstants.{MAX_FILES, MAX_FILE_BYTES}
@@ -63,8 +64,8 @@ pub record HasNoFile (pages : ℕ) (c : Cached) : Type 0 where
   pub orders : c.orders ≡ []
   pub sound : (s : Stored) → page_count s.arena ≡ pages → IsTidy s → IsStill s.arena → IsSound s c
 
--- A file of the pool was added, with the next number and without extents; or, after an error, nothing changed. Each pool's order is
--- unchanged, and a cache that was sound is sound, if the pool is open.
+-- A file of the pool was added, with the next number and without extents; or, after an error, nothing changed. Each
+-- pool's order is unchanged, and a cache that was sound is sound, if the pool is open.
 pub record AddsFile {E : Type 0} (pool : ℕ) (old new : Cached) (r : Result ℕ E) : Type 0 where
   pub number : IfOk r (λ f. f ≡ length old.files + 1)
   pub added : OnOk r (new.files ≡ old.files ++ new_file pool ∷ [])

@@ -24,29 +24,35 @@ places_beside es at to (g ∷ gs) = places_over es at g.from ++ places_beside es
 -- the places of at..to, with those of the gaps among these
 abbrev pub woven : List Place → List Extent → (at to : ℕ) → List Span → List Place
 woven ps es at to [] = take (to - at) ps
-woven ps es at to (g ∷ gs) = take (g.from - at) ps ++ places_over es g.from g.to ++ woven (drop (g.from - at) ps) es g.to to gs
+woven ps es at to (g ∷ gs) = take (g.from - at) ps ++ places_over es g.from g.to
+    ++ woven (drop (g.from - at) ps) es g.to to gs
 
 -- the places where a read finds the bytes of at..to: the gaps in the new extents, all others in the old ones
 abbrev pub places_read : (old new : List Extent) → (at to : ℕ) → List Span → List Place
 places_read old new at to [] = places_over old at to
-places_read old new at to (g ∷ gs) = places_over old at g.from ++ places_over new g.from g.to ++ places_read old new g.to to gs
+places_read old new at to (g ∷ gs) = places_over old at g.from ++ places_over new g.from g.to
+    ++ places_read old new g.to to gs
 
--- the slices of the extents that have a byte of at..to outside these gaps, once for each part of at..to between two gaps
+-- the slices of the extents that have a byte of at..to outside these gaps, once for each part of at..to between two
+-- gaps
 abbrev pub slices_beside : List Extent → (at to : ℕ) → List Span → List Slice
 slices_beside es at to [] = slices_over es at to
 slices_beside es at to (g ∷ gs) = slices_over es at g.from ++ slices_beside es g.to to gs
 
--- the slices of the extents that have a byte of at..to: of the new extents for the gaps, and of the old ones outside the gaps
+-- the slices of the extents that have a byte of at..to: of the new extents for the gaps, and of the old ones outside
+-- the gaps
 abbrev pub slices_read : (old new : List Extent) → (at to : ℕ) → List Span → List Slice
 slices_read old new at to [] = slices_over old at to
-slices_read old new at to (g ∷ gs) = slices_over old at g.from ++ (slices_over new g.from g.to ++ slices_read old new g.to to gs)
+slices_read old new at to (g ∷ gs) =
+    slices_over old at g.from ++ (slices_over new g.from g.to ++ slices_read old new g.to to gs)
 
--- The slices of at..to. The bytes outside the gaps are those of xs from byte `used` on. For each part between two gaps there are
--- the slices of xs that have a byte of it, and for each gap the slices of the extents that have a byte of it.
+-- The slices of at..to. The bytes outside the gaps are those of xs from byte `used` on. For each part between two gaps
+-- there are the slices of xs that have a byte of it, and for each gap the slices of the extents that have a byte of it.
 abbrev pub slices_woven : List Slice → List Extent → (used at to : ℕ) → List Span → List Slice
 slices_woven xs es used at to [] = meeting used (used + (to - at)) xs
 slices_woven xs es used at to (g ∷ gs) =
-    meeting used (used + (g.from - at)) xs ++ (slices_over es g.from g.to ++ slices_woven xs es (used + (g.from - at)) g.to to gs)
+    meeting used (used + (g.from - at)) xs
+    ++ (slices_over es g.from g.to ++ slices_woven xs es (used + (g.from - at)) g.to to gs)
 
 -- the bytes of at..to outside these gaps are under extents
 abbrev pub IsCoveredBeside : List Extent → (at to : ℕ) → List Span → Type 0
@@ -89,7 +95,8 @@ pub record MayAddPart (s : Stored) (xs ys : List Slice) (from to : ℕ) : Type 0
 abbrev pub HasPart : (xs ys : List Slice) → (from to : ℕ) → (zs : List Slice) → Type 0
 HasPart xs ys from to zs = places zs ≡ places xs ++ slice_range (places ys) from to
 
--- zs has the bytes of a range: those of its gaps in the places of the extents, and those outside the gaps in the places of xs
+-- zs has the bytes of a range: those of its gaps in the places of the extents, and those outside the gaps in the places
+-- of xs
 abbrev pub IsWoven : (xs : List Slice) → List Extent → (from to : ℕ) → (gaps : List Span) → (zs : List Slice) → Type 0
 IsWoven xs es from to gaps zs = places zs ≡ woven (places xs) es from to gaps
 
@@ -102,5 +109,6 @@ abbrev pub HasSlicesBeside : List Extent → (from to : ℕ) → (gaps : List Sp
 HasSlicesBeside es from to gaps zs = bufs_of zs ≡ bufs_of (slices_beside es from to gaps)
 
 -- zs has the slices of a range: those of its gaps where extents have them, and those of xs
-abbrev pub HasSlicesWoven : (xs : List Slice) → List Extent → (from to : ℕ) → (gaps : List Span) → (zs : List Slice) → Type 0
+abbrev pub HasSlicesWoven : (xs : List Slice) → List Extent → (from to : ℕ) → (gaps : List Span) → (zs : List Slice)
+    → Type 0
 HasSlicesWoven xs es from to gaps zs = bufs_of zs ≡ bufs_of (slices_woven xs es 0 from to gaps)

@@ -1,5 +1,7 @@
 -- Dirty extents that are written back.
-use Rattle.std.specs.Prelude.{Bool, ◌≡◌, ℕ, zero, suc, ◌+◌, ◌-◌, ◌<◌, ◌≤◌, ◌^◌, ◌⊎◌, true, false, if◌then◌else◌, List, [], ◌∷◌, map, length, max, slice_index, Result, Ok, Err, IfErr, IfSome, OnErr, OnOk, Some, None}
+use Rattle.std.specs.Prelude.{Bool, ◌≡◌, ℕ, zero, suc, ◌+◌, ◌-◌, ◌<◌, ◌≤◌, ◌^◌, ◌⊎◌, true, false, if◌then◌else◌, List}
+use Rattle.std.specs.Prelude.{[], ◌∷◌, map, length, max, slice_index, Result, Ok, Err, IfErr, IfSome, OnErr, OnOk, Some}
+use Rattle.std.specs.Prelude.{None}
 use Rattle.iol_back.specs.Disk.{Disk, IfHonest, OthersStay, Succeeds, Tears, content}
 use Rattle.iol_back.specs.Prelude.{raised}
 use Rattle.iol_core.specs.NumberedLists.{is_numbered}
@@ -8,7 +10,8 @@ use Rattle.iol_core.specs.Text as text
 use Rattle.iol_core.specs.declared.refusals.Refusal.{Refusal}
 use Rattle.iol_core.specs.declared.refusals.Refusal.TheVariants.{Fault}
 use Rattle.iol_evict.specs.Order.{Ranking, entered, with_one_given_back}
-use Rattle.iol_extent.specs.Extents.{Extent, ExtentMap, IsApart, IsFirstDirty, as_clean, begins_at, cleaned_at, dirty_in}
+use Rattle.iol_extent.specs.Extents.{Extent, ExtentMap, IsApart, IsFirstDirty, as_clean, begins_at, cleaned_at}
+use Rattle.iol_extent.specs.Extents.{dirty_in}
 use Rattle.iol_hold.specs.Places.{byte_len}
 use Rattle.iol_hold.specs.StoreState.{Stored}
 use Rattle.iol_hold.specs.Texts.{AllReadable, text_of}
@@ -122,7 +125,8 @@ pub record Cleans (s : Stored) (f : ℕ) (old new : Cached) (d e : Disk) : Type 
   pub honest : e.honest ≡ d.honest
   pub counts : Succeeds d e
   pub others : IfHonest d (OthersStay f d.slots e.slots)
-  pub stored : IfHonest d (Stores extent.at (text.bytes_of (text_of s extent.parts)) (content d.slots f) (content e.slots f))
+  pub stored :
+      IfHonest d (Stores extent.at (text.bytes_of (text_of s extent.parts)) (content d.slots f) (content e.slots f))
 
 -- the store failed, and the extent is dirty as before
 pub record Fails (f : ℕ) (old new : Cached) (d e : Disk) : Type 0 where
@@ -168,7 +172,8 @@ EndsSync f old new d e (Ok x) = IsClean f old new d e
 EndsSync f old new d e (Err x) = Fails f old new d e × (x ≡ Fault f)
 
 -- The dirty extents of a file were written back, one after another, until no dirty extent was left or the store failed.
-pub record WritesDirty {A : Type 0} (s : Stored) (f : ℕ) (old new : Cached) (d e : Disk) (r : Result A Refusal) : Type 0 where
+pub record WritesDirty {A : Type 0} (s : Stored) (f : ℕ) (old new : Cached) (d e : Disk) (r : Result A Refusal) :
+    Type 0 where
   pub count : ℕ
   pub mid : Cached
   pub disk : Disk

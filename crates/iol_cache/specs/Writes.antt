@@ -38,7 +38,8 @@ pub record MayReplace (f : ℕ) (range : Span) (put : Replacement) (s : Stored) 
 -- the marks follow, and only what was met was released.
 pub record Replaces (f : ℕ) (range : Span) (put : Replacement) (s t : Stored) (es fs : ExtentMap) (r q : Ranking)
     (marks new : List ℕ) : Type 0 where
-  pub is : fs.extents ≡ put_some (put_some (put_some (unmet es.extents range.from range.to) put.left) put.right) put.bytes
+  pub is : fs.extents ≡ put_some (put_some (put_some (unmet es.extents range.from range.to) put.left) put.right)
+      put.bytes
   pub adds : Adds es.extents put.bytes fs.extents
   pub apart : IsApart 0 fs.extents
   pub ranks : q ≡ reordered r f es.extents range.from range.to put.left put.right put.bytes
@@ -73,7 +74,8 @@ pub record PutsOver (f : ℕ) (range : Span) (put : Replacement) (old new : Hold
   pub files : new.cache.files ≡ with_file old.cache.files f
       (record { pool = (file_in old.cache.files f).pool; extents = extents })
   pub orders : new.cache.orders ≡ with_order old.cache.orders (file_in old.cache.files f).pool order
-  pub ranks : order ≡ reordered (order_in old.cache.orders (file_in old.cache.files f).pool) f (extents_in old.cache.files f)
+  pub ranks : order ≡ reordered (order_in old.cache.orders (file_in old.cache.files f).pool) f
+      (extents_in old.cache.files f)
       range.from range.to put.left put.right put.bytes
   pub follows : Reindexes f (extents_in old.cache.files f) extents.extents
       (order_in old.cache.orders (file_in old.cache.files f).pool) order old.cache.marks new.cache.marks
@@ -98,4 +100,5 @@ pub record Changes (f : ℕ) (own : List Slice) (old new : Holding) : Type 0 whe
   pub moves : Moves old.store new.store (bufs_of (all_parts (extents_in old.cache.files f) ++ own))
       (bufs_of (all_parts extents.extents))
   pub pages : page_count new.store.arena ≡ page_count old.store.arena
-  pub pools : (p : ℕ) → (pool_in old.store.pools p).closed ≡ false → pool_in new.store.pools p ≡ pool_in old.store.pools p
+  pub pools : (p : ℕ) → (pool_in old.store.pools p).closed ≡ false
+      → pool_in new.store.pools p ≡ pool_in old.store.pools p

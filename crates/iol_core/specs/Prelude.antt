@@ -7,7 +7,9 @@ pub use Rattle.iol_core.specs.Calls.Pools.{distinct, has_place, with_name}
 pub use Rattle.iol_core.specs.Checksum.{checksum, folded}
 pub use Rattle.iol_core.specs.Configuration.{IsInRange}
 pub use Rattle.iol_core.specs.Meaning.{FaultOf, Never, Step, WantOfMemory, WantOfRoom, WantOfRoomOrFault, first}
-pub use Rattle.iol_core.specs.NumberedLists.{changed, in_place, is_numbered, lookup, lowest, numbered_or, placed, taken, with_numbered, without}
+pub use Rattle.iol_core.specs.NumberedLists.{changed, in_place, is_numbered, lookup, lowest, numbered_or, placed, taken}
+pub use Rattle.iol_core.specs.NumberedLists.{with_numbered, without}
 pub use Rattle.iol_core.specs.Run.{Run}
-pub use Rattle.iol_core.specs.State.{State, conn_at, content, descriptor, domain, is_gone, is_live, is_pool, may_read, new_domain, new_state, no_domain, text, with_conn, with_domain}
+pub use Rattle.iol_core.specs.State.{State, conn_at, content, descriptor, domain, is_gone, is_live, is_pool, may_read}
+pub use Rattle.iol_core.specs.State.{new_domain, new_state, no_domain, text, with_conn, with_domain}
 pub use Rattle.iol_core.specs.Text.{barred, bytes_of}

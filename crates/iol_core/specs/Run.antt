@@ -4,7 +4,8 @@ use Rattle.iol_core.specs.State.{State}
 use Rattle.iol_core.specs.Meaning.{Meaning, Step}
 use Rattle.iol_core.specs.Calls.Domains.{domain_new, exit}
 use Rattle.iol_core.specs.Calls.Pools.{pool_create, pool_close, pool_admit, set_pool}
-use Rattle.iol_core.specs.Calls.Aggregates.{agg_make, agg_dup, agg_cut, agg_split, agg_join, agg_replace, agg_drop, agg_give, show}
+use Rattle.iol_core.specs.Calls.Aggregates.{agg_make, agg_dup, agg_cut, agg_split, agg_join, agg_replace, agg_drop}
+use Rattle.iol_core.specs.Calls.Aggregates.{agg_give, show}
 use Rattle.iol_core.specs.Calls.Descriptors.{pipe, give_fd, close, accept}
 use Rattle.iol_core.specs.Calls.Files.{file_new, open_file, seek, file_length, fsync}
 use Rattle.iol_core.specs.Calls.Outside.{conn_new, arrive, peer_closed, transmit, flush, drop_clean}

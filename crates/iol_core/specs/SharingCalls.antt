@@ -1,12 +1,12 @@
 -- Sharing: a call that passes on bytes that are already in memory copies none of them.
 --
--- A text is a list of pairs of a number and a pool. Such a call never looks at the numbers: it only moves the pairs. So a state
--- can be read in two ways. As values, each number is a byte. As a layout, each number is the address of a byte, and a text
--- lists the addresses of its bytes, in order.
+-- A text is a list of pairs of a number and a pool. Such a call never looks at the numbers: it only moves the pairs. So
+-- a state can be read in two ways. As values, each number is a byte. As a layout, each number is the address of a byte,
+-- and a text lists the addresses of its bytes, in order.
 --
--- On a layout the meaning of a call determines the addresses of the bytes of its result. If one aggregate is at addresses 7 and
--- 8 and another at 3, the joined aggregate is at 7, 8 and 3. No byte was copied, since a copy would have another address. A
--- system shares if its layouts take the same steps as its values.
+-- On a layout the meaning of a call determines the addresses of the bytes of its result. If one aggregate is at
+-- addresses 7 and 8 and another at 3, the joined aggregate is at 7, 8 and 3. No byte was copied, since a copy would
+-- have another address. A system shares if its layouts take the same steps as its values.
 use Rattle.std.specs.Prelude.{Bool, true, false, not}
 use Rattle.iol_core.specs.State.{State, descriptor}
 use Rattle.iol_core.specs.Calls.Writes.{is_file}
@@ -16,8 +16,9 @@ use Rattle.iol_core.specs.declared.events.Event.{Event}
 use Rattle.iol_core.specs.declared.events.Event.TheVariants as event
 use Rattle.iol_core.specs.declared.events.Reply.{Reply}
 
--- Whether the event passes on bytes that are already in memory, and so must share them. Reads and writes of files are not
--- included: the bytes of a file may be only in the store, and written bytes may have to be copied into the file's pool.
+-- Whether the event passes on bytes that are already in memory, and so must share them. Reads and writes of files are
+-- not included: the bytes of a file may be only in the store, and written bytes may have to be copied into the file's
+-- pool.
 abbrev pub is_sharing : State → Event → Bool
 is_sharing s (event.Call by (call.AggDup a)) = true
 is_sharing s (event.Call by (call.AggCut a from to)) = true

@@ -1,9 +1,11 @@
 -- Places that are taken or free.
-use Rattle.std.proofs.Common.{◌≡◌, ◌≢◌, ℕ, zero, suc, ◌+◌, ◌≤◌, ◌<◌, List, [], ◌∷◌, ◌++◌, length, drop, Option, Some, None, arith, refl}
+use Rattle.std.proofs.Common.{◌≡◌, ◌≢◌, ℕ, zero, suc, ◌+◌, ◌≤◌, ◌<◌, List, [], ◌∷◌, ◌++◌, length, drop, Option, Some}
+use Rattle.std.proofs.Common.{None, arith, refl}
 use Rattle.std.specs.Prelude.{slice_set}
 use Rattle.std.proofs.lemmas.Bool.Decides.{nat_tests}
 use Rattle.std.proofs.lemmas.Grind.{common_steps}
-use Rattle.std.proofs.lemmas.List.Sums.{prefix_len-le-length, prefix_len-drop_yes, prefix_len-drop_no, prefix_len-drop_all}
+use Rattle.std.proofs.lemmas.List.Sums.{prefix_len-le-length, prefix_len-drop_yes, prefix_len-drop_no}
+use Rattle.std.proofs.lemmas.List.Sums.{prefix_len-drop_all}
 use Rattle.iol_core.specs.NumberedLists.{in_place, lowest, taken, placed}
 
 pub lowest_le-taken : {A : Type 0} (xs : List (Option A)) → lowest xs ≤ taken xs
@@ -16,7 +18,8 @@ taken-push [] x = refl
 taken-push (None ∷ xs) x = taken-push xs x
 taken-push (Some y ∷ xs) x = omega (arith, taken-push xs x)
 
-taken-set : {A : Type 0} (xs : List (Option A)) (x : A) → lowest xs < length xs → taken (slice_set xs (lowest xs) (Some x)) ≡ taken xs + 1
+taken-set : {A : Type 0} (xs : List (Option A)) (x : A) → lowest xs < length xs
+    → taken (slice_set xs (lowest xs) (Some x)) ≡ taken xs + 1
 taken-set [] x lt = absurd (omega arith)
 taken-set (None ∷ xs) x lt = omega arith
 taken-set (Some y ∷ xs) x lt = rw (one_more (lowest xs)) (omega (arith, taken-set xs x (omega arith)))
@@ -24,7 +27,8 @@ taken-set (Some y ∷ xs) x lt = rw (one_more (lowest xs)) (omega (arith, taken-
     one_more : (n : ℕ) → 1 + n ≡ suc n
     one_more n = omega arith
 
-pub taken_set_at : {A : Type 0} (xs : List (Option A)) (n : ℕ) (x : A) → n < length xs → n ≡ lowest xs → taken (slice_set xs n (Some x)) ≡ taken xs + 1
+pub taken_set_at : {A : Type 0} (xs : List (Option A)) (n : ℕ) (x : A) → n < length xs → n ≡ lowest xs
+    → taken (slice_set xs n (Some x)) ≡ taken xs + 1
 taken_set_at xs n x lt is = rw is (taken-set xs x (omega arith))
 
 pub taken_placed : {A : Type 0} (xs : List (Option A)) (x : A) → taken (placed xs (lowest xs) x) ≡ taken xs + 1
@@ -36,7 +40,9 @@ lowest_freed (x ∷ xs) zero lt = omega arith
 lowest_freed (None ∷ xs) (suc n) lt = omega arith
 lowest_freed (Some x ∷ xs) (suc n) lt = omega (arith, lowest_freed xs n (omega arith))
 
-pub placed_at : {A : Type 0} (xs : List (Option A)) (n m k : ℕ) (x : A) → m ≡ n → n < length xs → k ≡ lowest (slice_set xs m None) → (k < length (slice_set xs m None)) × (slice_set (slice_set xs m None) k (Some x) ≡ placed (slice_set xs n None) (lowest (slice_set xs n None)) x)
+pub placed_at : {A : Type 0} (xs : List (Option A)) (n m k : ℕ) (x : A) → m ≡ n → n < length xs
+    → k ≡ lowest (slice_set xs m None) → (k < length (slice_set xs m None))
+    × (slice_set (slice_set xs m None) k (Some x) ≡ placed (slice_set xs n None) (lowest (slice_set xs n None)) x)
 placed_at xs n m k x same lt is =
     let low : lowest (slice_set xs n None) ≤ n = lowest_freed xs n lt in
     rw (is, same) (grind (arith, nat_tests, common_steps, low), grind (arith, nat_tests, common_steps, low))
@@ -65,7 +71,8 @@ low-placed [] x = omega arith
 low-placed (None ∷ xs) x = grind (arith, nat_tests, common_steps)
 low-placed (Some y ∷ xs) x = grind (arith, nat_tests, common_steps, low-placed xs x)
 
-pub taken-freed : {A : Type 0} (xs : List (Option A)) (n : ℕ) → in_place xs n ≢ None → taken (slice_set xs n None) + 1 ≡ taken xs
+pub taken-freed : {A : Type 0} (xs : List (Option A)) (n : ℕ) → in_place xs n ≢ None
+    → taken (slice_set xs n None) + 1 ≡ taken xs
 taken-freed [] n there = absurd (there refl)
 taken-freed (None ∷ xs) zero there = absurd (there refl)
 taken-freed (Some x ∷ xs) zero there = omega arith
@@ -86,14 +93,16 @@ within_place (x ∷ xs) (suc n) there = omega (arith, within_place xs n there)
 
 -- another value in a place that is taken
 
-pub taken-replaced : {A : Type 0} (xs : List (Option A)) (n : ℕ) (x : A) → in_place xs n ≢ None → taken (slice_set xs n (Some x)) ≡ taken xs
+pub taken-replaced : {A : Type 0} (xs : List (Option A)) (n : ℕ) (x : A) → in_place xs n ≢ None
+    → taken (slice_set xs n (Some x)) ≡ taken xs
 taken-replaced [] n x there = refl
 taken-replaced (None ∷ xs) zero x there = absurd (there refl)
 taken-replaced (Some y ∷ xs) zero x there = refl
 taken-replaced (None ∷ xs) (suc n) x there = taken-replaced xs n x there
 taken-replaced (Some y ∷ xs) (suc n) x there = omega (arith, taken-replaced xs n x there)
 
-pub lowest-replaced : {A : Type 0} (xs : List (Option A)) (n : ℕ) (x : A) → in_place xs n ≢ None → lowest (slice_set xs n (Some x)) ≡ lowest xs
+pub lowest-replaced : {A : Type 0} (xs : List (Option A)) (n : ℕ) (x : A) → in_place xs n ≢ None
+    → lowest (slice_set xs n (Some x)) ≡ lowest xs
 lowest-replaced [] n x there = refl
 lowest-replaced (None ∷ xs) zero x there = absurd (there refl)
 lowest-replaced (Some y ∷ xs) zero x there = refl

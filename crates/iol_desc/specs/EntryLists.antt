@@ -1,5 +1,6 @@
 -- Entries under rising numbers, some of which are holes.
-use Rattle.std.specs.Prelude.{◌≡◌, ℕ, ◌+◌, ◌-◌, ◌<◌, ◌≤◌, ◌^◌, Bool, true, false, List, [], ◌∷◌, ◌++◌, length, Option, Some, None, slice_set, vec_len, vec_capacity, Result, OnOk, OnErr}
+use Rattle.std.specs.Prelude.{◌≡◌, ℕ, ◌+◌, ◌-◌, ◌<◌, ◌≤◌, ◌^◌, Bool, true, false, List, [], ◌∷◌, ◌++◌, length, Option}
+use Rattle.std.specs.Prelude.{Some, None, slice_set, vec_len, vec_capacity, Result, OnOk, OnErr}
 use Rattle.std.specs.Global.{Vec}
 use Rattle.iol_core.specs.NumberedLists.{lookup, without}
 use Rattle.iol_desc.specs.Tables.{exchanged, place_in}

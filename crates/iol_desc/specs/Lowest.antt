@@ -1,5 +1,6 @@
 -- Values in the lowest free places.
-use Rattle.std.specs.Prelude.{◌≡◌, ◌<◌, ◌≤◌, ℕ, ◌+◌, ◌-◌, List, length, Option, None, slice_set, vec_len, vec_capacity, Result, OnOk, OnErr}
+use Rattle.std.specs.Prelude.{◌≡◌, ◌<◌, ◌≤◌, ℕ, ◌+◌, ◌-◌, List, length, Option, None, slice_set, vec_len, vec_capacity}
+use Rattle.std.specs.Prelude.{Result, OnOk, OnErr}
 use Rattle.std.specs.Global.{Vec}
 use Rattle.iol_core.specs.NumberedLists.{lowest, placed, taken}
 use Rattle.iol_desc.specs.Tables.{Slots}
@@ -35,8 +36,8 @@ pub record MovesLower {A : Type 0} (old new : Vec (Option A)) (n : ℕ) (x : A) 
   pub room : vec_capacity old - vec_len old ≤ vec_capacity new - vec_len new
   pub lowest : m ≡ lowest (slice_set old.items n None)
 
--- The places are unchanged, and there is no less room. On success there is room for that many more. It is refused only if there
--- was room for fewer.
+-- The places are unchanged, and there is no less room. On success there is room for that many more. It is refused only
+-- if there was room for fewer.
 pub record ReservesPlaces {A V E : Type 0} (old new : Slots A) (count : ℕ) (r : Result V E) : Type 0 where
   pub same : new.places ≡ old.places
   pub room : OnOk r (count ≤ new.room)

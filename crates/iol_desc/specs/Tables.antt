@@ -1,5 +1,6 @@
 -- The table of domains, generic in the type of an aggregate.
-use Rattle.std.specs.Prelude.{◌≡◌, ◌≢◌, ◌<◌, ◌≤◌, ◌^◌, ℕ, ◌+◌, ◌==◌, ◌||◌, Bool, nat_lt, List, [], ◌∷◌, ◌++◌, length, Option, Some, None, map, sum_by, slice_set, Result, IfOk, OnOk, OnErr}
+use Rattle.std.specs.Prelude.{◌≡◌, ◌≢◌, ◌<◌, ◌≤◌, ◌^◌, ℕ, ◌+◌, ◌==◌, ◌||◌, Bool, nat_lt, List, [], ◌∷◌, ◌++◌, length}
+use Rattle.std.specs.Prelude.{Option, Some, None, map, sum_by, slice_set, Result, IfOk, OnOk, OnErr}
 use Rattle.std.specs.List.{AllByRecursion, position_or_len}
 use Rattle.iol_core.specs.State.{Domain, no_domain}
 use Rattle.iol_core.specs.NumberedLists.{numbered_or, with_numbered, lookup, without, lowest, placed, taken}
@@ -74,7 +75,8 @@ place_in es n = position_or_len (λ e. e.0 == n) es
 abbrev pub exchanged : {A : Type 0} → List (ℕ × A) → (n : ℕ) → A → List (ℕ × A)
 exchanged es n x = slice_set es (place_in es n) (n, x)
 
--- A domain got x under its next number: n. It has one aggregate more, and still fewer than 2^64, and room for at most one fewer.
+-- A domain got x under its next number: n. It has one aggregate more, and still fewer than 2^64, and room for at most
+-- one fewer.
 pub record AddsAgg {A : Type 0} (old new : Row A) (x : A) (n : ℕ) : Type 0 where
   pub number : n ≡ old.domain.next_agg
   pub added : new.domain ≡ with_next old.domain x
@@ -89,7 +91,8 @@ pub record TakesAgg {A : Type 0} (old new : Row A) (a : ℕ) (x : A) : Type 0 wh
   pub room : old.room ≤ new.room
   pub count : length new.domain.aggs + 1 ≡ length old.domain.aggs
 
--- A domain gave up its aggregate of number a, x, and has `other` under that number. It has as many as before, and no less room.
+-- A domain gave up its aggregate of number a, x, and has `other` under that number. It has as many as before, and no
+-- less room.
 pub record SwapsAgg {A : Type 0} (old new : Row A) (a : ℕ) (other x : A) : Type 0 where
   pub given : Some x ≡ lookup old.domain.aggs a
   pub swapped : new.domain ≡ record old.domain { aggs = exchanged old.domain.aggs a other }
@@ -108,8 +111,8 @@ pub record TakesAggIn {A : Type 0} (old new : List (Row A)) (d a : ℕ) (x : A) 
   pub room : room_in old d ≤ room_in new d
   pub others : (e : ℕ) → d ≢ e → room_in new e ≡ room_in old e
 
--- Domain d of a table gave up its aggregate of number a, x, and has `other` under that number. No other domain changed, and
--- d has no less room.
+-- Domain d of a table gave up its aggregate of number a, x, and has `other` under that number. No other domain changed,
+-- and d has no less room.
 pub record SwapsAggIn {A : Type 0} (old new : List (Row A)) (d a : ℕ) (other x : A) : Type 0 where
   pub given : Some x ≡ agg_in (domains_of old) d a
   pub swapped : domains_of new ≡ with_aggs_in (domains_of old) d (exchanged (aggs_in (domains_of old) d) a other)
@@ -127,7 +130,8 @@ pub record IsCounted {A : Type 0} (live : ℕ) (rows : List (Row A)) : Type 0 wh
 -- whether so many new ones, with so many given up, are too many for all domains or for the numbers of this one
 abbrev pub too_many_in : {A : Type 0} → List (Domain A) → (d made given : ℕ) → Bool
 too_many_in ds d made given =
-    nat_lt (MAX_AGGREGATES + given) (live_aggs_in ds + made) || nat_lt (LAST_AGGREGATE + 1) ((domain_in ds d).next_agg + made)
+    nat_lt (MAX_AGGREGATES + given) (live_aggs_in ds + made)
+    || nat_lt (LAST_AGGREGATE + 1) ((domain_in ds d).next_agg + made)
 
 -- Descriptors, in places.
 
@@ -170,23 +174,24 @@ pub record HasNothing {A : Type 0} (d : Domain A) : Type 0 where
   pub no_aggs : d.aggs ≡ []
   pub no_fds : taken d.fds ≡ 0
 
--- Among the descriptors of an object, which `put` puts into it, the lowest free number was opened, and is returned. A refusal
--- changes nothing.
+-- Among the descriptors of an object, which `put` puts into it, the lowest free number was opened, and is returned. A
+-- refusal changes nothing.
 pub record OpensNext {S E : Type 0} (old new : S) (put : List (Option Descriptor) → S) (fds : List (Option Descriptor))
     (x : Descriptor) (r : Result ℕ E) : Type 0 where
   pub number : IfOk r (λ n. n ≡ lowest fds)
   pub opened : OnOk r (new ≡ put (with_next_fd fds x))
   pub err : OnErr r (new ≡ old)
 
--- Among the descriptors of an object, which `put` puts into it, both ends of a pipe were opened under the lowest free number,
--- first the read end and then the write end. These numbers are returned. A refusal changes nothing.
+-- Among the descriptors of an object, which `put` puts into it, both ends of a pipe were opened under the lowest free
+-- number, first the read end and then the write end. These numbers are returned. A refusal changes nothing.
 pub record OpensEnds {S E : Type 0} (old new : S) (put : List (Option Descriptor) → S) (fds : List (Option Descriptor))
     (pipe : ℕ) (r : Result (ℕ × ℕ) E) : Type 0 where
   pub numbers : IfOk r (λ ends. ends ≡ next_ends fds pipe)
   pub opened : OnOk r (new ≡ put (with_ends fds pipe))
   pub err : OnErr r (new ≡ old)
 
--- Among the descriptors of an object, which `put` puts into it, fd was closed, and then x opened under the lowest free number: n.
+-- Among the descriptors of an object, which `put` puts into it, fd was closed, and then x opened under the lowest free
+-- number: n.
 pub record MovesFd {S : Type 0} (new : S) (put : List (Option Descriptor) → S) (fds : List (Option Descriptor)) (fd : ℕ)
     (x : Descriptor) (n : ℕ) : Type 0 where
   pub number : n ≡ lowest (slice_set fds fd None)
@@ -196,8 +201,8 @@ pub record MovesFd {S : Type 0} (new : S) (put : List (Option Descriptor) → S)
 abbrev pub OpensNextOf : {A E : Type 0} → (old new : Domain A) → Descriptor → Result ℕ E → Type 0
 OpensNextOf old new x r = OpensNext old new (λ fds. record old { fds = fds }) old.fds x r
 
--- A domain opens both ends of a pipe under its lowest free number, first the read end and then the write end. These numbers are
--- returned. A refusal changes nothing.
+-- A domain opens both ends of a pipe under its lowest free number, first the read end and then the write end. These
+-- numbers are returned. A refusal changes nothing.
 abbrev pub OpensEndsOf : {A E : Type 0} → (old new : Domain A) → (pipe : ℕ) → Result (ℕ × ℕ) E → Type 0
 OpensEndsOf old new pipe r = OpensEnds old new (λ fds. record old { fds = fds }) old.fds pipe r
 
@@ -205,14 +210,14 @@ OpensEndsOf old new pipe r = OpensEnds old new (λ fds. record old { fds = fds }
 abbrev pub MovesFdOf : {A : Type 0} → (old new : Domain A) → (fd : ℕ) → Descriptor → (n : ℕ) → Type 0
 MovesFdOf old new fd x n = MovesFd new (λ fds. record old { fds = fds }) old.fds fd x n
 
--- Domain d of a table opens x under its lowest free number, which is returned, and no other domain changes. A refusal changes
--- none.
+-- Domain d of a table opens x under its lowest free number, which is returned, and no other domain changes. A refusal
+-- changes none.
 abbrev pub OpensNextIn : {A E : Type 0} → (old new : List (Row A)) → (d : ℕ) → Descriptor → Result ℕ E → Type 0
 OpensNextIn old new d x r =
     OpensNext (domains_of old) (domains_of new) (with_fds_in (domains_of old) d) (fds_in (domains_of old) d) x r
 
--- Domain d of a table opens both ends of a pipe under its lowest free number, first the read end and then the write end. These
--- numbers are returned. No other domain changes, and a refusal changes none.
+-- Domain d of a table opens both ends of a pipe under its lowest free number, first the read end and then the write
+-- end. These numbers are returned. No other domain changes, and a refusal changes none.
 abbrev pub OpensEndsIn : {A E : Type 0} → (old new : List (Row A)) → (d pipe : ℕ) → Result (ℕ × ℕ) E → Type 0
 OpensEndsIn old new d pipe r =
     OpensEnds (domains_of old) (domains_of new) (with_fds_in (domains_of old) d) (fds_in (domains_of old) d) pipe r

@@ -1,5 +1,6 @@
 -- The list of entries, in the order of file and place.
-use Rattle.std.proofs.Common.{◌≡◌, ◌≢◌, ℕ, ◌<◌, ◌≤◌, Bool, true, false, List, [], ◌∷◌, length, get_or, arith, refl, sym, ap, ◌∙◌, Some, None, zero, suc}
+use Rattle.std.proofs.Common.{◌≡◌, ◌≢◌, ℕ, ◌<◌, ◌≤◌, Bool, true, false, List, [], ◌∷◌, length, get_or, arith, refl, sym}
+use Rattle.std.proofs.Common.{ap, ◌∙◌, Some, None, zero, suc}
 use Rattle.std.specs.List.{insert, remove}
 use Rattle.std.proofs.lemmas.Bool.Decides.{nat_tests}
 use Rattle.iol_evict.specs.declared.entry.Entry.{Entry}
@@ -23,16 +24,21 @@ is_at-false e file at apart = by (is_at e file at) refl
     by false away = away
 
 -- the first entry of a list, where no earlier one lies there
-pub insert-put_in : (es : List Entry) (n : ℕ) (e : Entry) → n ≤ length es → ((i : ℕ) → i < n → lies_before (get_or es i no_entry) e.file e.at ≡ true) → (n < length es → lies_before (get_or es n no_entry) e.file e.at ≡ false) → insert es n e ≡ put_in es e
+pub insert-put_in : (es : List Entry) (n : ℕ) (e : Entry) → n ≤ length es
+    → ((i : ℕ) → i < n → lies_before (get_or es i no_entry) e.file e.at ≡ true)
+    → (n < length es → lies_before (get_or es n no_entry) e.file e.at ≡ false) → insert es n e ≡ put_in es e
 insert-put_in [] zero e within before after = refl
 insert-put_in [] (suc n) e within before after = absurd (omega (arith, within))
 insert-put_in (x ∷ es) zero e within before after = rw (after (omega arith)) refl
 insert-put_in (x ∷ es) (suc n) e within before after =
     let here : lies_before x e.file e.at ≡ true = before 0 (omega arith) in
-    let more = insert-put_in es n e (omega (arith, within)) (λ i lt. before (suc i) (omega (arith, lt))) (λ lt. after (omega (arith, lt))) in
+    let more = insert-put_in es n e (omega (arith, within)) (λ i lt. before (suc i) (omega (arith, lt)))
+    (λ lt. after (omega (arith, lt))) in
     rw here (ap (λ (ys : List Entry). x ∷ ys) more)
 
-pub remove-without : (es : List Entry) (n file at : ℕ) → n < length es → ((i : ℕ) → i < n → is_at (get_or es i no_entry) file at ≡ false) → is_at (get_or es n no_entry) file at ≡ true → remove es n ≡ without es file at
+pub remove-without : (es : List Entry) (n file at : ℕ) → n < length es
+    → ((i : ℕ) → i < n → is_at (get_or es i no_entry) file at ≡ false) → is_at (get_or es n no_entry) file at ≡ true
+    → remove es n ≡ without es file at
 remove-without [] n file at within before here = absurd (omega (arith, within))
 remove-without (x ∷ es) zero file at within before here = rw here refl
 remove-without (x ∷ es) (suc n) file at within before here =
@@ -40,7 +46,9 @@ remove-without (x ∷ es) (suc n) file at within before here =
     let more = remove-without es n file at (omega (arith, within)) (λ i lt. before (suc i) (omega (arith, lt))) here in
     rw away (ap (λ (ys : List Entry). x ∷ ys) more)
 
-pub entry_at-is : (es : List Entry) (n file at : ℕ) → n < length es → ((i : ℕ) → i < n → is_at (get_or es i no_entry) file at ≡ false) → is_at (get_or es n no_entry) file at ≡ true → entry_at es file at ≡ Some (get_or es n no_entry)
+pub entry_at-is : (es : List Entry) (n file at : ℕ) → n < length es
+    → ((i : ℕ) → i < n → is_at (get_or es i no_entry) file at ≡ false) → is_at (get_or es n no_entry) file at ≡ true
+    → entry_at es file at ≡ Some (get_or es n no_entry)
 entry_at-is [] n file at within before here = absurd (omega (arith, within))
 entry_at-is (x ∷ es) zero file at within before here = rw here refl
 entry_at-is (x ∷ es) (suc n) file at within before here =
@@ -65,14 +73,20 @@ entry_at-some (x ∷ es) file at some = by (is_at x file at) refl (entry_at-some
         record { index = suc there.index; within = omega (arith, there.within); here = there.here }
 
 -- none lies where none is found
-pub entry_at-none : (es : List Entry) (i file at : ℕ) → entry_at es file at ≡ None → i < length es → is_at (get_or es i no_entry) file at ≡ false
+pub entry_at-none : (es : List Entry) (i file at : ℕ) → entry_at es file at ≡ None → i < length es
+    → is_at (get_or es i no_entry) file at ≡ false
 entry_at-none [] i file at none within = absurd (omega (arith, within))
 entry_at-none (x ∷ es) i file at none within = by (is_at x file at) refl (λ j. entry_at-none es j file at) i within
   where
     some : (e : Entry) → Some e ≡ None → ⊥
     some e is = cc
 
-    by : (b : Bool) → is_at x file at ≡ b → ((j : ℕ) → entry_at es file at ≡ None → j < length es → is_at (get_or es j no_entry) file at ≡ false) → (i : ℕ) → i < length (x ∷ es) → is_at (get_or (x ∷ es) i no_entry) file at ≡ false
-    by true here more i within = absurd (some x (let e : entry_at (x ∷ es) file at ≡ Some x = rw here refl in sym e ∙ none))
+    by : (b : Bool) → is_at x file at ≡ b
+        → ((j : ℕ) → entry_at es file at ≡ None → j < length es → is_at (get_or es j no_entry) file at ≡ false)
+        → (i : ℕ) → i < length (x ∷ es) → is_at (get_or (x ∷ es) i no_entry) file at ≡ false
+    by true here more i within =
+        absurd (some x (let e : entry_at (x ∷ es) file at ≡ Some x = rw here refl in sym e ∙ none))
     by false away more zero within = away
-    by false away more (suc i) within = more i (let e : entry_at (x ∷ es) file at ≡ entry_at es file at = rw away refl in sym e ∙ none) (omega (arith, within))
+    by false away more (suc i) within =
+        more i (let e : entry_at (x ∷ es) file at ≡ entry_at es file at = rw away refl in
+        sym e ∙ none) (omega (arith, within))

@@ -3,10 +3,12 @@ use Rattle.std.proofs.Common.{◌≡◌, ◌-◌, ◌^◌, [], ◌∷◌, refl}
 use Rattle.iol_evict.specs.Order.{Ranking, entry_or, entered, hit_at, left_at, evicted_at}
 
 abbrev three : Ranking
-three = entered (entered (entered (record { low = 0; entries = []; room = 3; kept = 0 }) 1 8192 8192 1) 2 0 4096 3) 1 0 4096 1
+three = entered (entered (entered (record { low = 0; entries = []; room = 3; kept = 0 }) 1 8192 8192 1) 2 0 4096 3) 1 0
+    4096 1
 
 -- in the order of file and place
-heights : (entry_or three.entries 1 0).height ∷ (entry_or three.entries 1 8192).height ∷ (entry_or three.entries 2 0).height ∷ [] ≡ 4096 ∷ 2048 ∷ 12288 ∷ []
+heights : (entry_or three.entries 1 0).height ∷ (entry_or three.entries 1 8192).height
+    ∷ (entry_or three.entries 2 0).height ∷ [] ≡ 4096 ∷ 2048 ∷ 12288 ∷ []
 heights = refl
 
 no_room : three.room ≡ 0

@@ -1,5 +1,6 @@
 -- The entry that goes first.
-use Rattle.std.proofs.Common.{inl, inr, ◌≡◌, ℕ, ◌<◌, ◌≤◌, Bool, true, false, List, [], ◌∷◌, length, get_or, arith, refl, sym, ap, subst, ◌∙◌, Option, Some, None, MatchOption, All, Contains}
+use Rattle.std.proofs.Common.{inl, inr, ◌≡◌, ℕ, ◌<◌, ◌≤◌, Bool, true, false, List, [], ◌∷◌, length, get_or, arith, refl}
+use Rattle.std.proofs.Common.{sym, ap, subst, ◌∙◌, Option, Some, None, MatchOption, All, Contains}
 use Rattle.std.proofs.lemmas.Bool.{cases_eq, cases_lt}
 use Rattle.std.proofs.lemmas.List.{length-map}
 use Rattle.std.proofs.lemmas.List.Elements.{All-get_or, All-from_get_or, Contains-get_or}
@@ -17,40 +18,61 @@ key-lt : (a b : Entry) → RankLt (rank_by Height a) (rank_by Height b) → KeyL
 key-lt a b lt = record { height = lt.height; file = lt.file; at = λ h f. (let less = lt.at h f in omega (arith, less)) }
 
 key-same : (a b : Entry) → a ≡ b → KeyLe a b
-key-same a b same = subst (λ (x : Entry). KeyLe a x) same (record { height = omega arith; file = λ h. omega arith; at = λ h f. omega arith })
+key-same a b same =
+    subst (λ (x : Entry). KeyLe a x) same (record {
+      height = omega arith;
+      file = λ h. omega arith;
+      at =
+          λ h f. omega arith;
+    })
 
-key-rising : (s : Slab Entry) (keys : List ℕ) (i j : ℕ) → IsRising Height s keys → i ≤ j → j < length keys → KeyLe (entry_of s (get_or keys i 0)) (entry_of s (get_or keys j 0))
+key-rising : (s : Slab Entry) (keys : List ℕ) (i j : ℕ) → IsRising Height s keys → i ≤ j → j < length keys
+    → KeyLe (entry_of s (get_or keys i 0)) (entry_of s (get_or keys j 0))
 key-rising s keys i j rising le within = elim (cases_eq i j) [
-  | inl same ↦ key-same (entry_of s (get_or keys i 0)) (entry_of s (get_or keys j 0)) (ap (λ (k : ℕ). entry_of s (get_or keys k 0)) same)
-  | inr other ↦ key-lt (entry_of s (get_or keys i 0)) (entry_of s (get_or keys j 0)) (rising.each i j (omega (arith, le, other)) within)
+  | inl same ↦
+      key-same (entry_of s (get_or keys i 0)) (entry_of s (get_or keys j 0))
+      (ap (λ (k : ℕ). entry_of s (get_or keys k 0)) same)
+  | inr other ↦
+      key-lt (entry_of s (get_or keys i 0)) (entry_of s (get_or keys j 0))
+      (rising.each i j (omega (arith, le, other)) within)
 ]
 
 -- it precedes each in its own list
-precedes-each : (used : ℕ → ℕ → Bool) (s : Slab Entry) (keys : List ℕ) (place : ℕ × ℕ) (first : GoesFirst used s keys place) → IsRising Height s keys → (j : ℕ) → j < length keys → Precedes used (entry_of s (get_or keys first.index 0)) (entry_of s (get_or keys j 0))
+precedes-each : (used : ℕ → ℕ → Bool) (s : Slab Entry) (keys : List ℕ) (place : ℕ × ℕ)
+    (first : GoesFirst used s keys place) → IsRising Height s keys → (j : ℕ) → j < length keys
+    → Precedes used (entry_of s (get_or keys first.index 0)) (entry_of s (get_or keys j 0))
 precedes-each used s keys place first rising j within = elim first.idle [
   | inl idle ↦ elim (cases_lt j first.index) [
     | inl before ↦ inl (idle, first.before j before)
     | inr after ↦ by (is_used used s keys j) refl idle after
   ]
-  | inr all ↦ inr (all.1 first.index first.within ∙ sym (all.1 j within), key-rising s keys first.index j rising (omega (arith, all.0)) within)
+  | inr all ↦
+      inr (
+        all.1 first.index first.within ∙ sym (all.1 j within),
+        key-rising s keys first.index j rising (omega (arith, all.0)) within,
+      )
 ]
   where
-    by : (b : Bool) → is_used used s keys j ≡ b → is_used used s keys first.index ≡ false → first.index ≤ j → Precedes used (entry_of s (get_or keys first.index 0)) (entry_of s (get_or keys j 0))
+    by : (b : Bool) → is_used used s keys j ≡ b → is_used used s keys first.index ≡ false → first.index ≤ j
+        → Precedes used (entry_of s (get_or keys first.index 0)) (entry_of s (get_or keys j 0))
     by true busy idle after = inl (idle, busy)
     by false free idle after = inr (idle ∙ sym free, key-rising s keys first.index j rising after within)
 
 -- and so among the entries by place
-pub victim-first : (used : ℕ → ℕ → Bool) (s : Slab Entry) (ks js : List ℕ) (place : ℕ × ℕ) → IsIndexed s ks js → GoesFirst used s js place → IsVictim used (entries_of s ks) place
+pub victim-first : (used : ℕ → ℕ → Bool) (s : Slab Entry) (ks js : List ℕ) (place : ℕ × ℕ) → IsIndexed s ks js
+    → GoesFirst used s js place → IsVictim used (entries_of s ks) place
 victim-first used s ks js place indexed first =
     let stood = stands-same ks js first.index indexed.same first.within in
     let short = subst (λ (n : ℕ). stood.index < n) (sym (length-map ks (entry_of s))) stood.within in
     record {
       victim = entry_of s (get_or js first.index 0);
-      there = subst (λ (e : Entry). Contains (entries_of s ks) e) (read s ks stood.index stood.within ∙ ap (entry_of s) stood.is) (Contains-get_or (entries_of s ks) stood.index no_entry short);
+      there = subst (λ (e : Entry). Contains (entries_of s ks) e) (read s ks stood.index stood.within
+          ∙ ap (entry_of s) stood.is) (Contains-get_or (entries_of s ks) stood.index no_entry short);
       first = All-from_get_or (Precedes used (entry_of s (get_or js first.index 0))) (entries_of s ks) no_entry
           (λ i upto. let within : i < length ks = subst (λ (n : ℕ). i < n) (length-map ks (entry_of s)) upto in
           subst (λ (e : Entry). Precedes used (entry_of s (get_or js first.index 0)) e) (sym (read s ks i within))
-          (each-same (λ k. Precedes used (entry_of s (get_or js first.index 0)) (entry_of s k)) js ks (same-sym ks js indexed.same) (precedes-each used s js place first indexed.heights) i within));
+          (each-same (λ k. Precedes used (entry_of s (get_or js first.index 0)) (entry_of s k)) js ks
+          (same-sym ks js indexed.same) (precedes-each used s js place first indexed.heights) i within));
       lies = first.lies;
     }
 
@@ -62,13 +84,16 @@ entries-none s (k ∷ ks) js indexed none =
     absurd (omega (arith, stood.within, none))
 
 -- of each entry it may be asked, also in the order of height
-pub ask-heights : (ask : ℕ → ℕ → Type 0) (s : Slab Entry) (ks js : List ℕ) → IsIndexed s ks js → All (λ e. ask e.file e.at) (entries_of s ks) → CanAskOf ask s js
+pub ask-heights : (ask : ℕ → ℕ → Type 0) (s : Slab Entry) (ks js : List ℕ) → IsIndexed s ks js
+    → All (λ e. ask e.file e.at) (entries_of s ks) → CanAskOf ask s js
 ask-heights ask s ks js indexed all = record {
   each = each-same (λ k. ask (entry_of s k).file (entry_of s k).at) ks js indexed.same
       (λ i within. subst (λ (e : Entry). ask e.file e.at) (read s ks i within)
-      (All-get_or (λ e. ask e.file e.at) (entries_of s ks) i no_entry (subst (λ (n : ℕ). i < n) (sym (length-map ks (entry_of s))) within) all));
+      (All-get_or (λ e. ask e.file e.at) (entries_of s ks) i no_entry
+      (subst (λ (n : ℕ). i < n) (sym (length-map ks (entry_of s))) within) all));
 }
 
-pub match-map : {A P P' : Type 0} {Q Q' : A → Type 0} (r : Option A) → (P → P') → ((x : A) → Q x → Q' x) → MatchOption r P Q → MatchOption r P' Q'
+pub match-map : {A P P' : Type 0} {Q Q' : A → Type 0} (r : Option A) → (P → P') → ((x : A) → Q x → Q' x)
+    → MatchOption r P Q → MatchOption r P' Q'
 match-map None f g h = f h
 match-map (Some x) f g h = g x h

@@ -1,5 +1,6 @@
 -- Lists that have the same keys.
-use Rattle.std.proofs.Common.{inl, inr, ◌≡◌, ℕ, ◌+◌, ◌<◌, List, [], ◌∷◌, length, get_or, arith, refl, sym, ap, subst, ◌∙◌}
+use Rattle.std.proofs.Common.{inl, inr, ◌≡◌, ℕ, ◌+◌, ◌<◌, List, [], ◌∷◌, length, get_or, arith, refl, sym, ap, subst}
+use Rattle.std.proofs.Common.{◌∙◌}
 use Rattle.std.specs.List.{insert, remove}
 use Rattle.std.proofs.lemmas.Bool.{cases_eq}
 use Rattle.std.proofs.lemmas.Bool.Decides.{nat_tests}
@@ -30,26 +31,36 @@ stands-some (k ∷ keys) key some = elim (cases_eq k key) [
 ]
   where
     more : StandsIn keys key → StandsIn (k ∷ keys) key
-    more there = record { index = there.index + 1; within = omega (arith, there.within); is = grind (arith, common_steps, there.is) }
+    more there = record {
+      index = there.index + 1;
+      within = omega (arith, there.within);
+      is =
+          grind (arith, common_steps, there.is);
+    }
 
 -- each key of one stands in the other
 pub stands-same : (a b : List ℕ) (i : ℕ) → HaveSameKeys a b → i < length b → StandsIn a (get_or b i 0)
-stands-same a b i same within = stands-some a (get_or b i 0) (subst (λ (n : ℕ). 0 < n) (sym (same.each (get_or b i 0))) (times-some b i (get_or b i 0) within refl))
+stands-same a b i same within =
+    stands-some a (get_or b i 0)
+    (subst (λ (n : ℕ). 0 < n) (sym (same.each (get_or b i 0))) (times-some b i (get_or b i 0) within refl))
 
 pub same-sym : (a b : List ℕ) → HaveSameKeys a b → HaveSameKeys b a
 same-sym a b same = record { each = λ key. sym (same.each key) }
 
-pub each-same : (P : ℕ → Type 0) (a b : List ℕ) → HaveSameKeys a b → ((i : ℕ) → i < length a → P (get_or a i 0)) → (i : ℕ) → i < length b → P (get_or b i 0)
+pub each-same : (P : ℕ → Type 0) (a b : List ℕ) → HaveSameKeys a b → ((i : ℕ) → i < length a → P (get_or a i 0))
+    → (i : ℕ) → i < length b → P (get_or b i 0)
 each-same P a b same each i within =
     let there = stands-same a b i same within in
     subst P there.is (each there.index there.within)
 
 pub same-insert : (a b : List ℕ) (n m key : ℕ) → HaveSameKeys a b → HaveSameKeys (insert a n key) (insert b m key)
 same-insert a b n m key same = record {
-  each = λ k. sum_by-insert (one_if k) a n key ∙ ap (λ (t : ℕ). t + one_if k key) (same.each k) ∙ sym (sum_by-insert (one_if k) b m key);
+  each = λ k. sum_by-insert (one_if k) a n key ∙ ap (λ (t : ℕ). t + one_if k key) (same.each k)
+      ∙ sym (sum_by-insert (one_if k) b m key);
 }
 
-pub same-remove : (a b : List ℕ) (n m : ℕ) → HaveSameKeys a b → n < length a → m < length b → get_or a n 0 ≡ get_or b m 0 → HaveSameKeys (remove a n) (remove b m)
+pub same-remove : (a b : List ℕ) (n m : ℕ) → HaveSameKeys a b → n < length a → m < length b
+    → get_or a n 0 ≡ get_or b m 0 → HaveSameKeys (remove a n) (remove b m)
 same-remove a b n m same in_a in_b is = record {
   each = λ k.
       let from_a = sum_by-remove (one_if k) a n 0 in_a in

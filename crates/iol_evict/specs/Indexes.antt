@@ -1,5 +1,6 @@
 -- Sorted lists of a slab's keys.
-use Rattle.std.specs.Prelude.{◌≡◌, ℕ, ◌+◌, ◌<◌, ◌≤◌, ◌==◌, if◌then◌else◌, List, [], length, sum_by, slice_index, Some, unwrap_or, insert, remove, Result, OnOk}
+use Rattle.std.specs.Prelude.{◌≡◌, ℕ, ◌+◌, ◌<◌, ◌≤◌, ◌==◌, if◌then◌else◌, List, [], length, sum_by, slice_index, Some}
+use Rattle.std.specs.Prelude.{unwrap_or, insert, remove, Result, OnOk}
 use Rattle.std.specs.Global.{Global}
 use Rattle.std.specs.VecDeque.{deque_len, deque_capacity}
 use Rattle.std.specs.declared.collections.VecDeque.{VecDeque}

@@ -1,5 +1,6 @@
 -- The entry to evict next.
-use Rattle.std.specs.Prelude.{◌≡◌, ℕ, ◌<◌, ◌≤◌, ◌⊎◌, Bool, true, false, List, [], length, slice_index, All, Contains, Option, MatchOption}
+use Rattle.std.specs.Prelude.{◌≡◌, ℕ, ◌<◌, ◌≤◌, ◌⊎◌, Bool, true, false, List, [], length, slice_index, All, Contains}
+use Rattle.std.specs.Prelude.{Option, MatchOption}
 use Rattle.slab.specs.Slab.{Slab}
 use Rattle.iol_evict.specs.declared.entry.Entry.{Entry}
 use Rattle.iol_evict.specs.declared.entry.Rank.{Rank}
@@ -30,14 +31,15 @@ pub record IsVictim (in_use : ℕ → ℕ → Bool) (es : List Entry) (place : �
 pub record AreUsedBelow (in_use : ℕ → ℕ → Bool) (rank : Rank) (es : List Entry) : Type 0 where
   pub each : All (λ e. RankLt (rank_by Height e) rank → in_use e.file e.at ≡ true) es
 
--- For any predicate `in use`: if all old entries below one rank are in use, then all new entries below the other rank are in
--- use.
+-- For any predicate `in use`: if all old entries below one rank are in use, then all new entries below the other rank
+-- are in use.
 abbrev pub KeepsUsedBelow : (was now : Rank) → (old new : List Entry) → Type 0
 KeepsUsedBelow was now old new = (in_use : ℕ → ℕ → Bool) → AreUsedBelow in_use was old → AreUsedBelow in_use now new
 
 -- for each of these entries `is_in_use` may be called
 pub record CanAskOf (can_ask : ℕ → ℕ → Type 0) (s : Slab Entry) (keys : List ℕ) : Type 0 where
-  pub each : (i : ℕ) → i < length keys → can_ask (entry_of s (slice_index keys i)).file (entry_of s (slice_index keys i)).at
+  pub each : (i : ℕ) → i < length keys
+      → can_ask (entry_of s (slice_index keys i)).file (entry_of s (slice_index keys i)).at
 
 abbrev pub is_used : (in_use : ℕ → ℕ → Bool) → Slab Entry → List ℕ → (i : ℕ) → Bool
 is_used in_use s keys i = in_use (entry_of s (slice_index keys i)).file (entry_of s (slice_index keys i)).at
@@ -48,7 +50,8 @@ pub record GoesFirst (in_use : ℕ → ℕ → Bool) (s : Slab Entry) (keys : Li
   pub within : index < length keys
   pub lies : place ≡ ((entry_of s (slice_index keys index)).file, (entry_of s (slice_index keys index)).at)
   pub before : (i : ℕ) → i < index → is_used in_use s keys i ≡ true
-  pub idle : (is_used in_use s keys index ≡ false) ⊎ ((index ≡ 0) × ((i : ℕ) → i < length keys → is_used in_use s keys i ≡ true))
+  pub idle : (is_used in_use s keys index ≡ false)
+      ⊎ ((index ≡ 0) × ((i : ℕ) → i < length keys → is_used in_use s keys i ≡ true))
 
 -- the place of the entry to evict next, if there are any keys
 abbrev pub FindsIdle : (in_use : ℕ → ℕ → Bool) → Slab Entry → List ℕ → (found : Option (ℕ × ℕ)) → Type 0

@@ -7,7 +7,8 @@ pub order_more : (from at to : ℕ) (ss : List Span) → AreInOrder from at ss �
 order_more from at to [] o le = omega (arith, o, le)
 order_more from at to (s ∷ ss) o le = (o.0, o.1, order_more s.to at to ss o.2 le)
 
-pub order_push : (from at : ℕ) (ss : List Span) (s : Span) → AreInOrder from at ss → at ≤ s.from → s.from < s.to → AreInOrder from s.to (ss ++ s ∷ [])
+pub order_push : (from at : ℕ) (ss : List Span) (s : Span) → AreInOrder from at ss → at ≤ s.from → s.from < s.to
+    → AreInOrder from s.to (ss ++ s ∷ [])
 order_push from at [] s o le lt = (omega (arith, o, le), lt, omega arith)
 order_push from at (x ∷ ss) s o le lt = (o.0, o.1, order_push x.to at ss s o.2 le lt)
 

@@ -1,5 +1,6 @@
 -- A range has its gaps in one way.
-use Rattle.std.proofs.Common.{inl, inr, ◌≡◌, ℕ, zero, suc, ◌<◌, ◌≤◌, Bool, true, false, cond, List, [], ◌∷◌, length, get_or, Option, Some, None, IsSome, refl, sym, ap, ◌∙◌, arith, subst}
+use Rattle.std.proofs.Common.{inl, inr, ◌≡◌, ℕ, zero, suc, ◌<◌, ◌≤◌, Bool, true, false, cond, List, [], ◌∷◌, length}
+use Rattle.std.proofs.Common.{get_or, Option, Some, None, IsSome, refl, sym, ap, ◌∙◌, arith, subst}
 use Rattle.std.specs.List.{All}
 use Rattle.std.proofs.lemmas.Bool.{cases_lt}
 use Rattle.std.proofs.lemmas.List.Elements.{All-head, All-tail}
@@ -8,9 +9,12 @@ use Rattle.iol_extent.specs.Spans.{AreInOrder, IsGapSpan, IsHit, IsWhole, LiesIn
 use Rattle.iol_extent.specs.declared.spans.Span.{Span}
 use Rattle.iol_extent.proofs.Cover.{cover_yes}
 
-some_over : (es : List Extent) (k i : ℕ) (e : Extent) → k < length es → get_or es k e ≡ e → e.at ≤ i → i < end_of e → IsSome (cover es i)
+some_over : (es : List Extent) (k i : ℕ) (e : Extent) → k < length es → get_or es k e ≡ e → e.at ≤ i → i < end_of e
+    → IsSome (cover es i)
 some_over [] k i e h is low high = absurd (omega (arith, h))
-some_over (x ∷ es) zero i e h is low high = subst (λ (o : Option Cell). IsSome o) (sym (cover_yes x es i (omega (arith, low, ap (λ (y : Extent). y.at) is)) (omega (arith, high, ap end_of is)))) refl
+some_over (x ∷ es) zero i e h is low high =
+    subst (λ (o : Option Cell). IsSome o)
+    (sym (cover_yes x es i (omega (arith, low, ap (λ (y : Extent). y.at) is)) (omega (arith, high, ap end_of is)))) refl
 some_over (x ∷ es) (suc k) i e h is low high = pick (is_over x i) (some_over es k i e (omega (arith, h)) is low high)
   where
     pick : (b : Bool) → IsSome (cover es i) → IsSome (cond b (Some (cell_at x i)) (cover es i))
@@ -20,7 +24,10 @@ some_over (x ∷ es) (suc k) i e h is low high = pick (is_over x i) (some_over e
 pub hit_over : (es : List Extent) (to i : ℕ) (ss : List Span) → All (IsHit es to) ss → LiesIn i ss → IsSome (cover es i)
 hit_over es to i [] all lies = absurd lies
 hit_over es to i (s ∷ ss) all lies = elim lies [
-  | inl here ↦ (let hit = All-head (IsHit es to) s ss all in some_over es hit.index i hit.extent hit.within hit.is (omega (arith, hit.begins, here.0)) (omega (arith, hit.ends, here.1)))
+  | inl here ↦
+      (let hit = All-head (IsHit es to) s ss all in
+      some_over es hit.index i hit.extent hit.within hit.is (omega (arith, hit.begins, here.0))
+      (omega (arith, hit.ends, here.1)))
   | inr later ↦ hit_over es to i ss (All-tail (IsHit es to) s ss all) later
 ]
 
@@ -46,7 +53,8 @@ record AreGaps (es : List Extent) (low to : ℕ) (gs : List Span) : Type 0 where
   whole : All (IsWhole es to) gs
   each : (i : ℕ) → low ≤ i → i < to → cover es i ≡ None → LiesIn i gs
 
-later_gaps : (es : List Extent) (low to : ℕ) (g : Span) (gs : List Span) → AreGaps es low to (g ∷ gs) → AreGaps es g.to to gs
+later_gaps : (es : List Extent) (low to : ℕ) (g : Span) (gs : List Span) → AreGaps es low to (g ∷ gs)
+    → AreGaps es g.to to gs
 later_gaps es low to g gs a = record {
   order = a.order.2;
   empty = All-tail (IsGapSpan es) g gs a.empty;
@@ -58,19 +66,24 @@ later_gaps es low to g gs a = record {
 }
 
 -- nothing lies over the first byte of a gap
-first_none : (es : List Extent) (low to : ℕ) (g : Span) (gs : List Span) → AreGaps es low to (g ∷ gs) → cover es g.from ≡ None
+first_none : (es : List Extent) (low to : ℕ) (g : Span) (gs : List Span) → AreGaps es low to (g ∷ gs)
+    → cover es g.from ≡ None
 first_none es low to g gs a = (All-head (IsGapSpan es) g gs a.empty).each g.from (omega arith) a.order.1
 
-first_in : (es : List Extent) (low to : ℕ) (g : Span) (gs hs : List Span) → AreGaps es low to (g ∷ gs) → AreGaps es low to hs → LiesIn g.from hs
-first_in es low to g gs hs a b = b.each g.from a.order.0 (omega (arith, a.order.1, ends_high g.to to gs a.order.2)) (first_none es low to g gs a)
+first_in : (es : List Extent) (low to : ℕ) (g : Span) (gs hs : List Span) → AreGaps es low to (g ∷ gs)
+    → AreGaps es low to hs → LiesIn g.from hs
+first_in es low to g gs hs a b =
+    b.each g.from a.order.0 (omega (arith, a.order.1, ends_high g.to to gs a.order.2)) (first_none es low to g gs a)
 
-begins_most : (es : List Extent) (low to : ℕ) (g h : Span) (gs hs : List Span) → AreGaps es low to (g ∷ gs) → AreGaps es low to (h ∷ hs) → h.from ≤ g.from
+begins_most : (es : List Extent) (low to : ℕ) (g h : Span) (gs hs : List Span) → AreGaps es low to (g ∷ gs)
+    → AreGaps es low to (h ∷ hs) → h.from ≤ g.from
 begins_most es low to g h gs hs a b = elim (first_in es low to g gs (h ∷ hs) a b) [
   | inl here ↦ here.0
   | inr later ↦ omega (arith, lies_above h.to to g.from hs b.order.2 later, b.order.1)
 ]
 
-ends_most : (es : List Extent) (low to : ℕ) (g h : Span) (gs hs : List Span) → g.from ≡ h.from → AreGaps es low to (g ∷ gs) → AreGaps es low to (h ∷ hs) → g.to ≤ h.to
+ends_most : (es : List Extent) (low to : ℕ) (g h : Span) (gs hs : List Span) → g.from ≡ h.from
+    → AreGaps es low to (g ∷ gs) → AreGaps es low to (h ∷ hs) → g.to ≤ h.to
 ends_most es low to g h gs hs same a b = elim (cases_lt h.to g.to) [
   | inl less ↦ (
       let some = (All-head (IsWhole es to) h hs b.whole).ends (omega (arith, less, ends_high g.to to gs a.order.2)) in
@@ -87,10 +100,13 @@ one_way es low to [] [] a b = refl
 one_way es low to [] (h ∷ hs) a b = absurd (first_in es low to h hs [] b a)
 one_way es low to (g ∷ gs) [] a b = absurd (first_in es low to g gs [] a b)
 one_way es low to (g ∷ gs) (h ∷ hs) a b =
-    let from : g.from ≡ h.from = omega (arith, begins_most es low to g h gs hs a b, begins_most es low to h g hs gs b a) in
-    let ends : g.to ≡ h.to = omega (arith, ends_most es low to g h gs hs from a b, ends_most es low to h g hs gs (sym from) b a) in
+    let from : g.from ≡ h.from =
+    omega (arith, begins_most es low to g h gs hs a b, begins_most es low to h g hs gs b a) in
+    let ends : g.to ≡ h.to =
+    omega (arith, ends_most es low to g h gs hs from a b, ends_most es low to h g hs gs (sym from) b a) in
     let rest = subst (λ n. AreGaps es n to hs) (sym ends) (later_gaps es low to h hs b) in
-    ap (λ x. x ∷ gs) (span_is g h from ends) ∙ ap (λ l. h ∷ l) (one_way es g.to to gs hs (later_gaps es low to g gs a) rest)
+    ap (λ x. x ∷ gs) (span_is g h from ends)
+    ∙ ap (λ l. h ∷ l) (one_way es g.to to gs hs (later_gaps es low to g gs a) rest)
 
 gaps_of : (es : List Extent) (from to : ℕ) (hits gaps : List Span) → Tile es from to hits gaps → AreGaps es from to gaps
 gaps_of es from to hits gaps t = record {
@@ -103,5 +119,7 @@ gaps_of es from to hits gaps t = record {
   ];
 }
 
-pub gaps_alone : (es : List Extent) (from to : ℕ) (hits gaps more others : List Span) → Tile es from to hits gaps → Tile es from to more others → gaps ≡ others
-gaps_alone es from to hits gaps more others t u = one_way es from to gaps others (gaps_of es from to hits gaps t) (gaps_of es from to more others u)
+pub gaps_alone : (es : List Extent) (from to : ℕ) (hits gaps more others : List Span) → Tile es from to hits gaps
+    → Tile es from to more others → gaps ≡ others
+gaps_alone es from to hits gaps more others t u =
+    one_way es from to gaps others (gaps_of es from to hits gaps t) (gaps_of es from to more others u)

@@ -1,5 +1,7 @@
 -- The extents of a file: in memory, between gaps that only the store has.
-use Rattle.std.specs.Prelude.{◌≡◌, ℕ, ◌+◌, ◌-◌, ◌<◌, ◌≤◌, ◌&&◌, nat_lt, nat_le, max, Bool, true, false, if◌then◌else◌, cond, sum_by, List, [], ◌∷◌, Option, Some, None, slice_index_or, slice_set, ◌==◌, Result, OnOk, OnErr, IfSome, MatchOption}
+use Rattle.std.specs.Prelude.{◌≡◌, ℕ, ◌+◌, ◌-◌, ◌<◌, ◌≤◌, ◌&&◌, nat_lt, nat_le, max, Bool, true, false, if◌then◌else◌}
+use Rattle.std.specs.Prelude.{cond, sum_by, List, [], ◌∷◌, Option, Some, None, slice_index_or, slice_set, ◌==◌, Result}
+use Rattle.std.specs.Prelude.{OnOk, OnErr, IfSome, MatchOption}
 use Rattle.std.specs.Borrow.{Bor}
 use Rattle.iol_hold.specs.declared.slices.Slice.{Slice}
 use Rattle.iol_hold.specs.Places.{Place, places, byte_len}

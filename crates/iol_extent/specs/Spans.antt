@@ -1,5 +1,6 @@
 -- Hits and gaps of a range.
-use Rattle.std.specs.Prelude.{◌≡◌, ℕ, ◌<◌, ◌≤◌, ◌⊎◌, min, Bool, false, IsTrue, List, [], ◌∷◌, length, slice_index_or, All, IsSome}
+use Rattle.std.specs.Prelude.{◌≡◌, ℕ, ◌<◌, ◌≤◌, ◌⊎◌, min, Bool, false, IsTrue, List, [], ◌∷◌, length, slice_index_or}
+use Rattle.std.specs.Prelude.{All, IsSome}
 use Rattle.iol_extent.specs.declared.spans.Span.{Span}
 use Rattle.iol_extent.specs.Extents.{Extent, cover, end_of, IsGap}
 

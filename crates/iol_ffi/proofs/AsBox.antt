@@ -12,7 +12,13 @@ use Rattle.iol_ffi.specs.contracts.raw_box.RawBox as RawBox
 use Rattle.iol_ffi.specs.contracts.handle.Handle as Handle
 
 abbrev pub E : Bx
-E = record { row = Home.the_row; laws = home.the_row_laws; al = record { row = Heap.the_row; laws = heap.the_row_laws; g = ghosts; d = dict; drops = impl [] tnil dnil } }
+E =
+    record {
+      row = Home.the_row;
+      laws = home.the_row_laws;
+      al =
+          record { row = Heap.the_row; laws = heap.the_row_laws; g = ghosts; d = dict; drops = impl [] tnil dnil };
+    }
 
 abbrev pub FromRaw : Slot 0
 FromRaw = plain (λ _. RawBox.the_row Home.the_row Heap.the_row ghosts)

@@ -1,5 +1,6 @@
 -- How the places of parts are written, one part after another.
-use Rattle.std.proofs.Common.{inl, inr, ◌≡◌, ◌≢◌, ◌⊎◌, ◌+◌, ◌-◌, ◌<◌, ◌≤◌, ℕ, zero, suc, List, [], ◌∷◌, length, drop, min, Option, None, Some, slice_get, slice_set, refl, sym, ap, ◌∙◌, subst, arith}
+use Rattle.std.proofs.Common.{inl, inr, ◌≡◌, ◌≢◌, ◌⊎◌, ◌+◌, ◌-◌, ◌<◌, ◌≤◌, ℕ, zero, suc, List, [], ◌∷◌, length, drop}
+use Rattle.std.proofs.Common.{min, Option, None, Some, slice_get, slice_set, refl, sym, ap, ◌∙◌, subst, arith}
 use Rattle.iol_hold.specs.Addresses.{Located}
 use Rattle.iol_ffi.specs.Parts.{HasPart, IsPart, PlacesPart, WritesBelow, WritesPart}
 use Rattle.iol_ffi.specs.declared.borrowed.IolPart.{IolPart}
@@ -35,10 +36,12 @@ left_rest (y ∷ xs) rest zero x is = cc
 left_rest (y ∷ xs) rest (suc k) x is = left_rest xs rest k x is
 
 pub writes_none : (parts : List Located) (skip : ℕ) (old : List IolPart) → WritesBelow 0 parts skip old old
-writes_none parts skip old = record { len = refl; written = λ i bytes there below is. absurd (omega (arith, below)); kept = λ i above. refl }
+writes_none parts skip old =
+    record { len = refl; written = λ i bytes there below is. absurd (omega (arith, below)); kept = λ i above. refl }
 
 -- no place is for a number below `skip`
-writes_under : (k l : ℕ) (parts : List Located) (skip : ℕ) (old new : List IolPart) → k < skip → l ≤ skip → WritesBelow k parts skip old new → WritesBelow l parts skip old new
+writes_under : (k l : ℕ) (parts : List Located) (skip : ℕ) (old new : List IolPart) → k < skip → l ≤ skip
+    → WritesBelow k parts skip old new → WritesBelow l parts skip old new
 writes_under k l parts skip old new before within h = record {
   len = h.len;
   written = λ i bytes there below is. absurd (omega (arith, below, within));
@@ -46,7 +49,8 @@ writes_under k l parts skip old new before within h = record {
 }
 
 -- where there is no place for a part, there is none for it that is written
-pub writes_full : (k : ℕ) (parts : List Located) (skip : ℕ) (old mid : List IolPart) → skip ≤ k → length mid ≤ k - skip → WritesBelow k parts skip old mid → WritesBelow (k + 1) parts skip old mid
+pub writes_full : (k : ℕ) (parts : List Located) (skip : ℕ) (old mid : List IolPart) → skip ≤ k → length mid ≤ k - skip
+    → WritesBelow k parts skip old mid → WritesBelow (k + 1) parts skip old mid
 writes_full k parts skip old mid past full h = record {
   len = h.len;
   written = λ i bytes there below is. h.written i bytes there (omega (arith, h.len, there, full, below, past)) is;
@@ -67,35 +71,47 @@ some-inj : {A : Type 0} (d : A) (o p : Option A) (x y : A) → o ≡ Some x → 
 some-inj d o p x y a b = cc
 
 -- a part that has a place
-pub writes_placed : (k : ℕ) (parts : List Located) (skip : ℕ) (old mid new : List IolPart) (p : Located) (x : IolPart) → skip ≤ k → slice_get parts k ≡ Some p
-    → k - skip < length mid → x.at ≡ p.at → x.len ≡ length p.bytes → new ≡ slice_set mid (k - skip) x → WritesBelow k parts skip old mid → WritesBelow (k + 1) parts skip old new
+pub writes_placed : (k : ℕ) (parts : List Located) (skip : ℕ) (old mid new : List IolPart) (p : Located) (x : IolPart)
+    → skip ≤ k → slice_get parts k ≡ Some p
+    → k - skip < length mid → x.at ≡ p.at → x.len ≡ length p.bytes → new ≡ slice_set mid (k - skip) x
+    → WritesBelow k parts skip old mid → WritesBelow (k + 1) parts skip old new
 writes_placed k parts skip old mid new p x past is there at len set h = record {
   len = ap length set ∙ set_length mid (k - skip) x ∙ h.len;
   written = written;
-  kept = λ i above. ap (λ l. slice_get l i) set ∙ set_other mid (k - skip) i x (λ same. absurd (omega (arith, same, above, past))) ∙ h.kept i (omega (arith, above));
+  kept = λ i above. ap (λ l. slice_get l i) set
+      ∙ set_other mid (k - skip) i x (λ same. absurd (omega (arith, same, above, past)))
+      ∙ h.kept i (omega (arith, above));
 }
   where
     here : (i : ℕ) (q : Located) → skip + i ≡ k → slice_get parts (skip + i) ≡ Some q → HasPart q (slice_get new i)
     here i q same got =
-        let eq : q ≡ p = some-inj q (slice_get parts k) None q p (subst (λ n. slice_get parts n ≡ Some q) same got) is in
+        let eq : q ≡ p = some-inj q (slice_get parts k) None q p (subst (λ n. slice_get parts n ≡ Some q) same got)
+        is in
         let spot : k - skip ≡ i = omega (arith, same) in
-        let set_here : slice_get new i ≡ Some x = subst (λ n. slice_get new n ≡ Some x) spot (ap (λ l. slice_get l (k - skip)) set ∙ set_same mid (k - skip) x there) in
+        let set_here : slice_get new i ≡ Some x =
+        subst (λ n. slice_get new n ≡ Some x) spot (ap (λ l. slice_get l (k - skip)) set
+        ∙ set_same mid (k - skip) x there) in
         let placed : IsPart p x = record { at = at; len = len } in
         subst (λ o. HasPart q o) (sym set_here) (subst (λ l. IsPart l x) (sym eq) placed)
 
-    before : (i : ℕ) (q : Located) → i < length old → skip + i < k → slice_get parts (skip + i) ≡ Some q → HasPart q (slice_get new i)
+    before : (i : ℕ) (q : Located) → i < length old → skip + i < k → slice_get parts (skip + i) ≡ Some q
+        → HasPart q (slice_get new i)
     before i q fits below got =
-        let same : slice_get new i ≡ slice_get mid i = ap (λ l. slice_get l i) set ∙ set_other mid (k - skip) i x (λ eq. absurd (omega (arith, eq, below, past))) in
+        let same : slice_get new i ≡ slice_get mid i = ap (λ l. slice_get l i) set
+        ∙ set_other mid (k - skip) i x (λ eq. absurd (omega (arith, eq, below, past))) in
         subst (λ o. HasPart q o) (sym same) (h.written i q fits below got)
 
-    either : (i : ℕ) (q : Located) → i < length old → (skip + i < k) ⊎ (skip + i ≡ k) → slice_get parts (skip + i) ≡ Some q → HasPart q (slice_get new i)
+    either : (i : ℕ) (q : Located) → i < length old → (skip + i < k) ⊎ (skip + i ≡ k)
+        → slice_get parts (skip + i) ≡ Some q → HasPart q (slice_get new i)
     either i q fits (inl below) got = before i q fits below got
     either i q fits (inr same) got = here i q same got
 
-    written : (i : ℕ) (q : Located) → i < length old → skip + i < k + 1 → slice_get parts (skip + i) ≡ Some q → HasPart q (slice_get new i)
+    written : (i : ℕ) (q : Located) → i < length old → skip + i < k + 1 → slice_get parts (skip + i) ≡ Some q
+        → HasPart q (slice_get new i)
     written i q fits below got = either i q fits (less_or (skip + i) k below) got
 
-pub writes_next : (k : ℕ) (parts : List Located) (skip : ℕ) (old mid new : List IolPart) (p : Located) → skip ≤ k → slice_get parts k ≡ Some p
+pub writes_next : (k : ℕ) (parts : List Located) (skip : ℕ) (old mid new : List IolPart) (p : Located) → skip ≤ k
+    → slice_get parts k ≡ Some p
     → PlacesPart p (k - skip) mid new → WritesBelow k parts skip old mid → WritesBelow (k + 1) parts skip old new
 writes_next k parts skip old mid new p past is (inl (full, same)) h =
     subst (λ l. WritesBelow (k + 1) parts skip old l) (sym same) (writes_full k parts skip old mid past full h)
@@ -103,10 +119,13 @@ writes_next k parts skip old mid new p past is (inr (x, there, at, len, set)) h 
     writes_placed k parts skip old mid new p x past is there at len set h
 
 -- a turn of the loop: the next part is written, and counted
-pub writes_turn : (k l : ℕ) (parts left rest : List Located) (p : Located) (skip : ℕ) (old mid new : List IolPart) → l ≡ min (k + 1) 18446744073709551615 → k ≤ 18446744073709551615
-    → (k < 18446744073709551615 → left ≡ drop k parts) → left ≡ p ∷ rest → WritesPart p k skip mid new → WritesBelow k parts skip old mid → WritesBelow l parts skip old new
+pub writes_turn : (k l : ℕ) (parts left rest : List Located) (p : Located) (skip : ℕ) (old mid new : List IolPart)
+    → l ≡ min (k + 1) 18446744073709551615 → k ≤ 18446744073709551615
+    → (k < 18446744073709551615 → left ≡ drop k parts) → left ≡ p ∷ rest → WritesPart p k skip mid new
+    → WritesBelow k parts skip old mid → WritesBelow l parts skip old new
 writes_turn k l parts left rest p skip old mid new next fits at first (inl (before, same)) h =
-    subst (λ r. WritesBelow l parts skip old r) (sym same) (writes_under k l parts skip old mid before (omega (arith, next, before)) h)
+    subst (λ r. WritesBelow l parts skip old r) (sym same)
+    (writes_under k l parts skip old mid before (omega (arith, next, before)) h)
 writes_turn k l parts left rest p skip old mid new next fits at first (inr (inl (last, same))) h =
     let stays : k ≡ l = omega (arith, next, fits, last) in
     subst (λ n. WritesBelow n parts skip old new) stays (subst (λ r. WritesBelow k parts skip old r) (sym same) h)
@@ -116,7 +135,8 @@ writes_turn k l parts left rest p skip old mid new next fits at first (inr (inr 
     subst (λ n. WritesBelow n parts skip old new) more (writes_next k parts skip old mid new p past is places h)
 
 -- what is left after a turn
-pub left_turn : (k l : ℕ) (parts left rest : List Located) (p : Located) → l ≡ min (k + 1) 18446744073709551615 → (k < 18446744073709551615 → left ≡ drop k parts) → left ≡ p ∷ rest
+pub left_turn : (k l : ℕ) (parts left rest : List Located) (p : Located) → l ≡ min (k + 1) 18446744073709551615
+    → (k < 18446744073709551615 → left ≡ drop k parts) → left ≡ p ∷ rest
     → l < 18446744073709551615 → rest ≡ drop l parts
 left_turn k l parts left rest p next at first few =
     let more : suc k ≡ l = omega (arith, next, few) in

@@ -1,5 +1,6 @@
 -- The bytes that an event takes are at most those that it asks for, so they fit where there is room for these.
-use Rattle.std.proofs.Common.{inl, inr, ◌≡◌, ◌≤◌, Bool, ℕ, zero, suc, List, [], ◌∷◌, length, take, drop, Option, None, Some, refl, sym, ap, ◌∙◌, subst, arith}
+use Rattle.std.proofs.Common.{inl, inr, ◌≡◌, ◌≤◌, Bool, ℕ, zero, suc, List, [], ◌∷◌, length, take, drop, Option, None}
+use Rattle.std.proofs.Common.{Some, refl, sym, ap, ◌∙◌, subst, arith}
 use Rattle.std.specs.List.{prefix_len}
 use Rattle.iol_core.specs.Meaning.{Step}
 use Rattle.iol_core.specs.Run.{meaning, outcome}
@@ -43,7 +44,8 @@ le_of : (a b n : ℕ) → a ≡ b → b ≤ n → a ≤ n
 le_of a b n same few = omega (arith, same, few)
 
 queue_most : (may : ℕ → Bool) (n : ℕ) (t : Text) → length (bytes_of (admitted may (take n t))) ≤ n
-queue_most may n t = le_of _ _ n (length_bytes (admitted may (take n t))) (short_both (prefix_len (λ x. may x.1) (take n t)) n t)
+queue_most may n t =
+    le_of _ _ n (length_bytes (admitted may (take n t))) (short_both (prefix_len (λ x. may x.1) (take n t)) n t)
 
 file_most : (p n at : ℕ) (bytes : List ℕ) → length (bytes_of (labelled p (take n (drop at bytes)))) ≤ n
 file_most p n at bytes =
@@ -67,8 +69,12 @@ bytes_in (reply.Segment bs sum) = bs
 bytes_in r = []
 
 most : (s : State) (e : Event) → TakesBytes e → length (bytes_in (meaning s e).answer) ≤ most_bytes e
-most s e (inl (by, fd, n, is)) = subst (λ (x : Event). length (bytes_in (meaning s x).answer) ≤ most_bytes x) (sym is) (read_most s by (descriptor s by fd) n)
-most s e (inr (c, n, is)) = subst (λ (x : Event). length (bytes_in (meaning s x).answer) ≤ most_bytes x) (sym is) (sent_most n (conn_at s c).outgoing)
+most s e (inl (by, fd, n, is)) =
+    subst (λ (x : Event). length (bytes_in (meaning s x).answer) ≤ most_bytes x) (sym is)
+    (read_most s by (descriptor s by fd) n)
+most s e (inr (c, n, is)) =
+    subst (λ (x : Event). length (bytes_in (meaning s x).answer) ≤ most_bytes x) (sym is)
+    (sent_most n (conn_at s c).outgoing)
 
 -- the step of the copying machine that a reply answers, whatever the bytes of files are
 record Answered (e : Event) (r : Reply) : Type 0 where
@@ -77,7 +83,13 @@ record Answered (e : Event) (r : Reply) : Type 0 where
   step : Step (meaning before e) before (outcome r) after
 
 answered : (old new : SystemState) (e : Event) (r : Reply) → Promises old e r new → Answered e r
-answered old new e r p = record { before = with_slots p.beside.before old.kernel; after = with_slots p.beside.after new.kernel; step = p.beside.step }
+answered old new e r p =
+    record {
+      before = with_slots p.beside.before old.kernel;
+      after = with_slots p.beside.after new.kernel;
+      step =
+          p.beside.step;
+    }
 
 no_such : (why : Refusal) → number_of why ≡ 101 → ⊥
 no_such refusal.NoDomain is = omega (arith, is)
@@ -102,11 +114,13 @@ done_not : (refused : ℕ) → refused ≡ 0 → refused ≡ 101 → ⊥
 done_not n zero_it is = omega (arith, zero_it, is)
 
 -- bytes that have room are returned
-bytes_fit : (bs : List ℕ) (m : ℕ) (r : IolReply) (out : List ℕ) (bound : ℕ) → length bs ≤ bound → bound ≤ length out → ReturnsBytes bs m r out → r.refusal ≡ 101 → ⊥
+bytes_fit : (bs : List ℕ) (m : ℕ) (r : IolReply) (out : List ℕ) (bound : ℕ) → length bs ≤ bound → bound ≤ length out
+    → ReturnsBytes bs m r out → r.refusal ≡ 101 → ⊥
 bytes_fit bs m r out bound few room (inl (done, same)) is = done_not r.refusal done.0 is
 bytes_fit bs m r out bound few room (inr (refused, number, short)) is = omega (arith, few, room, short)
 
-fits_in : (e : Event) (x : Reply) (r : IolReply) (out : List ℕ) → Answered e x → Encodes x r out → most_bytes e ≤ length out → TakesBytes e → r.refusal ≡ 101 → ⊥
+fits_in : (e : Event) (x : Reply) (r : IolReply) (out : List ℕ) → Answered e x → Encodes x r out
+    → most_bytes e ≤ length out → TakesBytes e → r.refusal ≡ 101 → ⊥
 fits_in e reply.Done r out a en room t is = done_not r.refusal en.0 is
 fits_in e (reply.Domain d) r out a en room t is = done_not r.refusal en.0 is
 fits_in e (reply.Pool p) r out a en room t is = done_not r.refusal en.0 is
@@ -118,10 +132,13 @@ fits_in e (reply.Agg x) r out a en room t is = done_not r.refusal en.0 is
 fits_in e (reply.Aggs x y) r out a en room t is = done_not r.refusal en.0 is
 fits_in e (reply.Count n) r out a en room t is = done_not r.refusal en.0 is
 fits_in e (reply.Bytes bs) r out a en room t is =
-    bytes_fit bs 0 r out (most_bytes e) (subst (λ (l : List ℕ). length l ≤ most_bytes e) (sym (ap bytes_in a.step.1)) (most a.before e t)) room en is
+    bytes_fit bs 0 r out (most_bytes e) (subst (λ (l : List ℕ). length l ≤ most_bytes e) (sym (ap bytes_in a.step.1))
+    (most a.before e t)) room en is
 fits_in e (reply.Segment bs sum) r out a en room t is =
-    bytes_fit bs sum r out (most_bytes e) (subst (λ (l : List ℕ). length l ≤ most_bytes e) (sym (ap bytes_in a.step.1)) (most a.before e t)) room en is
+    bytes_fit bs sum r out (most_bytes e) (subst (λ (l : List ℕ). length l ≤ most_bytes e) (sym (ap bytes_in a.step.1))
+    (most a.before e t)) room en is
 fits_in e (reply.Refused why) r out a en room t is = no_such why (sym en.0 ∙ is)
 
-pub fits : (old new : SystemState) (e : Event) (x : Reply) (r : IolReply) (out : List ℕ) → Promises old e x new → Encodes x r out → most_bytes e ≤ length out → TakesBytes e → r.refusal ≡ 101 → ⊥
+pub fits : (old new : SystemState) (e : Event) (x : Reply) (r : IolReply) (out : List ℕ) → Promises old e x new
+    → Encodes x r out → most_bytes e ≤ length out → TakesBytes e → r.refusal ≡ 101 → ⊥
 fits old new e x r out p en room = fits_in e x r out (answered old new e x p) en room

@@ -21,22 +21,37 @@ record Chained (old : Machine) (cs : List StepCall) (new : Machine) : Type 0 whe
   chain : Chain old.system events replies new.system
 
 -- a call more, in front
-call_first : (old mid new : Machine) (c : StepCall) (cs : List StepCall) → CarriesOutOrNot c.event c.bytes c.names c.reply c.out (Some old) (Some mid) → Chained mid cs new → Chained old (c ∷ cs) new
+call_first : (old mid new : Machine) (c : StepCall) (cs : List StepCall)
+    → CarriesOutOrNot c.event c.bytes c.names c.reply c.out (Some old) (Some mid) → Chained mid cs new
+    → Chained old (c ∷ cs) new
 call_first old mid new c cs (inl step) rest = record {
   events = step.event ∷ rest.events;
   replies = step.takes.reply ∷ rest.replies;
-  denote = inr (step.event, step.takes.reply, rest.events, rest.replies, refl, refl, step.is, step.takes.encodes, rest.denote);
+  denote =
+      inr (
+        step.event,
+        step.takes.reply,
+        rest.events,
+        rest.replies,
+        refl,
+        refl,
+        step.is,
+        step.takes.encodes,
+        rest.denote,
+      );
   chain = (mid.system, step.takes.steps, rest.chain);
 }
 call_first old mid new c cs (inr not) rest = record {
   events = rest.events;
   replies = rest.replies;
   denote = inl (not.1, rest.denote);
-  chain = subst (λ (m : Machine). Chain m.system rest.events rest.replies new.system) (ap (machine_or old) not.0) rest.chain;
+  chain = subst (λ (m : Machine). Chain m.system rest.events rest.replies new.system) (ap (machine_or old) not.0)
+      rest.chain;
 }
 
 chained : (old new : Machine) (cs : List StepCall) → Calls old cs new → Chained old cs new
-chained old new [] calls = record { events = []; replies = []; denote = (refl, refl); chain = ap (λ (m : Machine). m.system) calls }
+chained old new [] calls =
+    record { events = []; replies = []; denote = (refl, refl); chain = ap (λ (m : Machine). m.system) calls }
 chained old new (c ∷ cs) calls = call_first old calls.0 new c cs calls.1 (chained calls.0 new cs calls.2)
 
 pub calls_run : CallsAreARun

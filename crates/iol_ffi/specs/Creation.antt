@@ -44,7 +44,8 @@ pub record CreatesInMemory (config : Config) (number : ℕ) (new : Option Machin
   pub creates : Creates config under number new
 
 -- the same over files at these descriptors, of these lengths: file N of the store is descriptor N - 1
-pub record CreatesOverFiles (config : Config) (fds : List ℤ) (lens : List ℕ) (number : ℕ) (new : Option Machine) : Type 0 where
+pub record CreatesOverFiles (config : Config) (fds : List ℤ) (lens : List ℕ) (number : ℕ) (new : Option Machine) :
+    Type 0 where
   pub files : OpenFiles
   pub has_fds : files.fds.items ≡ fds
   pub has_lens : files.lens.items ≡ lens

@@ -38,7 +38,8 @@ IsCall (call.AggDup agg) e bs ns = (e.kind ≡ 7) × (agg ≡ e.agg)
 IsCall (call.AggCut agg from to) e bs ns = (e.kind ≡ 8) × (agg ≡ e.agg) × (from ≡ e.from) × (to ≡ e.until)
 IsCall (call.AggSplit agg at) e bs ns = (e.kind ≡ 9) × (agg ≡ e.agg) × (at ≡ e.from)
 IsCall (call.AggJoin first second) e bs ns = (e.kind ≡ 10) × (first ≡ e.agg) × (second ≡ e.with)
-IsCall (call.AggReplace agg from to with') e bs ns = (e.kind ≡ 11) × (agg ≡ e.agg) × (from ≡ e.from) × (to ≡ e.until) × (with' ≡ e.with)
+IsCall (call.AggReplace agg from to with') e bs ns = (e.kind ≡ 11) × (agg ≡ e.agg) × (from ≡ e.from) × (to ≡ e.until)
+    × (with' ≡ e.with)
 IsCall (call.AggDrop agg) e bs ns = (e.kind ≡ 12) × (agg ≡ e.agg)
 IsCall (call.AggGive agg to) e bs ns = (e.kind ≡ 13) × (agg ≡ e.agg) × (to ≡ e.to)
 IsCall (call.Show agg) e bs ns = (e.kind ≡ 14) × (agg ≡ e.agg)
@@ -70,7 +71,8 @@ IsEvent (event.Transmit conn max) e bs ns = (e.kind ≡ 103) × (conn ≡ e.id) 
 IsEvent event.Flush e bs ns = e.kind ≡ 104
 IsEvent event.DropClean e bs ns = e.kind ≡ 105
 
--- the event of a request: that which it has, or one of the bytes that C passed, or one whose bytes are written to C's memory
+-- the event of a request: that which it has, or one of the bytes that C passed, or one whose bytes are written to C's
+-- memory
 abbrev pub event_with : Request → (bytes : List ℕ) → Event
 event_with (request.Event e) bs = e
 event_with (request.AggMake by) bs = event.Call by (call.AggMake bs)
@@ -96,8 +98,8 @@ IsNoEvent e = ((27 < e.kind) × (e.kind < 100)) ⊎ ((105 < e.kind)
 abbrev pub CopiesInCall : IolEvent → Type 0
 CopiesInCall e = (e.kind ≡ 2) ⊎ ((e.kind ≡ 15) ⊎ (e.kind ≡ 16))
 
--- An event of this kind has such a list, or bytes that arrive: only it needs memory before it is carried out. The bytes of
--- `agg_make` and of a copying `write` (kinds 6 and 26) are not copied before.
+-- An event of this kind has such a list, or bytes that arrive: only it needs memory before it is carried out. The bytes
+-- of `agg_make` and of a copying `write` (kinds 6 and 26) are not copied before.
 abbrev pub CopiesList : IolEvent → Type 0
 CopiesList e = (e.kind ≡ 101) ⊎ CopiesInCall e
 

@@ -1,5 +1,6 @@
 -- The parts of an aggregate, borrowed in place by C.
-use Rattle.std.specs.Prelude.{◌≡◌, ◌⊎◌, ◌+◌, ◌-◌, ◌<◌, ◌≤◌, ℕ, List, length, map, min, slice_get, slice_set, Option, None, Some, Result, Ok, Err}
+use Rattle.std.specs.Prelude.{◌≡◌, ◌⊎◌, ◌+◌, ◌-◌, ◌<◌, ◌≤◌, ℕ, List, length, map, min, slice_get, slice_set, Option}
+use Rattle.std.specs.Prelude.{None, Some, Result, Ok, Err}
 use Rattle.std.specs.List.{concat}
 use Rattle.iol_core.specs.declared.refusals.Refusal.{Refusal}
 use Rattle.iol_hold.specs.Prelude.{Located}
@@ -16,15 +17,16 @@ all_bytes parts = concat (map (λ (p : Located). p.bytes) parts)
 
 -- C gets the number of all parts, and of all their bytes, each at most 2^64 - 1
 abbrev pub AreCounted : (parts : List Located) → IolReply → Type 0
-AreCounted parts r = IsDone r (min (length parts) 18446744073709551615) (min (length (all_bytes parts)) 18446744073709551615)
+AreCounted parts r =
+    IsDone r (min (length parts) 18446744073709551615) (min (length (all_bytes parts)) 18446744073709551615)
 
 -- place i gets the address of the part and the number of its bytes, or there is no such place
 abbrev pub PlacesPart : Located → (i : ℕ) → (old new : List IolPart) → Type 0
 PlacesPart p i old new = ((length old ≤ i) × (new ≡ old))
     ⊎ ((x : IolPart) × (i < length old) × (x.at ≡ p.at) × (x.len ≡ length p.bytes) × (new ≡ slice_set old i x))
 
--- Place n - skip gets the address of the part and the number of its bytes, or there is no such place. No place is for a number below
--- `skip`, and none for 2^64 - 1.
+-- Place n - skip gets the address of the part and the number of its bytes, or there is no such place. No place is for a
+-- number below `skip`, and none for 2^64 - 1.
 abbrev pub WritesPart : Located → (n skip : ℕ) → (old new : List IolPart) → Type 0
 WritesPart p n skip old new = ((n < skip) × (new ≡ old)) ⊎ (((18446744073709551615 ≤ n) × (new ≡ old))
     ⊎ ((skip ≤ n) × (n < 18446744073709551615) × PlacesPart p (n - skip) old new))
@@ -38,7 +40,8 @@ abbrev pub HasPart : Located → Option IolPart → Type 0
 HasPart p (Some x) = IsPart p x
 HasPart p None = ⊥
 
--- Place i of `room` gets part skip + i, as far as there are places and parts with numbers below k. The other places stay.
+-- Place i of `room` gets part skip + i, as far as there are places and parts with numbers below k. The other places
+-- stay.
 pub record WritesBelow (k : ℕ) (parts : List Located) (skip : ℕ) (old new : List IolPart) : Type 0 where
   pub len : length new ≡ length old
   pub written : (i : ℕ) (p : Located) → i < length old → skip + i < k → slice_get parts (skip + i) ≡ Some p

@@ -34,7 +34,8 @@ Denote (c ∷ cs) es rs = (IsReason c.event c.bytes c.names c.reply (length c.ou
     ⊎ ((e : Event) × (r : Reply) × (later : List Event) × (more : List Reply) × (es ≡ e ∷ later) × (rs ≡ r ∷ more)
     × IsEvent e c.event c.bytes c.names × Encodes r c.reply c.out × Denote cs later more)
 
--- What C did and got is a run: a chain of steps that keep all promises, and over an honest store a run of the copying machine.
+-- What C did and got is a run: a chain of steps that keep all promises, and over an honest store a run of the copying
+-- machine.
 pub record IsRun (old : Machine) (cs : List StepCall) (new : Machine) : Type 0 where
   pub events : List Event
   pub replies : List Reply

@@ -13,7 +13,8 @@ use Rattle.iol_hold.proofs.PoolCalls.{pools_move}
 use Rattle.iol_hold.proofs.PageChanges.{keeps_pages_entries}
 
 -- a pool that is closed as it was, and has the chunks that it had
-reclaimed_alike : (s : Stored) (ps : List Pool) (q : ℕ) → (pool_in ps q).closed ≡ (pool_in s.pools q).closed → (pool_in ps q).chunks ≡ (pool_in s.pools q).chunks → IsReclaimed s q → IsReclaimed (with_pools s ps) q
+reclaimed_alike : (s : Stored) (ps : List Pool) (q : ℕ) → (pool_in ps q).closed ≡ (pool_in s.pools q).closed
+    → (pool_in ps q).chunks ≡ (pool_in s.pools q).chunks → IsReclaimed s q → IsReclaimed (with_pools s ps) q
 reclaimed_alike s ps q closed chunks was back =
     chunks ∙ was (subst (λ b. (b && list_all (is_unused s.arena) (pool_in s.pools q).chunks) ≡ true) closed
     (subst (λ cs. ((pool_in ps q).closed && list_all (is_unused s.arena) cs) ≡ true) chunks back))
@@ -25,7 +26,13 @@ module _ (s : Stored) (p d : ℕ) (there : is_numbered s.pools p ≡ true) where
       (λ o. owned_admitted s.arena s.pools p d there o)
 
   pub admitted_reclaims : AllReclaimed s → AllReclaimed (with_pools s (with_admitted s.pools p d))
-  admitted_reclaims all = record { each = λ q. reclaimed_alike s (with_admitted s.pools p d) q (closed-admitted s.pools p d q there) (chunks-admitted s.pools p d q there) (all.each q) }
+  admitted_reclaims all =
+      record {
+        each = λ q. reclaimed_alike s (with_admitted s.pools p d) q (closed-admitted s.pools p d q there)
+            (chunks-admitted s.pools p d q there) (all.each q);
+      }
 
   pub admitted_pages : KeepsPages s (with_pools s (with_admitted s.pools p d)) []
-  admitted_pages = keeps_pages_entries s (with_pools s (with_admitted s.pools p d)) refl refl (λ q was is. chunks-admitted s.pools p d q there) (λ q is. inl (chunks-admitted s.pools p d q there))
+  admitted_pages =
+      keeps_pages_entries s (with_pools s (with_admitted s.pools p d)) refl refl
+      (λ q was is. chunks-admitted s.pools p d q there) (λ q is. inl (chunks-admitted s.pools p d q there))

@@ -1,5 +1,6 @@
 -- What becomes of pages: where nothing changes, after releases, after a placing, and one step after another.
-use Rattle.std.proofs.Common.{◌≡◌, inl, inr, true, false, ℕ, ◌-◌, List, [], ◌∷◌, get_or, map, ap, sym, ◌∙◌, length, refl, arith, zero, suc}
+use Rattle.std.proofs.Common.{◌≡◌, inl, inr, true, false, ℕ, ◌-◌, List, [], ◌∷◌, get_or, map, ap, sym, ◌∙◌, length}
+use Rattle.std.proofs.Common.{refl, arith, zero, suc}
 use Rattle.std.specs.List.{Contains}
 use Rattle.std.proofs.lemmas.Bool.{cases_eq}
 use Rattle.std.proofs.lemmas.Bool.Decides.{nat_tests}
@@ -46,19 +47,26 @@ keeps_pages_frees frees = record {
 
 -- where pages are as they were, pools that stay open have their chunks, and closed ones all or none
 pub keeps_pages_entries : (s t : Stored) → t.arena.entries ≡ s.arena.entries → t.arena.limit ≡ s.arena.limit
-    → ((p : ℕ) → (pool_in s.pools p).closed ≡ false → (pool_in t.pools p).closed ≡ false → (pool_in t.pools p).chunks ≡ (pool_in s.pools p).chunks)
+    → ((p : ℕ) → (pool_in s.pools p).closed ≡ false → (pool_in t.pools p).closed ≡ false
+    → (pool_in t.pools p).chunks ≡ (pool_in s.pools p).chunks)
     → ((p : ℕ) → (pool_in t.pools p).closed ≡ true → HasAllOrNone s t p) → KeepsPages s t []
 keeps_pages_entries s t entries limit chunks returned = record {
   count = ap length entries;
   limit = limit;
-  raises = record { incremented = λ q h. absurd (no_member q h); kept = λ q out. ap (λ (es : List Entry). (entry_in es q).generation) entries };
+  raises =
+      record {
+        incremented = λ q h. absurd (no_member q h);
+        kept =
+            λ q out. ap (λ (es : List Entry). (entry_in es q).generation) entries;
+      };
   others = λ q out. inl (ap (λ (es : List Entry). (entry_in es q).kind) entries);
   chunks = chunks;
   returned = returned;
 }
 
 -- after a placing on these pages
-pub keeps_pages_made : {s t : Stored} {bufs : List BufId} {placed : List ℕ} → MadeOn s.arena t.arena bufs placed → IsSameBut placed s.arena t.arena → Grows s.arena t.arena → t.pools ≡ s.pools → KeepsPages s t placed
+pub keeps_pages_made : {s t : Stored} {bufs : List BufId} {placed : List ℕ} → MadeOn s.arena t.arena bufs placed
+    → IsSameBut placed s.arena t.arena → Grows s.arena t.arena → t.pools ≡ s.pools → KeepsPages s t placed
 keeps_pages_made made others grows pools = record {
   count = grows.count;
   limit = grows.limit;
@@ -74,9 +82,11 @@ numbered_map f [] i z = refl
 numbered_map f (x ∷ xs) zero z = refl
 numbered_map f (x ∷ xs) (suc i) z = numbered_map f xs i z
 
-meant_at : (ps : List Pool) (p : ℕ) → (p ≡ 0 → ⊥) → pool_meant (pool_in ps p) ≡ get_or (map pool_meant ps) (p - 1) (pool_meant no_pool)
+meant_at : (ps : List Pool) (p : ℕ) → (p ≡ 0 → ⊥)
+    → pool_meant (pool_in ps p) ≡ get_or (map pool_meant ps) (p - 1) (pool_meant no_pool)
 unfolding pool_in
-meant_at ps p some = let e = numbered_map pool_meant ps (p - 1) no_pool in let is : pool_in ps p ≡ get_or ps (p - 1) no_pool = grind (arith, nat_tests, some) in ap pool_meant is ∙ e
+meant_at ps p some = let e = numbered_map pool_meant ps (p - 1) no_pool in
+    let is : pool_in ps p ≡ get_or ps (p - 1) no_pool = grind (arith, nat_tests, some) in ap pool_meant is ∙ e
 
 nothing_at : (ps qs : List Pool) (p : ℕ) → p ≡ 0 → pool_in ps p ≡ pool_in qs p
 unfolding pool_in
@@ -85,11 +95,14 @@ nothing_at ps qs p z = grind (arith, nat_tests, z)
 pub same_closed : (s t : Stored) → SameLists s t → (p : ℕ) → (pool_in t.pools p).closed ≡ (pool_in s.pools p).closed
 same_closed s t same p = elim (cases_eq p 0) [
   | inl z ↦ ap (λ (x : Pool). x.closed) (nothing_at t.pools s.pools p z)
-  | inr some ↦ ap (λ (x : machine.Pool). x.closed) (meant_at t.pools p some ∙ ap (λ l. get_or l (p - 1) (pool_meant no_pool)) same ∙ sym (meant_at s.pools p some))
+  | inr some ↦
+      ap (λ (x : machine.Pool). x.closed) (meant_at t.pools p some
+      ∙ ap (λ l. get_or l (p - 1) (pool_meant no_pool)) same ∙ sym (meant_at s.pools p some))
 ]
 
 -- a step that leaves the lists of pools, and then another
-pub returned_then : (a b c : Stored) {placed : List ℕ} → SameLists a b → KeepsPages a b placed → (p : ℕ) → HasAllOrNone b c p → HasAllOrNone a c p
+pub returned_then : (a b c : Stored) {placed : List ℕ} → SameLists a b → KeepsPages a b placed → (p : ℕ)
+    → HasAllOrNone b c p → HasAllOrNone a c p
 returned_then a b c same m p n = elim (bool_cases (pool_in b.pools p).closed) [
   | inl shut ↦ all_or_none a b c p (m.returned p shut) n
   | inr is ↦ all_or_none a b c p (inl (m.chunks p (sym (same_closed a b same p) ∙ is) is)) n
@@ -100,7 +113,11 @@ pub keeps_pages_trans : {a b c : Stored} → SameLists a b → KeepsPages a b []
 keeps_pages_trans {a = a} {b = b} {c = c} same m n = record {
   count = n.count ∙ m.count;
   limit = n.limit ∙ m.limit;
-  raises = record { incremented = λ q h. absurd (no_member q h); kept = λ q out. n.raises.kept q out ∙ m.raises.kept q out };
+  raises = record {
+    incremented = λ q h. absurd (no_member q h);
+    kept = λ q out. n.raises.kept q out
+        ∙ m.raises.kept q out;
+  };
   others = λ q out. elim (n.others q out) [
     | inl same ↦ elim (m.others q out) [ inl was ↦ inl (same ∙ was) | inr free ↦ inr (same ∙ free) ]
     | inr free ↦ inr free

@@ -1,5 +1,6 @@
 -- The numbers of places tell the places apart.
-use Rattle.std.proofs.Common.{inl, inr, ◌≡◌, ℕ, ◌+◌, ◌*◌, ◌<◌, ◌≤◌, List, [], ◌∷◌, map, length, drop, get_or, refl, ap, arith}
+use Rattle.std.proofs.Common.{inl, inr, ◌≡◌, ℕ, ◌+◌, ◌*◌, ◌<◌, ◌≤◌, List, [], ◌∷◌, map, length, drop, get_or, refl, ap}
+use Rattle.std.proofs.Common.{arith}
 use Rattle.std.proofs.lemmas.Bool.{cases_order}
 use Rattle.std.proofs.lemmas.Nat.{mul-le}
 use Rattle.iol_core.specs.declared.numbers.BufId.{BufId}
@@ -33,8 +34,10 @@ paired-same a b c d e = elim (cases_order (a + b) (c + d)) [
 
 pub place_number-same : (b c : BufId) (i j : ℕ) → place_number b i ≡ place_number c j → (b ≡ c) × (i ≡ j)
 place_number-same b c i j e =
-    let both : (paired b.page b.generation ≡ paired c.page c.generation) × (i ≡ j) = paired-same (paired b.page b.generation) i (paired c.page c.generation) j e in
-    let buf : (b.page ≡ c.page) × (b.generation ≡ c.generation) = paired-same b.page b.generation c.page c.generation both.0 in
+    let both : (paired b.page b.generation ≡ paired c.page c.generation) × (i ≡ j) =
+    paired-same (paired b.page b.generation) i (paired c.page c.generation) j e in
+    let buf : (b.page ≡ c.page) × (b.generation ≡ c.generation) =
+    paired-same b.page b.generation c.page c.generation both.0 in
     (equal_bufs b c buf.0 buf.1, both.1)
 
 equal_places : (p q : Place) → p.pool ≡ q.pool → p.buf ≡ q.buf → p.at ≡ q.at → p ≡ q

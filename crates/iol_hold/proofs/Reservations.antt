@@ -1,5 +1,6 @@
 -- Pages that are reserved: no buffer is made or freed, and they alone wait.
-use Rattle.std.proofs.Common.{◌≡◌, ℕ, ◌+◌, ◌<◌, inl, inr, List, [], Ok, drop, length, get_or, refl, sym, ap, ◌∙◌, arith, subst}
+use Rattle.std.proofs.Common.{◌≡◌, ℕ, ◌+◌, ◌<◌, inl, inr, List, [], Ok, drop, length, get_or, refl, sym, ap, ◌∙◌, arith}
+use Rattle.std.proofs.Common.{subst}
 use Rattle.iol_core.specs.declared.numbers.BufId.{BufId}
 use Rattle.iol_arena.specs.State.{State, HasRuns, entry_at, entry_in, kind_head}
 use Rattle.iol_arena.specs.Buffers.{IsLive, Spares, Grows, kind_len}
@@ -31,27 +32,41 @@ use Rattle.iol_hold.proofs.Rooms.{no_pages, room_for_none}
 
 -- the first page of a live buffer stays
 spared_first : (s t : State) (b : BufId) → Spares s t → IsLive s b → entry_at t b.page ≡ entry_at s b.page
-spared_first s t b spares live = elim (spares.each b.page) [ inl e ↦ e | inr f ↦ (let head = ap kind_head live.head in absurd (cc (head, f.0))) ]
+spared_first s t b spares live =
+    elim (spares.each b.page) [ inl e ↦ e | inr f ↦ (let head = ap kind_head live.head in absurd (cc (head, f.0))) ]
 
 pub spare_counts : (s : Stored) (a : State) → Spares s.arena a → Counts s (with_arena s a) [] []
 unfolding count_of
 spare_counts s a spares = record {
   each = λ b. elim (spares.each b.page) [
     | inl e ↦ ap (λ x. count_in x (get_or s.counts b.page 0) b.generation + tally b []) e
-    | inr e ↦ omega (arith, no_head (entry_at a b.page) (get_or s.counts b.page 0) b.generation e.1, no_head (entry_at s.arena b.page) (get_or s.counts b.page 0) b.generation e.0)
+    | inr e ↦
+        omega (
+          arith,
+          no_head (entry_at a b.page) (get_or s.counts b.page 0) b.generation e.1,
+          no_head (entry_at s.arena b.page) (get_or s.counts b.page 0) b.generation e.0,
+        )
   ];
 }
 
 -- every live buffer is held, where none is made
-pub spare_held : (s : Stored) (a : State) → Spares s.arena a → HoldsAll s → (b : BufId) → IsLive a b → 0 < count_of (with_arena s a) b
+pub spare_held : (s : Stored) (a : State) → Spares s.arena a → HoldsAll s → (b : BufId) → IsLive a b
+    → 0 < count_of (with_arena s a) b
 spare_held s a spares tidy b live = elim (spares.each b.page) [
-  | inl e ↦ (let was : IsLive s.arena b = record { head = subst (λ (x : Entry). x.kind ≡ Head (kind_len x.kind)) e live.head; generation = sym (ap (λ x. x.generation) e) ∙ live.generation } in
+  | inl e ↦
+      (let was : IsLive s.arena b =
+      record {
+        head = subst (λ (x : Entry). x.kind ≡ Head (kind_len x.kind)) e live.head;
+        generation =
+            sym (ap (λ x. x.generation) e) ∙ live.generation;
+      } in
       omega (arith, count_live (with_arena s a) b live, count_live s b was, tidy.held b was))
   | inr none ↦ (let head = ap kind_head live.head in absurd (cc (head, none.1)))
 ]
 
 -- the pages of the parts wait, and no other page changed
-module _ (s : Stored) (a : State) (ps : List Part) (spares : Spares s.arena a) (others : IsSameBut (part_pages ps) s.arena a) (all : AreAll Pending a.limit a.entries ps) where
+module _ (s : Stored) (a : State) (ps : List Part) (spares : Spares s.arena a)
+    (others : IsSameBut (part_pages ps) s.arena a) (all : AreAll Pending a.limit a.entries ps) where
   out_same : (q : ℕ) → (In (part_pages ps) q → ⊥) → entry_at a q ≡ entry_at s.arena q
   out_same q out = others.each q (λ h. out (in_contains (part_pages ps) q h))
 
@@ -60,7 +75,8 @@ module _ (s : Stored) (a : State) (ps : List Part) (spares : Spares s.arena a) (
     held = spare_held s a spares tidy;
     placed = λ q. elim (in_or_out (part_pages ps) q) [
       | inl there ↦ inr (inl (page_all Pending a.limit a.entries ps q all there).0)
-      | inr out ↦ placed_stays s.arena a q (out_same q out) (λ b live lies. spared_first s.arena a b spares live) (tidy.placed q)
+      | inr out ↦ placed_stays s.arena a q (out_same q out) (λ b live lies. spared_first s.arena a b spares live)
+          (tidy.placed q)
     ];
   }
 
@@ -76,34 +92,44 @@ module _ (s : Stored) (a : State) (ps : List Part) (spares : Spares s.arena a) (
 pub same_spares : (s a : State) → a.entries ≡ s.entries → Spares s a
 same_spares s a e = record { each = λ q. inl (ap (λ (es : List Entry). entry_in es q) e) }
 
-pub same_tidy : (s : Stored) (a : State) → a.entries ≡ s.arena.entries → a.taken ≡ s.arena.taken → IsTidy s → IsTidy (with_arena s a)
+pub same_tidy : (s : Stored) (a : State) → a.entries ≡ s.arena.entries → a.taken ≡ s.arena.taken → IsTidy s
+    → IsTidy (with_arena s a)
 same_tidy s a e t tidy =
     let spares = same_spares s.arena a e in
     let holds : HoldsAll (with_arena s a) = record {
       held = spare_held s a spares (holds_all tidy);
-      placed = λ q. placed_stays s.arena a q (ap (λ (es : List Entry). entry_in es q) e) (λ b live lies. spared_first s.arena a b spares live) (tidy.placed q);
+      placed =
+          λ q. placed_stays s.arena a q (ap (λ (es : List Entry). entry_in es q) e)
+          (λ b live lies. spared_first s.arena a b spares live) (tidy.placed q);
     } in
     tidy_of holds (subst HasRuns (sym e) tidy.runs) (owned_stays s.arena a s.pools t tidy.owned)
 
-pub same_fills : (s : Stored) (a : State) (ps : List Part) → a.entries ≡ s.arena.entries → Grows s.arena a → Fills s (with_arena s a) ps
+pub same_fills : (s : Stored) (a : State) (ps : List Part) → a.entries ≡ s.arena.entries → Grows s.arena a
+    → Fills s (with_arena s a) ps
 same_fills s a ps e grows = record {
   counts = spare_counts s a (same_spares s.arena a e);
   grows = grows;
   unraised = λ q. ap (λ (es : List Entry). (entry_in es q).generation) e;
   pools = refl;
-  waits = λ h. record { each = λ q pending. h.each q (sym (ap (λ (es : List Entry). (entry_in es q).kind) e) ∙ pending) };
+  waits =
+      λ h. record { each = λ q pending. h.each q (sym (ap (λ (es : List Entry). (entry_in es q).kind) e) ∙ pending) };
 }
 
-pub same_sound : (i : Inside) (a : State) → a.entries ≡ i.arena.entries → a.taken ≡ i.arena.taken → IsSoundInside i → IsSoundInside (record { arena = a; pools = i.pools; counts = i.counts })
+pub same_sound : (i : Inside) (a : State) → a.entries ≡ i.arena.entries → a.taken ≡ i.arena.taken → IsSoundInside i
+    → IsSoundInside (record { arena = a; pools = i.pools; counts = i.counts })
 same_sound i a e t sound = record {
   counts = sound.counts ∙ sym (ap length e);
   tidy = same_tidy (stored i) a e t sound.tidy;
 }
 
-pub same_held : (s : Stored) (r : Reserved) (a : State) → a.entries ≡ s.arena.entries → a.limit ≡ s.arena.limit → IsHeld s r → IsHeld (with_arena s a) r
+pub same_held : (s : Stored) (r : Reserved) (a : State) → a.entries ≡ s.arena.entries → a.limit ≡ s.arena.limit
+    → IsHeld s r → IsHeld (with_arena s a) r
 same_held s r a e l held = record {
   pages = record {
-    pending = subst (λ n. AreAll Pending n a.entries r.reservation.parts.items) (sym l) (subst (λ (es : List Entry). AreAll Pending s.arena.limit es r.reservation.parts.items) (sym e) held.pages.pending);
+    pending =
+        subst (λ n. AreAll Pending n a.entries r.reservation.parts.items) (sym l)
+        (subst (λ (es : List Entry). AreAll Pending s.arena.limit es r.reservation.parts.items) (sym e)
+        held.pages.pending);
     apart = held.pages.apart;
     room = held.pages.room;
     none = held.pages.none;
@@ -122,10 +148,16 @@ fills_trans m n = record {
   waits = λ h. n.waits (m.waits h);
 }
 
-pub fill_publish : {a b c : Stored} {ps : List Part} {given : List BufId} → Fills a b ps → Publishes b c ps given → IsTidy c → Moves a c [] given
+pub fill_publish : {a b c : Stored} {ps : List Part} {given : List BufId} → Fills a b ps → Publishes b c ps given
+    → IsTidy c → Moves a c [] given
 fill_publish {a} {b} {c} m n tidy = record {
   counts = counts_trans m.counts n.counts;
-  stays = record { keeps = keeps_trans m.grows.keeps n.grows.keeps; homes = λ p b h k home. subst (λ qs. IsInPool (record a { pools = qs }) p b) (sym (n.pools ∙ m.pools)) home };
+  stays =
+      record {
+        keeps = keeps_trans m.grows.keeps n.grows.keeps;
+        homes =
+            λ p b h k home. subst (λ qs. IsInPool (record a { pools = qs }) p b) (sym (n.pools ∙ m.pools)) home;
+      };
   still = λ h. n.still (m.waits (record { each = λ q pending. absurd (h.each q pending) }));
   tidy = λ h. tidy;
 }
@@ -155,7 +187,13 @@ none_filled s p tidy = record {
 
 -- Parts that wait to be published, one by one. The parts are cited as a call answered them.
 
-pub part_waits : (s : Stored) (r : Reserved) (ps : List Part) (i : ℕ) → ps ≡ r.reservation.parts.items → IsHeld s r → i < length r.reservation.parts.items → IsWaiting s.arena (get_or ps i no_part)
+pub part_waits : (s : Stored) (r : Reserved) (ps : List Part) (i : ℕ) → ps ≡ r.reservation.parts.items → IsHeld s r
+    → i < length r.reservation.parts.items → IsWaiting s.arena (get_or ps i no_part)
 part_waits s r ps i e h within =
     let qs = r.reservation.parts.items in
-    subst (λ (l : List Part). IsWaiting s.arena (get_or l i no_part)) (sym e) (record { pending = all_at Pending s.arena.limit s.arena.entries qs i h.pages.pending within; some = some_at 0 qs i h.pages.apart within })
+    subst (λ (l : List Part). IsWaiting s.arena (get_or l i no_part)) (sym e)
+    (record {
+      pending = all_at Pending s.arena.limit s.arena.entries qs i h.pages.pending within;
+      some =
+          some_at 0 qs i h.pages.apart within;
+    })

@@ -1,5 +1,6 @@
 -- Fillings: new buffers of a store before they are published.
-use Rattle.std.specs.Prelude.{[], ◌≡◌, ℕ, ◌/◌, ◌<◌, ◌≤◌, true, false, List, Result, Err, IfOk, IfErr, OnOk, length, slice_index_or, flat_map}
+use Rattle.std.specs.Prelude.{[], ◌≡◌, ℕ, ◌/◌, ◌<◌, ◌≤◌, true, false, List, Result, Err, IfOk, IfErr, OnOk, length}
+use Rattle.std.specs.Prelude.{slice_index_or, flat_map}
 use Rattle.std.specs.Borrow.{RestsIfErr, Lends, MutBor, Fml, GName, u8, Array}
 use Rattle.std.specs.List.{All, Contains}
 use mir.Syntax.{named}
@@ -24,7 +25,8 @@ use Rattle.iol_hold.specs.declared.parts.Reserved.{Reserved}
 use Rattle.iol_hold.specs.contracts.parts.Reserved as reserved
 use Rattle.iol_hold.specs.contracts.filling.Filling as filling
 
--- the reserved parts are pending, disjoint and in the pool's chunks, and there is room for the identities of their buffers
+-- the reserved parts are pending, disjoint and in the pool's chunks, and there is room for the identities of their
+-- buffers
 pub record IsHeld (s : Stored) (r : Reserved) : Type 0 where
   pub pages : IsReserved s.arena r.reservation
   pub inside : (q : ℕ) → Contains (part_pages r.reservation.parts.items) q
@@ -63,8 +65,8 @@ filling_part f i = slice_index_or (filling_parts f) i no_part
 abbrev pub filling_bytes : Fill → List ℕ
 filling_bytes f = flat_map (part_bytes (filling_store f).arena) (filling_parts f)
 
--- the parts of a filling are pending, disjoint and in its pool's chunks, and it has room for the identities of their buffers,
--- and none yet
+-- the parts of a filling are pending, disjoint and in its pool's chunks, and it has room for the identities of their
+-- buffers, and none yet
 abbrev pub IsFilling : Fill → Type 0
 IsFilling f = IsHeld (filling_store f) f.reserved
 
@@ -72,9 +74,9 @@ IsFilling f = IsHeld (filling_store f) f.reserved
 abbrev pub IsZeroed : Fill → Type 0
 IsZeroed f = All (IsZero (filling_store f).arena) (filling_parts f)
 
--- A filling was begun, on the lowest free pages of pool p for n bytes, all zeros: no buffer was made or freed, no other page
--- changed, and it borrows the reference of this name. Or none was begun, for lack of memory, or for lack of room, and then
--- there is none.
+-- A filling was begun, on the lowest free pages of pool p for n bytes, all zeros: no buffer was made or freed, no other
+-- page changed, and it borrows the reference of this name. Or none was begun, for lack of memory, or for lack of room,
+-- and then there is none.
 pub record BeginsFilling (old : Stored) (lender : GName) (p n : ℕ) (r : Result Fill Refusal) : Type 0 where
   pub filling : IfOk r IsFilling
   pub zeroed : IfOk r IsZeroed
@@ -101,8 +103,8 @@ pub record MayCopyIn (f : Fill) (i at : ℕ) (h : Buffer) (from to : ℕ) : Type
   pub filling : IsFilling f
   pub copies : MayCopy (filling_store f).arena (filling_part f i) at h.buf from to
 
--- The bytes `from..to` of a live buffer were copied to offset `at` of part i of the filling f, which became g, with the same
--- parts.
+-- The bytes `from..to` of a live buffer were copied to offset `at` of part i of the filling f, which became g, with the
+-- same parts.
 pub record CopiesIn (f g : Fill) (i at : ℕ) (h : Buffer) (from to : ℕ) : Type 0 where
   pub copies : Copies (filling_store f) (filling_store g) (filling_part f i) at h.buf from to
   pub parts : filling_parts g ≡ filling_parts f

@@ -1,5 +1,6 @@
 -- Buffers that are made on pending pages.
-use Rattle.std.specs.Prelude.{◌≡◌, ℕ, ◌≤◌, true, false, List, [], ◌∷◌, length, take, flat_map, Result, Err, IfOk, IfErr, OnOk, OnErr}
+use Rattle.std.specs.Prelude.{◌≡◌, ℕ, ◌≤◌, true, false, List, [], ◌∷◌, length, take, flat_map, Result, Err, IfOk, IfErr}
+use Rattle.std.specs.Prelude.{OnOk, OnErr}
 use Rattle.std.specs.List.{All, Contains}
 use Rattle.smallvec.specs.SmallVec.{SmallVec}
 use Rattle.iol_core.specs.Meaning.{WantOfRoom}
@@ -7,7 +8,9 @@ use Rattle.iol_core.specs.declared.limits.TheConstants.{MAX_AGGREGATE_BYTES}
 use Rattle.iol_core.specs.declared.numbers.BufId.{BufId}
 use Rattle.iol_core.specs.declared.refusals.Refusal.{Refusal}
 use Rattle.iol_core.specs.declared.refusals.Refusal.TheVariants.{NoRoom}
-use Rattle.iol_arena.specs.Prelude.{Adds, AreReserved, AreUsable, Grows, IsNew, IsSameAround, IsSameBut, IsUnraised, MadeOn, Raises, State, begun_on, bytes_in, free_pages, len_of, needed_pages, pages_for, part_bytes, part_pages, spare_pages, usable}
+use Rattle.iol_arena.specs.Prelude.{Adds, AreReserved, AreUsable, Grows, IsNew, IsSameAround, IsSameBut, IsUnraised}
+use Rattle.iol_arena.specs.Prelude.{MadeOn, Raises, State, begun_on, bytes_in, free_pages, len_of, needed_pages}
+use Rattle.iol_arena.specs.Prelude.{pages_for, part_bytes, part_pages, spare_pages, usable}
 use Rattle.iol_arena.specs.declared.pages.Part.{Part}
 use Rattle.iol_pool.specs.Pools.{pool_in}
 use Rattle.iol_hold.specs.Moves.{Moves}

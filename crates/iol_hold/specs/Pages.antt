@@ -8,8 +8,8 @@ use Rattle.iol_pool.specs.Pools.{pool_in}
 use Rattle.iol_hold.specs.Releases.{HasAllOrNone}
 use Rattle.iol_hold.specs.StoreState.{Stored}
 
--- Buffers were made on these pages (in most steps on none): each of them was raised by one, and no other page was. Each other
--- page is unchanged, or is free now. An open pool keeps its chunks, and a closed one keeps all of them or none.
+-- Buffers were made on these pages (in most steps on none): each of them was raised by one, and no other page was. Each
+-- other page is unchanged, or is free now. An open pool keeps its chunks, and a closed one keeps all of them or none.
 pub record KeepsPages (old new : Stored) (placed : List ℕ) : Type 0 where
   pub count : page_count new.arena ≡ page_count old.arena
   pub limit : new.arena.limit ≡ old.arena.limit

@@ -15,7 +15,8 @@ is_spared s spared (Some p) = nat_le (slice_index s.counts p) (slice_index spare
 -- the page is free or would become free: its generation is not the last, and the buffer on it, if any, has only counted
 -- holds
 abbrev pub is_reclaimable : Stored → (spared : List ℕ) → ℕ → Bool
-is_reclaimable s spared q = nat_lt (generation_at s.arena q) s.arena.limit && is_spared s spared (first_on (entry_at s.arena q).kind q)
+is_reclaimable s spared q = nat_lt (generation_at s.arena q) s.arena.limit
+    && is_spared s spared (first_on (entry_at s.arena q).kind q)
 
 -- such pages of these chunks, in order
 abbrev pub reclaimable_in : Stored → (spared chunks : List ℕ) → List ℕ

@@ -7,7 +7,8 @@ use Rattle.iol_arena.specs.declared.pages.PageKind as kind
 use Rattle.iol_arena.specs.declared.pages.PageKind.TheVariants.{Free}
 use Rattle.iol_pool.specs.Pools.{pool_in}
 use Rattle.iol_hold.specs.Moves.{Moves, SameLists}
-use Rattle.iol_hold.specs.StoreState.{Stored, Buffer, AllReclaimed, AllReclaimedBut, IsInPool, IsReclaimed, IsTidy, count_of}
+use Rattle.iol_hold.specs.StoreState.{Stored, Buffer, AllReclaimed, AllReclaimedBut, IsInPool, IsReclaimed, IsTidy}
+use Rattle.iol_hold.specs.StoreState.{count_of}
 use Rattle.iol_hold.specs.Texts.{AllReadable, bufs_of}
 use Rattle.iol_hold.specs.declared.slices.Slice.{Slice}
 
@@ -17,7 +18,8 @@ buf_at s p = record { page = p; generation = generation_at s p }
 
 -- the pool has all chunks that it had, or no chunks
 abbrev pub HasAllOrNone : (old new : Stored) → (p : ℕ) → Type 0
-HasAllOrNone old new p = ((pool_in new.pools p).chunks ≡ (pool_in old.pools p).chunks) ⊎ ((pool_in new.pools p).chunks ≡ [])
+HasAllOrNone old new p = ((pool_in new.pools p).chunks ≡ (pool_in old.pools p).chunks)
+    ⊎ ((pool_in new.pools p).chunks ≡ [])
 
 -- Each page is unchanged, or was freed: then the buffer on it is no longer held. An open pool keeps its chunks, and a
 -- closed one keeps all of them or none.
@@ -25,7 +27,8 @@ pub record FreesOnly (old new : Stored) : Type 0 where
   pub count : page_count new.arena ≡ page_count old.arena
   pub limit : new.arena.limit ≡ old.arena.limit
   pub incremented : (q : ℕ) → generation_at new.arena q ≡ generation_at old.arena q
-  pub each : (q : ℕ) → ((entry_at new.arena q).kind ≡ (entry_at old.arena q).kind) ⊎ ((entry_at new.arena q).kind ≡ Free)
+  pub each : (q : ℕ) → ((entry_at new.arena q).kind ≡ (entry_at old.arena q).kind)
+      ⊎ ((entry_at new.arena q).kind ≡ Free)
   pub freed : (q p : ℕ) → (entry_at new.arena q).kind ≡ Free → first_on (entry_at old.arena q).kind q ≡ Some p
       → count_of new (buf_at old.arena p) ≡ 0
   pub pools : (p : ℕ) → (pool_in old.pools p).closed ≡ false → pool_in new.pools p ≡ pool_in old.pools p

@@ -1,5 +1,6 @@
 -- Stores that are made, and pools that are made and closed.
-use Rattle.std.specs.Prelude.{◌≡◌, ◌≢◌, ◌⊎◌, ◌↔◌, ℕ, ◌+◌, ◌<◌, ◌≤◌, false, List, [], ◌∷◌, ◌++◌, length, map, Result, Err, IfOk, IfErr, OnOk, OnErr}
+use Rattle.std.specs.Prelude.{◌≡◌, ◌≢◌, ◌⊎◌, ◌↔◌, ℕ, ◌+◌, ◌<◌, ◌≤◌, false, List, [], ◌∷◌, ◌++◌, length, map, Result}
+use Rattle.std.specs.Prelude.{Err, IfOk, IfErr, OnOk, OnErr}
 use Rattle.iol_core.specs.Configuration.{IsInRange}
 use Rattle.iol_core.specs.Meaning.{WantOfRoom}
 use Rattle.iol_core.specs.declared.configuration.Config.{Config}

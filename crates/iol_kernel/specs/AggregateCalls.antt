@@ -1,5 +1,6 @@
 -- A domain's aggregates after a split, a join or a gift, and after all of them are dropped.
-use Rattle.std.specs.Prelude.{◌≡◌, ◌≢◌, ℕ, ◌+◌, ◌<◌, ◌≤◌, ◌^◌, true, List, [], ◌∷◌, ◌++◌, take, drop, None, Result, IfOk, OnOk, OnErr}
+use Rattle.std.specs.Prelude.{◌≡◌, ◌≢◌, ℕ, ◌+◌, ◌<◌, ◌≤◌, ◌^◌, true, List, [], ◌∷◌, ◌++◌, take, drop, None, Result}
+use Rattle.std.specs.Prelude.{IfOk, OnOk, OnErr}
 use Rattle.iol_core.specs.NumberedLists.{without}
 use Rattle.iol_core.specs.State.{Domain}
 use Rattle.iol_core.specs.declared.limits.TheConstants.{LAST_AGGREGATE}
@@ -9,7 +10,8 @@ use Rattle.iol_hold.specs.Releases.{FreesOnly}
 use Rattle.iol_hold.specs.StoreState.{Stored, AllReclaimed}
 use Rattle.iol_hold.specs.Texts.{AllReadable, bufs_of}
 use Rattle.iol_hold.specs.declared.slices.Slice.{Slice}
-use Rattle.iol_desc.specs.Tables.{Row, agg_in, domain_in, domains_of, with_agg_in, with_domain_in, with_next, without_agg_in}
+use Rattle.iol_desc.specs.Tables.{Row, agg_in, domain_in, domains_of, with_agg_in, with_domain_in, with_next}
+use Rattle.iol_desc.specs.Tables.{without_agg_in}
 use Rattle.iol_kernel.specs.HoldCounts.{MayShare, bufs_in}
 use Rattle.iol_kernel.specs.KernelState.{Each, slices_in}
 

@@ -12,9 +12,10 @@ use Rattle.iol_kernel.specs.QueueSlices.{QueuesAgg, TakesSlices}
 use Rattle.iol_kernel.specs.declared.kernel.Kernel.{Kernel}
 use Rattle.iol_kernel.specs.declared.open_file.OpenFile.{OpenFile}
 
--- At most n bytes are read by reference: the meaning of the read, the state it leaves, and the slices of the aggregate of a
--- queue's bytes. `disk` is the content of the store under the files.
-pub record ReadsByReference {B : Type 0} (d fd n : ℕ) (disk : B → Disk) (store : B) (old : Kernel) (r : Result ℕ Refusal)
+-- At most n bytes are read by reference: the meaning of the read, the state it leaves, and the slices of the aggregate
+-- of a queue's bytes. `disk` is the content of the store under the files.
+pub record ReadsByReference {B : Type 0} (d fd n : ℕ) (disk : B → Disk) (store : B) (old : Kernel)
+    (r : Result ℕ Refusal)
     (after : B) (new : Kernel) : Type 0 where
   pub serves : Serves (λ s. iol_read s d fd n) (disk store) old r (disk after) new
   pub reads : Reads d fd n (disk store) old r (disk after) new
@@ -24,10 +25,11 @@ pub record ReadsByReference {B : Type 0} (d fd n : ℕ) (disk : B → Disk) (sto
 -- At most n bytes are read by reference from a file that was found open.
 abbrev pub TakesFound : {B : Type 0} → (d fd : ℕ) → OpenFile → (n : ℕ) (disk : B → Disk) (store : B) (old : Kernel)
     → Result ℕ Refusal → (after : B) (new : Kernel) → Type 0
-TakesFound d fd found n disk store old r after new = TakesFromFile (read_at d fd found n) (disk store) old r (disk after) new
+TakesFound d fd found n disk store old r after new =
+    TakesFromFile (read_at d fd found n) (disk store) old r (disk after) new
 
--- An aggregate is written by reference: the meaning of the write over each store, the state it leaves, and the slices that
--- a queue got.
+-- An aggregate is written by reference: the meaning of the write over each store, the state it leaves, and the slices
+-- that a queue got.
 pub record WritesByReference (d fd a : ℕ) (old : Kernel) (r : Result ℕ Refusal) (new : Kernel) : Type 0 where
   pub serves : (disk : Disk) → Serves (λ s. iol_write s d fd a) disk old r disk new
   pub writes : WritesOn d fd a (descriptor (machine old) d fd) (state_of old) r (state_of new)

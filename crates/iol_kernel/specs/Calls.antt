@@ -1,6 +1,7 @@
 -- The effect of a call on the state of the system, in terms of the copying machine, for each reading of the places of
 -- bytes.
-use Rattle.std.specs.Prelude.{◌≡◌, ℕ, ◌+◌, ◌≤◌, Bool, nat_lt, length, ◌⊎◌, ◌++◌, true, false, List, [], ◌∷◌, None, Some, Result, Ok, Err, IfOk, IfErr, OnOk, OnErr}
+use Rattle.std.specs.Prelude.{◌≡◌, ℕ, ◌+◌, ◌≤◌, Bool, nat_lt, length, ◌⊎◌, ◌++◌, true, false, List, [], ◌∷◌, None, Some}
+use Rattle.std.specs.Prelude.{Result, Ok, Err, IfOk, IfErr, OnOk, OnErr}
 use Rattle.iol_core.specs.Text.{Text, labelled}
 use Rattle.iol_core.specs.State.{State, is_live, text, descriptor, conn_at, with_conn}
 use Rattle.iol_core.specs.Meaning.{Meaning}
@@ -32,7 +33,8 @@ use Rattle.iol_kernel.specs.Readings.{Reading, read, KeepsPools}
 
 -- the machine's step, for each content of the store under the files
 abbrev pub Steps : {A : Type 0} → (State → Meaning A) → KernelState → Result A Refusal → KernelState → Type 0
-Steps m old r new = (stored : List (List ℕ)) → Step (m (machine_of stored old)) (machine_of stored old) r (machine_of stored new)
+Steps m old r new = (stored : List (List ℕ))
+    → Step (m (machine_of stored old)) (machine_of stored old) r (machine_of stored new)
 
 -- a domain gets these bytes as its next aggregate, for each content of the store under the files
 abbrev pub AddsBytes : (d pool : ℕ) → List ℕ → (old new : KernelState) → Type 0
@@ -93,7 +95,8 @@ pub record AddsEmpty (old new : Cached) : Type 0 where
 -- every byte keeps its place.
 pub record Names {A : Type 0} (disk : Disk) (m : State → Meaning A) (old : KernelState) (r : Result A Refusal)
     (new : KernelState) : Type 0 where
-  pub step : IfHonest disk (Step (m (machine_of disk.slots old)) (machine_of disk.slots old) r (machine_of disk.slots new))
+  pub step :
+      IfHonest disk (Step (m (machine_of disk.slots old)) (machine_of disk.slots old) r (machine_of disk.slots new))
   pub backed : IsBackedBy disk old → IsBackedBy disk new
   pub beside : StepsBeside m old r new
   pub places : OnOk r ((f : Reading) → KeepsPools f → read_of f new ≡ (m (read_of f old)).after)
@@ -190,7 +193,8 @@ pub record MayMake (by : ℕ) (bytes : List ℕ) (pool : ℕ) (h : KernelState) 
   pub opened : (machine.pool (machine_of [] h) pool).closed ≡ false
 
 -- New bytes of a pool become a domain's next aggregate; or there is no room or no memory for them, and nothing changed.
-pub record MakesNext (by pool : ℕ) (bytes : List ℕ) (old : KernelState) (r : Result ℕ Refusal) (new : KernelState) : Type 0 where
+pub record MakesNext (by pool : ℕ) (bytes : List ℕ) (old : KernelState) (r : Result ℕ Refusal) (new : KernelState) :
+    Type 0 where
   pub number : IfOk r (λ n. (f : Reading) → n ≡ next_agg (read_of f old) by)
   pub placed : OnOk r (AddsBytes by pool bytes old new)
   pub made : OnOk r (MakesAgg by pool (length bytes) old new)
@@ -245,7 +249,8 @@ reported (Err x) = Err x
 
 -- The machine's `transmit`: the remaining bytes keep their places, and pages may be freed. The sum of each slice sent
 -- is used, in order. A refusal changes nothing.
-pub record Transmits (c max : ℕ) (old : KernelState) (r : Result (List ℕ × ℕ) Refusal) (new : KernelState) : Type 0 where
+pub record Transmits (c max : ℕ) (old : KernelState) (r : Result (List ℕ × ℕ) Refusal) (new : KernelState) :
+    Type 0 where
   pub step : Steps (λ s. transmit s c max) old r new
   pub places : OnOk r ((f : Reading) → KeepsPools f → read_of f new ≡ (transmit (read_of f old) c max).after)
   pub roomy : (p : ℕ) → r ≡ Err (NoRoom p) → ⊥

@@ -1,5 +1,6 @@
 -- The effect of closing an end on a pipe, on the pipes, and on the state of the system.
-use Rattle.std.specs.Prelude.{◌≡◌, ℕ, ◌+◌, ◌≤◌, false, fold, ◌||◌, if◌then◌else◌, List, [], Option, Some, None, slice_set}
+use Rattle.std.specs.Prelude.{◌≡◌, ℕ, ◌+◌, ◌≤◌, false, fold, ◌||◌, if◌then◌else◌, List, [], Option, Some, None}
+use Rattle.std.specs.Prelude.{slice_set}
 use Rattle.iol_core.specs.State.{Domain}
 use Rattle.iol_core.specs.Calls.Descriptors.{closed_on}
 use Rattle.iol_core.specs.declared.descriptors.Descriptor.{Descriptor}
@@ -25,10 +26,12 @@ pub record Becomes (s t : Stored) (old new x : Pipe (List Slice)) : Type 0 where
   pub releases : Releases s t old.queue new.queue
 
 -- the pipes with x in a slot; a pipe whose ends are both closed is removed
-abbrev pub with_pipe_in : List (Option (Pipe (List Slice))) → (p : ℕ) → Pipe (List Slice) → List (Option (Pipe (List Slice)))
+abbrev pub with_pipe_in : List (Option (Pipe (List Slice))) → (p : ℕ) → Pipe (List Slice)
+    → List (Option (Pipe (List Slice)))
 with_pipe_in pipes p x = slice_set pipes p (if x.reading || x.writing then Some x else None)
 
--- An end of the pipe p was closed: the pipe became the one that `closed` gives, and holds a part of the buffers held before.
+-- An end of the pipe p was closed: the pipe became the one that `closed` gives, and holds a part of the buffers held
+-- before.
 pub record ClosesEnd (s t : Stored) (old new : List (Option (Pipe (List Slice)))) (p : ℕ)
     (closed : Pipe (List Slice) → Pipe (List Slice)) : Type 0 where
   pub pipes : new ≡ with_pipe_in old p (closed (queue_at old p))

@@ -19,4 +19,5 @@ ReportsBarred h d xs r = (f : Reading) → KeepsPools f → r ≡ barred (may_re
 
 -- This is the pool that the domain needs to read and may not read; or None if it may read it, or needs no pool.
 abbrev pub ReportsDenied : KernelState → (d : ℕ) → (needed : State → Option ℕ) → Option ℕ → Type 0
-ReportsDenied h d needed r = (f : Reading) → option_map (λ p. Denied p) r ≡ denied_by (read_of f h) d (needed (read_of f h))
+ReportsDenied h d needed r = (f : Reading)
+    → option_map (λ p. Denied p) r ≡ denied_by (read_of f h) d (needed (read_of f h))

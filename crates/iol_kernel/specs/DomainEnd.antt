@@ -8,6 +8,7 @@ use Rattle.iol_core.specs.Prelude.{with_domain}
 abbrev pub without_aggs : (d : ℕ) → State → State
 without_aggs d s = with_domain s d (record (domain s d) { aggs = [] })
 
--- a machine in which a domain has no descriptors: the objects that they were open on are closed, by rising descriptor number
+-- a machine in which a domain has no descriptors: the objects that they were open on are closed, by rising descriptor
+-- number
 abbrev pub without_fds : (d : ℕ) → State → State
 without_fds d s = fold closed_on (with_fds s d []) (domain s d).fds

@@ -24,16 +24,16 @@ IsBackedBy disk h = IsBacked disk (holding_of h)
 unfoldable pub with_slots : (slots : List (List ℕ)) → KernelState → State
 with_slots slots h = record (machine_of [] h) { slots = slots }
 
--- Except for the bytes of files, the call is the machine's step: there are contents of files with which it is. This holds
--- over any store, whatever it answers.
+-- Except for the bytes of files, the call is the machine's step: there are contents of files with which it is. This
+-- holds over any store, whatever it answers.
 pub record StepsBeside {A : Type 0} (m : State → Meaning A) (old : KernelState) (r : Result A Refusal)
     (new : KernelState) : Type 0 where
   pub before : List (List ℕ)
   pub after : List (List ℕ)
   pub step : Step (m (with_slots before old)) (with_slots before old) r (with_slots after new)
 
--- A call that may use the store under the files. With an honest store it is the machine's step, including the bytes of files,
--- if positions are within files; they are in every state reached from the start.
+-- A call that may use the store under the files. With an honest store it is the machine's step, including the bytes of
+-- files, if positions are within files; they are in every state reached from the start.
 pub record Serves {A : Type 0} (m : State → Meaning A) (disk : Disk) (old : KernelState) (r : Result A Refusal)
     (after : Disk) (new : KernelState) : Type 0 where
   pub step : IsBackedBy disk old → ArePlaced (machine_of disk.slots old)
@@ -45,8 +45,8 @@ pub record Serves {A : Type 0} (m : State → Meaning A) (disk : Disk) (old : Ke
   pub sound : IsSound new
   pub stays : Stays old.store new.store
 
--- A call that at most asks the store under the files for a length. Pages and cached extents are unchanged, every byte keeps
--- its place, and a refused call changes nothing.
+-- A call that at most asks the store under the files for a length. Pages and cached extents are unchanged, every byte
+-- keeps its place, and a refused call changes nothing.
 pub record LooksUp {A : Type 0} (m : State → Meaning A) (disk : Disk) (old : KernelState) (r : Result A Refusal)
     (new : KernelState) : Type 0 where
   pub serves : Serves m disk old r disk new

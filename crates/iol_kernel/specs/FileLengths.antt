@@ -1,6 +1,7 @@
 -- The end of a file, over any store: what the calls that ask for a length say of it, in terms of the length that the
 -- store reports.
-use Rattle.std.specs.Prelude.{◌≡◌, ℕ, ◌+◌, ◌<◌, ◌≤◌, Bool, true, false, [], length, nat_lt, if◌then◌else◌, Option, Some, None, Result, Ok, Err, OnOk, IfOk, IfErr, OnErr, ⊤}
+use Rattle.std.specs.Prelude.{◌≡◌, ℕ, ◌+◌, ◌<◌, ◌≤◌, Bool, true, false, [], length, nat_lt, if◌then◌else◌, Option, Some}
+use Rattle.std.specs.Prelude.{None, Result, Ok, Err, OnOk, IfOk, IfErr, OnErr, ⊤}
 use Rattle.iol_core.specs.Prelude.{content, is_live, open_on}
 use Rattle.iol_core.specs.Meaning.{first}
 use Rattle.iol_core.specs.NumberedLists.{is_numbered}

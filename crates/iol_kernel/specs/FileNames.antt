@@ -1,5 +1,6 @@
 -- Naming and opening files: the preconditions, and the tables of files afterwards.
-use Rattle.std.specs.Prelude.{◌≡◌, ℕ, ◌+◌, ◌<◌, ◌++◌, ◌∷◌, false, true, bytes_eq, is_some, List, [], length, Option, IfSome, Result, IfOk, OnOk, OnErr}
+use Rattle.std.specs.Prelude.{◌≡◌, ℕ, ◌+◌, ◌<◌, ◌++◌, ◌∷◌, false, true, bytes_eq, is_some, List, [], length, Option}
+use Rattle.std.specs.Prelude.{IfSome, Result, IfOk, OnOk, OnErr}
 use Rattle.std.specs.List.{list_any}
 use Rattle.iol_core.specs.NumberedLists.{is_numbered}
 use Rattle.iol_core.specs.State as machine
@@ -19,21 +20,22 @@ use Rattle.iol_kernel.specs.KernelState.{KernelState, IsSound, machine_of, read_
 use Rattle.iol_kernel.specs.Readings.{Reading}
 use Rattle.iol_kernel.specs.declared.files.Files.{Files}
 
--- There is no file, no extent in memory, and no order of eviction. Over any store of this many pages that is tidy and still,
--- the cache is sound.
+-- There is no file, no extent in memory, and no order of eviction. Over any store of this many pages that is tidy and
+-- still, the cache is sound.
 pub record HasNone (pages : ℕ) (x : Files) : Type 0 where
   pub none : x.table.files ≡ []
   pub cached : (cached_of x.cache).files ≡ []
   pub orders : (cached_of x.cache).orders ≡ []
-  pub sound : (s : Stored) → page_count s.arena ≡ pages → IsTidy s → IsStill s.arena → cache.IsSound s (cached_of x.cache)
+  pub sound : (s : Stored) → page_count s.arena ≡ pages → IsTidy s → IsStill s.arena
+      → cache.IsSound s (cached_of x.cache)
 
 -- A file of this name may be added after the present ones: none of them has the name, and a slot is free.
 pub record MayName (name : List ℕ) (x : Files) : Type 0 where
   pub unnamed : list_any (λ f. bytes_eq f.name name) x.table.files ≡ false
   pub few : length (cached_of x.cache).files < MAX_FILES
 
--- A file of this name and pool was added in the next slot, with no extent in memory; after a refusal, files and cache are
--- unchanged. Each order of eviction is unchanged, and the cache stays sound over a store in which the pool is open.
+-- A file of this name and pool was added in the next slot, with no extent in memory; after a refusal, files and cache
+-- are unchanged. Each order of eviction is unchanged, and the cache stays sound over a store in which the pool is open.
 pub record AddsNamed {E : Type 0} (name : List ℕ) (pool : ℕ) (old : Files) (r : Result ℕ E) (new : Files) : Type 0 where
   pub number : IfOk r (λ n. n ≡ length (cached_of old.cache).files + 1)
   pub list : OnOk r (new.table.files ≡ with_named old.table.files name pool)

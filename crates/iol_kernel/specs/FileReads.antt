@@ -1,6 +1,7 @@
 -- The effect of a read of a file, in addition to the machine's step: the places of its bytes, and the changes of pages
 -- and of the cache.
-use Rattle.std.specs.Prelude.{◌≡◌, ◌⊎◌, ℕ, ◌+◌, ◌-◌, ◌≤◌, ◌&&◌, Bool, not, min, List, [], ◌∷◌, length, take, drop, slice_set, Option, Some, None, Result, Ok, Err, IfOk, IfErr, OnErr, OnOk, if◌then◌else◌}
+use Rattle.std.specs.Prelude.{◌≡◌, ◌⊎◌, ℕ, ◌+◌, ◌-◌, ◌≤◌, ◌&&◌, Bool, not, min, List, [], ◌∷◌, length, take, drop}
+use Rattle.std.specs.Prelude.{slice_set, Option, Some, None, Result, Ok, Err, IfOk, IfErr, OnErr, OnOk, if◌then◌else◌}
 use Rattle.iol_core.specs.State as machine
 use Rattle.iol_core.specs.State.{State, Domain, is_live, descriptor}
 use Rattle.iol_core.specs.Meaning.{◌when◌, first}
@@ -26,7 +27,8 @@ use Rattle.iol_cache.specs.CacheState.{Cached, file_in}
 use Rattle.iol_cache.specs.Contents.{bytes_in_slot}
 use Rattle.iol_cache.specs.PageChanges.{FillsLowest}
 use Rattle.iol_cache.specs.Evictions.{Holding}
-use Rattle.iol_cache.specs.ReadResults.{IsBacked, IsEnd, NoRoomToRead, ReadsFile, RefusesRead, RoomToRead, ReportsFault, ReportsRoom}
+use Rattle.iol_cache.specs.ReadResults.{IsBacked, IsEnd, NoRoomToRead, ReadsFile, RefusesRead, RoomToRead, ReportsFault}
+use Rattle.iol_cache.specs.ReadResults.{ReportsRoom}
 use Rattle.iol_kernel.specs.FileCalls.{Serves, holding_of}
 use Rattle.iol_kernel.specs.Calls.{CarriesOut}
 use Rattle.iol_kernel.specs.KeptCover.{KeepsUnless, LacksPagesToRead}
@@ -39,7 +41,8 @@ use Rattle.iol_kernel.specs.declared.open_file.OpenFile.{OpenFile}
 pub record IsReadable (disk : Disk) (c : Cached) (f at n many : ℕ) : Type 0 where
   pub end : ℕ
   pub ends : IsEnd disk c f end
-  pub whole : (s : Stored) → IsBacked disk (record { store = s; cache = c }) → end ≡ length (bytes_in_slot s disk.slots c.files f)
+  pub whole : (s : Stored) → IsBacked disk (record { store = s; cache = c })
+      → end ≡ length (bytes_in_slot s disk.slots c.files f)
   pub fewer : many ≡ min n (end - at)
 
 -- A domain's descriptor, which is open on a file at a position, and the number of bytes to read there.
@@ -88,7 +91,8 @@ pool_read h x = (file_in h.cache.files x.file).pool
 
 -- the domains with the position moved by `len` bytes
 abbrev pub moved_on : List (Domain (List Slice)) → FileRead → (len : ℕ) → List (Domain (List Slice))
-moved_on ds x len = with_fds_in ds x.domain (slice_set (fds_in ds x.domain) x.fd (Some (on.File x.file (x.at + len) x.mode)))
+moved_on ds x len =
+    with_fds_in ds x.domain (slice_set (fds_in ds x.domain) x.fd (Some (on.File x.file (x.at + len) x.mode)))
 
 -- The bytes became the domain's next aggregate, and the position moved past them. Bytes that were in memory keep their
 -- places; the others are in the new extents.
@@ -104,10 +108,12 @@ holding_over s h = record { store = s; cache = h.cache }
 -- The state after a refused read. A read that was refused before it asked for room changed nothing. After a late
 -- refusal hits may have been counted, and, if the pages needed could be had, clean extents may have been evicted to
 -- make room, in the order of eviction. A refusal for lack of memory may come before any hit was shared.
-abbrev pub LeavesAtRefusal : (x : FileRead) → Disk → (old : KernelState) → (after : Disk) → (new : KernelState) → Refusal → Type 0
+abbrev pub LeavesAtRefusal : (x : FileRead) → Disk → (old : KernelState) → (after : Disk) → (new : KernelState)
+    → Refusal → Type 0
 LeavesAtRefusal x disk old after new y =
     (IsBeforeRoom y × (new ≡ old) × (after ≡ disk))
-    ⊎ (WantOfRoomOrFault (pool_read old x) x.file y × RefusesRead x.file x.at x.count disk (holding_of old) (holding_of new) y)
+    ⊎ (WantOfRoomOrFault (pool_read old x) x.file y
+    × RefusesRead x.file x.at x.count disk (holding_of old) (holding_of new) y)
 
 -- A read of a file by reference. Every byte of a file that was in memory keeps its place, except that clean ones of the
 -- file's pool may have been evicted if more pages were needed than were free. The lowest free pages of the file's pool
@@ -116,7 +122,8 @@ LeavesAtRefusal x disk old after new y =
 -- changed nothing.
 pub record ReadsFileAs {A : Type 0} (x : FileRead) (disk : Disk) (old : KernelState) (r : Result A Refusal)
     (after : Disk) (new : KernelState) : Type 0 where
-  pub keeps : KeepsUnless (pool_read old x) (LacksPagesToRead x.file x.at x.count disk (holding_of old)) old.cache new.cache
+  pub keeps : KeepsUnless (pool_read old x) (LacksPagesToRead x.file x.at x.count disk (holding_of old)) old.cache
+      new.cache
   pub pages : FillsLowest (pool_read old x) old.store new.store
   pub lists : SameLists old.store new.store
   pub room : ReportsRoom (RoomToRead x.file x.at x.count disk (holding_of old))
@@ -179,9 +186,11 @@ pub record CopiesInto (x : FileRead) (memory filled : List ℕ) (disk : Disk) (o
 
 -- A read by reference, by the descriptor's object: for a file, as above; for anything else nothing is copied and the
 -- store under the files is not asked.
-abbrev pub ReadsOn : (d fd n : ℕ) → Option Descriptor → Disk → KernelState → Result ℕ Refusal → Disk → KernelState → Type 0
+abbrev pub ReadsOn : (d fd n : ℕ) → Option Descriptor → Disk → KernelState → Result ℕ Refusal → Disk → KernelState
+    → Type 0
 ReadsOn d fd n (Some (on.File f at mode)) disk old r after new =
-    ReadsFileAs (file_read d fd f at mode n) disk old r after new × OnOk r (GivesRead (file_read d fd f at mode n) disk old new)
+    ReadsFileAs (file_read d fd f at mode n) disk old r after new
+    × OnOk r (GivesRead (file_read d fd f at mode n) disk old new)
 ReadsOn d fd n _ disk old r after new = CarriesOut (λ s. calls.iol_read s d fd n) old r new × (after ≡ disk)
 
 -- the object that a live domain's descriptor is open on

@@ -1,5 +1,6 @@
 -- The state that a write to a file leaves, in addition to its meaning.
-use Rattle.std.specs.Prelude.{◌≡◌, ◌⊎◌, ℕ, ◌+◌, ◌<◌, ◌≤◌, List, [], length, slice_set, Option, Some, Result, Err, IfErr, OnErr, OnOk, true, false, ⊤}
+use Rattle.std.specs.Prelude.{◌≡◌, ◌⊎◌, ℕ, ◌+◌, ◌<◌, ◌≤◌, List, [], length, slice_set, Option, Some, Result, Err, IfErr}
+use Rattle.std.specs.Prelude.{OnErr, OnOk, true, false, ⊤}
 use Rattle.iol_arena.specs.State.{pages_for}
 use Rattle.iol_core.specs.Meaning.{WantOfRoom}
 use Rattle.iol_core.specs.State.{Domain}
@@ -38,14 +39,15 @@ use Rattle.iol_kernel.specs.declared.open_file.OpenFile.{OpenFile}
 abbrev pub pool_of_file : KernelState → (f : ℕ) → ℕ
 pool_of_file h f = (file_in h.cache.files f).pool
 
--- the pages of the file's pool that something other than clean extents holds, and those for the bytes that are copied there
+-- the pages of the file's pool that something other than clean extents holds, and those for the bytes that are copied
+-- there
 abbrev pub pages_to_write : KernelState → (f : ℕ) → List Slice → ℕ
 pages_to_write h f source = pinned_beside h.store (clean_held h.cache.files) (pool_of_file h f)
     + copied_pages (pool_of_file h f) source
 
--- The state after a refused write. A refusal before room was made changed nothing. A late refusal at most evicted extents, in
--- the order of eviction, and the bytes placed are released. After NoRoom, and whenever the pages needed cannot be had, no
--- extent was evicted and no page was filled.
+-- The state after a refused write. A refusal before room was made changed nothing. A late refusal at most evicted
+-- extents, in the order of eviction, and the bytes placed are released. After NoRoom, and whenever the pages needed
+-- cannot be had, no extent was evicted and no page was filled.
 abbrev pub LeavesUnwritten : (f : ℕ) (source : List Slice) (old new : KernelState) → Refusal → Type 0
 LeavesUnwritten f source old new x =
     (new ≡ old)
@@ -60,11 +62,11 @@ pub record OnlyMoves (f at len : ℕ) (old new : List (Domain (List Slice))) : T
   pub mode : Mode
   pub is : new ≡ with_fds_in old domain (slice_set (fds_in old domain) fd (Some (on.File f (at + len) mode)))
 
--- The bytes of the source are dirty in place of those of the file from `at` on: those of the file's pool at the same places,
--- the others as copies on the lowest pages that were free after room was made. Every other byte in memory keeps its place,
--- except that clean ones of the file's pool may have been evicted if the copies need more pages than were free. NoRoom is
--- returned only if the pages needed are more than the pool has, and success only if they are not. A write of no bytes changes
--- no pages and no files. Nothing else changed except the caller's descriptor.
+-- The bytes of the source are dirty in place of those of the file from `at` on: those of the file's pool at the same
+-- places, the others as copies on the lowest pages that were free after room was made. Every other byte in memory keeps
+-- its place, except that clean ones of the file's pool may have been evicted if the copies need more pages than were
+-- free. NoRoom is returned only if the pages needed are more than the pool has, and success only if they are not. A
+-- write of no bytes changes no pages and no files. Nothing else changed except the caller's descriptor.
 pub record WritesOver {A : Type 0} (f at : ℕ) (source : List Slice) (old : KernelState) (r : Result A Refusal)
     (new : KernelState) : Type 0 where
   pub lies : OnOk r (LiesDirty f at source new.cache)
@@ -74,7 +76,8 @@ pub record WritesOver {A : Type 0} (f at : ℕ) (source : List Slice) (old : Ker
   pub beside : let p = pool_of_file old f in
       KeepsBeside f at (byte_len source) p (LacksPages old p (copied_pages p source)) old.cache new.cache
   pub room : OnOk r (pages_to_write old f source ≤ length (pages_of old.store (pool_of_file old f)))
-  pub no_room : (p : ℕ) → r ≡ Err (NoRoom p) → length (pages_of old.store (pool_of_file old f)) < pages_to_write old f source
+  pub no_room : (p : ℕ) → r ≡ Err (NoRoom p)
+      → length (pages_of old.store (pool_of_file old f)) < pages_to_write old f source
   pub pages : FillsLowest (pool_of_file old f) old.store new.store
   pub lists : SameLists old.store new.store
   pub same : new ≡ record old { store = new.store; domains = new.domains; cache = new.cache }
@@ -87,20 +90,22 @@ pub record WritesAgg (d fd a f at : ℕ) (old : KernelState) (r : Result ℕ Ref
   pub over : WritesOver f at (slices_in old.domains d a) old r new
 
 -- A write of an aggregate, by the descriptor's object.
-abbrev pub WritesOn : (d fd a : ℕ) → Option Descriptor → (old : KernelState) → Result ℕ Refusal → (new : KernelState) → Type 0
+abbrev pub WritesOn : (d fd a : ℕ) → Option Descriptor → (old : KernelState) → Result ℕ Refusal → (new : KernelState)
+    → Type 0
 WritesOn d fd a (Some (on.File f at mode)) old r new = WritesOver f at (slices_in old.domains d a) old r new
 WritesOn d fd a _ old r new = CarriesOut (λ s. iol_write s d fd a) old r new
 
--- `count` bytes were written to a file from `at` on: they filled the lowest pages of the pool that were free after room was
--- made, and no others. Whatever the result, every other byte of files that was in memory keeps its place, except that clean
--- ones of the pool's files may have been evicted if more pages were needed than were free.
+-- `count` bytes were written to a file from `at` on: they filled the lowest pages of the pool that were free after room
+-- was made, and no others. Whatever the result, every other byte of files that was in memory keeps its place, except
+-- that clean ones of the pool's files may have been evicted if more pages were needed than were free.
 pub record PutsInFile {A : Type 0} (f at pool count : ℕ) (old : KernelState) (r : Result A Refusal)
     (new : KernelState) : Type 0 where
-  pub fills : OnOk r (AfterRoom pool count old (λ roomy. KeepsPages roomy.store new.store (lowest_of roomy.store pool count)))
+  pub fills :
+      OnOk r (AfterRoom pool count old (λ roomy. KeepsPages roomy.store new.store (lowest_of roomy.store pool count)))
   pub beside : KeepsBeside f at count pool (LacksPages old pool (pages_for count)) old.cache new.cache
 
--- New bytes are on the lowest free pages of a pool, in one buffer per run of adjacent pages, as slices that have the only
--- references. The generation of each of these pages is incremented, and no other page, pool or list changed.
+-- New bytes are on the lowest free pages of a pool, in one buffer per run of adjacent pages, as slices that have the
+-- only references. The generation of each of these pages is incremented, and no other page, pool or list changed.
 pub record PlacesNew (pool : ℕ) (bytes : List ℕ) (old placed : Stored) (slices : List Slice) : Type 0 where
   pub text : text_of placed slices ≡ labelled pool bytes
   pub made : MadeOn old.arena placed.arena (bufs_of slices) (lowest_of old pool (length bytes))
@@ -139,15 +144,15 @@ pub record GivesUpNew (pool : ℕ) (bytes : List ℕ) (old new : KernelState) : 
   pub lists : SameLists left new.store
   pub rest : new ≡ record old { store = new.store; cache = new.cache }
 
--- A write of bytes that fit in the pool was refused for lack of memory: it at most evicted extents, in the order of eviction,
--- and the bytes placed are released.
+-- A write of bytes that fit in the pool was refused for lack of memory: it at most evicted extents, in the order of
+-- eviction, and the bytes placed are released.
 pub record UnlaidRoomy (pool : ℕ) (bytes : List ℕ) (old new : KernelState) (x : Refusal) : Type 0 where
   pub memory : x ≡ Memory
   pub fits : can_fit old pool (length bytes) ≡ true
   pub left : AfterRoom pool (length bytes) old (λ roomy. (new ≡ roomy) ⊎ GivesUpNew pool bytes roomy new)
 
--- The state after a refused write. A refusal before room was made, or NoRoom, changed nothing. A refusal for lack of memory
--- at most evicted extents, and only if the bytes fit.
+-- The state after a refused write. A refusal before room was made, or NoRoom, changed nothing. A refusal for lack of
+-- memory at most evicted extents, and only if the bytes fit.
 abbrev pub LeavesUnlaid : (pool : ℕ) (bytes : List ℕ) (old new : KernelState) → Refusal → Type 0
 LeavesUnlaid pool bytes old new x = (new ≡ old) ⊎ UnlaidRoomy pool bytes old new x
 
@@ -169,9 +174,9 @@ pub record FillsFile (d fd : ℕ) (x : OpenFile) (pool : ℕ) (bytes : List ℕ)
   pub lays : OnOk r (LaysOver x.file x.at pool bytes old new)
   pub leaves : IfErr r (λ y. (new ≡ old) ⊎ GivesUpNew pool bytes old new)
 
--- New bytes are written over those of a file that was found open, after clean extents of the pool's files were evicted: the
--- meaning, and the places of these and of other bytes afterwards. NoRoom is returned only if the bytes do not fit, success
--- and Memory only if they do. There is no other refusal.
+-- New bytes are written over those of a file that was found open, after clean extents of the pool's files were evicted:
+-- the meaning, and the places of these and of other bytes afterwards. NoRoom is returned only if the bytes do not fit,
+-- success and Memory only if they do. There is no other refusal.
 pub record PutsOver (d fd : ℕ) (x : OpenFile) (pool : ℕ) (bytes : List ℕ) (old : KernelState) (r : Result ℕ Refusal)
     (new : KernelState) : Type 0 where
   pub serves : (disk : Disk) → Serves (λ s. write s d fd bytes) disk old r disk new
@@ -189,6 +194,7 @@ LaysOn (Some (on.File f at mode)) pool bytes old r new = LaysInFile f at pool by
 LaysOn _ pool bytes old r new = ⊤
 
 -- A write of `count` bytes by copying, if the descriptor is open on a file.
-abbrev pub PutsOn : Option Descriptor → (pool count : ℕ) → (old : KernelState) → Result ℕ Refusal → (new : KernelState) → Type 0
+abbrev pub PutsOn : Option Descriptor → (pool count : ℕ) → (old : KernelState) → Result ℕ Refusal → (new : KernelState)
+    → Type 0
 PutsOn (Some (on.File f at mode)) pool count old r new = PutsInFile f at pool count old r new
 PutsOn _ pool count old r new = ⊤

@@ -1,5 +1,6 @@
 -- Files by name, and the effect of opening one.
-use Rattle.std.specs.Prelude.{◌≡◌, ◌==◌, ℕ, ◌+◌, ◌++◌, ◌∷◌, List, [], map, nat_eq, bytes_eq, Option, option_map, position}
+use Rattle.std.specs.Prelude.{◌≡◌, ◌==◌, ℕ, ◌+◌, ◌++◌, ◌∷◌, List, [], map, nat_eq, bytes_eq, Option, option_map}
+use Rattle.std.specs.Prelude.{position}
 use Rattle.std.specs.List.{list_any}
 use Rattle.std.specs.Global.{Vec}
 use Rattle.iol_core.specs.Calls.Descriptors.{next_fd, opened}

@@ -12,8 +12,8 @@ use Rattle.iol_kernel.specs.KernelState.{IsSound}
 use Rattle.iol_kernel.specs.declared.kernel.Kernel.{Kernel}
 
 -- One read of a reader arrives on connection c, at most max bytes. Clean extents may have been evicted for it. After a
--- refusal the reader is unchanged. `left` gives the bytes that a reader has left, if they are known. Every byte that remains
--- keeps its place.
+-- refusal the reader is unchanged. `left` gives the bytes that a reader has left, if they are known. Every byte that
+-- remains keeps its place.
 pub record TakesFromReader {R : Type 0} (c max : ℕ) (left : R → Option (List ℕ)) (reader after : R) (old : Kernel)
     (r : Result Arrived Refusal) (new : Kernel) : Type 0 where
   pub refuses : RefusesArrival c max (state_of old) (state_of new) reader after r
@@ -30,8 +30,8 @@ pub record ReadsFromReader {R : Type 0} (c max : ℕ) (left : R → Option (List
   pub takes : TakesRead c max (left reader) (left after) (state_of old) r (state_of new)
   pub err_reader : OnErr r (after ≡ reader)
 
--- The bytes queued for sending on connection c are drained to a writer, at most max bytes, if there is such a connection.
--- `held` gives the bytes that a writer has, if they are known. Every byte that remains keeps its place.
+-- The bytes queued for sending on connection c are drained to a writer, at most max bytes, if there is such a
+-- connection. `held` gives the bytes that a writer has, if they are known. Every byte that remains keeps its place.
 pub record DrainsToWriter {W : Type 0} (c max : ℕ) (held : W → Option (List ℕ)) (writer after : W) (old : Kernel)
     (r : Result Drained Refusal) (new : Kernel) : Type 0 where
   pub refuses : RefusesDrain (machine old) c (state_of old) (state_of new) writer after r
@@ -40,6 +40,8 @@ pub record DrainsToWriter {W : Type 0} (c max : ℕ) (held : W → Option (List 
   pub stays : Stays old.store new.store
 
 -- The bytes queued for sending on connection c are drained to a writer, at most max bytes.
-abbrev pub LendsToWriter : {W : Type 0} → (c max : ℕ) (held : W → Option (List ℕ)) (writer after : W) (old new : Kernel) → Drained
+abbrev pub LendsToWriter : {W : Type 0} → (c max : ℕ) (held : W → Option (List ℕ)) (writer after : W) (old new : Kernel)
+    → Drained
     → Type 0
-LendsToWriter c max held writer after old new d = DrainsTo c max (held writer) (held after) (state_of old) (state_of new) d
+LendsToWriter c max held writer after old new d =
+    DrainsTo c max (held writer) (held after) (state_of old) (state_of new) d

@@ -77,12 +77,14 @@ abbrev pub LooksUp : {A : Type 0} → (State → Meaning A) → Disk → Kernel 
 LooksUp m disk old r new = backed.LooksUp m disk (state_of old) r (state_of new)
 
 -- the result of a read by copying from the file that was found open
-abbrev pub CopiesFile : (d fd : ℕ) → OpenFile → (n : ℕ) → Disk → Kernel → Result (List ℕ) Refusal → Disk → Kernel → Type 0
+abbrev pub CopiesFile : (d fd : ℕ) → OpenFile → (n : ℕ) → Disk → Kernel → Result (List ℕ) Refusal → Disk → Kernel
+    → Type 0
 CopiesFile d fd found n disk old r after new =
     files.CopiesFromFile (read_at d fd found n) disk (state_of old) r after (state_of new)
 
 -- the result of a read into a memory from the file that was found open
-abbrev pub CopiesFileInto : (d fd : ℕ) → OpenFile → (memory filled : List ℕ) → Disk → Kernel → Result ℕ Refusal → Disk → Kernel
+abbrev pub CopiesFileInto : (d fd : ℕ) → OpenFile → (memory filled : List ℕ) → Disk → Kernel → Result ℕ Refusal → Disk
+    → Kernel
     → Type 0
 CopiesFileInto d fd found memory filled disk old r after new =
     files.CopiesInto (read_at d fd found (length memory)) memory filled disk (state_of old) r after (state_of new)

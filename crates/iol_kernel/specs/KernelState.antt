@@ -1,10 +1,13 @@
 -- The state of a system, and the state of the copying machine that it represents.
-use Rattle.std.specs.Prelude.{◌≡◌, ℕ, ◌+◌, ◌≤◌, true, false, length, List, [], ◌∷◌, flat_map, map, Option, Some, None, unwrap_or}
+use Rattle.std.specs.Prelude.{◌≡◌, ℕ, ◌+◌, ◌≤◌, true, false, length, List, [], ◌∷◌, flat_map, map, Option, Some, None}
+use Rattle.std.specs.Prelude.{unwrap_or}
 use Rattle.iol_core.specs.NumberedLists.{is_numbered}
 use Rattle.iol_core.specs.State as machine
 use Rattle.iol_core.specs.declared.descriptors.Descriptor.{Descriptor}
 use Rattle.iol_core.specs.declared.descriptors.Descriptor.TheVariants as on
-use Rattle.iol_core.specs.declared.limits.TheConstants.{MAX_AGGREGATE_BYTES, MAX_AGGREGATES, MAX_QUEUE_BYTES, MAX_FILES, MAX_FILE_BYTES, MAX_PIPES, MAX_POOLS, MAX_CONNECTIONS, LAST_CONNECTION}
+use Rattle.iol_core.specs.declared.limits.TheConstants.{MAX_AGGREGATE_BYTES, MAX_AGGREGATES, MAX_QUEUE_BYTES, MAX_FILES}
+use Rattle.iol_core.specs.declared.limits.TheConstants.{MAX_FILE_BYTES, MAX_PIPES, MAX_POOLS, MAX_CONNECTIONS}
+use Rattle.iol_core.specs.declared.limits.TheConstants.{LAST_CONNECTION}
 use Rattle.iol_hold.specs.StoreState.{Stored, IsTidy, IsStill, AllReclaimed}
 use Rattle.iol_hold.specs.Places.{byte_len}
 use Rattle.iol_hold.specs.Layout.{number_at}
@@ -39,7 +42,14 @@ pub record KernelState : Type 0 where
 
 -- a system's pipes, connections and files
 abbrev pub objects_of : KernelState → Objects (List Slice)
-objects_of h = record { pipes = h.pipes; conns = h.conns; next_conn = h.next_conn; files = h.files; cached = h.cache.files }
+objects_of h = record {
+  pipes = h.pipes;
+  conns = h.conns;
+  next_conn = h.next_conn;
+  files = h.files;
+  cached =
+      h.cache.files;
+}
 
 -- the copying machine's state, with the content that f reads
 unfoldable pub read_of : Reading → KernelState → machine.State
@@ -137,7 +147,8 @@ pub record IsLimited (domains : List (machine.Domain (List Slice))) (all : Objec
   pub objects : AreLimited all
 
 -- there are at most MAX_POOLS pools, and those of each connection and each file are open
-pub record ArePooled (pools : List Pool) (conns : List (ℕ × Conn (List Slice))) (cached : List CachedFile) : Type 0 where
+pub record ArePooled (pools : List Pool) (conns : List (ℕ × Conn (List Slice))) (cached : List CachedFile) :
+    Type 0 where
   pub few : length pools ≤ MAX_POOLS
   pub opened : Each (λ e. (pool_in pools e.1.pool).closed ≡ false) conns
   pub files_open : (n : ℕ) → is_numbered cached n ≡ true → (pool_in pools (file_in cached n).pool).closed ≡ false

@@ -11,8 +11,9 @@ use Rattle.iol_kernel.specs.KernelState.{KernelState, joined, slices_in}
 abbrev pub addresses_of : KernelState → (d a : ℕ) → List Ptr
 addresses_of h d a = map (address_at h.store) (places (slices_in h.domains d a))
 
--- The parts are the slices of a domain's aggregate, in order, each at its address. Their bytes are those that `show` returns,
--- for each content of the store under the files, and the addresses of these bytes are those of the aggregate's.
+-- The parts are the slices of a domain's aggregate, in order, each at its address. Their bytes are those that `show`
+-- returns, for each content of the store under the files, and the addresses of these bytes are those of the
+-- aggregate's.
 pub record Locates (d a : ℕ) (parts : List Located) (h : KernelState) : Type 0 where
   pub shows : Shows d a (joined (map (λ (x : Located). x.bytes) parts)) h
   pub at : parts ≡ located_parts h.store (slices_in h.domains d a)

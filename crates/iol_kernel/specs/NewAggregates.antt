@@ -24,7 +24,8 @@ pub record AddsShared (s t : Stored) (old new : List (Domain (List Slice))) (d :
   pub added : new ≡ with_agg_in old d slices
 
 -- a domain got an aggregate of this text, in new buffers that were made on these pages
-pub record AddsText (s t : Stored) (old new : List (Domain (List Slice))) (d : ℕ) (text : Text) (placed : List ℕ) : Type 0 where
+pub record AddsText (s t : Stored) (old new : List (Domain (List Slice))) (d : ℕ) (text : Text) (placed : List ℕ) :
+    Type 0 where
   pub slices : List Slice
   pub is_text : text_of t slices ≡ text
   pub readable : AllReadable t slices
@@ -36,7 +37,8 @@ pub record AddsText (s t : Stored) (old new : List (Domain (List Slice))) (d : �
   pub added : new ≡ with_agg_in old d slices
 
 -- a domain got the longest prefix of a queue, of at most n bytes, whose pools all name it
-pub record TakesFront (s t : Stored) (queue rest : List Slice) (old new : List (Domain (List Slice))) (d n : ℕ) : Type 0 where
+pub record TakesFront (s t : Stored) (queue rest : List Slice) (old new : List (Domain (List Slice))) (d n : ℕ) :
+    Type 0 where
   pub slices : List Slice
   pub given : places slices ≡ take_while (may_see s.pools d) (take n (places queue))
   pub left : places rest ≡ drop (byte_len slices) (places queue)

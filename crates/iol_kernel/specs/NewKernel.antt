@@ -11,9 +11,9 @@ use Rattle.iol_kernel.specs.KernelState.{IsSound, machine_of}
 use Rattle.iol_kernel.specs.Readings.{slots_of}
 use Rattle.iol_kernel.specs.declared.kernel.Kernel.{Kernel}
 
--- A kernel is made with the configured sizes, and represents the copying machine's first state. All its pages are free with
--- generation 0, no chunk is taken, no sum is remembered, and no pool has an order of eviction. It is refused if the
--- configuration is out of its ranges, and for lack of memory.
+-- A kernel is made with the configured sizes, and represents the copying machine's first state. All its pages are free
+-- with generation 0, no chunk is taken, no sum is remembered, and no pool has an order of eviction. It is refused if
+-- the configuration is out of its ranges, and for lack of memory.
 pub record MakesKernel (config : Config) (r : Result Kernel Refusal) : Type 0 where
   pub range : (r ≡ Err BadRange) ↔ (IsInRange config → ⊥)
   pub errors : IfErr r (λ e. (e ≡ BadRange) ⊎ (e ≡ Memory))

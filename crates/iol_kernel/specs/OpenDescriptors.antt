@@ -16,7 +16,8 @@ pub record IsOpenOn (h : KernelState) (d fd : ℕ) (end : Descriptor) : Type 0 w
   pub live : (f : Reading) → is_live (read_of f h) d ≡ true
   pub from : (f : Reading) → descriptor (read_of f h) d fd ≡ Some end
 
--- Between two events: a live domain's descriptor is open on a file that exists, at a position within the limit of a file.
+-- Between two events: a live domain's descriptor is open on a file that exists, at a position within the limit of a
+-- file.
 pub record IsOnFile (h : KernelState) (d fd f at : ℕ) (mode : Mode) : Type 0 where
   pub held : IsOpenOn h d fd (on.File f at mode)
   pub there : is_numbered h.files f ≡ true

@@ -1,5 +1,6 @@
 -- Calls that make, use, admit to and close pools: their preconditions and effects.
-use Rattle.std.specs.Prelude.{◌≡◌, ℕ, ◌+◌, ◌<◌, ◌≤◌, ◌&&◌, Bool, length, true, false, List, [], ◌∷◌, ◌++◌, None, Result, Err, IfOk, IfErr, OnOk, OnErr}
+use Rattle.std.specs.Prelude.{◌≡◌, ℕ, ◌+◌, ◌<◌, ◌≤◌, ◌&&◌, Bool, length, true, false, List, [], ◌∷◌, ◌++◌, None, Result}
+use Rattle.std.specs.Prelude.{Err, IfOk, IfErr, OnOk, OnErr}
 use Rattle.std.specs.List.{list_all}
 use Rattle.iol_core.specs.Meaning.{WantOfRoom}
 use Rattle.iol_core.specs.Prelude.{first, with_numbered}
@@ -41,8 +42,8 @@ pub record TestsCreate (d n : ℕ) (list : List ℕ) (h : KernelState) (r : Resu
   pub may : IfOk r (λ names. MayCreate d n list names h)
   pub refused : IfErr r (λ x. Refuses (λ s. pool_create s d n list) x h)
 
--- A pool of n chunks is added, for these domains. This succeeds only if n chunks are free, and NoRoom is returned only if
--- they are not. The only refusals are NoRoom and Memory, and they change nothing.
+-- A pool of n chunks is added, for these domains. This succeeds only if n chunks are free, and NoRoom is returned only
+-- if they are not. The only refusals are NoRoom and Memory, and they change nothing.
 pub record Creates (n : ℕ) (names : List ℕ) (old : KernelState) (r : Result ℕ Refusal)
     (new : KernelState) : Type 0 where
   pub number : IfOk r (λ p. (f : Reading) → p ≡ length (read_of f old).pools + 1)
@@ -54,8 +55,8 @@ pub record Creates (n : ℕ) (names : List ℕ) (old : KernelState) (r : Result 
   pub late : IfErr r (λ x. (f : Reading) → WantOfRoom (length (read_of f old).pools + 1) x)
   pub err : OnErr r (new ≡ old)
 
--- A domain makes a pool of n chunks for the domains of a list: the meaning, and the chunks of the pool. This succeeds only if
--- n chunks are free, and NoRoom is returned only if they are not.
+-- A domain makes a pool of n chunks for the domains of a list: the meaning, and the chunks of the pool. This succeeds
+-- only if n chunks are free, and NoRoom is returned only if they are not.
 pub record CreatesPool (d n : ℕ) (list : List ℕ) (old : KernelState) (r : Result ℕ Refusal)
     (new : KernelState) : Type 0 where
   pub create : KeepsPlaces (λ s. pool_create s d n list) old r new

@@ -26,7 +26,8 @@ IsFirstPool end h r = (f : Reading) → KeepsPools f → r ≡ pool_of_first (un
 
 -- this is the pool for which the domain is denied a read of n bytes, or None if it is not denied
 abbrev pub IsBarredPool : (d : ℕ) → Descriptor → (n : ℕ) → KernelState → Option ℕ → Type 0
-IsBarredPool d end n h r = (f : Reading) → KeepsPools f → option_map (λ p. Denied p) r ≡ read_denied (read_of f h) d (Some end) n
+IsBarredPool d end n h r = (f : Reading) → KeepsPools f
+    → option_map (λ p. Denied p) r ≡ read_denied (read_of f h) d (Some end) n
 
 -- Between two events: the descriptor is open, and a queue is read through it.
 pub record IsSource (h : KernelState) (end : Descriptor) : Type 0 where
@@ -41,10 +42,11 @@ pub record MayTake (d fd : ℕ) (end : Descriptor) (h : KernelState) : Type 0 wh
   pub source : IsSource h end
   pub few : too_many_aggs (machine_of [] h) d 1 0 ≡ false
 
--- Of the first n bytes of a queue the prefix that the domain may see was taken off it, as these slices. Added to the domain,
--- they answer its read.
+-- Of the first n bytes of a queue the prefix that the domain may see was taken off it, as these slices. Added to the
+-- domain, they answer its read.
 pub record GivesFront (end : Descriptor) (d n : ℕ) (old new : KernelState) (slices : List Slice) : Type 0 where
   pub answers : (fd : ℕ) → IsOpenOn old d fd end → live_aggs_in old.domains < MAX_AGGREGATES
       → Answers (λ s. iol_read s d fd n) old (domain_in old.domains d).next_agg
       (record new { domains = with_agg_in old.domains d slices })
-  pub divides : DividesFront slices (unread_slices (objects_of old) (Some end)) (unread_slices (objects_of new) (Some end))
+  pub divides : DividesFront slices (unread_slices (objects_of old) (Some end))
+      (unread_slices (objects_of new) (Some end))

@@ -27,8 +27,8 @@ unsent_slices all (Some (on.WriteEnd p)) = (queue_at all.pipes p).queue
 unsent_slices all (Some (on.Connection c)) = (conn_in all.conns c).outgoing
 unsent_slices all o = []
 
--- Slices were taken off a queue: its first ones, of which only the last may have been cut. With those left they are at most
--- one more than before, and those left are no more than before.
+-- Slices were taken off a queue: its first ones, of which only the last may have been cut. With those left they are at
+-- most one more than before, and those left are no more than before.
 pub record DividesFront (front old new : List Slice) : Type 0 where
   pub cut : map slice_places front ≡ first_parts (byte_len front) (map slice_places old)
   pub few : length front + length new ≤ length old + 1

@@ -1,5 +1,6 @@
 -- Pipes of which one has another queue, and the effect of each call on it.
-use Rattle.std.specs.Prelude.{◌≡◌, ℕ, ◌++◌, List, [], true, length, take, take_while, drop, Option, Some, Result, IfOk, IfErr, OnOk, OnErr, slice_set}
+use Rattle.std.specs.Prelude.{◌≡◌, ℕ, ◌++◌, List, [], true, length, take, take_while, drop, Option, Some, Result, IfOk}
+use Rattle.std.specs.Prelude.{IfErr, OnOk, OnErr, slice_set}
 use Rattle.iol_core.specs.Meaning.{WantOfRoom}
 use Rattle.iol_core.specs.Text.{bytes_of}
 use Rattle.iol_core.specs.declared.refusals.Refusal.{Refusal}

@@ -38,8 +38,8 @@ pub record Counts (h : KernelState) (r : Report) : Type 0 where
   pub extents : r.extents ≡ extents_in_all h.cache.files
   pub dirty : r.dirty ≡ dirty_in_all h.cache.files
 
--- The result of asking for a report: one with the counts of the system, if there is memory for it. Whatever the result, no
--- two live buffers share a page.
+-- The result of asking for a report: one with the counts of the system, if there is memory for it. Whatever the result,
+-- no two live buffers share a page.
 pub record Reports {E : Type 0} (h : KernelState) (r : Result Report E) : Type 0 where
   pub counts : IfOk r (Counts h)
   pub alone : SharesNoPage h.store.arena

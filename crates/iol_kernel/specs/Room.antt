@@ -1,5 +1,6 @@
 -- Clean extents of files are evicted to make room for new bytes.
-use Rattle.std.specs.Prelude.{◌≡◌, ◌⊎◌, ◌↔◌, ℕ, ◌+◌, ◌≤◌, Bool, IsTrue, true, false, nat_le, List, length, Some, Result, Err, OnOk, IfErr}
+use Rattle.std.specs.Prelude.{◌≡◌, ◌⊎◌, ◌↔◌, ℕ, ◌+◌, ◌≤◌, Bool, IsTrue, true, false, nat_le, List, length, Some, Result}
+use Rattle.std.specs.Prelude.{Err, OnOk, IfErr}
 use Rattle.iol_core.specs.State.{State}
 use Rattle.iol_core.specs.Text.{Text}
 use Rattle.iol_core.specs.Meaning.{Meaning}
@@ -22,15 +23,15 @@ use Rattle.iol_kernel.specs.Readings.{Reading}
 abbrev pub can_fit : KernelState → (pool n : ℕ) → Bool
 can_fit h p n = nat_le (pinned_beside h.store (clean_held h.cache.files) p + pages_for n) (length (pages_of h.store p))
 
--- The system represents the same machine state; with a store that has the same bytes as the clean extents, this includes the
--- bytes of files.
+-- The system represents the same machine state; with a store that has the same bytes as the clean extents, this
+-- includes the bytes of files.
 pub record IsSame (old new : KernelState) : Type 0 where
   pub files : (disk : Disk) → IsBackedBy disk old → machine_of disk.slots new ≡ machine_of disk.slots old
   pub backed : (disk : Disk) → IsBackedBy disk old → IsBackedBy disk new
   pub beside : (slots : List (List ℕ)) → with_slots slots new ≡ with_slots slots old
 
--- Clean extents of a pool's files were evicted, in the order of eviction, until this many pages of the pool were free: none
--- if they were free already. Every other byte keeps its place, and the system represents the same machine state.
+-- Clean extents of a pool's files were evicted, in the order of eviction, until this many pages of the pool were free:
+-- none if they were free already. Every other byte keeps its place, and the system represents the same machine state.
 pub record MakesRoom (pool pages : ℕ) (old new : KernelState) : Type 0 where
   pub victims : EvictsAll pool (Some pages) (holding_of old) (holding_of new)
   pub gives_up : GivesUp (holding_of old) (holding_of new)
@@ -46,8 +47,8 @@ pub record MayPlaceIn (pool : ℕ) (h : KernelState) : Type 0 where
   pub sound : IsSound h
   pub opened : (pool_in h.store.pools pool).closed ≡ false
 
--- The result of asking for this many free pages. Room was made exactly when these, and those that something other than clean
--- extents holds, are no more than the pool has; otherwise nothing changed.
+-- The result of asking for this many free pages. Room was made exactly when these, and those that something other than
+-- clean extents holds, are no more than the pool has; otherwise nothing changed.
 pub record AsksRoom (pool pages : ℕ) (old : KernelState) (enough : Bool) (new : KernelState) : Type 0 where
   pub made : MakesRoom pool pages old new
   pub room : IsTrue enough
@@ -68,22 +69,22 @@ pub record AfterRoom (pool n : ℕ) (old : KernelState) (P : KernelState → Typ
   pub room : MakesRoom pool (pages_for n) old roomy
   pub then : P roomy
 
--- A call whose n bytes fit in the pool was refused for lack of memory: clean extents may have been evicted to make room for
--- them.
+-- A call whose n bytes fit in the pool was refused for lack of memory: clean extents may have been evicted to make room
+-- for them.
 pub record RefusedRoomy (pool n : ℕ) (old new : KernelState) (x : Refusal) : Type 0 where
   pub memory : x ≡ Memory
   pub fits : can_fit old pool n ≡ true
   pub room : MakesRoom pool (pages_for n) old new
 
--- A refusal, including NoRoom, before anything changed; or a refusal for lack of memory, only if the bytes fit: then clean
--- extents may have been evicted.
+-- A refusal, including NoRoom, before anything changed; or a refusal for lack of memory, only if the bytes fit: then
+-- clean extents may have been evicted.
 abbrev pub MayHaveEvicted : (pool n : ℕ) → (old new : KernelState) → Refusal → Type 0
 MayHaveEvicted pool n old new x = (new ≡ old) ⊎ RefusedRoomy pool n old new x
 
--- A call that places n new bytes in a pool, if necessary in place of clean extents of files. It is the machine's step, over
--- any store. Room is made; then the lowest free pages of the pool are filled, and every other byte keeps its place. NoRoom is
--- returned only if the pages that something other than clean extents holds, and those of the bytes, are more than the pool
--- has; success and Memory only if they are not.
+-- A call that places n new bytes in a pool, if necessary in place of clean extents of files. It is the machine's step,
+-- over any store. Room is made; then the lowest free pages of the pool are filled, and every other byte keeps its
+-- place. NoRoom is returned only if the pages that something other than clean extents holds, and those of the bytes,
+-- are more than the pool has; success and Memory only if they are not.
 pub record Places {A : Type 0} (m : State → Meaning A) (put : State → Text → State) (pool n : ℕ) (old : KernelState)
     (r : Result A Refusal) (new : KernelState) : Type 0 where
   pub serves : (disk : Disk) → Serves m disk old r disk new

@@ -31,8 +31,8 @@ pub record Pipe (A : Type 0) : Type 0 where
 abbrev pub pipe_view : {A : Type 0} → (A → Text) → Pipe A → machine.Pipe
 pipe_view g p = record { queue = g p.queue; reading = p.reading; writing = p.writing }
 
--- the objects that descriptors are open on: pipes by slot, connections under rising numbers, and files by slot, with the
--- extents of each in memory; A is the type of a queue
+-- the objects that descriptors are open on: pipes by slot, connections under rising numbers, and files by slot, with
+-- the extents of each in memory; A is the type of a queue
 pub record Objects (A : Type 0) : Type 0 where
   pub pipes : List (Option (Pipe A))
   pub conns : List (ℕ × Conn A)

@@ -60,7 +60,8 @@ pub record FlushesOne (disk : Disk) (old : KernelState) (r : Result (Unit {0}) R
   pub same : new ≡ record old { cache = new.cache }
 
 -- The result of an fsync by this descriptor, for the file that the descriptor is open on.
-abbrev pub SyncsOpen : (d fd : ℕ) → Disk → (old : KernelState) → Result (Unit {0}) Refusal → Disk → (new : KernelState) → Type 0
+abbrev pub SyncsOpen : (d fd : ℕ) → Disk → (old : KernelState) → Result (Unit {0}) Refusal → Disk → (new : KernelState)
+    → Type 0
 SyncsOpen d fd disk old r after new = SyncsBack d fd (file_on (machine_of [] old) d fd) disk old r after new
 
 -- The result of a flush: its meaning, and the state it leaves.

@@ -1,5 +1,6 @@
 -- Writes of a domain's bytes by copying: their target, and the pool of the new bytes.
-use Rattle.std.specs.Prelude.{◌≡◌, ◌⊎◌, ℕ, Bool, true, false, List, [], length, Some, Result, Err, IfOk, IfErr, OnErr, OnOk}
+use Rattle.std.specs.Prelude.{◌≡◌, ◌⊎◌, ℕ, Bool, true, false, List, [], length, Some, Result, Err, IfOk, IfErr, OnErr}
+use Rattle.std.specs.Prelude.{OnOk}
 use Rattle.iol_core.specs.State as machine
 use Rattle.iol_core.specs.State.{State, descriptor}
 use Rattle.iol_core.specs.Text.{Text}
@@ -57,9 +58,10 @@ pub record MayPut (d fd : ℕ) (target : Descriptor) (p : ℕ) (bytes : List ℕ
 abbrev pub MayPutInFile : (d fd : ℕ) → OpenFile → (p : ℕ) → List ℕ → KernelState → Type 0
 MayPutInFile d fd x p bytes h = MayPut d fd (on.File x.file x.at x.mode) p bytes h
 
--- A call that places new bytes if there is room for them: the machine's step. They are placed in a pool and stored where
--- `put` says. A refusal changes nothing, and is NoRoom only if there is no room.
-pub record Fills (m : State → Meaning ℕ) (put : State → Text → State) (pool : ℕ) (old : KernelState) (r : Result ℕ Refusal)
+-- A call that places new bytes if there is room for them: the machine's step. They are placed in a pool and stored
+-- where `put` says. A refusal changes nothing, and is NoRoom only if there is no room.
+pub record Fills (m : State → Meaning ℕ) (put : State → Text → State) (pool : ℕ) (old : KernelState)
+    (r : Result ℕ Refusal)
     (new : KernelState) : Type 0 where
   pub step : Steps m old r new
   pub made : IfOk r (λ n. MakesBytes put pool n old new)
@@ -77,10 +79,11 @@ FillsQueue d fd pool bytes old r new = Fills (λ s. writing.write s d fd bytes) 
 abbrev pub PlacesInQueue : (d fd : ℕ) → List ℕ → (old : KernelState) → Result ℕ Refusal → (new : KernelState) → Type 0
 PlacesInQueue d fd bytes old r new =
     let s : State = machine_of [] old in
-    Places (λ s. writing.write s d fd bytes) (written_to d fd) (lands_in d fd s) (writing.write s d fd bytes).answer old r new
+    Places (λ s. writing.write s d fd bytes) (written_to d fd) (lands_in d fd s) (writing.write s d fd bytes).answer old
+    r new
 
--- Bytes are written to a descriptor that is open on a queue, before which clean extents are evicted: the result, and the
--- number of slices.
+-- Bytes are written to a descriptor that is open on a queue, before which clean extents are evicted: the result, and
+-- the number of slices.
 pub record PutsInQueue (d fd : ℕ) (target : Descriptor) (bytes : List ℕ) (old : KernelState) (r : Result ℕ Refusal)
     (new : KernelState) : Type 0 where
   pub places : PlacesInQueue d fd bytes old r new
@@ -94,10 +97,11 @@ pool_to_write h d fd = lands_in d fd (machine_of [] h)
 abbrev pub can_fit_write : KernelState → (d fd : ℕ) → List ℕ → Bool
 can_fit_write h d fd bytes = can_fit h (pool_to_write h d fd) (writing.write (machine_of [] h) d fd bytes).answer
 
--- These bytes were written by copying, to any object of the descriptor: the machine's step over any store, and the places of
--- the bytes, in a queue or in a file. NoRoom is returned only if the bytes taken do not fit in their pool; success and Memory
--- only if they do. Any refusal except NoRoom and Memory changed nothing.
-pub record WritesBytes (d fd : ℕ) (bytes : List ℕ) (old : KernelState) (r : Result ℕ Refusal) (new : KernelState) : Type 0 where
+-- These bytes were written by copying, to any object of the descriptor: the machine's step over any store, and the
+-- places of the bytes, in a queue or in a file. NoRoom is returned only if the bytes taken do not fit in their pool;
+-- success and Memory only if they do. Any refusal except NoRoom and Memory changed nothing.
+pub record WritesBytes (d fd : ℕ) (bytes : List ℕ) (old : KernelState) (r : Result ℕ Refusal) (new : KernelState) :
+    Type 0 where
   pub serves : (disk : Disk) → Serves (λ s. writing.write s d fd bytes) disk old r disk new
   pub queue : writing.is_file (descriptor (machine_of [] old) d fd) ≡ false → PlacesInQueue d fd bytes old r new
   pub slices : writing.is_file (descriptor (machine_of [] old) d fd) ≡ false

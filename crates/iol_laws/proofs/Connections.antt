@@ -1,12 +1,14 @@
 -- Lookups of a connection after a change.
-use Rattle.std.proofs.Common.{inl, inr, ◌≡◌, ◌≢◌, ℕ, ◌==◌, ◌⊎◌, List, [], ◌∷◌, ◌++◌, length, ap, ◌∙◌, refl, sym, subst, arith, Option, Some, None, true, false, Bool}
+use Rattle.std.proofs.Common.{inl, inr, ◌≡◌, ◌≢◌, ℕ, ◌==◌, ◌⊎◌, List, [], ◌∷◌, ◌++◌, length, ap, ◌∙◌, refl, sym, subst}
+use Rattle.std.proofs.Common.{arith, Option, Some, None, true, false, Bool}
 use Rattle.std.specs.Prelude.{unwrap_or, ◌&&◌, if◌then◌else◌}
 use Rattle.std.proofs.lemmas.Bool.{cases_eq}
 use Rattle.std.proofs.lemmas.Bool.Decides.{nat_tests}
 use Rattle.std.proofs.lemmas.Grind.{common_steps}
 use Rattle.iol_core.specs.Text.{Text}
 use Rattle.iol_core.specs.NumberedLists.{lookup, without, changed}
-use Rattle.iol_core.specs.State.{State, Pipe, Connection, conn_at, no_conn, new_conn, is_over, with_domain, with_pipe, with_conn}
+use Rattle.iol_core.specs.State.{State, Pipe, Connection, conn_at, no_conn, new_conn, is_over, with_domain, with_pipe}
+use Rattle.iol_core.specs.State.{with_conn}
 use Rattle.iol_core.specs.Calls.Aggregates as aggs
 use Rattle.iol_core.specs.Calls.Descriptors as fds
 use Rattle.iol_core.specs.Calls.Outside.{conn_new}
@@ -14,7 +16,8 @@ use Rattle.iol_core.specs.declared.descriptors.Descriptor.{Descriptor}
 use Rattle.iol_core.proofs.Lookups.{lookup-without}
 use Rattle.iol_laws.specs.Caller.{remains}
 use Rattle.iol_laws.specs.Order.{Once}
-use Rattle.iol_laws.proofs.Places.{changed-none, lookup-changed, lookup-changed_same, lookup-push, lookup-push_other, lookup-without_none}
+use Rattle.iol_laws.proofs.Places.{changed-none, lookup-changed, lookup-changed_same, lookup-push, lookup-push_other}
+use Rattle.iol_laws.proofs.Places.{lookup-without_none}
 
 -- all connections but those that a test names
 abbrev pub KeepsConns : (s t : State) → (ℕ → Bool) → Type 0
@@ -28,7 +31,8 @@ pub conns_conn : (s : State) (e : ℕ) (x : Connection) (c : ℕ) → e ≢ c �
 unfolding conn_at with_conn
 conns_conn s e x c differ = by (is_over x)
   where
-    by : (b : Bool) → unwrap_or (lookup (if b then without s.conns e else changed s.conns e x) c) no_conn ≡ unwrap_or (lookup s.conns c) no_conn
+    by : (b : Bool) → unwrap_or (lookup (if b then without s.conns e else changed s.conns e x) c) no_conn
+        ≡ unwrap_or (lookup s.conns c) no_conn
     by true = ap (λ o. unwrap_or o no_conn) (lookup-without s.conns e c differ)
     by false = ap (λ o. unwrap_or o no_conn) (lookup-changed s.conns e c x differ)
 
@@ -40,7 +44,8 @@ pub conns-with_agg : (s : State) (d : ℕ) (x : Text) (c : ℕ) → conn_at (agg
 unfolding with_domain
 conns-with_agg s d x c = conns_same s (aggs.with_agg s d x) (λ k. false) refl c refl
 
-pub conns-with_fds : (s : State) (d : ℕ) (xs : List (Option Descriptor)) (c : ℕ) → conn_at (fds.with_fds s d xs) c ≡ conn_at s c
+pub conns-with_fds : (s : State) (d : ℕ) (xs : List (Option Descriptor)) (c : ℕ)
+    → conn_at (fds.with_fds s d xs) c ≡ conn_at s c
 unfolding with_domain
 conns-with_fds s d xs c = conns_same s (fds.with_fds s d xs) (λ k. false) refl c refl
 
@@ -56,25 +61,31 @@ pub conn-unmade : (s : State) (c : ℕ) → lookup s.conns c ≡ None → conn_a
 unfolding conn_at
 conn-unmade s c none = ap (λ (o : Option Connection). unwrap_or o no_conn) none
 
-pub conn-made : (s : State) (p : ℕ) → lookup s.conns s.next_conn ≡ None → conn_at (conn_new s p).after s.next_conn ≡ new_conn p
+pub conn-made : (s : State) (p : ℕ) → lookup s.conns s.next_conn ≡ None
+    → conn_at (conn_new s p).after s.next_conn ≡ new_conn p
 unfolding conn_at
-conn-made s p none = ap (λ (o : Option Connection). unwrap_or o no_conn) (lookup-push s.conns s.next_conn (new_conn p) none)
+conn-made s p none =
+    ap (λ (o : Option Connection). unwrap_or o no_conn) (lookup-push s.conns s.next_conn (new_conn p) none)
 
 -- a connection that lives and is not over is as it was set
-pub conn-with_same : (s : State) (c : ℕ) (x : Connection) → (conn_at s c).closed ≡ false → is_over x ≡ false → conn_at (with_conn s c x) c ≡ x
+pub conn-with_same : (s : State) (c : ℕ) (x : Connection) → (conn_at s c).closed ≡ false → is_over x ≡ false
+    → conn_at (with_conn s c x) c ≡ x
 unfolding conn_at with_conn
 conn-with_same s c x lives over = by (lookup s.conns c) refl
   where
-    by : (o : Option Connection) → lookup s.conns c ≡ o → unwrap_or (lookup (if is_over x then without s.conns c else changed s.conns c x) c) no_conn ≡ x
+    by : (o : Option Connection) → lookup s.conns c ≡ o
+        → unwrap_or (lookup (if is_over x then without s.conns c else changed s.conns c x) c) no_conn ≡ x
     by None none = (let e = ap (λ (z : Option Connection). (unwrap_or z no_conn).closed) none in absurd (cc (lives, e)))
-    by (Some y) some = ap (λ b. unwrap_or (lookup (if b then without s.conns c else changed s.conns c x) c) no_conn) over ∙ ap (λ (z : Option Connection). unwrap_or z no_conn) (lookup-changed_same s.conns c x y some)
+    by (Some y) some = ap (λ b. unwrap_or (lookup (if b then without s.conns c else changed s.conns c x) c) no_conn)
+        over ∙ ap (λ (z : Option Connection). unwrap_or z no_conn) (lookup-changed_same s.conns c x y some)
 
 pub not-over : (x : Connection) → x.accepted ≡ true → x.closed ≡ false → is_over x ≡ false
 not-over x accepted closed = grind (arith, accepted, closed)
 
 pub nothing-left : (out : Text) (b : Bool) → ((length out == 0) && b) ≡ true → out ≡ []
 nothing-left [] b is = refl
-nothing-left (x ∷ out) b is = absurd (let e : (length (x ∷ out) == 0) ≡ false = grind (arith, nat_tests) in by (length (x ∷ out) == 0) e is)
+nothing-left (x ∷ out) b is = absurd (let e : (length (x ∷ out) == 0) ≡ false = grind (arith, nat_tests) in
+    by (length (x ∷ out) == 0) e is)
   where
     by : (t : Bool) → t ≡ false → (t && b) ≡ true → ⊥
     by true e is = cc
@@ -92,20 +103,30 @@ forgotten (e ∷ es) c once =
       | inr k ↦ grind (arith, nat_tests, common_steps, r, k)
     ]
 
-pub conn-over : (s : State) (c : ℕ) (x : Connection) → Once s.conns → is_over x ≡ true → conn_at (with_conn s c x) c ≡ no_conn
+pub conn-over : (s : State) (c : ℕ) (x : Connection) → Once s.conns → is_over x ≡ true
+    → conn_at (with_conn s c x) c ≡ no_conn
 unfolding conn_at with_conn
-conn-over s c x once over = ap (λ b. unwrap_or (lookup (if b then without s.conns c else changed s.conns c x) c) no_conn) over ∙ ap (λ (z : Option Connection). unwrap_or z no_conn) (forgotten s.conns c once)
+conn-over s c x once over =
+    ap (λ b. unwrap_or (lookup (if b then without s.conns c else changed s.conns c x) c) no_conn) over
+    ∙ ap (λ (z : Option Connection). unwrap_or z no_conn) (forgotten s.conns c once)
 
-pub conn-there : (s : State) (c : ℕ) (x y : Connection) → lookup s.conns c ≡ Some y → is_over x ≡ false → conn_at (with_conn s c x) c ≡ x
+pub conn-there : (s : State) (c : ℕ) (x y : Connection) → lookup s.conns c ≡ Some y → is_over x ≡ false
+    → conn_at (with_conn s c x) c ≡ x
 unfolding conn_at with_conn
-conn-there s c x y there over = ap (λ b. unwrap_or (lookup (if b then without s.conns c else changed s.conns c x) c) no_conn) over ∙ ap (λ (z : Option Connection). unwrap_or z no_conn) (lookup-changed_same s.conns c x y there)
+conn-there s c x y there over =
+    ap (λ b. unwrap_or (lookup (if b then without s.conns c else changed s.conns c x) c) no_conn) over
+    ∙ ap (λ (z : Option Connection). unwrap_or z no_conn) (lookup-changed_same s.conns c x y there)
 
-pub conn-missing : (s : State) (c : ℕ) (x : Connection) → lookup s.conns c ≡ None → is_over x ≡ false → conn_at (with_conn s c x) c ≡ no_conn
+pub conn-missing : (s : State) (c : ℕ) (x : Connection) → lookup s.conns c ≡ None → is_over x ≡ false
+    → conn_at (with_conn s c x) c ≡ no_conn
 unfolding conn_at with_conn
-conn-missing s c x none over = ap (λ b. unwrap_or (lookup (if b then without s.conns c else changed s.conns c x) c) no_conn) over ∙ ap (λ (o : Option Connection). unwrap_or o no_conn) (changed-none s.conns c c x none)
+conn-missing s c x none over =
+    ap (λ b. unwrap_or (lookup (if b then without s.conns c else changed s.conns c x) c) no_conn) over
+    ∙ ap (λ (o : Option Connection). unwrap_or o no_conn) (changed-none s.conns c c x none)
 
 -- what remains of one that changes
-pub conn-remains : (s : State) (c : ℕ) (x : Connection) → Once s.conns → (is_over x ≡ false → conn_at (with_conn s c x) c ≡ x) → conn_at (with_conn s c x) c ≡ remains x
+pub conn-remains : (s : State) (c : ℕ) (x : Connection) → Once s.conns
+    → (is_over x ≡ false → conn_at (with_conn s c x) c ≡ x) → conn_at (with_conn s c x) c ≡ remains x
 conn-remains s c x once there = by (is_over x) refl
   where
     by : (b : Bool) → is_over x ≡ b → conn_at (with_conn s c x) c ≡ (if b then no_conn else x)
@@ -113,10 +134,12 @@ conn-remains s c x once there = by (is_over x) refl
     by false over = there over
 
 -- one connection changes
-pub after-with_conn : (s : State) (c : ℕ) (x : Connection) → Once s.conns → (conn_at (with_conn s c x) c ≡ x) ⊎ (conn_at (with_conn s c x) c ≡ no_conn)
+pub after-with_conn : (s : State) (c : ℕ) (x : Connection) → Once s.conns → (conn_at (with_conn s c x) c ≡ x)
+    ⊎ (conn_at (with_conn s c x) c ≡ no_conn)
 after-with_conn s c x once = by (is_over x) refl (lookup s.conns c) refl
   where
-    by : (b : Bool) → is_over x ≡ b → (o : Option Connection) → lookup s.conns c ≡ o → (conn_at (with_conn s c x) c ≡ x) ⊎ (conn_at (with_conn s c x) c ≡ no_conn)
+    by : (b : Bool) → is_over x ≡ b → (o : Option Connection) → lookup s.conns c ≡ o → (conn_at (with_conn s c x) c ≡ x)
+        ⊎ (conn_at (with_conn s c x) c ≡ no_conn)
     by true over o is = inr (conn-over s c x once over)
     by false over (Some y) is = inl (conn-there s c x y is over)
     by false over None is = inr (conn-missing s c x is over)
@@ -125,7 +148,8 @@ pub next-with_conn : (s : State) (c : ℕ) (x : Connection) → (with_conn s c x
 unfolding with_conn
 next-with_conn s c x = refl
 
-pub none-with_conn : (s : State) (c : ℕ) (x : Connection) (k : ℕ) → lookup s.conns k ≡ None → lookup (with_conn s c x).conns k ≡ None
+pub none-with_conn : (s : State) (c : ℕ) (x : Connection) (k : ℕ) → lookup s.conns k ≡ None
+    → lookup (with_conn s c x).conns k ≡ None
 unfolding with_conn
 none-with_conn s c x k none = by (is_over x)
   where
@@ -146,7 +170,9 @@ once-changed [] n x once = tt
 once-changed {A = A} (e ∷ es) n x once = (none (e.0 == n) refl, once-changed es n x once.1)
   where
     none : (b : Bool) → (e.0 == n) ≡ b → lookup (changed es n x) (if b then (n, x) else e).0 ≡ None
-    none true is = (let k : e.0 ≡ n = grind (arith, nat_tests, is) in changed-none es n n x (subst (λ m. lookup es m ≡ None) k once.0))
+    none true is =
+        (let k : e.0 ≡ n = grind (arith, nat_tests, is) in
+        changed-none es n n x (subst (λ m. lookup es m ≡ None) k once.0))
     none false is = changed-none es n e.0 x once.0
 
 pub once-with_conn : (s : State) (c : ℕ) (x : Connection) → Once s.conns → Once (with_conn s c x).conns
@@ -157,9 +183,15 @@ once-with_conn s c x once = by (is_over x)
     by true = once-without s.conns c once
     by false = once-changed s.conns c x once
 
-pub once-push : {A : Type 0} (es : List (ℕ × A)) (n : ℕ) (x : A) → lookup es n ≡ None → Once es → Once (es ++ (n, x) ∷ [])
+pub once-push : {A : Type 0} (es : List (ℕ × A)) (n : ℕ) (x : A) → lookup es n ≡ None → Once es
+    → Once (es ++ (n, x) ∷ [])
 once-push [] n x none once = (refl, tt)
 once-push (e ∷ es) n x none once = elim (cases_eq e.0 n) [
-  | inl same ↦ absurd (let z : lookup (e ∷ es) n ≡ Some e.1 = grind (arith, nat_tests, common_steps, same) in cc (z, none))
-  | inr differ ↦ (lookup-push_other es n e.0 x (λ same. differ (sym same)) ∙ once.0, once-push es n x (grind (arith, nat_tests, common_steps, none, differ)) once.1)
+  | inl same ↦ absurd (let z : lookup (e ∷ es) n ≡ Some e.1 = grind (arith, nat_tests, common_steps, same) in
+      cc (z, none))
+  | inr differ ↦ (
+    lookup-push_other es n e.0 x (λ same. differ (sym same))
+        ∙ once.0,
+    once-push es n x (grind (arith, nat_tests, common_steps, none, differ)) once.1,
+  )
 ]

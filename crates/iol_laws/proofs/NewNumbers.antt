@@ -1,5 +1,6 @@
 -- The numbers that a domain gets from its calls are new.
-use Rattle.std.proofs.Common.{◌≡◌, ℕ, ◌+◌, ◌==◌, List, length, drop, ap, ◌∙◌, refl, sym, arith, Option, Some, None, true, false}
+use Rattle.std.proofs.Common.{◌≡◌, ℕ, ◌+◌, ◌==◌, List, length, drop, ap, ◌∙◌, refl, sym, arith, Option, Some, None}
+use Rattle.std.proofs.Common.{true, false}
 use Rattle.std.specs.Prelude.{option_map, slice_set}
 use Rattle.iol_core.specs.Text.{Text, bytes_of}
 use Rattle.iol_core.specs.NumberedLists.{lookup, without}
@@ -23,15 +24,18 @@ use Rattle.iol_laws.proofs.Places.{lookup-without_none, lowest-free}
 use Rattle.iol_laws.proofs.Tests.{same-number}
 
 fresh : (s : State) (d b a : ℕ) → IsOrderly s → b ≡ aggs.next_agg s d → (b == a) ≡ true → readable_at s d a ≡ None
-fresh s d b a order next is = ap (λ k. readable_at s d k) (sym (same-number b a is) ∙ next) ∙ ap (λ (o : Option Text). option_map bytes_of o) (order.aggs d (aggs.next_agg s d) (omega arith))
+fresh s d b a order next is = ap (λ k. readable_at s d k) (sym (same-number b a is) ∙ next)
+    ∙ ap (λ (o : Option Text). option_map bytes_of o) (order.aggs d (aggs.next_agg s d) (omega arith))
 
 -- the number of a new aggregate
-pub fresh_agg : (s t : State) (d : ℕ) (k : Call) (r : Reply) (a : ℕ) → IsOrderly s → StepsTo s (event.Call d k) r t → gives_away k ≡ false → is_agg r a ≡ true → readable_at s d a ≡ None
+pub fresh_agg : (s t : State) (d : ℕ) (k : Call) (r : Reply) (a : ℕ) → IsOrderly s → StepsTo s (event.Call d k) r t
+    → gives_away k ≡ false → is_agg r a ≡ true → readable_at s d a ≡ None
 fresh_agg s t d (call.AggMake bytes) (reply.Agg b) a order step stays is = fresh s d b a order (ap number step.1) is
 fresh_agg s t d (call.AggDup x) (reply.Agg b) a order step stays is = fresh s d b a order (ap number step.1) is
 fresh_agg s t d (call.AggCut x from to) (reply.Agg b) a order step stays is = fresh s d b a order (ap number step.1) is
 fresh_agg s t d (call.AggJoin x y) (reply.Agg b) a order step stays is = fresh s d b a order (ap number step.1) is
-fresh_agg s t d (call.AggReplace x from to y) (reply.Agg b) a order step stays is = fresh s d b a order (ap number step.1) is
+fresh_agg s t d (call.AggReplace x from to y) (reply.Agg b) a order step stays is =
+    fresh s d b a order (ap number step.1) is
 fresh_agg s t d (call.IolRead f n) (reply.Agg b) a order step stays is = fresh s d b a order (ap number step.1) is
 fresh_agg s t d (call.AggGive x to) (reply.Agg b) a order step stays is = absurd (cc)
 fresh_agg s t d (call.GiveFd f to) (reply.Agg b) a order step stays is = absurd (cc)
@@ -39,39 +43,85 @@ fresh_agg s t d k (reply.Agg b) a order step stays is = (let e = step.1 in absur
 fresh_agg s t d k r a order step stays is = absurd (cc)
 
 -- the number of a new descriptor
-pub fresh_fd : (s t : State) (d : ℕ) (k : Call) (r : Reply) (g : ℕ) → IsOrderly s → StepsTo s (event.Call d k) r t → gives_away k ≡ false → is_fd r g ≡ true → descriptor s d g ≡ None
-fresh_fd s t d call.Accept (reply.Fd b) g order step stays is = ap (λ k. descriptor s d k) (sym (same-number b g is) ∙ ap number step.1) ∙ lowest-free (domain s d).fds
-fresh_fd s t d (call.OpenFile name mode) (reply.Fd b) g order step stays is = ap (λ k. descriptor s d k) (sym (same-number b g is) ∙ ap number step.1) ∙ lowest-free (domain s d).fds
+pub fresh_fd : (s t : State) (d : ℕ) (k : Call) (r : Reply) (g : ℕ) → IsOrderly s → StepsTo s (event.Call d k) r t
+    → gives_away k ≡ false → is_fd r g ≡ true → descriptor s d g ≡ None
+fresh_fd s t d call.Accept (reply.Fd b) g order step stays is =
+    ap (λ k. descriptor s d k) (sym (same-number b g is) ∙ ap number step.1) ∙ lowest-free (domain s d).fds
+fresh_fd s t d (call.OpenFile name mode) (reply.Fd b) g order step stays is =
+    ap (λ k. descriptor s d k) (sym (same-number b g is) ∙ ap number step.1) ∙ lowest-free (domain s d).fds
 fresh_fd s t d (call.AggGive x to) (reply.Fd b) g order step stays is = absurd (cc)
 fresh_fd s t d (call.GiveFd f to) (reply.Fd b) g order step stays is = absurd (cc)
 fresh_fd s t d k (reply.Fd b) g order step stays is = (let e = step.1 in absurd (cc))
 fresh_fd s t d k r g order step stays is = absurd (cc)
 
-pub domain-read_on : (s : State) (d fd : ℕ) (o : Option Descriptor) (n : ℕ) → is_live s d ≡ true → ((domain (reading.read_on s d fd o n) d).live ≡ true) × ((domain (reading.read_on s d fd o n) d).aggs ≡ (domain s d).aggs) × ((domain (reading.read_on s d fd o n) d).next_agg ≡ (domain s d).next_agg)
-domain-read_on s d fd (Some (on.File f at mode)) n live = (let e = domain-with_same s d (record (domain s d) { fds = slice_set (domain s d).fds fd (Some (on.File f (at + n) mode)) }) live in (ap (λ (x : Domain Text). x.live) e ∙ live, ap (λ (x : Domain Text). x.aggs) e, ap (λ (x : Domain Text). x.next_agg) e))
-domain-read_on s d fd (Some (on.ReadEnd p)) n live = (let e = domain-same s (with_pipe s p (record (pipe_at s p) { queue = drop n (pipe_at s p).queue })) d (domains-with_pipe s p _) in (ap (λ (x : Domain Text). x.live) e ∙ live, ap (λ (x : Domain Text). x.aggs) e, ap (λ (x : Domain Text). x.next_agg) e))
-domain-read_on s d fd (Some (on.Connection c)) n live = (let e = domain-same s (with_conn s c (record (conn_at s c) { incoming = drop n (conn_at s c).incoming })) d (domains-with_conn s c _) in (ap (λ (x : Domain Text). x.live) e ∙ live, ap (λ (x : Domain Text). x.aggs) e, ap (λ (x : Domain Text). x.next_agg) e))
+pub domain-read_on : (s : State) (d fd : ℕ) (o : Option Descriptor) (n : ℕ) → is_live s d ≡ true
+    → ((domain (reading.read_on s d fd o n) d).live ≡ true)
+    × ((domain (reading.read_on s d fd o n) d).aggs ≡ (domain s d).aggs)
+    × ((domain (reading.read_on s d fd o n) d).next_agg ≡ (domain s d).next_agg)
+domain-read_on s d fd (Some (on.File f at mode)) n live =
+    (let e =
+    domain-with_same s d (record (domain s d) { fds = slice_set (domain s d).fds fd (Some (on.File f (at + n) mode)) })
+    live in (
+      ap (λ (x : Domain Text). x.live) e ∙ live,
+      ap (λ (x : Domain Text). x.aggs) e,
+      ap (λ (x : Domain Text). x.next_agg) e,
+    ))
+domain-read_on s d fd (Some (on.ReadEnd p)) n live =
+    (let e = domain-same s (with_pipe s p (record (pipe_at s p) { queue = drop n (pipe_at s p).queue })) d
+    (domains-with_pipe s p _) in (
+      ap (λ (x : Domain Text). x.live) e ∙ live,
+      ap (λ (x : Domain Text). x.aggs) e,
+      ap (λ (x : Domain Text). x.next_agg) e,
+    ))
+domain-read_on s d fd (Some (on.Connection c)) n live =
+    (let e = domain-same s (with_conn s c (record (conn_at s c) { incoming = drop n (conn_at s c).incoming })) d
+    (domains-with_conn s c _) in (
+      ap (λ (x : Domain Text). x.live) e ∙ live,
+      ap (λ (x : Domain Text). x.aggs) e,
+      ap (λ (x : Domain Text). x.next_agg) e,
+    ))
 domain-read_on s d fd o n live = (live, refl, refl)
 
 abbrev Named : State → (d b : ℕ) → Type 0
 Named t d b = (bytes : List ℕ) × (readable_at t d b ≡ Some bytes)
 
-named_new : (s t : State) (d b a : ℕ) (kept : List (ℕ × Text)) (x : Text) → is_live s d ≡ true → lookup kept (aggs.next_agg s d) ≡ None → t ≡ aggs.with_new s d kept x → b ≡ aggs.next_agg s d → (b == a) ≡ true → Named t d a
-named_new s t d b a kept x live none same next is = (bytes_of x, ap (λ k. readable_at t d k) (sym (same-number b a is) ∙ next) ∙ readable-made s t d kept x live none same)
+named_new : (s t : State) (d b a : ℕ) (kept : List (ℕ × Text)) (x : Text) → is_live s d ≡ true
+    → lookup kept (aggs.next_agg s d) ≡ None → t ≡ aggs.with_new s d kept x → b ≡ aggs.next_agg s d → (b == a) ≡ true
+    → Named t d a
+named_new s t d b a kept x live none same next is = (
+  bytes_of x,
+  ap (λ k. readable_at t d k) (sym (same-number b a is) ∙ next)
+      ∙ readable-made s t d kept x live none same,
+)
 
 -- and what it names is there
-pub named_agg : (s t : State) (d : ℕ) (k : Call) (r : Reply) (a : ℕ) → IsOrderly s → StepsTo s (event.Call d k) r t → gives_away k ≡ false → is_agg r a ≡ true → (bytes : List ℕ) × (readable_at t d a ≡ Some bytes)
-named_agg s t d (call.AggMake bytes) (reply.Agg b) a order step stays is = named_new s t d b a (domain s d).aggs _ (live-first s d _ step.0) (order.aggs d (aggs.next_agg s d) (omega arith)) step.2 (ap number step.1) is
-named_agg s t d (call.AggDup x) (reply.Agg b) a order step stays is = named_new s t d b a (domain s d).aggs _ (live-first s d _ step.0) (order.aggs d (aggs.next_agg s d) (omega arith)) step.2 (ap number step.1) is
-named_agg s t d (call.AggCut x from to) (reply.Agg b) a order step stays is = named_new s t d b a (domain s d).aggs _ (live-first s d _ step.0) (order.aggs d (aggs.next_agg s d) (omega arith)) step.2 (ap number step.1) is
-named_agg s t d (call.AggReplace x from to y) (reply.Agg b) a order step stays is = named_new s t d b a (domain s d).aggs _ (live-first s d _ step.0) (order.aggs d (aggs.next_agg s d) (omega arith)) step.2 (ap number step.1) is
-named_agg s t d (call.AggJoin x y) (reply.Agg b) a order step stays is = named_new s t d b a (without (without (domain s d).aggs x) y) _ (live-first s d _ step.0) (lookup-without_none (without (domain s d).aggs x) y (aggs.next_agg s d) (lookup-without_none (domain s d).aggs x (aggs.next_agg s d) (order.aggs d (aggs.next_agg s d) (omega arith)))) step.2 (ap number step.1) is
+pub named_agg : (s t : State) (d : ℕ) (k : Call) (r : Reply) (a : ℕ) → IsOrderly s → StepsTo s (event.Call d k) r t
+    → gives_away k ≡ false → is_agg r a ≡ true → (bytes : List ℕ) × (readable_at t d a ≡ Some bytes)
+named_agg s t d (call.AggMake bytes) (reply.Agg b) a order step stays is =
+    named_new s t d b a (domain s d).aggs _ (live-first s d _ step.0) (order.aggs d (aggs.next_agg s d) (omega arith))
+    step.2 (ap number step.1) is
+named_agg s t d (call.AggDup x) (reply.Agg b) a order step stays is =
+    named_new s t d b a (domain s d).aggs _ (live-first s d _ step.0) (order.aggs d (aggs.next_agg s d) (omega arith))
+    step.2 (ap number step.1) is
+named_agg s t d (call.AggCut x from to) (reply.Agg b) a order step stays is =
+    named_new s t d b a (domain s d).aggs _ (live-first s d _ step.0) (order.aggs d (aggs.next_agg s d) (omega arith))
+    step.2 (ap number step.1) is
+named_agg s t d (call.AggReplace x from to y) (reply.Agg b) a order step stays is =
+    named_new s t d b a (domain s d).aggs _ (live-first s d _ step.0) (order.aggs d (aggs.next_agg s d) (omega arith))
+    step.2 (ap number step.1) is
+named_agg s t d (call.AggJoin x y) (reply.Agg b) a order step stays is =
+    named_new s t d b a (without (without (domain s d).aggs x) y) _ (live-first s d _ step.0)
+    (lookup-without_none (without (domain s d).aggs x) y (aggs.next_agg s d)
+    (lookup-without_none (domain s d).aggs x (aggs.next_agg s d) (order.aggs d (aggs.next_agg s d) (omega arith))))
+    step.2 (ap number step.1) is
 named_agg s t d (call.IolRead f n) (reply.Agg b) a order step stays is =
     let o : Option Descriptor = descriptor s d f in
     let tx : Text = reading.read_text s d o n in
     let same = domain-read_on s d f o (length tx) (live-first s d _ step.0) in
     let mid : State = reading.read_on s d f o (length tx) in
-    let none : lookup (domain mid d).aggs (domain mid d).next_agg ≡ None = ap (λ (l : List (ℕ × Text)). lookup l (domain mid d).next_agg) same.1 ∙ (ap (λ k. lookup (domain s d).aggs k) same.2 ∙ order.aggs d (aggs.next_agg s d) (omega arith)) in
+    let none : lookup (domain mid d).aggs (domain mid d).next_agg ≡ None =
+    ap (λ (l : List (ℕ × Text)). lookup l (domain mid d).next_agg) same.1
+    ∙ (ap (λ k. lookup (domain s d).aggs k) same.2 ∙ order.aggs d (aggs.next_agg s d) (omega arith)) in
     named_new mid t d b a (domain mid d).aggs tx same.0 none step.2 (ap number step.1 ∙ sym same.2) is
 named_agg s t d (call.AggGive x to) (reply.Agg b) a order step stays is = absurd (cc)
 named_agg s t d (call.GiveFd f to) (reply.Agg b) a order step stays is = absurd (cc)

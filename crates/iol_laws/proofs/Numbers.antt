@@ -26,10 +26,12 @@ text-of s d a bytes is = by (aggregate s d a) refl
   where
     by : (o : Option Text) → aggregate s d a ≡ o → bytes_of (text s d a) ≡ bytes
     by None none = (let e = ap (λ (x : Option Text). option_map bytes_of x) none in absurd (cc (is, e)))
-    by (Some t) some = ap (λ (x : Option Text). bytes_of (unwrap_or x [])) some ∙ ap (λ (x : Option (List ℕ)). unwrap_or x []) (sym (ap (λ (x : Option Text). option_map bytes_of x) some) ∙ is)
+    by (Some t) some = ap (λ (x : Option Text). bytes_of (unwrap_or x [])) some
+        ∙ ap (λ (x : Option (List ℕ)). unwrap_or x []) (sym (ap (λ (x : Option Text). option_map bytes_of x) some) ∙ is)
 
 -- so there is one
-pub agg-there : (s : State) (d a : ℕ) (bytes : List ℕ) → readable_at s d a ≡ Some bytes → is_none (aggregate s d a) ≡ false
+pub agg-there : (s : State) (d a : ℕ) (bytes : List ℕ) → readable_at s d a ≡ Some bytes
+    → is_none (aggregate s d a) ≡ false
 agg-there s d a bytes has = by (aggregate s d a) refl
   where
     by : (o : Option Text) → aggregate s d a ≡ o → is_none o ≡ false
@@ -37,23 +39,34 @@ agg-there s d a bytes has = by (aggregate s d a) refl
     by (Some x) some = refl
 
 -- a new aggregate is found under its number
-pub new_agg : (s : State) (d : ℕ) (kept : List (ℕ × Text)) (t : Text) → is_live s d ≡ true → lookup kept (aggs.next_agg s d) ≡ None → aggregate (aggs.with_new s d kept t) d (aggs.next_agg s d) ≡ Some t
+pub new_agg : (s : State) (d : ℕ) (kept : List (ℕ × Text)) (t : Text) → is_live s d ≡ true
+    → lookup kept (aggs.next_agg s d) ≡ None → aggregate (aggs.with_new s d kept t) d (aggs.next_agg s d) ≡ Some t
 new_agg s d kept t live none =
-    ap (λ (x : Domain Text). lookup x.aggs (aggs.next_agg s d)) (domain-with_same s d _ live) ∙ lookup-push kept (aggs.next_agg s d) t none
+    ap (λ (x : Domain Text). lookup x.aggs (aggs.next_agg s d)) (domain-with_same s d _ live)
+    ∙ lookup-push kept (aggs.next_agg s d) t none
 
-pub readable-made : (s t : State) (d : ℕ) (kept : List (ℕ × Text)) (x : Text) → is_live s d ≡ true → lookup kept (aggs.next_agg s d) ≡ None → t ≡ aggs.with_new s d kept x → readable_at t d (aggs.next_agg s d) ≡ Some (bytes_of x)
+pub readable-made : (s t : State) (d : ℕ) (kept : List (ℕ × Text)) (x : Text) → is_live s d ≡ true
+    → lookup kept (aggs.next_agg s d) ≡ None → t ≡ aggs.with_new s d kept x
+    → readable_at t d (aggs.next_agg s d) ≡ Some (bytes_of x)
 readable-made s t d kept x live none same =
-    ap (λ (u : State). readable_at u d (aggs.next_agg s d)) same ∙ ap (λ (o : Option Text). option_map bytes_of o) (new_agg s d kept x live none)
+    ap (λ (u : State). readable_at u d (aggs.next_agg s d)) same
+    ∙ ap (λ (o : Option Text). option_map bytes_of o) (new_agg s d kept x live none)
 
 -- the same after a change that leaves the domain as it was
-pub got-agg : (s mid t : State) (d a : ℕ) (x : Text) → lookup (domain s d).aggs (aggs.next_agg s d) ≡ None → domain mid d ≡ domain s d → is_live s d ≡ true → a ≡ aggs.next_agg s d → t ≡ aggs.with_agg mid d x → (readable_at t d a ≡ Some (bytes_of x)) × (readable_at s d a ≡ None)
+pub got-agg : (s mid t : State) (d a : ℕ) (x : Text) → lookup (domain s d).aggs (aggs.next_agg s d) ≡ None
+    → domain mid d ≡ domain s d → is_live s d ≡ true → a ≡ aggs.next_agg s d → t ≡ aggs.with_agg mid d x
+    → (readable_at t d a ≡ Some (bytes_of x)) × (readable_at s d a ≡ None)
 got-agg s mid t d a x none same live is made =
     let next : aggs.next_agg mid d ≡ aggs.next_agg s d = ap (λ (y : Domain Text). y.next_agg) same in
-    let none_mid : lookup (domain mid d).aggs (aggs.next_agg mid d) ≡ None = ap (λ (y : Domain Text). lookup y.aggs y.next_agg) same ∙ none in (
-      ap (λ k. readable_at t d k) (is ∙ sym next) ∙ readable-made mid t d (domain mid d).aggs x (ap (λ (y : Domain Text). y.live) same ∙ live) none_mid made,
+    let none_mid : lookup (domain mid d).aggs (aggs.next_agg mid d) ≡ None =
+    ap (λ (y : Domain Text). lookup y.aggs y.next_agg) same ∙ none in (
+      ap (λ k. readable_at t d k) (is ∙ sym next)
+          ∙ readable-made mid t d (domain mid d).aggs x (ap (λ (y : Domain Text). y.live) same ∙ live) none_mid made,
       ap (λ k. readable_at s d k) is ∙ ap (λ (o : Option Text). option_map bytes_of o) none,
     )
 
 -- a new descriptor is open under the lowest number
-pub new-fd : (s : State) (d : ℕ) (x : Descriptor) → is_live s d ≡ true → descriptor (fds.opened s d x) d (fds.next_fd s d) ≡ Some x
-new-fd s d x live = ap (λ (y : Domain Text). in_place y.fds (fds.next_fd s d)) (domain-with_same s d _ live) ∙ place-new (domain s d).fds x
+pub new-fd : (s : State) (d : ℕ) (x : Descriptor) → is_live s d ≡ true
+    → descriptor (fds.opened s d x) d (fds.next_fd s d) ≡ Some x
+new-fd s d x live = ap (λ (y : Domain Text). in_place y.fds (fds.next_fd s d)) (domain-with_same s d _ live)
+    ∙ place-new (domain s d).fds x

@@ -32,7 +32,8 @@ prefix-rest (suc m) (suc n) [] = refl
 prefix-rest (suc m) (suc n) (x ∷ q) = ap (λ (l : Text). x ∷ l) (prefix-rest m n q)
 
 -- the longest prefix that may be seen, and the rest
-pub admitted-rest : (may : ℕ → Bool) (n : ℕ) (q : Text) → q ≡ admitted may (take n q) ++ drop (length (admitted may (take n q))) q
+pub admitted-rest : (may : ℕ → Bool) (n : ℕ) (q : Text)
+    → q ≡ admitted may (take n q) ++ drop (length (admitted may (take n q))) q
 admitted-rest may n q = prefix-rest (prefix_len (λ x. may x.1) (take n q)) n q
 
 pub length-bytes : (w : Text) → length (bytes_of w) ≡ length w

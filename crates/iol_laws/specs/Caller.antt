@@ -2,9 +2,11 @@
 --
 -- Each definition has three cases for the reply: its effect if the call succeeds, an unchanged state if it is refused,
 -- and that no other reply is possible.
-use Rattle.std.specs.Prelude.{◌≡◌, ◌≢◌, ℕ, ◌-◌, ◌<◌, ◌≤◌, ◌==◌, min, Bool, true, false, if◌then◌else◌, List, [], ◌++◌, is_none, length, take, drop, Option, Some, None, option_map, slice_range}
+use Rattle.std.specs.Prelude.{◌≡◌, ◌≢◌, ℕ, ◌-◌, ◌<◌, ◌≤◌, ◌==◌, min, Bool, true, false, if◌then◌else◌, List, [], ◌++◌}
+use Rattle.std.specs.Prelude.{is_none, length, take, drop, Option, Some, None, option_map, slice_range}
 use Rattle.iol_core.specs.Text.{Text, bytes_of, admitted}
-use Rattle.iol_core.specs.State.{State, Connection, aggregate, descriptor, may_read, conn_at, pipe_at, new_pipe, no_conn, is_gone, is_over}
+use Rattle.iol_core.specs.State.{State, Connection, aggregate, descriptor, may_read, conn_at, pipe_at, new_pipe}
+use Rattle.iol_core.specs.State.{no_conn, is_gone, is_over}
 use Rattle.iol_core.specs.Run.{StepsTo}
 use Rattle.iol_core.specs.declared.limits.TheConstants.{MAX_QUEUE_BYTES}
 use Rattle.iol_core.specs.declared.descriptors.Descriptor.{Descriptor}
@@ -209,7 +211,8 @@ pub record CallsServeTheirDomain : Type 0 where
       → readable_at s d b ≡ Some ys → StepsTo s (event.Call d (call.AggJoin a b)) r t → Makes s d (xs ++ ys) r t
   pub dup : (s t : State) (d a : ℕ) (bytes : List ℕ) (r : Reply) → IsOrderly s → readable_at s d a ≡ Some bytes
       → StepsTo s (event.Call d (call.AggDup a)) r t → Makes s d bytes r t
-  pub replace : (s t : State) (d a from to b : ℕ) (xs ys : List ℕ) (r : Reply) → IsOrderly s → readable_at s d a ≡ Some xs
+  pub replace : (s t : State) (d a from to b : ℕ) (xs ys : List ℕ) (r : Reply) → IsOrderly s
+      → readable_at s d a ≡ Some xs
       → readable_at s d b ≡ Some ys → StepsTo s (event.Call d (call.AggReplace a from to b)) r t
       → Makes s d (take from xs ++ ys ++ drop to xs) r t
   pub shows : (s t : State) (d a : ℕ) (bytes : List ℕ) (r : Reply) → readable_at s d a ≡ Some bytes
@@ -238,7 +241,8 @@ pub record CallsServeTheirDomain : Type 0 where
   pub closes : (s t : State) (d fd : ℕ) (r : Reply) → StepsTo s (event.Call d (call.Close fd)) r t → Closes s d fd r t
   pub closes_conn : (s t : State) (d fd c : ℕ) (r : Reply) → IsOrderly s → descriptor s d fd ≡ Some (on.Connection c)
       → StepsTo s (event.Call d (call.Close fd)) r t → ClosesConn s c r t
-  pub accepts : (s t : State) (d : ℕ) (r : Reply) → IsOrderly s → StepsTo s (event.Call d call.Accept) r t → Accepts s d r t
+  pub accepts : (s t : State) (d : ℕ) (r : Reply) → IsOrderly s → StepsTo s (event.Call d call.Accept) r t
+      → Accepts s d r t
 
 -- whether the reply has this number of an aggregate, or of a descriptor
 abbrev pub is_agg : Reply → (a : ℕ) → Bool

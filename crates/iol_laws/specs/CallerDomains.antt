@@ -1,7 +1,8 @@
 -- The effect of calls that create and end domains, and of calls on pools, for their caller.
 use Rattle.std.specs.Prelude.{◌≡◌, ◌≢◌, ℕ, ◌==◌, ◌||◌, true, false, List, [], Some}
 use Rattle.std.specs.List.{list_any}
-use Rattle.iol_core.specs.State.{State, domain, new_domain, no_domain, is_live, pool, is_pool, may_read, descriptor, pipe_at, conn_at}
+use Rattle.iol_core.specs.State.{State, domain, new_domain, no_domain, is_live, pool, is_pool, may_read, descriptor}
+use Rattle.iol_core.specs.State.{pipe_at, conn_at}
 use Rattle.iol_core.specs.Run.{StepsTo}
 use Rattle.iol_core.specs.declared.refusals.Refusal.TheVariants.{Memory}
 use Rattle.iol_core.specs.declared.descriptors.Descriptor.TheVariants as on
@@ -107,7 +108,8 @@ SetsPool s d p r t = ⊥
 pub record DomainsAndPoolsComeAndGo : Type 0 where
   pub starts : (s t : State) (d : ℕ) (r : Reply) → is_live s d ≡ true → StepsTo s (event.Call d call.DomainNew) r t
       → MakesDomain s r t
-  pub exits : (s t : State) (d : ℕ) (r : Reply) → IsOrderly s → is_live s d ≡ true → StepsTo s (event.Call d call.Exit) r t
+  pub exits : (s t : State) (d : ℕ) (r : Reply) → IsOrderly s → is_live s d ≡ true
+      → StepsTo s (event.Call d call.Exit) r t
       → Exits s d r t
   pub makes_pool : (s t : State) (d chunks : ℕ) (list : List ℕ) (r : Reply)
       → StepsTo s (event.Call d (call.PoolCreate chunks list)) r t → MakesPool s list r t
@@ -115,4 +117,5 @@ pub record DomainsAndPoolsComeAndGo : Type 0 where
       → ClosesPool s d p r t
   pub admits : (s t : State) (d p e : ℕ) (r : Reply) → StepsTo s (event.Call d (call.PoolAdmit p e)) r t
       → Admits s d p e r t
-  pub sets_pool : (s t : State) (d p : ℕ) (r : Reply) → StepsTo s (event.Call d (call.SetPool p)) r t → SetsPool s d p r t
+  pub sets_pool : (s t : State) (d p : ℕ) (r : Reply) → StepsTo s (event.Call d (call.SetPool p)) r t
+      → SetsPool s d p r t

@@ -101,7 +101,8 @@ WritesFile s d fd f at mode bytes r t = ⊥
 
 -- Each call on a file. The invariant of positions is a premise only if bytes are written.
 pub record FileCallsServeTheirDomain : Type 0 where
-  pub makes : (s t : State) (d : ℕ) (name : List ℕ) (p : ℕ) (r : Reply) → StepsTo s (event.Call d (call.FileNew name p)) r t
+  pub makes : (s t : State) (d : ℕ) (name : List ℕ) (p : ℕ) (r : Reply)
+      → StepsTo s (event.Call d (call.FileNew name p)) r t
       → MakesFile s d name p r t
   pub opens : (s t : State) (d : ℕ) (name : List ℕ) (mode : Mode) (r : Reply) → is_live s d ≡ true
       → StepsTo s (event.Call d (call.OpenFile name mode)) r t → Opening s d name mode r t
@@ -115,7 +116,9 @@ pub record FileCallsServeTheirDomain : Type 0 where
       → descriptor s d fd ≡ Some (on.File f at mode) → StepsTo s (event.Call d (call.Fsync fd)) r t → Syncs s f r t
   pub reads_file : (s t : State) (d fd f at n : ℕ) (mode : Mode) (r : Reply) → IsOrderly s → is_live s d ≡ true
       → may_read s d (file s f).pool ≡ true → reads mode ≡ true → descriptor s d fd ≡ Some (on.File f at mode)
-      → StepsTo s (event.Call d (call.IolRead fd n)) r t → ReadsFile s d fd f at mode (take n (drop at (content s f))) r t
+      → StepsTo s (event.Call d (call.IolRead fd n)) r t
+      → ReadsFile s d fd f at mode (take n (drop at (content s f))) r t
   pub writes_file : (s t : State) (d fd f at a : ℕ) (mode : Mode) (bytes : List ℕ) (r : Reply) → ArePlaced s
-      → is_live s d ≡ true → writes mode ≡ true → descriptor s d fd ≡ Some (on.File f at mode) → readable_at s d a ≡ Some bytes
+      → is_live s d ≡ true → writes mode ≡ true → descriptor s d fd ≡ Some (on.File f at mode)
+      → readable_at s d a ≡ Some bytes
       → StepsTo s (event.Call d (call.IolWrite fd a)) r t → WritesFile s d fd f at mode bytes r t

@@ -10,7 +10,8 @@ use Rattle.iol_core.specs.declared.events.Event.TheVariants as event
 use Rattle.iol_core.specs.declared.events.Reply.{Reply}
 use Rattle.iol_core.specs.declared.events.Reply.TheVariants as reply
 
--- whether the reply gives the domain this number of a descriptor: as the caller, or as the receiver of a given descriptor
+-- whether the reply gives the domain this number of a descriptor: as the caller, or as the receiver of a given
+-- descriptor
 abbrev pub opens : Event → Reply → (d fd : ℕ) → Bool
 opens (event.Call by (call.GiveFd f to)) (reply.Fd g) d fd = (to == d) && (g == fd)
 opens (event.Call by k) (reply.Fd g) d fd = (by == d) && (g == fd)
@@ -34,7 +35,8 @@ pub record DescriptorsComeByReplies : Type 0 where
   -- numbers are below the limit: in a new state, after each step, and so in each reachable state
   pub new : (slots : List (List ℕ)) → AreLow (new_state slots)
   pub step : (s t : State) (e : Event) (r : Reply) → AreLow s → StepsTo s e r t → AreLow t
-  pub reached : (slots : List (List ℕ)) (t : State) (es : List Event) (rs : List Reply) → Run (new_state slots) es rs t → AreLow t
+  pub reached : (slots : List (List ℕ)) (t : State) (es : List Event) (rs : List Reply) → Run (new_state slots) es rs t
+      → AreLow t
   -- the same for the numbers that replies give
   pub given : (s t : State) (e : Event) (r : Reply) (fd : ℕ) → AreLow s → StepsTo s e r t → gives_number r fd ≡ true
       → fd < MAX_OPEN

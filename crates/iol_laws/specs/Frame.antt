@@ -1,9 +1,11 @@
--- The parts of the state that a step leaves unchanged: connections, pipes, descriptors, files, pools and domains that its event
--- does not touch.
-use Rattle.std.specs.Prelude.{◌≡◌, ℕ, ◌≤◌, ◌==◌, ◌&&◌, ◌||◌, Bool, true, false, List, [], ◌∷◌, ◌++◌, length, Option, Some, unwrap_or}
+-- The parts of the state that a step leaves unchanged: connections, pipes, descriptors, files, pools and domains that
+-- its event does not touch.
+use Rattle.std.specs.Prelude.{◌≡◌, ℕ, ◌≤◌, ◌==◌, ◌&&◌, ◌||◌, Bool, true, false, List, [], ◌∷◌, ◌++◌, length, Option}
+use Rattle.std.specs.Prelude.{Some, unwrap_or}
 use Rattle.std.specs.List.{list_any}
 use Rattle.iol_core.specs.NumberedLists.{lowest, is_numbered}
-use Rattle.iol_core.specs.State.{State, domain, is_live, pool, is_pool, may_read, descriptor, file, content, pipe_at, conn_at}
+use Rattle.iol_core.specs.State.{State, domain, is_live, pool, is_pool, may_read, descriptor, file, content, pipe_at}
+use Rattle.iol_core.specs.State.{conn_at}
 use Rattle.iol_core.specs.Calls.Descriptors.{waiting}
 use Rattle.iol_core.specs.Calls.Files.{file_called}
 use Rattle.iol_core.specs.Calls.Writes.{is_file}
@@ -130,7 +132,8 @@ pub record Leaves (old : State) (e : Event) (new : State) : Type 0 where
   -- a pool, closed or not, keeps its list, unless a domain is admitted to it
   pub listed : (p : ℕ) → is_pool old p ≡ true → admits_to e p ≡ false → (pool new p).domains ≡ (pool old p).domains
   pub lives : (d : ℕ) → is_live old d ≡ true → ends e d ≡ false → is_live new d ≡ true
-  pub defaults : (d : ℕ) → is_live old d ≡ true → sets_default e d ≡ false → (domain new d).default ≡ (domain old d).default
+  pub defaults : (d : ℕ) → is_live old d ≡ true → sets_default e d ≡ false
+      → (domain new d).default ≡ (domain old d).default
 
 -- every step leaves unchanged what its event does not touch, and the values of aggregates
 pub record EachStepLeavesTheRest : Type 0 where

@@ -35,8 +35,8 @@ abbrev pub drops_unsent : Event → (c : ℕ) → Bool
 drops_unsent (event.PeerClosed e Gone) c = e == c
 drops_unsent e c = false
 
--- The unread bytes are the last of the former unread bytes followed by the received ones: bytes are read from the front, in
--- order.
+-- The unread bytes are the last of the former unread bytes followed by the received ones: bytes are read from the
+-- front, in order.
 pub record IsEndOf (was came unread : List ℕ) : Type 0 where
   pub taken : List ℕ
   pub all : was ++ came ≡ taken ++ unread

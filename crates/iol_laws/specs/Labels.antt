@@ -29,7 +29,8 @@ pub record ArrivalsLieInTheirPool : Type 0 where
   pub each : (s : State) (c : ℕ) → AreInOwnPool s → lies_in (conn_at s c).pool (conn_at s c).incoming ≡ true
   -- a domain that may read the pool is never denied a read
   pub reads : (s t : State) (d fd c n p : ℕ) → AreInOwnPool s → descriptor s d fd ≡ Some (on.Connection c)
-      → may_read s d (conn_at s c).pool ≡ true → StepsTo s (event.Call d (call.IolRead fd n)) (reply.Refused (Denied p)) t
+      → may_read s d (conn_at s c).pool ≡ true
+      → StepsTo s (event.Call d (call.IolRead fd n)) (reply.Refused (Denied p)) t
       → ⊥
   pub copies : (s t : State) (d fd c n p : ℕ) → AreInOwnPool s → descriptor s d fd ≡ Some (on.Connection c)
       → may_read s d (conn_at s c).pool ≡ true → StepsTo s (event.Call d (call.Read fd n)) (reply.Refused (Denied p)) t

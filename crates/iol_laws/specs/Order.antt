@@ -1,9 +1,10 @@
--- Invariants between events: each pipe end and each connection is open in at most one descriptor; the object of each open
--- descriptor exists, and each existing one is open; numbers from the next one on are not used; an ended domain has nothing; the
--- lists of pools are short.
+-- Invariants between events: each pipe end and each connection is open in at most one descriptor; the object of each
+-- open descriptor exists, and each existing one is open; numbers from the next one on are not used; an ended domain has
+-- nothing; the lists of pools are short.
 use Rattle.std.specs.Prelude.{◌≡◌, ℕ, ◌≤◌, ◌&&◌, ◌||◌, Bool, true, false, not, List, [], ◌∷◌, length, Some, None}
 use Rattle.iol_core.specs.NumberedLists.{lookup, in_place}
-use Rattle.iol_core.specs.State.{State, Pipe, domain, is_live, pool, aggregate, descriptor, conn_at, pipe_at, new_state, no_domain}
+use Rattle.iol_core.specs.State.{State, Pipe, domain, is_live, pool, aggregate, descriptor, conn_at, pipe_at, new_state}
+use Rattle.iol_core.specs.State.{no_domain}
 use Rattle.iol_core.specs.Access.{HasAccess}
 use Rattle.iol_core.specs.Positions.{ArePlaced}
 use Rattle.iol_core.specs.declared.limits.TheConstants.{MAX_FILES, MAX_LISTED}
@@ -14,7 +15,8 @@ use Rattle.iol_core.specs.declared.descriptors.Descriptor.TheVariants as on
 use Rattle.iol_core.specs.declared.events.Event.{Event}
 use Rattle.iol_core.specs.declared.events.Reply.{Reply}
 
--- whether the object of a descriptor exists: the end of the pipe is open, or the connection was accepted and is not closed
+-- whether the object of a descriptor exists: the end of the pipe is open, or the connection was accepted and is not
+-- closed
 abbrev pub stands : State → Descriptor → Bool
 stands s (on.File f at mode) = true
 stands s (on.ReadEnd p) = (pipe_at s p).reading
@@ -57,8 +59,8 @@ pub record IsOrderly (s : State) : Type 0 where
   pub aggs_once : (d : ℕ) → Once (domain s d).aggs
   pub aggs : (d a : ℕ) → (domain s d).next_agg ≤ a → aggregate s d a ≡ None
 
--- A new state is orderly, and each step preserves this. So do the access of domains to what they have, and positions within
--- files.
+-- A new state is orderly, and each step preserves this. So do the access of domains to what they have, and positions
+-- within files.
 pub record EachStepKeepsOrder : Type 0 where
   pub new : (slots : List (List ℕ)) → IsOrderly (new_state slots)
   pub step : (s t : State) (e : Event) (r : Reply) → IsOrderly s → StepsTo s e r t → IsOrderly t

@@ -31,7 +31,8 @@ pub record RefusalsTellWhy : Type 0 where
       → ((pipe_at s p).queue ≡ []) × ((pipe_at s p).writing ≡ true)
   -- the domain may not read the first byte
   pub conn_is_hidden : (s t : State) (d fd c n q : ℕ) → descriptor s d fd ≡ Some (on.Connection c)
-      → StepsTo s (event.Call d (call.IolRead fd n)) (reply.Refused (Denied q)) t → IsHidden s d q (conn_at s c).incoming
+      → StepsTo s (event.Call d (call.IolRead fd n)) (reply.Refused (Denied q)) t
+      → IsHidden s d q (conn_at s c).incoming
   pub pipe_is_hidden : (s t : State) (d fd p n q : ℕ) → descriptor s d fd ≡ Some (on.ReadEnd p)
       → StepsTo s (event.Call d (call.IolRead fd n)) (reply.Refused (Denied q)) t → IsHidden s d q (pipe_at s p).queue
   -- the queue is full
@@ -61,5 +62,6 @@ pub record RefusalsTellWhy : Type 0 where
   -- an existing object is closed or dropped without refusal
   pub close_is_done : (s t : State) (d fd : ℕ) (x : Descriptor) (r : Reply) → is_live s d ≡ true
       → descriptor s d fd ≡ Some x → StepsTo s (event.Call d (call.Close fd)) r t → r ≡ reply.Done
-  pub drop_is_done : (s t : State) (d a : ℕ) (bytes : List ℕ) (r : Reply) → is_live s d ≡ true → readable_at s d a ≡ Some bytes
+  pub drop_is_done : (s t : State) (d a : ℕ) (bytes : List ℕ) (r : Reply) → is_live s d ≡ true
+      → readable_at s d a ≡ Some bytes
       → StepsTo s (event.Call d (call.AggDrop a)) r t → r ≡ reply.Done

@@ -1,6 +1,7 @@
 -- The refusals that a call may still get if the domain lives and the objects and arguments of the call are valid, with
 -- one definition for each set of refusals. Also the calls that may get WouldBlock.
-use Rattle.std.specs.Prelude.{◌≡◌, ◌≢◌, ℕ, ◌+◌, ◌≤◌, ◌<◌, Bool, true, false, List, ◌++◌, length, take, drop, Some, None, ⊤}
+use Rattle.std.specs.Prelude.{◌≡◌, ◌≢◌, ℕ, ◌+◌, ◌≤◌, ◌<◌, Bool, true, false, List, ◌++◌, length, take, drop, Some, None}
+use Rattle.std.specs.Prelude.{⊤}
 use Rattle.std.specs.List.{list_all}
 use Rattle.iol_core.specs.State.{State, domain, descriptor, file, content, conn_at, is_live, is_pool, may_read, pool}
 use Rattle.iol_core.specs.Meaning.{FaultIn}
@@ -16,7 +17,8 @@ use Rattle.iol_core.specs.declared.descriptors.Descriptor.TheVariants as on
 use Rattle.iol_core.specs.declared.descriptors.How.{How}
 use Rattle.iol_core.specs.declared.descriptors.Mode.{Mode}
 use Rattle.iol_core.specs.declared.refusals.Refusal.{Refusal}
-use Rattle.iol_core.specs.declared.refusals.Refusal.TheVariants.{TooMany, Denied, PoolBusy, BrokenPipe, WouldBlock, NoRoom, Fault, Memory}
+use Rattle.iol_core.specs.declared.refusals.Refusal.TheVariants.{TooMany, Denied, PoolBusy, BrokenPipe, WouldBlock}
+use Rattle.iol_core.specs.declared.refusals.Refusal.TheVariants.{NoRoom, Fault, Memory}
 use Rattle.iol_core.specs.declared.events.Call.{Call}
 use Rattle.iol_core.specs.declared.events.Call.TheVariants as call
 use Rattle.iol_core.specs.declared.events.Event.{Event}
@@ -126,9 +128,11 @@ HasNoPlace s p d TooMany = has_place (pool s p).domains d ≡ false
 HasNoPlace s p d x = ⊥
 
 pub record RefusalsThatAreLeft : Type 0 where
-  pub waits : (s t : State) (d : ℕ) (k : Call) → StepsTo s (event.Call d k) (reply.Refused WouldBlock) t → may_wait k ≡ true
+  pub waits : (s t : State) (d : ℕ) (k : Call) → StepsTo s (event.Call d k) (reply.Refused WouldBlock) t
+      → may_wait k ≡ true
   -- an event that gets WouldBlock changes nothing
-  pub event_waits : (s t : State) (e : Event) → StepsTo s e (reply.Refused WouldBlock) t → (event_may_wait e ≡ true) × (t ≡ s)
+  pub event_waits : (s t : State) (e : Event) → StepsTo s e (reply.Refused WouldBlock) t
+      → (event_may_wait e ≡ true) × (t ≡ s)
   pub domain_new : (s t : State) (d : ℕ) (x : Refusal) → is_live s d ≡ true
       → StepsTo s (event.Call d call.DomainNew) (reply.Refused x) t → LacksNumbers x
   -- if the domain has a default pool, which is open
@@ -137,14 +141,18 @@ pub record RefusalsThatAreLeft : Type 0 where
       → StepsTo s (event.Call d (call.AggMake bytes)) (reply.Refused x) t → LacksNumbersOrRoom p x
   pub dup : (s t : State) (d a : ℕ) (bytes : List ℕ) (x : Refusal) → is_live s d ≡ true → readable_at s d a ≡ Some bytes
       → StepsTo s (event.Call d (call.AggDup a)) (reply.Refused x) t → LacksNumbers x
-  pub cut : (s t : State) (d a from to : ℕ) (bytes : List ℕ) (x : Refusal) → is_live s d ≡ true → readable_at s d a ≡ Some bytes
-      → from ≤ to → to ≤ length bytes → StepsTo s (event.Call d (call.AggCut a from to)) (reply.Refused x) t → LacksNumbers x
-  pub split : (s t : State) (d a at : ℕ) (bytes : List ℕ) (x : Refusal) → is_live s d ≡ true → readable_at s d a ≡ Some bytes
+  pub cut : (s t : State) (d a from to : ℕ) (bytes : List ℕ) (x : Refusal) → is_live s d ≡ true
+      → readable_at s d a ≡ Some bytes
+      → from ≤ to → to ≤ length bytes → StepsTo s (event.Call d (call.AggCut a from to)) (reply.Refused x) t
+      → LacksNumbers x
+  pub split : (s t : State) (d a at : ℕ) (bytes : List ℕ) (x : Refusal) → is_live s d ≡ true
+      → readable_at s d a ≡ Some bytes
       → at ≤ length bytes → StepsTo s (event.Call d (call.AggSplit a at)) (reply.Refused x) t → LacksNumbers x
   pub join : (s t : State) (d a b : ℕ) (xs ys : List ℕ) (x : Refusal) → is_live s d ≡ true → readable_at s d a ≡ Some xs
       → readable_at s d b ≡ Some ys → a ≢ b → length xs + length ys ≤ MAX_AGGREGATE_BYTES
       → StepsTo s (event.Call d (call.AggJoin a b)) (reply.Refused x) t → LacksNumbers x
-  pub shows : (s t : State) (d a : ℕ) (bytes : List ℕ) (x : Refusal) → is_live s d ≡ true → readable_at s d a ≡ Some bytes
+  pub shows : (s t : State) (d a : ℕ) (bytes : List ℕ) (x : Refusal) → is_live s d ≡ true
+      → readable_at s d a ≡ Some bytes
       → StepsTo s (event.Call d (call.Show a)) (reply.Refused x) t → x ≡ Memory
   pub gives_agg : (s t : State) (d a to : ℕ) (bytes : List ℕ) (x : Refusal) → is_live s d ≡ true → is_live s to ≡ true
       → readable_at s d a ≡ Some bytes → StepsTo s (event.Call d (call.AggGive a to)) (reply.Refused x) t
@@ -165,10 +173,12 @@ pub record RefusalsThatAreLeft : Type 0 where
       → StepsTo s (event.Call d (call.Read fd n)) (reply.Refused x) t → HasNothingToRead x
   -- for a pipe's write end or a connection
   pub writes_queue : (s t : State) (d fd a : ℕ) (y : Descriptor) (bytes : List ℕ) (x : Refusal) → is_live s d ≡ true
-      → descriptor s d fd ≡ Some y → is_file (Some y) ≡ false → can_write (Some y) ≡ true → readable_at s d a ≡ Some bytes
+      → descriptor s d fd ≡ Some y → is_file (Some y) ≡ false → can_write (Some y) ≡ true
+      → readable_at s d a ≡ Some bytes
       → StepsTo s (event.Call d (call.IolWrite fd a)) (reply.Refused x) t → CannotPut x
   pub copies_to_queue : (s t : State) (d fd p : ℕ) (y : Descriptor) (bytes : List ℕ) (x : Refusal) → is_live s d ≡ true
-      → descriptor s d fd ≡ Some y → is_file (Some y) ≡ false → can_write (Some y) ≡ true → (domain s d).default ≡ Some p
+      → descriptor s d fd ≡ Some y → is_file (Some y) ≡ false → can_write (Some y) ≡ true
+      → (domain s d).default ≡ Some p
       → (pool s p).closed ≡ false → StepsTo s (event.Call d (call.Write fd bytes)) (reply.Refused x) t
       → CannotPutOrLacksRoom p x
   -- for a file whose pool the domain may read

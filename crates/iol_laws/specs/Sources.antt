@@ -66,7 +66,8 @@ pub record LabelsFollow : Type 0 where
       → lie_in pools (pipe_at t p).queue ≡ true
   -- new bytes are in the pool in which they are created, and two joined texts are in these pools if each is
   pub fresh : (pools : ℕ → Bool) (p : ℕ) (bytes : List ℕ) → pools p ≡ true → lie_in pools (labelled p bytes) ≡ true
-  pub both : (pools : ℕ → Bool) (x y : Text) → lie_in pools x ≡ true → lie_in pools y ≡ true → lie_in pools (x ++ y) ≡ true
+  pub both : (pools : ℕ → Bool) (x y : Text) → lie_in pools x ≡ true → lie_in pools y ≡ true
+      → lie_in pools (x ++ y) ≡ true
   -- a domain that may read all these pools is never denied bytes in them, and gets all bytes that it asks for
   pub reads : (pools : ℕ → Bool) (s t : State) (d fd p n q : ℕ) → MayReadAll s d pools
       → lie_in pools (pipe_at s p).queue ≡ true → descriptor s d fd ≡ Some (on.ReadEnd p)
@@ -74,5 +75,6 @@ pub record LabelsFollow : Type 0 where
   pub copies : (pools : ℕ → Bool) (s t : State) (d fd p n q : ℕ) → MayReadAll s d pools
       → lie_in pools (pipe_at s p).queue ≡ true → descriptor s d fd ≡ Some (on.ReadEnd p)
       → StepsTo s (event.Call d (call.Read fd n)) (reply.Refused (Denied q)) t → ⊥
-  pub whole : (pools : ℕ → Bool) (s : State) (d p n : ℕ) → MayReadAll s d pools → lie_in pools (pipe_at s p).queue ≡ true
+  pub whole : (pools : ℕ → Bool) (s : State) (d p n : ℕ) → MayReadAll s d pools
+      → lie_in pools (pipe_at s p).queue ≡ true
       → admitted (may_read s d) (take n (pipe_at s p).queue) ≡ take n (pipe_at s p).queue

@@ -12,21 +12,32 @@ use Rattle.iol_agg.proofs.KnownHolds.{tally-few}
 
 -- Bytes were filled beside the queue's.
 
-pub beside_countable : {s t : Stored} (old xs : List Slice) → IsHeldBy s (bufs_of old) → Moves s t [] (bufs_of xs) → byte_len old < 2 ^ 32 → byte_len xs < 2 ^ 32 → IsCountable t (bufs_of xs)
-beside_countable old xs h m few small = record { each = λ b. omega (arith, h.each b, m.counts.each b, tally_none b, tally-few b old, tally-few b xs) }
+pub beside_countable : {s t : Stored} (old xs : List Slice) → IsHeldBy s (bufs_of old) → Moves s t [] (bufs_of xs)
+    → byte_len old < 2 ^ 32 → byte_len xs < 2 ^ 32 → IsCountable t (bufs_of xs)
+beside_countable old xs h m few small =
+    record { each = λ b. omega (arith, h.each b, m.counts.each b, tally_none b, tally-few b old, tally-few b xs) }
 
 -- the queue took of them, and they are still held
-pub beside_covers : {s t u : Stored} {old new xs : List BufId} → IsHeldBy s old → Moves s t [] xs → Shares t u old new → Covers u xs
+pub beside_covers : {s t u : Stored} {old new xs : List BufId} → IsHeldBy s old → Moves s t [] xs → Shares t u old new
+    → Covers u xs
 beside_covers h m n = record { each = λ b. omega (arith, h.each b, m.counts.each b, n.counts.each b, tally_none b) }
 
 -- and they are given up
-pub held_pushed : {s t u v : Stored} {old new xs : List BufId} → IsHeldBy s old → Moves s t [] xs → Shares t u old new → Moves u v xs [] → IsHeldBy v new
-held_pushed h m n o = record { each = λ b. omega (arith, h.each b, m.counts.each b, n.counts.each b, o.counts.each b, tally_none b) }
+pub held_pushed : {s t u v : Stored} {old new xs : List BufId} → IsHeldBy s old → Moves s t [] xs → Shares t u old new
+    → Moves u v xs [] → IsHeldBy v new
+held_pushed h m n o =
+    record { each = λ b. omega (arith, h.each b, m.counts.each b, n.counts.each b, o.counts.each b, tally_none b) }
 
 -- Bytes were taken off the queue.
 
-pub given_covers : {s t : Stored} {old : List BufId} (new xs : List BufId) → IsHeldBy s old → Shares s t old (xs ++ new) → Covers t xs
+pub given_covers : {s t : Stored} {old : List BufId} (new xs : List BufId) → IsHeldBy s old → Shares s t old (xs ++ new)
+    → Covers t xs
 given_covers new xs h m = record { each = λ b. omega (arith, h.each b, m.counts.each b, tally-append b xs new) }
 
-pub held_given : {s t u : Stored} {old : List BufId} (new xs : List BufId) → IsHeldBy s old → Shares s t old (xs ++ new) → Moves t u xs [] → IsHeldBy u new
-held_given new xs h m n = record { each = λ b. omega (arith, h.each b, m.counts.each b, n.counts.each b, tally-append b xs new, tally_none b) }
+pub held_given : {s t u : Stored} {old : List BufId} (new xs : List BufId) → IsHeldBy s old → Shares s t old (xs ++ new)
+    → Moves t u xs [] → IsHeldBy u new
+held_given new xs h m n =
+    record {
+      each =
+          λ b. omega (arith, h.each b, m.counts.each b, n.counts.each b, tally-append b xs new, tally_none b);
+    }

@@ -1,5 +1,7 @@
 -- The bytes of one read in a new buffer, or a page that is free again.
-use Rattle.std.proofs.Common.{◌≡◌, inl, inr, ℕ, nat_le, ◌+◌, ◌*◌, ◌<◌, ◌≤◌, Bool, true, false, ◌&&◌, Option, Some, None, Ok, List, [], ◌∷◌, length, get_or, take, drop, refl, sym, ap, ◌∙◌, subst, arith, append-nil}
+use Rattle.std.proofs.Common.{◌≡◌, inl, inr, ℕ, nat_le, ◌+◌, ◌*◌, ◌<◌, ◌≤◌, Bool, true, false, ◌&&◌, Option, Some, None}
+use Rattle.std.proofs.Common.{Ok, List, [], ◌∷◌, length, get_or, take, drop, refl, sym, ap, ◌∙◌, subst, arith}
+use Rattle.std.proofs.Common.{append-nil}
 use Rattle.std.specs.List.{Contains, All, flat_map}
 use Rattle.std.specs.Io.KnownBytes.{Consumes, Keeps}
 use Rattle.std.proofs.lemmas.List.{length-take, length-drop, take-take, take_all, length-take-le}
@@ -43,7 +45,9 @@ unfolding pages_for
 one_page n some few = omega (arith, some, few)
 
 pub room_for_one : (s : Stored) (pool n : ℕ) → 0 < n → n ≤ 4096 → has_room s pool n ≡ has_room s pool 1
-room_for_one s pool n some few = ap (λ k. nat_le (pinned s pool + k) (length (pages_of s pool))) (one_page n some few ∙ sym (one_page 1 (omega arith) (omega arith)))
+room_for_one s pool n some few =
+    ap (λ k. nat_le (pinned s pool + k) (length (pages_of s pool))) (one_page n some few
+    ∙ sym (one_page 1 (omega arith) (omega arith)))
 
 -- a reader that failed gave no bytes
 pub kept_consumes : (a b : Option (List ℕ)) → Keeps a b → Consumes a b []
@@ -53,12 +57,14 @@ kept_consumes (Some x) (Some y) h = sym h
 
 -- One part of one page.
 
-bytes_of_one : (a : State) (ps : List Part) → 0 < length ps → length ps ≤ 1 → flat_map (part_bytes a) ps ≡ part_bytes a (get_or ps 0 no_part)
+bytes_of_one : (a : State) (ps : List Part) → 0 < length ps → length ps ≤ 1
+    → flat_map (part_bytes a) ps ≡ part_bytes a (get_or ps 0 no_part)
 bytes_of_one a [] some few = absurd (omega (arith, some))
 bytes_of_one a (p ∷ []) some few = append-nil (part_bytes a p)
 bytes_of_one a (p ∷ q ∷ ps) some few = absurd (omega (arith, few))
 
-written_there : (a : State) (p : Part) (w : List ℕ) → 0 < length w → length w ≡ part_room p → length (part_bytes a p) ≡ part_room p → part_bytes (with_bytes a p.first w) p ≡ w
+written_there : (a : State) (p : Part) (w : List ℕ) → 0 < length w → length w ≡ part_room p
+    → length (part_bytes a p) ≡ part_room p → part_bytes (with_bytes a p.first w) p ≡ w
 written_there a p w some long room =
     let i : ℕ = p.first * 4096 in
     let inside = length-take (part_room p) (drop i a.memory) in
@@ -78,8 +84,10 @@ is_free (Tail p) e = absurd (cc)
 
 -- From before the pages were taken, s, over their filling, u, and a writing of w, to after it, t.
 module _ (s u t : Stored) (parts : List Part) (pool n : ℕ) (w : List ℕ)
-    (fills : Fills s u parts) (pages : part_pages parts ≡ lowest_of s pool n) (others : IsSameBut (part_pages parts) s.arena u.arena) (apart : AreApart 0 parts) (some : 0 < length parts)
-    (positive : 0 < n) (few : n ≤ 4096) (long : length w ≡ part_room (get_or parts 0 no_part)) (filled : 0 < length w) (keeps : WritesKeep u.arena (get_or parts 0 no_part)) where
+    (fills : Fills s u parts) (pages : part_pages parts ≡ lowest_of s pool n)
+    (others : IsSameBut (part_pages parts) s.arena u.arena) (apart : AreApart 0 parts) (some : 0 < length parts)
+    (positive : 0 < n) (few : n ≤ 4096) (long : length w ≡ part_room (get_or parts 0 no_part)) (filled : 0 < length w)
+    (keeps : WritesKeep u.arena (get_or parts 0 no_part)) where
   abbrev first : Part
   first = get_or parts 0 no_part
 
@@ -87,10 +95,19 @@ module _ (s u t : Stored) (parts : List Part) (pool n : ℕ) (w : List ℕ)
   v = with_arena u (with_bytes u.arena first.first w)
 
   one : length parts ≤ 1
-  one = omega (arith, parts_few 0 parts apart, ap length pages, length-take (pages_for n) (free_of s pool), one_page n positive few)
+  one =
+      omega (
+        arith,
+        parts_few 0 parts apart,
+        ap length pages,
+        length-take (pages_for n) (free_of s pool),
+        one_page n positive few,
+      )
 
   written : Fills s v parts
-  written = fills_trans fills (same_fills u (with_bytes u.arena first.first w) parts refl (keeps.each w (omega (arith, long))))
+  written =
+      fills_trans fills
+      (same_fills u (with_bytes u.arena first.first w) parts refl (keeps.each w (omega (arith, long))))
 
   all_others : IsSameBut (part_pages parts) v.arena t.arena → IsSameBut (lowest_of s pool n) s.arena t.arena
   all_others after =
@@ -98,19 +115,27 @@ module _ (s u t : Stored) (parts : List Part) (pool n : ℕ) (w : List ℕ)
       (same_but_trans others (same_but_trans (same_but_entries (part_pages parts) refl) after))
 
   -- len bytes were published
-  pub read_made : (left after : Option (List ℕ)) (holds : List Buffer) (len : ℕ) → 0 < len → len ≤ n → len ≤ length w → length (part_bytes u.arena first) ≡ part_room first
-      → Consumes left after (take len w) → Publishes v t parts (held_bufs holds) → IsTidy t → bytes_in t.arena (held_bufs holds) ≡ take len (flat_map (part_bytes v.arena) parts)
-      → All (IsFilled t) holds → All (λ (h : Buffer). h.pool ≡ pool) holds → length holds ≤ length parts → MadeOn v.arena t.arena (held_bufs holds) (needed_pages parts len) → IsSameBut (part_pages parts) v.arena t.arena
+  pub read_made : (left after : Option (List ℕ)) (holds : List Buffer) (len : ℕ) → 0 < len → len ≤ n → len ≤ length w
+      → length (part_bytes u.arena first) ≡ part_room first
+      → Consumes left after (take len w) → Publishes v t parts (held_bufs holds) → IsTidy t
+      → bytes_in t.arena (held_bufs holds) ≡ take len (flat_map (part_bytes v.arena) parts)
+      → All (IsFilled t) holds → All (λ (h : Buffer). h.pool ≡ pool) holds → length holds ≤ length parts
+      → MadeOn v.arena t.arena (held_bufs holds) (needed_pages parts len)
+      → IsSameBut (part_pages parts) v.arena t.arena
       → MakesRead left after s t holds pool len
   read_made left after holds len more within inside room given publishes tidy value whole home count made after_others =
       let bytes : List ℕ = take len w in
       let size : length bytes ≡ len = length-take-le len w (omega (arith, within, inside)) in
-      let same : lowest_of s pool n ≡ lowest_of s pool (length bytes) = ap (λ k. take k (free_of s pool)) (one_page n positive few ∙ sym (one_page (length bytes) (omega (arith, size, more)) (omega (arith, size, within, few)))) in
+      let same : lowest_of s pool n ≡ lowest_of s pool (length bytes) =
+      ap (λ k. take k (free_of s pool)) (one_page n positive few
+      ∙ sym (one_page (length bytes) (omega (arith, size, more)) (omega (arith, size, within, few)))) in
       let needed : needed_pages parts len ≡ lowest_of s pool (length bytes) =
       ap (take (pages_for len)) pages
-      ∙ take-take (pages_for len) (pages_for n) (free_of s pool) (omega (arith, one_page len more (omega (arith, within, few)), one_page n positive few))
+      ∙ take-take (pages_for len) (pages_for n) (free_of s pool)
+      (omega (arith, one_page len more (omega (arith, within, few)), one_page n positive few))
       ∙ ap (λ k. take (pages_for k) (free_of s pool)) (sym size) in
-      let on : MadeOn s.arena t.arena (held_bufs holds) (lowest_of s pool (length bytes)) = subst (λ l. MadeOn s.arena t.arena (held_bufs holds) l) needed (made_since written.unraised made) in
+      let on : MadeOn s.arena t.arena (held_bufs holds) (lowest_of s pool (length bytes)) =
+      subst (λ l. MadeOn s.arena t.arena (held_bufs holds) l) needed (made_since written.unraised made) in
       let rest = all_others after_others in
       record {
         bytes = bytes;
@@ -119,16 +144,23 @@ module _ (s u t : Stored) (parts : List Part) (pool n : ℕ) (w : List ℕ)
         home = home;
         filled = whole;
         few = omega (arith, count, one);
-        value = value ∙ ap (take len) (bytes_of_one v.arena parts some one ∙ written_there u.arena first w filled long room);
+        value =
+            value
+            ∙ ap (take len) (bytes_of_one v.arena parts some one ∙ written_there u.arena first w filled long room);
         moves = fill_publish written publishes tidy;
         made_on = on;
-        pages = keeps_pages_made on (subst (λ l. IsSameBut l s.arena t.arena) same rest) (grows_trans written.grows publishes.grows) (publishes.pools ∙ written.pools);
-        reclaims = all_reclaimed_placed s t (pool_in s.pools pool).chunks (pages_for n) (publishes.pools ∙ written.pools) rest;
+        pages =
+            keeps_pages_made on (subst (λ l. IsSameBut l s.arena t.arena) same rest)
+            (grows_trans written.grows publishes.grows) (publishes.pools ∙ written.pools);
+        reclaims = all_reclaimed_placed s t (pool_in s.pools pool).chunks (pages_for n) (publishes.pools
+            ∙ written.pools) rest;
         pools = publishes.pools ∙ written.pools;
       }
 
   -- none was
-  pub none_made : (left after : Option (List ℕ)) → Consumes left after [] → Publishes v t parts [] → IsTidy t → IsUnraised v.arena t.arena → IsSameBut (part_pages parts) v.arena t.arena → AreUsable t.arena (part_pages parts) → MakesRead left after s t [] pool 0
+  pub none_made : (left after : Option (List ℕ)) → Consumes left after [] → Publishes v t parts [] → IsTidy t
+      → IsUnraised v.arena t.arena → IsSameBut (part_pages parts) v.arena t.arena → AreUsable t.arena (part_pages parts)
+      → MakesRead left after s t [] pool 0
   none_made left after given publishes tidy unraised after_others returned =
       let pools = publishes.pools ∙ written.pools in
       let grows = grows_trans written.grows publishes.grows in
@@ -150,8 +182,15 @@ module _ (s u t : Stored) (parts : List Part) (pool n : ℕ) (w : List ℕ)
           limit = grows.limit;
           raises = record { raised = λ q h. absurd (none q h); kept = λ q out. raised q };
           others = λ q out. elim (in_or_out (part_pages parts) q) [
-            | inl i ↦ inr (is_free (entry_at t.arena q).kind (and_left (kind_free (entry_at t.arena q).kind) _ (returned.each q (contains_in (part_pages parts) q i))))
-            | inr o ↦ inl (ap (λ (e : Entry). e.kind) (rest.each q (λ h. o (in_contains (part_pages parts) q (subst (λ l. Contains l q) (sym pages) h)))))
+            | inl i ↦
+                inr
+                (is_free (entry_at t.arena q).kind
+                (and_left (kind_free (entry_at t.arena q).kind) _
+                (returned.each q (contains_in (part_pages parts) q i))))
+            | inr o ↦
+                inl
+                (ap (λ (e : Entry). e.kind)
+                (rest.each q (λ h. o (in_contains (part_pages parts) q (subst (λ l. Contains l q) (sym pages) h)))))
           ];
           chunks = λ p was is. ap (λ (ps : List Pool). (pool_in ps p).chunks) pools;
           returned = λ p is. inl (ap (λ (ps : List Pool). (pool_in ps p).chunks) pools);
@@ -161,8 +200,10 @@ module _ (s u t : Stored) (parts : List Part) (pool n : ℕ) (w : List ℕ)
       }
 
 -- a read that had room, under another name of the store after it
-pub reads_once : {R : Type 0} {left : R → Option (List ℕ)} {reader after : R} {s : Stored} {pool n : ℕ} {x : Option (List Buffer) × Arrived} (t r : Stored)
-    → MayRead s pool n → has_room s pool n ≡ true → MakesRead (left reader) (left after) s t (listed x.0) pool x.1.taken → t ≡ r → IsOneRead n (left after) x.1
+pub reads_once : {R : Type 0} {left : R → Option (List ℕ)} {reader after : R} {s : Stored} {pool n : ℕ}
+    {x : Option (List Buffer) × Arrived} (t r : Stored)
+    → MayRead s pool n → has_room s pool n ≡ true → MakesRead (left reader) (left after) s t (listed x.0) pool x.1.taken
+    → t ≡ r → IsOneRead n (left after) x.1
     → ReadsOnce left reader after s r pool n (Ok x)
 reads_once {R} {left} {reader} {after} {s} {pool} {n} {x} t r may had made same reported = record {
   made = subst (λ u. MakesRead (left reader) (left after) s u (listed x.0) pool x.1.taken) same made;
@@ -175,11 +216,13 @@ reads_once {R} {left} {reader} {after} {s} {pool} {n} {x} t r may had made same 
 pub consumes_none : (a b : Option (List ℕ)) (n : ℕ) (w : List ℕ) → n ≡ 0 → Consumes a b (take n w) → Consumes a b []
 consumes_none a b n w e h = subst (λ k. Consumes a b (take k w)) e h
 
-pub home_as : (holds : List Buffer) (p q : ℕ) → p ≡ q → All (λ (h : Buffer). h.pool ≡ p) holds → All (λ (h : Buffer). h.pool ≡ q) holds
+pub home_as : (holds : List Buffer) (p q : ℕ) → p ≡ q → All (λ (h : Buffer). h.pool ≡ p) holds
+    → All (λ (h : Buffer). h.pool ≡ q) holds
 home_as holds p q e h = subst (λ k. All (λ (h : Buffer). h.pool ≡ k) holds) e h
 
 -- and the queue has them
-module _ (left after : Option (List ℕ)) (s t : Stored) (old new : List Slice) (holds : List Buffer) (pool n : ℕ) (adds : AddsWhole t old new holds) (made : MakesRead left after s t holds pool n) where
+module _ (left after : Option (List ℕ)) (s t : Stored) (old new : List Slice) (holds : List Buffer) (pool n : ℕ)
+    (adds : AddsWhole t old new holds) (made : MakesRead left after s t holds pool n) where
   pub length_read : byte_len new ≡ byte_len old + n
   length_read = omega (arith, length_added s t old new pool made.bytes holds adds made.home made.value, made.count)
 
@@ -190,17 +233,28 @@ module _ (left after : Option (List ℕ)) (s t : Stored) (old new : List Slice) 
     given = made.given;
     added = record {
       slices = adds.slices;
-      few = few_made s s.arena t.arena adds.slices pool (length made.bytes) (subst (λ bs. MadeOn s.arena t.arena bs (lowest_of s pool (length made.bytes))) (sym adds.whole.bufs) made.made_on);
+      few =
+          few_made s s.arena t.arena adds.slices pool (length made.bytes)
+          (subst (λ bs. MadeOn s.arena t.arena bs (lowest_of s pool (length made.bytes))) (sym adds.whole.bufs)
+          made.made_on);
       added = adds.added;
       is_text = adds.whole.text ∙ whole_texts-one t pool holds made.home ∙ ap (text.labelled pool) made.value;
       readable = adds.whole.readable;
       moves = subst (λ bs. Moves s t [] bs) (sym adds.whole.bufs) made.moves;
-      made_on = subst (λ bs. MadeOn s.arena t.arena bs (lowest_of s pool (length made.bytes))) (sym adds.whole.bufs) made.made_on;
+      made_on = subst (λ bs. MadeOn s.arena t.arena bs (lowest_of s pool (length made.bytes))) (sym adds.whole.bufs)
+          made.made_on;
       pages = made.pages;
       reclaims = made.reclaims;
       pools = made.pools;
     };
   }
 
-pub nothing_added : (left after : Option (List ℕ)) (s t : Stored) (old : List Slice) (pool n : ℕ) → MakesRead left after s t [] pool n → ReadsIn left after s t old old pool n
-nothing_added left after s t old pool n made = read_added left after s t old old [] pool n (record { slices = []; added = sym (append-nil old); whole = record { text = refl; readable = readable_none t; bufs = refl } }) made
+pub nothing_added : (left after : Option (List ℕ)) (s t : Stored) (old : List Slice) (pool n : ℕ)
+    → MakesRead left after s t [] pool n → ReadsIn left after s t old old pool n
+nothing_added left after s t old pool n made =
+    read_added left after s t old old [] pool n (record {
+      slices = [];
+      added = sym (append-nil old);
+      whole =
+          record { text = refl; readable = readable_none t; bufs = refl };
+    }) made

@@ -13,25 +13,37 @@ use Rattle.iol_hold.proofs.AtPlaces.{read_pushed, keeps_bytes}
 use Rattle.iol_pipe.specs.Queue.{first_pool, may_see}
 use Rattle.iol_pipe.proofs.FrontBytes.{read_given, read_left, first_pool-read}
 
-pub readable_pushed : {s : Stored} (new old from : List Slice) (n : ℕ) → places new ≡ places old ++ take n (places from) → AllReadable s old → AllReadable s from → AllReadable s new
+pub readable_pushed : {s : Stored} (new old from : List Slice) (n : ℕ) → places new ≡ places old ++ take n (places from)
+    → AllReadable s old → AllReadable s from → AllReadable s new
 readable_pushed {s} new old from n e h k = record {
-  each = All-same (IsThere s) _ _ e (All-append (IsThere s) (places old) (take n (places from)) h.each (All-take (IsThere s) n (places from) k.each));
+  each =
+      All-same (IsThere s) _ _ e
+      (All-append (IsThere s) (places old) (take n (places from)) h.each (All-take (IsThere s) n (places from) k.each));
 }
 
-pub text_pushed : (s : Stored) (new old from : List Slice) (n : ℕ) → places new ≡ places old ++ take n (places from) → text_of s new ≡ text_of s old ++ take n (text_of s from)
+pub text_pushed : (s : Stored) (new old from : List Slice) (n : ℕ) → places new ≡ places old ++ take n (places from)
+    → text_of s new ≡ text_of s old ++ take n (text_of s from)
 text_pushed s new old from n e = read_pushed (byte_at s) new old from n e
 
-pub readable_given : {s : Stored} (given old : List Slice) (ps : List Pool) (d : ℕ) (n : ℕ) → places given ≡ take_while (may_see ps d) (take n (places old)) → AllReadable s old → AllReadable s given
+pub readable_given : {s : Stored} (given old : List Slice) (ps : List Pool) (d : ℕ) (n : ℕ)
+    → places given ≡ take_while (may_see ps d) (take n (places old)) → AllReadable s old → AllReadable s given
 readable_given {s} given old ps d n e h = record {
-  each = All-same (IsThere s) _ _ e (All-take (IsThere s) (prefix_len (may_see ps d) (take n (places old))) (take n (places old)) (All-take (IsThere s) n (places old) h.each));
+  each =
+      All-same (IsThere s) _ _ e (All-take (IsThere s) (prefix_len (may_see ps d) (take n (places old)))
+      (take n (places old)) (All-take (IsThere s) n (places old) h.each));
 }
 
-pub text_given : (s : Stored) (given old : List Slice) (ps : List Pool) (d : ℕ) (n : ℕ) → places given ≡ take_while (may_see ps d) (take n (places old)) → text_of s given ≡ admitted (λ p. names_in ps p d) (take n (text_of s old))
+pub text_given : (s : Stored) (given old : List Slice) (ps : List Pool) (d : ℕ) (n : ℕ)
+    → places given ≡ take_while (may_see ps d) (take n (places old))
+    → text_of s given ≡ admitted (λ p. names_in ps p d) (take n (text_of s old))
 text_given s given old ps d n e = read_given (byte_at s) (keeps_bytes s) given old ps d n e
 
 -- what is left after it
-pub text_left : (s : Stored) (given new old : List Slice) (ps : List Pool) (d : ℕ) (n : ℕ) → places given ≡ take_while (may_see ps d) (take n (places old)) → places new ≡ drop (byte_len given) (places old) → text_of s new ≡ drop (length (admitted (λ p. names_in ps p d) (take n (text_of s old)))) (text_of s old)
+pub text_left : (s : Stored) (given new old : List Slice) (ps : List Pool) (d : ℕ) (n : ℕ)
+    → places given ≡ take_while (may_see ps d) (take n (places old)) → places new ≡ drop (byte_len given) (places old)
+    → text_of s new ≡ drop (length (admitted (λ p. names_in ps p d) (take n (text_of s old)))) (text_of s old)
 text_left s given new old ps d n e rest = read_left (byte_at s) (keeps_bytes s) given new old ps d n e rest
 
-pub first_pool-text : (s : Stored) (xs : List Slice) → first_pool xs ≡ option_map (λ b. b.1) (slice_get (text_of s xs) 0)
+pub first_pool-text : (s : Stored) (xs : List Slice)
+    → first_pool xs ≡ option_map (λ b. b.1) (slice_get (text_of s xs) 0)
 first_pool-text s xs = first_pool-read (byte_at s) (keeps_bytes s) xs

@@ -1,5 +1,6 @@
 -- Slices of whole buffers at the end of a queue, one after another.
-use Rattle.std.proofs.Common.{◌≡◌, ℕ, ◌+◌, List, [], ◌∷◌, ◌++◌, length, refl, sym, ap, ◌∙◌, subst, arith, append_assoc, append-nil}
+use Rattle.std.proofs.Common.{◌≡◌, ℕ, ◌+◌, List, [], ◌∷◌, ◌++◌, length, refl, sym, ap, ◌∙◌, subst, arith, append_assoc}
+use Rattle.std.proofs.Common.{append-nil}
 use Rattle.std.specs.List.{All}
 use Rattle.std.proofs.lemmas.List.{length-map}
 use Rattle.std.proofs.lemmas.List.Elements.{All-head}
@@ -41,7 +42,9 @@ whole_start s old all = record {
   bufs = refl;
 }
 
-pub whole_more : (s : Stored) (old now new : List Slice) (left rest all : List Buffer) (h : Buffer) (x : Slice) → WholeSoFar s old now left all → left ≡ h ∷ rest → All (IsFilled s) left → x.hold ≡ h → x.from ≡ 0 → x.len ≡ length (bytes_of s.arena h.buf) → new ≡ now ++ x ∷ [] → WholeSoFar s old new rest all
+pub whole_more : (s : Stored) (old now new : List Slice) (left rest all : List Buffer) (h : Buffer) (x : Slice)
+    → WholeSoFar s old now left all → left ≡ h ∷ rest → All (IsFilled s) left → x.hold ≡ h → x.from ≡ 0
+    → x.len ≡ length (bytes_of s.arena h.buf) → new ≡ now ++ x ∷ [] → WholeSoFar s old new rest all
 whole_more s old now new left rest all h x w first filled is start size pushed =
     let good : IsFilled s h = All-head (IsFilled s) h rest (subst (All (IsFilled s)) first filled) in
     record {
@@ -59,12 +62,14 @@ whole_more s old now new left rest all h x w first filled is start size pushed =
           ∙ w.bufs;
     }
 
-pub whole_end : (s : Stored) (old now : List Slice) (left all : List Buffer) → WholeSoFar s old now left all → left ≡ [] → AddsWhole s old now all
+pub whole_end : (s : Stored) (old now : List Slice) (left all : List Buffer) → WholeSoFar s old now left all → left ≡ []
+    → AddsWhole s old now all
 whole_end s old now left all w none = record {
   slices = w.slices;
   added = w.added;
   whole = record {
-    text = sym (append-nil (text_of s w.slices)) ∙ ap (λ l. text_of s w.slices ++ whole_texts s l) (sym none) ∙ w.is_text;
+    text = sym (append-nil (text_of s w.slices)) ∙ ap (λ l. text_of s w.slices ++ whole_texts s l) (sym none)
+        ∙ w.is_text;
     readable = w.readable;
     bufs = sym (append-nil (bufs_of w.slices)) ∙ ap (λ l. bufs_of w.slices ++ held_bufs l) (sym none) ∙ w.bufs;
   };
@@ -72,19 +77,33 @@ whole_end s old now left all w none = record {
 
 -- Buffers of new bytes of a pool.
 
-module _ (s t : Stored) (old new : List Slice) (pool : ℕ) (bytes : List ℕ) (holds : List Buffer) (adds : AddsWhole t old new holds) (all : All (λ (h : Buffer). h.pool ≡ pool) holds) (value : bytes_in t.arena (held_bufs holds) ≡ bytes) where
+module _ (s t : Stored) (old new : List Slice) (pool : ℕ) (bytes : List ℕ) (holds : List Buffer)
+    (adds : AddsWhole t old new holds) (all : All (λ (h : Buffer). h.pool ≡ pool) holds)
+    (value : bytes_in t.arena (held_bufs holds) ≡ bytes) where
   text_added : text_of t adds.slices ≡ text.labelled pool bytes
   text_added = adds.whole.text ∙ whole_texts-one t pool holds all ∙ ap (text.labelled pool) value
 
   pub length_added : byte_len new ≡ byte_len old + length bytes
   length_added =
       let pair : ℕ → ℕ × ℕ = λ b. (b, pool) in
-      omega (arith, ap byte_len adds.added, byte_len-append old adds.slices, length-text_of t adds.slices, ap length text_added, length-map bytes pair)
+      omega (
+        arith,
+        ap byte_len adds.added,
+        byte_len-append old adds.slices,
+        length-text_of t adds.slices,
+        ap length text_added,
+        length-map bytes pair,
+      )
 
-  pub bytes_added : Moves s t [] (held_bufs holds) → MadeOn s.arena t.arena (held_bufs holds) (lowest_of s pool (length bytes)) → IsSameBut (lowest_of s pool (length bytes)) s.arena t.arena → Grows s.arena t.arena → (AllReclaimed s → AllReclaimed t) → t.pools ≡ s.pools → AddsBytes s t old new pool bytes
+  pub bytes_added : Moves s t [] (held_bufs holds)
+      → MadeOn s.arena t.arena (held_bufs holds) (lowest_of s pool (length bytes))
+      → IsSameBut (lowest_of s pool (length bytes)) s.arena t.arena → Grows s.arena t.arena
+      → (AllReclaimed s → AllReclaimed t) → t.pools ≡ s.pools → AddsBytes s t old new pool bytes
   bytes_added moves made others grows reclaims pools = record {
     slices = adds.slices;
-    few = few_made s s.arena t.arena adds.slices pool (length bytes) (subst (λ bs. MadeOn s.arena t.arena bs (lowest_of s pool (length bytes))) (sym adds.whole.bufs) made);
+    few =
+        few_made s s.arena t.arena adds.slices pool (length bytes)
+        (subst (λ bs. MadeOn s.arena t.arena bs (lowest_of s pool (length bytes))) (sym adds.whole.bufs) made);
     added = adds.added;
     is_text = text_added;
     readable = adds.whole.readable;
@@ -105,7 +124,8 @@ none_added s old pool = record {
   readable = readable_none s;
   moves = moves_none s;
   made_on = made_none s.arena (free_of s pool);
-  pages = keeps_pages_made (made_none s.arena (free_of s pool)) (same_but_entries (lowest_of s pool 0) refl) (grows_none s.arena) refl;
+  pages = keeps_pages_made (made_none s.arena (free_of s pool)) (same_but_entries (lowest_of s pool 0) refl)
+      (grows_none s.arena) refl;
   reclaims = λ h. h;
   pools = refl;
 }

@@ -1,5 +1,6 @@
 -- The bytes of one read.
-use Rattle.std.specs.Prelude.{◌≡◌, ◌<◌, ◌≤◌, ℕ, true, false, List, [], length, take, Option, Some, None, Result, IfOk, IfErr, OnErr}
+use Rattle.std.specs.Prelude.{◌≡◌, ◌<◌, ◌≤◌, ℕ, true, false, List, [], length, take, Option, Some, None, Result, IfOk}
+use Rattle.std.specs.Prelude.{IfErr, OnErr}
 use Rattle.std.specs.List.{All}
 use Rattle.std.specs.Io.KnownBytes.{Consumes, IsAtEnd, Keeps}
 use Rattle.iol_core.specs.Prelude.{WantOfRoom}
@@ -86,7 +87,8 @@ pub record FillsFrom {R : Type 0} (left : R → Option (List ℕ)) (reader after
 
 -- A reader wrote the first bytes of the memory, at most n: none only if it is at its end, or if n is 0. If the read
 -- failed, the reader has the same remaining bytes as before.
-pub record ReadsSome {E : Type 0} (left after : Option (List ℕ)) (memory : List ℕ) (n : ℕ) (r : Result ℕ E) : Type 0 where
+pub record ReadsSome {E : Type 0} (left after : Option (List ℕ)) (memory : List ℕ) (n : ℕ) (r : Result ℕ E) :
+    Type 0 where
   pub most : IfOk r (λ k. k ≤ n)
   pub inside : IfOk r (λ k. k ≤ length memory)
   pub given : IfOk r (λ k. Consumes left after (take k memory))

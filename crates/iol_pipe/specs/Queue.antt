@@ -1,5 +1,6 @@
 -- A queue of slices.
-use Rattle.std.specs.Prelude.{◌≡◌, ℕ, zero, suc, ◌+◌, ◌-◌, ◌<◌, ◌≤◌, Bool, true, List, [], ◌∷◌, ◌++◌, length, map, take, drop, min, Option, Some, None, option_map, slice_index_or, Result, IsOk, IfOk, OnErr}
+use Rattle.std.specs.Prelude.{◌≡◌, ℕ, zero, suc, ◌+◌, ◌-◌, ◌<◌, ◌≤◌, Bool, true, List, [], ◌∷◌, ◌++◌, length, map, take}
+use Rattle.std.specs.Prelude.{drop, min, Option, Some, None, option_map, slice_index_or, Result, IsOk, IfOk, OnErr}
 use Rattle.std.specs.List.{slice_get, take_while}
 use Rattle.std.specs.Global.{Vec}
 use Rattle.std.specs.Vec.{vec_capacity}
@@ -22,8 +23,8 @@ pub record IsBounded (xs : List Slice) (n : ℕ) : Type 0 where
 abbrev pub fitting : List Slice → (n : ℕ) → ℕ
 fitting xs n = min n (MAX_QUEUE_BYTES - byte_len xs)
 
--- The first of these lists, up to n elements in all: whole lists, and of the list that holds the n-th element its elements up to
--- that one.
+-- The first of these lists, up to n elements in all: whole lists, and of the list that holds the n-th element its
+-- elements up to that one.
 abbrev pub first_parts : {A : Type 0} → (n : ℕ) → List (List A) → List (List A)
 first_parts n [] = []
 first_parts zero (p ∷ ps) = []
@@ -61,8 +62,8 @@ pub record MayTakeFirst (s : Stored) (xs : List Slice) (most : ℕ) : Type 0 whe
   pub filled : 0 < length xs
   pub shared : AreShareable s (bufs_of xs)
 
--- The first slice of a queue was taken off. If it was longer than `most`, only its first `most` bytes were, and its buffer is
--- referenced once more.
+-- The first slice of a queue was taken off. If it was longer than `most`, only its first `most` bytes were, and its
+-- buffer is referenced once more.
 pub record TakesSlice (s t : Stored) (old new : List Slice) (most : ℕ) (x : Slice) : Type 0 where
   pub given : slice_places x ++ places new ≡ places old
   pub cut : first_parts most (map slice_places old) ≡ slice_places x ∷ first_parts (most - x.len) (map slice_places new)
@@ -74,8 +75,8 @@ pub record TakesSlice (s t : Stored) (old new : List Slice) (most : ℕ) (x : Sl
   pub few : length new ≤ length old
   pub fewer_left : x.len < most → length new + 1 ≤ length old
 
--- The first bytes of a queue were taken off, at most n, up to the first whose pool does not name the domain, if one is given. Of
--- the slices taken off, only the last may have been cut.
+-- The first bytes of a queue were taken off, at most n, up to the first whose pool does not name the domain, if one is
+-- given. Of the slices taken off, only the last may have been cut.
 pub record TakesFirst (s t : Stored) (old given new : List Slice) (n : ℕ) (d : Option ℕ) : Type 0 where
   pub taken : places given ≡ take_while (λ (p : Place). names_given s.pools d p.pool) (take n (places old))
   pub cut : d ≡ None → map slice_places given ≡ first_parts n (map slice_places old)
@@ -85,17 +86,17 @@ pub record TakesFirst (s t : Stored) (old given new : List Slice) (n : ℕ) (d :
   pub whole : places given ++ places new ≡ places old
   pub shares : Shares s t (bufs_of old) (bufs_of given ++ bufs_of new)
 
--- The first bytes of a queue were taken off, at most n, up to the first whose pool does not name the domain, if one is given; or
--- the call was refused, and nothing changed. If n is 0 or the queue is empty, it is not refused.
+-- The first bytes of a queue were taken off, at most n, up to the first whose pool does not name the domain, if one is
+-- given; or the call was refused, and nothing changed. If n is 0 or the queue is empty, it is not refused.
 pub record TakesOff {E : Type 0} (s t : Stored) (old new : List Slice) (n : ℕ) (d : Option ℕ)
     (r : Result (List Slice) E) : Type 0 where
   pub takes : IfOk r (λ given. TakesFirst s t old given new n d)
   pub none : min n (byte_len old) ≡ 0 → IsOk r
   pub err : OnErr r ((new ≡ old) × (t ≡ s))
 
--- A domain was given the front of a queue: of its first n bytes the longest prefix whose pools all name the domain. The slices
--- given are the queue's first ones, of which only the last may have been cut. With those left they are at most one more than
--- before, and those left are no more than before.
+-- A domain was given the front of a queue: of its first n bytes the longest prefix whose pools all name the domain. The
+-- slices given are the queue's first ones, of which only the last may have been cut. With those left they are at most
+-- one more than before, and those left are no more than before.
 pub record GivesFirst (s t : Stored) (old front new : List Slice) (n d : ℕ) : Type 0 where
   pub given : places front ≡ front_for s.pools d n old
   pub cut : map slice_places front ≡ first_parts (byte_len front) (map slice_places old)
@@ -104,7 +105,8 @@ pub record GivesFirst (s t : Stored) (old front new : List Slice) (n d : ℕ) : 
   pub rest : places new ≡ drop (byte_len front) (places old)
   pub shares : Shares s t (bufs_of old) (bufs_of front ++ bufs_of new)
 
--- The first n bytes of a queue were taken off, or all if there were fewer. The slice that holds the last of them was cut there.
+-- The first n bytes of a queue were taken off, or all if there were fewer. The slice that holds the last of them was
+-- cut there.
 pub record CutsFirst (s t : Stored) (old first new : List Slice) (n : ℕ) : Type 0 where
   pub given : places first ≡ take n (places old)
   pub cut : map slice_places first ≡ first_parts n (map slice_places old)

@@ -15,19 +15,24 @@ unfolding with_admitted
 kept f same ps p d q there = elim (cases_eq q p) [
   | inl e ↦
       let x : Pool = record (pool_in ps p) { domains = with_name (pool_in ps p).domains d } in
-      ap (λ n. f (pool_in (with_numbered ps p x) n)) e ∙ ap f (pool_in-there ps p x there) ∙ same (pool_in ps p) (with_name (pool_in ps p).domains d) ∙ ap (λ n. f (pool_in ps n)) (sym e)
+      ap (λ n. f (pool_in (with_numbered ps p x) n)) e ∙ ap f (pool_in-there ps p x there)
+      ∙ same (pool_in ps p) (with_name (pool_in ps p).domains d) ∙ ap (λ n. f (pool_in ps n)) (sym e)
   | inr n ↦ ap f (pool_in-other ps p q (record (pool_in ps p) { domains = with_name (pool_in ps p).domains d }) n)
 ]
 
-pub closed-admitted : (ps : List Pool) (p d q : ℕ) → is_numbered ps p ≡ true → (pool_in (with_admitted ps p d) q).closed ≡ (pool_in ps q).closed
+pub closed-admitted : (ps : List Pool) (p d q : ℕ) → is_numbered ps p ≡ true
+    → (pool_in (with_admitted ps p d) q).closed ≡ (pool_in ps q).closed
 closed-admitted ps p d q there = kept (λ x. x.closed) (λ x list. refl) ps p d q there
 
-pub chunks-admitted : (ps : List Pool) (p d q : ℕ) → is_numbered ps p ≡ true → (pool_in (with_admitted ps p d) q).chunks ≡ (pool_in ps q).chunks
+pub chunks-admitted : (ps : List Pool) (p d q : ℕ) → is_numbered ps p ≡ true
+    → (pool_in (with_admitted ps p d) q).chunks ≡ (pool_in ps q).chunks
 chunks-admitted ps p d q there = kept (λ x. x.chunks) (λ x list. refl) ps p d q there
 
 pub length-admitted : (ps : List Pool) (p d : ℕ) → length (with_admitted ps p d) ≡ length ps
 unfolding with_admitted
-length-admitted ps p d = length-with_numbered ps p (record (pool_in ps p) { domains = with_name (pool_in ps p).domains d })
+length-admitted ps p d =
+    length-with_numbered ps p (record (pool_in ps p) { domains = with_name (pool_in ps p).domains d })
 
-pub owned_admitted : (s : State) (ps : List Pool) (p d : ℕ) → is_numbered ps p ≡ true → AreOwned s ps → AreOwned s (with_admitted ps p d)
+pub owned_admitted : (s : State) (ps : List Pool) (p d : ℕ) → is_numbered ps p ≡ true → AreOwned s ps
+    → AreOwned s (with_admitted ps p d)
 owned_admitted s ps p d there o = owned_same s ps (with_admitted ps p d) (λ q. chunks-admitted ps p d q there) o

@@ -1,5 +1,6 @@
 -- Pages of chunks, counted.
-use Rattle.std.proofs.Common.{◌≡◌, ℕ, suc, ◌+◌, ◌-◌, ◌*◌, ◌<◌, ◌≤◌, Bool, List, [], ◌∷◌, ◌++◌, length, take, drop, get_or, flat_map, refl, sym, ap, ◌∙◌, arith, inl, inr, length-append}
+use Rattle.std.proofs.Common.{◌≡◌, ℕ, suc, ◌+◌, ◌-◌, ◌*◌, ◌<◌, ◌≤◌, Bool, List, [], ◌∷◌, ◌++◌, length, take, drop}
+use Rattle.std.proofs.Common.{get_or, flat_map, refl, sym, ap, ◌∙◌, arith, inl, inr, length-append}
 use Rattle.std.specs.List.{All, filter, range_with_len}
 use Rattle.std.proofs.lemmas.List.{take_more, take-append-drop, append-nil}
 use Rattle.std.proofs.lemmas.List.Elements.{filter-append}
@@ -10,7 +11,9 @@ use Rattle.iol_arena.specs.Chunks.{IsRising, IsRisingFrom, chunk_pages}
 use Rattle.iol_arena.proofs.Good.{bool_cases}
 
 -- those of the first chunks, and of one chunk more
-pub pages_more : (f : ℕ → Bool) (cs : List ℕ) (i c : ℕ) → i < length cs → c ≡ get_or cs i c → length (filter f (flat_map chunk_pages (take (i + 1) cs))) ≡ length (filter f (flat_map chunk_pages (take i cs))) + length (filter f (flat_map chunk_pages (c ∷ [])))
+pub pages_more : (f : ℕ → Bool) (cs : List ℕ) (i c : ℕ) → i < length cs → c ≡ get_or cs i c
+    → length (filter f (flat_map chunk_pages (take (i + 1) cs))) ≡ length (filter f (flat_map chunk_pages (take i cs)))
+    + length (filter f (flat_map chunk_pages (c ∷ [])))
 pages_more f cs i c h is =
     ap (λ l. length (filter f (flat_map chunk_pages l))) (take_more cs i c h ∙ ap (λ x. take i cs ++ x ∷ []) (sym is))
     ∙ ap (λ l. length (filter f l)) (flat_map-append chunk_pages (take i cs) (c ∷ []))
@@ -21,10 +24,17 @@ pages_more f cs i c h is =
 pub pages_length : (cs : List ℕ) → length (flat_map chunk_pages cs) ≡ 16 * length cs
 unfolding chunk_pages
 pages_length [] = refl
-pages_length (c ∷ cs) = omega (arith, pages_length cs, length-append (range_with_len (c * 16) 16) (flat_map chunk_pages cs), length-range_with_len (c * 16) 16)
+pages_length (c ∷ cs) =
+    omega (
+      arith,
+      pages_length cs,
+      length-append (range_with_len (c * 16) 16) (flat_map chunk_pages cs),
+      length-range_with_len (c * 16) 16,
+    )
 
 -- those of the first chunks are at most those of all
-pub take_fewer : (f : ℕ → Bool) (cs : List ℕ) (k : ℕ) → length (filter f (flat_map chunk_pages (take k cs))) ≤ length (filter f (flat_map chunk_pages cs))
+pub take_fewer : (f : ℕ → Bool) (cs : List ℕ) (k : ℕ)
+    → length (filter f (flat_map chunk_pages (take k cs))) ≤ length (filter f (flat_map chunk_pages cs))
 take_fewer f cs k =
     let all = ap (λ l. length (filter f (flat_map chunk_pages l))) (take-append-drop k cs) in
     let parts = ap (λ l. length (filter f l)) (flat_map-append chunk_pages (take k cs) (drop k cs))
@@ -34,12 +44,19 @@ take_fewer f cs k =
 
 filter_few : (f : ℕ → Bool) (xs : List ℕ) → length (filter f xs) ≤ length xs
 filter_few f [] = omega arith
-filter_few f (x ∷ xs) = let r = filter_few f xs in elim (bool_cases (f x)) [ inl e ↦ rw e (omega (arith, r)) | inr e ↦ rw e (omega (arith, r)) ]
+filter_few f (x ∷ xs) = let r = filter_few f xs in
+    elim (bool_cases (f x)) [ inl e ↦ rw e (omega (arith, r)) | inr e ↦ rw e (omega (arith, r)) ]
 
 -- a chunk has no more than sixteen
 pub pages_few : (f : ℕ → Bool) (c : ℕ) → length (filter f (flat_map chunk_pages (c ∷ []))) ≤ 16
 unfolding chunk_pages
-pages_few f c = omega (arith, filter_few f (flat_map chunk_pages (c ∷ [])), ap length (append-nil (range_with_len (c * 16) 16)), length-range_with_len (c * 16) 16)
+pages_few f c =
+    omega (
+      arith,
+      filter_few f (flat_map chunk_pages (c ∷ [])),
+      ap length (append-nil (range_with_len (c * 16) 16)),
+      length-range_with_len (c * 16) 16,
+    )
 
 -- rising numbers below n are at most so many
 pub rising_few : (low n : ℕ) (xs : List ℕ) → IsRisingFrom low xs → All (λ c. c < n) xs → length xs ≤ n - low
@@ -50,5 +67,6 @@ rising_few low n (x ∷ xs) rising below =
     omega (arith, rising.0, r, b)
 
 -- rising chunks are at most as many as there are
-pub few_chunks : (s : State) (cs : List ℕ) (n : ℕ) → IsRising cs → All (λ k. k < chunk_count s) cs → n ≡ chunk_count s → n ≤ 256 → length cs ≤ 256
+pub few_chunks : (s : State) (cs : List ℕ) (n : ℕ) → IsRising cs → All (λ k. k < chunk_count s) cs → n ≡ chunk_count s
+    → n ≤ 256 → length cs ≤ 256
 few_chunks s cs n rising all is most = omega (arith, rising_few 0 (chunk_count s) cs rising all, is, most)

@@ -10,7 +10,8 @@ use Rattle.iol_pool.specs.declared.report.PoolReport.{PoolReport}
 
 -- A pool of n chunks, the lowest free ones, was made for the domains of a list: its number is the next. Or nothing
 -- changed, for want of room only where fewer chunks are free. Each chunk that is taken has just one pool.
-pub record CreatesPool (s t : State) (old new : List Pool) (n : ℕ) (list : List ℕ) (r : Result ℕ Unfilled) : Type 0 where
+pub record CreatesPool (s t : State) (old new : List Pool) (n : ℕ) (list : List ℕ) (r : Result ℕ Unfilled) :
+    Type 0 where
   pub number : IfOk r (λ p. p ≡ length old + 1)
   pub added : OnOk r (AddsPool s t old new n list)
   pub enough : OnOk r (n ≤ length (free_chunks s))

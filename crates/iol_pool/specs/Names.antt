@@ -6,4 +6,5 @@ use Rattle.iol_core.specs.declared.limits.TheConstants.{MAX_LISTED}
 -- The domains of a list, each once, if they are at most sixteen; `None` exactly if they are more.
 abbrev pub NotesNames : List ℕ → Option (List ℕ) → Type 0
 NotesNames list r =
-    MatchOption r (MAX_LISTED < length (distinct list)) (λ n. (n ≡ distinct list) × (length (distinct list) ≤ MAX_LISTED))
+    MatchOption r (MAX_LISTED < length (distinct list)) (λ n. (n ≡ distinct list)
+    × (length (distinct list) ≤ MAX_LISTED))

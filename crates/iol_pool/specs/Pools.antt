@@ -1,5 +1,6 @@
 -- Pools: the domains that may read their bytes, and the chunks that store them.
-use Rattle.std.specs.Prelude.{◌≡◌, ℕ, ◌==◌, ◌&&◌, Bool, true, false, not, if◌then◌else◌, List, [], ◌∷◌, ◌++◌, length, flat_map, map, slice_index_or}
+use Rattle.std.specs.Prelude.{◌≡◌, ℕ, ◌==◌, ◌&&◌, Bool, true, false, not, if◌then◌else◌, List, [], ◌∷◌, ◌++◌, length}
+use Rattle.std.specs.Prelude.{flat_map, map, slice_index_or}
 use Rattle.std.specs.List.{filter, list_any, list_all, range_with_len}
 use Rattle.iol_core.specs.NumberedLists.{numbered_or, with_numbered}
 use Rattle.iol_core.specs.Calls.Pools.{with_name}
@@ -49,7 +50,14 @@ all_returned taken cs =
 
 -- the arena, with these chunks free again
 abbrev pub with_returned : State → List ℕ → State
-with_returned s cs = record { memory = s.memory; base = s.base; entries = s.entries; limit = s.limit; taken = all_returned s.taken cs }
+with_returned s cs = record {
+  memory = s.memory;
+  base = s.base;
+  entries = s.entries;
+  limit = s.limit;
+  taken =
+      all_returned s.taken cs;
+}
 
 -- chunks are returned when their pool is closed and all their pages are empty
 abbrev pub goes_back : State → List Pool → (p : ℕ) → Bool

@@ -10,7 +10,8 @@ use Rattle.iol_kernel.specs.ReadsByCopy.{Copies}
 use Rattle.iol_kernel.specs.declared.kernel.Kernel.{Kernel}
 use Rattle.iol_posix.specs.Reads.{ReadsInto}
 
-module _ {B : Type 0} (by fd n : ℕ) (memory filled : List ℕ) (disk : B → Disk) (backing after : B) (old new : Kernel) (most : n ≤ length memory) where
+module _ {B : Type 0} (by fd n : ℕ) (memory filled : List ℕ) (disk : B → Disk) (backing after : B) (old new : Kernel)
+    (most : n ≤ length memory) where
   abbrev whole : List ℕ
   whole = filled ++ drop n memory
 
@@ -23,17 +24,22 @@ module _ {B : Type 0} (by fd n : ℕ) (memory filled : List ℕ) (disk : B → D
   taken : (k : ℕ) → k ≤ n → length filled ≡ length (take n memory) → take k filled ≡ take k whole
   taken k few len = sym (take-append-le k filled (drop n memory) (omega (arith, few, len, front_len)))
 
-  left : (k : ℕ) → k ≤ n → length filled ≡ length (take n memory) → drop k filled ≡ drop k (take n memory) → drop k whole ≡ drop k memory
+  left : (k : ℕ) → k ≤ n → length filled ≡ length (take n memory) → drop k filled ≡ drop k (take n memory)
+      → drop k whole ≡ drop k memory
   left k few len rest =
       drop-append-le k filled (drop n memory) (omega (arith, few, len, front_len))
       ∙ ap (λ (xs : List ℕ). xs ++ drop n memory) rest
       ∙ sym (drop-append-le k (take n memory) (drop n memory) (omega (arith, few, front_len)))
       ∙ ap (drop k) (take-append-drop n memory)
 
-  over : (r : Result ℕ Refusal) → ReadsInto by fd n (take n memory) filled disk backing after old r new → ReadsInto by fd n memory whole disk backing after old r new
+  over : (r : Result ℕ Refusal) → ReadsInto by fd n (take n memory) filled disk backing after old r new
+      → ReadsInto by fd n memory whole disk backing after old r new
   over (Ok k) x = record {
-    serves = subst (λ (bytes : List ℕ). Serves (λ s. read s by fd n) (disk backing) old (Ok bytes) (disk after) new) (taken k x.count x.len) x.serves;
-    copies = subst (λ (bytes : List ℕ). Copies by fd n (disk backing) (state_of old) (Ok bytes) (disk after) (state_of new)) (taken k x.count x.len) x.copies;
+    serves = subst (λ (bytes : List ℕ). Serves (λ s. read s by fd n) (disk backing) old (Ok bytes) (disk after) new)
+        (taken k x.count x.len) x.serves;
+    copies =
+        subst (λ (bytes : List ℕ). Copies by fd n (disk backing) (state_of old) (Ok bytes) (disk after) (state_of new))
+        (taken k x.count x.len) x.copies;
     not_memory = x.not_memory;
     count = x.count;
     len = whole_len x.len;
@@ -50,5 +56,8 @@ module _ {B : Type 0} (by fd n : ℕ) (memory filled : List ℕ) (disk : B → D
     err = ap (λ (xs : List ℕ). xs ++ drop n memory) x.err ∙ take-append-drop n memory;
   }
 
-  pub over_front : (r : Result ℕ Refusal) → ReadsInto by fd (length (take n memory)) (take n memory) filled disk backing after old r new → ReadsInto by fd n memory whole disk backing after old r new
-  over_front r x = over r (subst (λ m. ReadsInto by fd m (take n memory) filled disk backing after old r new) front_len x)
+  pub over_front : (r : Result ℕ Refusal)
+      → ReadsInto by fd (length (take n memory)) (take n memory) filled disk backing after old r new
+      → ReadsInto by fd n memory whole disk backing after old r new
+  over_front r x =
+      over r (subst (λ m. ReadsInto by fd m (take n memory) filled disk backing after old r new) front_len x)

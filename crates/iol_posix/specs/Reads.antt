@@ -10,10 +10,11 @@ use Rattle.iol_kernel.specs.KernelState.{machine_of}
 use Rattle.iol_kernel.specs.Prelude.{Copies, ReadsOut, Serves, state_of}
 use Rattle.iol_kernel.specs.declared.kernel.Kernel.{Kernel}
 
--- A read of at most `most` bytes by copying brought the number of bytes that it returns to the front of a memory, and left the
--- rest of the memory unchanged: the machine's step with an honest store, and the effect, by the descriptor's object. A refusal
--- leaves the memory unchanged, and a read that is not of a file is never refused for lack of memory.
-pub record ReadsInto {B : Type 0} (by fd most : ℕ) (memory filled : List ℕ) (disk : B → Disk) (backing after : B) (old : Kernel)
+-- A read of at most `most` bytes by copying brought the number of bytes that it returns to the front of a memory, and
+-- left the rest of the memory unchanged: the machine's step with an honest store, and the effect, by the descriptor's
+-- object. A refusal leaves the memory unchanged, and a read that is not of a file is never refused for lack of memory.
+pub record ReadsInto {B : Type 0} (by fd most : ℕ) (memory filled : List ℕ) (disk : B → Disk) (backing after : B)
+    (old : Kernel)
     (r : Result ℕ Refusal) (new : Kernel) : Type 0 where
   pub serves : Serves (λ s. read s by fd most) (disk backing) old (first_of filled r) (disk after) new
   pub copies : Copies by fd most (disk backing) (state_of old) (first_of filled r) (disk after) (state_of new)
@@ -23,9 +24,11 @@ pub record ReadsInto {B : Type 0} (by fd most : ℕ) (memory filled : List ℕ) 
   pub rest : IfOk r (λ n. drop n filled ≡ drop n memory)
   pub err : OnErr r (filled ≡ memory)
 
--- A read of a queue by copying brought the number of bytes that it returns to the front of a memory, at most as many as it has
--- room for, and left the rest of the memory unchanged. A refusal leaves the memory unchanged, and is never for lack of memory.
-pub record TakesOut (by fd : ℕ) (memory filled : List ℕ) (old : Kernel) (r : Result ℕ Refusal) (new : Kernel) : Type 0 where
+-- A read of a queue by copying brought the number of bytes that it returns to the front of a memory, at most as many as
+-- it has room for, and left the rest of the memory unchanged. A refusal leaves the memory unchanged, and is never for
+-- lack of memory.
+pub record TakesOut (by fd : ℕ) (memory filled : List ℕ) (old : Kernel) (r : Result ℕ Refusal) (new : Kernel) :
+    Type 0 where
   pub reads : ReadsOut by fd (length memory) (state_of old) (first_of filled r) (state_of new)
   pub not_memory : r ≡ Err Memory → ⊥
   pub count : IfOk r (λ n. n ≤ length memory)

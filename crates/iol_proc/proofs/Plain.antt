@@ -17,10 +17,13 @@ answer_plain s by (call.Show agg) quiet = absurd quiet
 answer_plain s by (call.Read fd count) quiet = absurd quiet
 answer_plain s by c quiet = tt
 
-step_plain : (s t : State) (by : ℕ) (c : Call) (r : Reply) → IsCopyFreeCall c → StepsTo s (event.Call by c) r t → IsPlain r
+step_plain : (s t : State) (by : ℕ) (c : Call) (r : Reply) → IsCopyFreeCall c → StepsTo s (event.Call by c) r t
+    → IsPlain r
 step_plain s t by c (reply.Refused x) quiet step = tt
 step_plain s t by c r quiet step = subst IsPlain (sym step.1) (answer_plain s by c quiet)
 
 -- so is a call of a system, over any store
-pub promised_plain : (old new : SystemState) (by : ℕ) (c : Call) (r : Reply) → IsCopyFreeCall c → Promises old (event.Call by c) r new → IsPlain r
-promised_plain old new by c r quiet p = step_plain (with_slots p.beside.before old.kernel) (with_slots p.beside.after new.kernel) by c r quiet p.beside.step
+pub promised_plain : (old new : SystemState) (by : ℕ) (c : Call) (r : Reply) → IsCopyFreeCall c
+    → Promises old (event.Call by c) r new → IsPlain r
+promised_plain old new by c r quiet p =
+    step_plain (with_slots p.beside.before old.kernel) (with_slots p.beside.after new.kernel) by c r quiet p.beside.step

@@ -14,18 +14,24 @@ domains_of-process_slots [] = refl
 domains_of-process_slots (p ∷ ps) = ap (λ (l : List ℕ). p.0 ∷ l) (domains_of-process_slots ps)
 
 -- what does not fall, and has nothing twice, rises
-rises : {P : Type 0} (xs : List (ProcessSlot P)) → IsNonDecreasingBy (λ s. s.by) xs → IsDistinct nat_eq (domains_of xs) → IsRising (domains_of xs)
+rises : {P : Type 0} (xs : List (ProcessSlot P)) → IsNonDecreasingBy (λ s. s.by) xs → IsDistinct nat_eq (domains_of xs)
+    → IsRising (domains_of xs)
 unfolding IsDistinct
 rises [] up apart = tt
 rises (x ∷ []) up apart = tt
 rises (x ∷ y ∷ ys) up apart =
     let most : x.by ≤ y.by = up 0 1 x (omega arith) (omega arith) in
-    let other : nat_eq x.by y.by ≡ false = apart.0.0 in
-    (grind (arith, nat_tests, most, other), rises (y ∷ ys) (λ i j d le lt. up (suc i) (suc j) d (omega (arith, le)) (omega (arith, lt))) apart.1)
+    let other : nat_eq x.by y.by ≡ false = apart.0.0 in (
+      grind (arith, nat_tests, most, other),
+      rises (y ∷ ys) (λ i j d le lt. up (suc i) (suc j) d (omega (arith, le)) (omega (arith, lt))) apart.1,
+    )
 
 flips : (x y : ℕ) → nat_eq x y ≡ nat_eq y x
 flips x y = grind (arith, nat_tests)
 
-pub in_slots_rise : {P : Type 0} (ps : List (ℕ × P)) (xs : List (ProcessSlot P)) → IsDistinct nat_eq (map (λ p. p.0) ps) → IsPermutation (map process_slot_of ps) xs → IsNonDecreasingBy (λ s. s.by) xs → IsRising (domains_of xs)
+pub in_slots_rise : {P : Type 0} (ps : List (ℕ × P)) (xs : List (ProcessSlot P)) → IsDistinct nat_eq (map (λ p. p.0) ps)
+    → IsPermutation (map process_slot_of ps) xs → IsNonDecreasingBy (λ s. s.by) xs → IsRising (domains_of xs)
 in_slots_rise ps xs apart same up =
-    rises xs up (IsDistinct-IsPermutation nat_eq flips (domains_of (map process_slot_of ps)) (domains_of xs) (IsPermutation-map (λ s. s.by) (map process_slot_of ps) xs same) (subst (λ ds. IsDistinct nat_eq ds) (sym (domains_of-process_slots ps)) apart))
+    rises xs up (IsDistinct-IsPermutation nat_eq flips (domains_of (map process_slot_of ps)) (domains_of xs)
+    (IsPermutation-map (λ s. s.by) (map process_slot_of ps) xs same)
+    (subst (λ ds. IsDistinct nat_eq ds) (sym (domains_of-process_slots ps)) apart))

@@ -21,11 +21,13 @@ use Rattle.iol_proc.specs.declared.process.Turn.TheVariants as turn
 use Rattle.iol_proc.specs.declared.process_slot.ProcessSlot.{ProcessSlot}
 
 -- the store's bytes do not show in aggregates
-readable-slots : (xs ys : List (List ℕ)) (h : KernelState) (by : ℕ) → readable_to (held.machine_of xs h) by ≡ readable_to (held.machine_of ys h) by
+readable-slots : (xs ys : List (List ℕ)) (h : KernelState) (by : ℕ)
+    → readable_to (held.machine_of xs h) by ≡ readable_to (held.machine_of ys h) by
 unfolding read_of state_view domain
 readable-slots xs ys h by = refl
 
-pub readable-byte_view : (byte_view : ByteView) (m : SystemState) (by : ℕ) → byte_view.aggregates ≡ m.kernel → byte_view.by ≡ by → readable byte_view ≡ readable_to (machine_of m) by
+pub readable-byte_view : (byte_view : ByteView) (m : SystemState) (by : ℕ) → byte_view.aggregates ≡ m.kernel
+    → byte_view.by ≡ by → readable byte_view ≡ readable_to (machine_of m) by
 readable-byte_view byte_view m by aggregates domain =
     ap (λ (h : KernelState). readable_to (tables_of h) byte_view.by) aggregates
     ∙ (ap (λ (d : ℕ). readable_to (tables_of m.kernel) d) domain ∙ readable-slots [] m.disk.slots m.kernel by)
@@ -34,30 +36,50 @@ readable-byte_view byte_view m by aggregates domain =
 the_process_slot : {P : Type 0} → ℕ → P → Reply → ProcessSlot P
 the_process_slot by p last = record { by = by; process = p; last = last }
 
-module _ {P : Type 0} (turns : TransitionRelation P) (byte_view : ByteView) (m : SystemState) (process_slot : ProcessSlot P) (next : P) where
-  pub starves_turn : byte_view.aggregates ≡ m.kernel → byte_view.by ≡ process_slot.by → turns.may_want process_slot.process process_slot.last (readable byte_view) → next ≡ process_slot.process → ProcessSlotTurn sharing turns m process_slot false (reply.Refused Memory) m (record { by = process_slot.by; process = next; last = process_slot.last })
+module _ {P : Type 0} (turns : TransitionRelation P) (byte_view : ByteView) (m : SystemState)
+    (process_slot : ProcessSlot P) (next : P) where
+  pub starves_turn : byte_view.aggregates ≡ m.kernel → byte_view.by ≡ process_slot.by
+      → turns.may_want process_slot.process process_slot.last (readable byte_view) → next ≡ process_slot.process
+      → ProcessSlotTurn sharing turns m process_slot false (reply.Refused Memory) m
+      (record { by = process_slot.by; process = next; last = process_slot.last })
   unfolding the_process_slot
   starves_turn aggregates by wants same = inl (record {
-    wanted = subst (λ l. turns.may_want process_slot.process process_slot.last l) (readable-byte_view byte_view m process_slot.by aggregates by) wants;
+    wanted =
+        subst (λ l. turns.may_want process_slot.process process_slot.last l)
+        (readable-byte_view byte_view m process_slot.by aggregates by) wants;
     no_yield = refl;
     answer = refl;
     machine_stays = refl;
     process_slot_stays = ap (λ (p : P). the_process_slot process_slot.by p process_slot.last) same;
   })
 
-  pub yields_turn : (t : Turn) → t ≡ turn.Yield → byte_view.aggregates ≡ m.kernel → byte_view.by ≡ process_slot.by → turns.goes process_slot.process process_slot.last (readable byte_view) t next → ProcessSlotTurn sharing turns m process_slot true reply.Done m (record { by = process_slot.by; process = next; last = reply.Done })
+  pub yields_turn : (t : Turn) → t ≡ turn.Yield → byte_view.aggregates ≡ m.kernel → byte_view.by ≡ process_slot.by
+      → turns.goes process_slot.process process_slot.last (readable byte_view) t next
+      → ProcessSlotTurn sharing turns m process_slot true reply.Done m
+      (record { by = process_slot.by; process = next; last = reply.Done })
   yields_turn t is aggregates by goes = inr (record {
     turn = turn.Yield;
-    proceeds = subst (λ u. turns.goes process_slot.process process_slot.last (readable_to (machine_of m) process_slot.by) u next) is (subst (λ l. turns.goes process_slot.process process_slot.last l t next) (readable-byte_view byte_view m process_slot.by aggregates by) goes);
+    proceeds =
+        subst (λ u. turns.goes process_slot.process process_slot.last (readable_to (machine_of m) process_slot.by) u
+        next) is (subst (λ l. turns.goes process_slot.process process_slot.last l t next)
+        (readable-byte_view byte_view m process_slot.by aggregates by) goes);
     comes = (refl, refl, refl);
     reported = refl;
     domain_stays = refl;
   })
 
-  pub calls_turn : (t : Turn) (c : Call) (r last : Reply) (after : SystemState) → t ≡ turn.Make c → byte_view.aggregates ≡ m.kernel → byte_view.by ≡ process_slot.by → turns.goes process_slot.process process_slot.last (readable byte_view) t next → Promises m (event.Call process_slot.by c) r after → last ≡ r → ProcessSlotTurn sharing turns m process_slot false r after (record { by = process_slot.by; process = next; last = last })
+  pub calls_turn : (t : Turn) (c : Call) (r last : Reply) (after : SystemState) → t ≡ turn.Make c
+      → byte_view.aggregates ≡ m.kernel → byte_view.by ≡ process_slot.by
+      → turns.goes process_slot.process process_slot.last (readable byte_view) t next
+      → Promises m (event.Call process_slot.by c) r after → last ≡ r
+      → ProcessSlotTurn sharing turns m process_slot false r after
+      (record { by = process_slot.by; process = next; last = last })
   calls_turn t c r last after is aggregates by goes step reported = inr (record {
     turn = turn.Make c;
-    proceeds = subst (λ u. turns.goes process_slot.process process_slot.last (readable_to (machine_of m) process_slot.by) u next) is (subst (λ l. turns.goes process_slot.process process_slot.last l t next) (readable-byte_view byte_view m process_slot.by aggregates by) goes);
+    proceeds =
+        subst (λ u. turns.goes process_slot.process process_slot.last (readable_to (machine_of m) process_slot.by) u
+        next) is (subst (λ l. turns.goes process_slot.process process_slot.last l t next)
+        (readable-byte_view byte_view m process_slot.by aggregates by) goes);
     comes = (refl, step);
     reported = reported;
     domain_stays = refl;

@@ -20,7 +20,8 @@ pub record ResourceFailureAsItRuns {M P : Type 0} (machine : Machine M) (turns :
   pub never_was : (w after : Stage M P) (xs : List Choice) (rs : List Reply) → WorldRun machine turns w xs rs after
       → after.resource_failure ≡ false → (w.resource_failure ≡ false) × AreFailureFree xs rs
   -- if the flag is clear at the start and no turn gets such a refusal, it is clear at the end
-  pub stays_failure_free : (w after : Stage M P) (xs : List Choice) (rs : List Reply) → WorldRun machine turns w xs rs after
+  pub stays_failure_free : (w after : Stage M P) (xs : List Choice) (rs : List Reply)
+      → WorldRun machine turns w xs rs after
       → w.resource_failure ≡ false → AreFailureFree xs rs → after.resource_failure ≡ false
 
 pub record FailureFreeRuns {P : Type 0} (turns : TransitionRelation P) : Type 0 where

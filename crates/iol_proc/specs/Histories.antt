@@ -64,7 +64,8 @@ abbrev pub BringAbout : List Choice → List Reply → List Event → List Reply
 BringAbout [] [] es qs = (es ≡ []) × (qs ≡ [])
 BringAbout (choice.Outside e ∷ xs) (r ∷ rs) es qs = Begin e r (BringAbout xs rs) es qs
 BringAbout (choice.Turn by ∷ xs) (r ∷ rs) es qs =
-    ((may_be_no_call r ≡ true) × BringAbout xs rs es qs) ⊎ ((c : Call) × Begin (event.Call by c) r (BringAbout xs rs) es qs)
+    ((may_be_no_call r ≡ true) × BringAbout xs rs es qs)
+    ⊎ ((c : Call) × Begin (event.Call by c) r (BringAbout xs rs) es qs)
 BringAbout xs rs es qs = ⊥
 
 -- The choices are events in a run of the machine, and each connection has the same history.
@@ -92,7 +93,8 @@ pub record HistoriesOfChoices {P : Type 0} (turns : TransitionRelation P) : Type
   -- a run of a world is a run of the copying machine and, over any store, of the system
   pub machine : (w after : Stage State P) (xs : List Choice) (rs : List Reply) → WorldRun copying turns w xs rs after
       → RunsAs Run w.machine xs rs after.machine
-  pub system : (w after : Stage SystemState P) (xs : List Choice) (rs : List Reply) → WorldRun sharing turns w xs rs after
+  pub system : (w after : Stage SystemState P) (xs : List Choice) (rs : List Reply)
+      → WorldRun sharing turns w xs rs after
       → RunsAs Chain w.machine xs rs after.machine
   -- the choices extend histories by the bytes that they receive and send
   pub proceeds : (first : State) (past : List Event) (ps : List Reply) (w after : Stage State P)
@@ -116,12 +118,15 @@ pub record HistoriesOfChoices {P : Type 0} (turns : TransitionRelation P) : Type
   -- the input is read in order, over any run
   pub unread : (w after : Stage State P) (xs : List Choice) (rs : List Reply) (c : ℕ) → IsOrderly w.machine
       → WorldRun copying turns w xs rs after
-      → IsEndOf (bytes_of (conn_at w.machine c).incoming) (stream_over c xs rs) (bytes_of (conn_at after.machine c).incoming)
+      → IsEndOf (bytes_of (conn_at w.machine c).incoming) (stream_over c xs rs)
+      (bytes_of (conn_at after.machine c).incoming)
   -- the output is sent in order, over a run during which the peer receives
   pub unsent : (w after : Stage State P) (xs : List Choice) (rs : List Reply) (c : ℕ) → IsOrderly w.machine
       → WorldRun copying turns w xs rs after → list_any (λ x. drops_with x c) xs ≡ false
-      → GoesFirst (bytes_of (conn_at w.machine c).outgoing) (sent_over c xs rs) (bytes_of (conn_at after.machine c).outgoing)
+      → GoesFirst (bytes_of (conn_at w.machine c).outgoing) (sent_over c xs rs)
+      (bytes_of (conn_at after.machine c).outgoing)
   -- over a run at whose end the connection is not yet accepted
   pub waiting : (w after : Stage State P) (xs : List Choice) (rs : List Reply) (c : ℕ) → IsOrderly w.machine
-      → WorldRun copying turns w xs rs after → (conn_at w.machine c).accepted ≡ false → (conn_at after.machine c).accepted ≡ false
+      → WorldRun copying turns w xs rs after → (conn_at w.machine c).accepted ≡ false
+      → (conn_at after.machine c).accepted ≡ false
       → IsAllUnread w.machine c (stream_over c xs rs) (sent_over c xs rs) after.machine

@@ -1,5 +1,6 @@
 -- Turns in rounds, and the condition on which they stop.
-use Rattle.std.specs.Prelude.{◌≡◌, ◌<◌, ◌≤◌, ◌+◌, ◌%◌, ℕ, zero, suc, List, [], ◌∷◌, length, map, take, replicate, Bool, false, if◌then◌else◌, nat_lt, nat_le, slice_index, slice_set}
+use Rattle.std.specs.Prelude.{◌≡◌, ◌<◌, ◌≤◌, ◌+◌, ◌%◌, ℕ, zero, suc, List, [], ◌∷◌, length, map, take, replicate, Bool}
+use Rattle.std.specs.Prelude.{false, if◌then◌else◌, nat_lt, nat_le, slice_index, slice_set}
 use Rattle.std.specs.List.{list_all}
 use Rattle.iol_core.specs.declared.events.Reply.{Reply}
 use Rattle.iol_proc.specs.Turns.{Machine, TransitionRelation, is_would_block}

@@ -5,8 +5,8 @@ use Rattle.iol_core.specs.declared.events.Reply.{Reply}
 use Rattle.iol_system.specs.Machine.{SystemState}
 use Rattle.iol_system.specs.Promises.{Chain}
 
--- The events of processes and external events, with their replies: a chain of steps of the system. So all laws of the system's
--- runs apply to them.
+-- The events of processes and external events, with their replies: a chain of steps of the system. So all laws of the
+-- system's runs apply to them.
 pub record HasEvents (old new : SystemState) : Type 0 where
   pub events : List Event
   pub replies : List Reply

@@ -43,12 +43,14 @@ module _ {P : Type 0} (S : Claim P) where
     pub blocks : (n by : ℕ) (p q : P) (l : Reply) (m : State) (c : Call) → S n by p l m
         → turns.goes p l (readable_to m by) (turn.Make c) q → StepsTo m (event.Call by c) (reply.Refused WouldBlock) m
         → S n by q (reply.Refused WouldBlock) m
-    pub yields : (n by : ℕ) (p q : P) (l : Reply) (m : State) → S n by p l m → turns.goes p l (readable_to m by) turn.Yield q
+    pub yields : (n by : ℕ) (p q : P) (l : Reply) (m : State) → S n by p l m
+        → turns.goes p l (readable_to m by) turn.Yield q
         → S (more_of_two n) by q reply.Done m
 
   -- The result when all are idle, as `World::until_idle` returns it: the property holds for each process, for two
   -- yields.
   pub record IdleIsQuiescent (turns : TransitionRelation P) : Type 0 where
-    pub all : (w after : Stage State P) (most : ℕ) → Idles copying turns w most true after → AllQuiescent after.process_slots after.machine
+    pub all : (w after : Stage State P) (most : ℕ) → Idles copying turns w most true after
+        → AllQuiescent after.process_slots after.machine
     pub each : (w after : Stage State P) (most place : ℕ) (s : ProcessSlot P) → Idles copying turns w most true after
         → slice_get after.process_slots place ≡ Some s → S 2 s.by s.process s.last after.machine

@@ -25,6 +25,7 @@ module _ {P : Type 0} (turns : TransitionRelation P) where
       OutsideStep copying turns w (event.Transmit c (suc n)) (reply.Segment sent.0 sent.1) after
 
   -- Over an honest store: if the call succeeds, the bytes that it took from a reader arrive.
-  abbrev pub TakenArrive : (c : ℕ) (left rest : Option (List ℕ)) (w after : Stage SystemState P) → Result Arrived Refusal → Type 0
+  abbrev pub TakenArrive : (c : ℕ) (left rest : Option (List ℕ)) (w after : Stage SystemState P)
+      → Result Arrived Refusal → Type 0
   TakenArrive c left rest w after r = IfHonest w.machine.disk
       (IfOk r (λ a. TakesIn left rest a.taken (λ bytes. ArrivesAs c a.taken bytes (copied w) (copied after))))

@@ -2,7 +2,8 @@
 --
 -- The definitions are used for two machines: the copying machine, and a system over any store, with all that it
 -- guarantees.
-use Rattle.std.specs.Prelude.{◌≡◌, ◌≢◌, ◌⊎◌, ◌<◌, ◌||◌, ℕ, List, [], ◌∷◌, length, map, Some, IfSome, Bool, All, slice_get, slice_set}
+use Rattle.std.specs.Prelude.{◌≡◌, ◌≢◌, ◌⊎◌, ◌<◌, ◌||◌, ℕ, List, [], ◌∷◌, length, map, Some, IfSome, Bool, All}
+use Rattle.std.specs.Prelude.{slice_get, slice_set}
 use Rattle.iol_core.specs.State.{State}
 use Rattle.iol_core.specs.Run.{StepsTo}
 use Rattle.iol_core.specs.declared.events.Event.{Event}
@@ -34,11 +35,17 @@ pub record Stage (M P : Type 0) : Type 0 where
 
 -- the stage of a system with its processes
 abbrev pub staged : {P : Type 0} → SystemState → List (ProcessSlot P) → (resource_failure : Bool) → Stage SystemState P
-staged system process_slots resource_failure = record { machine = system; process_slots = process_slots; resource_failure = resource_failure }
+staged system process_slots resource_failure =
+    record { machine = system; process_slots = process_slots; resource_failure = resource_failure }
 
 -- the same processes over the copying machine
 abbrev pub copied : {P : Type 0} → Stage SystemState P → Stage State P
-copied w = record { machine = machine_of w.machine; process_slots = w.process_slots; resource_failure = w.resource_failure }
+copied w = record {
+  machine = machine_of w.machine;
+  process_slots = w.process_slots;
+  resource_failure =
+      w.resource_failure;
+}
 
 -- the domains of the processes, in their order
 abbrev pub domains_of : {P : Type 0} → List (ProcessSlot P) → List ℕ
@@ -60,7 +67,8 @@ HasNoProcessSlot process_slots by = All (λ s. s.by ≢ by) process_slots
 
 -- the process at this index is in this domain
 abbrev pub SitsAt : {P : Type 0} → List (ProcessSlot P) → (by place : ℕ) → Type 0
-SitsAt process_slots by place = IfSome (slice_get process_slots place) (λ process_slot. process_slot.by ≡ by) × (place < length process_slots)
+SitsAt process_slots by place = IfSome (slice_get process_slots place) (λ process_slot. process_slot.by ≡ by)
+    × (place < length process_slots)
 
 -- the process of a domain
 pub record IsInSlots {P : Type 0} (process_slots : List (ProcessSlot P)) (by : ℕ) (p : P) : Type 0 where

@@ -1,16 +1,20 @@
 -- The histories of clients' connections in the worlds that serve them, step by step.
-use Rattle.std.proofs.Common.{◌≡◌, ◌==◌, ◌≤◌, ◌+◌, ◌∙◌, ℕ, Bool, true, false, ◌||◌, List, [], ◌++◌, Option, None, Some, refl, sym, ap, subst, arith, append-nil, if◌then◌else◌}
+use Rattle.std.proofs.Common.{◌≡◌, ◌==◌, ◌≤◌, ◌+◌, ◌∙◌, ℕ, Bool, true, false, ◌||◌, List, [], ◌++◌, Option, None, Some}
+use Rattle.std.proofs.Common.{refl, sym, ap, subst, arith, append-nil, if◌then◌else◌}
 use Rattle.std.specs.Prelude.{◌≢◌}
 use Rattle.std.proofs.lemmas.Bool.Decides.{nat_tests}
 use Rattle.iol_system.specs.Machine.{SystemState}
 use Rattle.iol_proc.specs.Turns.{TransitionRelation}
 use Rattle.iol_proc.specs.World.{Stage}
 use Rattle.iol_reactor.specs.Visits.{HasVisited, VisitsAdvance, VisitsStay}
-use Rattle.iol_reactor.specs.LinkVisits.{HasLinkVisited, IsVisitOf, LinkProceeds, LinksStay, Serving, SlotProceeds, world_of}
+use Rattle.iol_reactor.specs.LinkVisits.{HasLinkVisited, IsVisitOf, LinkProceeds, LinksStay, Serving, SlotProceeds}
+use Rattle.iol_reactor.specs.LinkVisits.{world_of}
 use Rattle.iol_reactor.specs.declared.links.Link.{Link}
 
 -- the world that two tests find, of the current one and the one before
-abbrev which : {P : Type 0} → (is_current is_before : Bool) (w : Stage SystemState P) (before : Option (Stage SystemState P)) → Option (Stage SystemState P)
+abbrev which : {P : Type 0}
+    → (is_current is_before : Bool) (w : Stage SystemState P) (before : Option (Stage SystemState P))
+    → Option (Stage SystemState P)
 which is_current is_before w before = if is_current then Some w else (if is_before then before else None)
 
 link_equal : (l d : Link) → l.conn ≡ d.conn → l.generation ≡ d.generation → l ≡ d
@@ -21,32 +25,44 @@ link_equal l d same both =
 
 -- connections of one world differ by their numbers
 conns_differ : (d l : Link) (n : ℕ) → l ≢ d → (d.generation == n) ≡ true → (l.generation == n) ≡ true → d.conn ≢ l.conn
-conns_differ d l n apart of other = λ equal. apart (let same : l.generation ≡ d.generation = grind (arith, nat_tests, of, other) in link_equal l d (sym equal) same)
+conns_differ d l n apart of other =
+    λ equal. apart (let same : l.generation ≡ d.generation = grind (arith, nat_tests, of, other) in
+    link_equal l d (sym equal) same)
 
-conns_before : (d l : Link) (n : ℕ) → l ≢ d → (d.generation + 1 == n) ≡ true → (l.generation + 1 == n) ≡ true → d.conn ≢ l.conn
-conns_before d l n apart of other = λ equal. apart (let same : l.generation ≡ d.generation = grind (arith, nat_tests, of, other) in link_equal l d (sym equal) same)
+conns_before : (d l : Link) (n : ℕ) → l ≢ d → (d.generation + 1 == n) ≡ true → (l.generation + 1 == n) ≡ true
+    → d.conn ≢ l.conn
+conns_before d l n apart of other =
+    λ equal. apart (let same : l.generation ≡ d.generation = grind (arith, nat_tests, of, other) in
+    link_equal l d (sym equal) same)
 
 module _ {P : Type 0} (turns : TransitionRelation P) (starts : Stage SystemState P → Type 0) (pool : ℕ) where
   -- a step of the current world that leaves every history unchanged
-  stays_current : (b e : Bool) (w after : Stage SystemState P) (before : Option (Stage SystemState P)) (c : ℕ) (came sent : List ℕ) (gone : Bool) → VisitsStay turns starts pool w after
-      → IsVisitOf turns starts pool (which b e w before) c came sent gone → IsVisitOf turns starts pool (which b e after before) c came sent gone
+  stays_current : (b e : Bool) (w after : Stage SystemState P) (before : Option (Stage SystemState P)) (c : ℕ)
+      (came sent : List ℕ) (gone : Bool) → VisitsStay turns starts pool w after
+      → IsVisitOf turns starts pool (which b e w before) c came sent gone
+      → IsVisitOf turns starts pool (which b e after before) c came sent gone
   stays_current true e w after before c came sent gone stay v = stay c came sent gone v
   stays_current false e w after before c came sent gone stay v = v
 
   -- one of the world before
-  stays_before : (b e : Bool) (w u after : Stage SystemState P) (c : ℕ) (came sent : List ℕ) (gone : Bool) → VisitsStay turns starts pool u after
-      → IsVisitOf turns starts pool (which b e w (Some u)) c came sent gone → IsVisitOf turns starts pool (which b e w (Some after)) c came sent gone
+  stays_before : (b e : Bool) (w u after : Stage SystemState P) (c : ℕ) (came sent : List ℕ) (gone : Bool)
+      → VisitsStay turns starts pool u after
+      → IsVisitOf turns starts pool (which b e w (Some u)) c came sent gone
+      → IsVisitOf turns starts pool (which b e w (Some after)) c came sent gone
   stays_before true e w u after c came sent gone stay v = v
   stays_before false true w u after c came sent gone stay v = stay c came sent gone v
   stays_before false false w u after c came sent gone stay v = v
 
   -- the world before is dropped
-  is_lost : (before : Option (Stage SystemState P)) (c : ℕ) (came sent : List ℕ) (gone : Bool) → IsVisitOf turns starts pool before c came sent gone → IsVisitOf turns starts pool None c came sent gone
+  is_lost : (before : Option (Stage SystemState P)) (c : ℕ) (came sent : List ℕ) (gone : Bool)
+      → IsVisitOf turns starts pool before c came sent gone → IsVisitOf turns starts pool None c came sent gone
   is_lost None c came sent gone v = v
   is_lost (Some w) c came sent gone v = (w, v)
 
-  stays_dropped : (b e : Bool) (w : Stage SystemState P) (before : Option (Stage SystemState P)) (c : ℕ) (came sent : List ℕ) (gone : Bool)
-      → IsVisitOf turns starts pool (which b e w before) c came sent gone → IsVisitOf turns starts pool (which b e w None) c came sent gone
+  stays_dropped : (b e : Bool) (w : Stage SystemState P) (before : Option (Stage SystemState P)) (c : ℕ)
+      (came sent : List ℕ) (gone : Bool)
+      → IsVisitOf turns starts pool (which b e w before) c came sent gone
+      → IsVisitOf turns starts pool (which b e w None) c came sent gone
   stays_dropped true e w before c came sent gone v = v
   stays_dropped false true w before c came sent gone v = is_lost before c came sent gone v
   stays_dropped false false w before c came sent gone v = v
@@ -54,92 +70,135 @@ module _ {P : Type 0} (turns : TransitionRelation P) (starts : Stage SystemState
   pub links_same : (s : Serving P) → LinksStay turns starts pool s s
   links_same s = λ l came sent gone up v. v
 
-  pub links_current : (n : ℕ) (w after : Stage SystemState P) (before : Option (Stage SystemState P)) → VisitsStay turns starts pool w after
-      → LinksStay turns starts pool (record { number = n; current = w; before = before }) (record { number = n; current = after; before = before })
-  links_current n w after before stay = λ l came sent gone up v. stays_current (l.generation == n) (l.generation + 1 == n) w after before l.conn came sent gone stay v
+  pub links_current : (n : ℕ) (w after : Stage SystemState P) (before : Option (Stage SystemState P))
+      → VisitsStay turns starts pool w after
+      → LinksStay turns starts pool (record { number = n; current = w; before = before })
+      (record { number = n; current = after; before = before })
+  links_current n w after before stay =
+      λ l came sent gone up v. stays_current (l.generation == n) (l.generation + 1 == n) w after before l.conn came sent
+      gone stay v
 
   pub links_before : (n : ℕ) (w u after : Stage SystemState P) → VisitsStay turns starts pool u after
-      → LinksStay turns starts pool (record { number = n; current = w; before = Some u }) (record { number = n; current = w; before = Some after })
-  links_before n w u after stay = λ l came sent gone up v. stays_before (l.generation == n) (l.generation + 1 == n) w u after l.conn came sent gone stay v
+      → LinksStay turns starts pool (record { number = n; current = w; before = Some u })
+      (record { number = n; current = w; before = Some after })
+  links_before n w u after stay =
+      λ l came sent gone up v. stays_before (l.generation == n) (l.generation + 1 == n) w u after l.conn came sent gone
+      stay v
 
   pub links_dropped : (n : ℕ) (w : Stage SystemState P) (before : Option (Stage SystemState P))
-      → LinksStay turns starts pool (record { number = n; current = w; before = before }) (record { number = n; current = w; before = None })
-  links_dropped n w before = λ l came sent gone up v. stays_dropped (l.generation == n) (l.generation + 1 == n) w before l.conn came sent gone v
+      → LinksStay turns starts pool (record { number = n; current = w; before = before })
+      (record { number = n; current = w; before = None })
+  links_dropped n w before = λ l came sent gone up v. stays_dropped (l.generation == n) (l.generation + 1 == n) w before
+      l.conn came sent gone v
 
-  pub links_then : (s t u : Serving P) → s.number ≤ t.number → LinksStay turns starts pool s t → LinksStay turns starts pool t u → LinksStay turns starts pool s u
-  links_then s t u more first next = λ l came sent gone up v. next l came sent gone (omega (arith, more, up)) (first l came sent gone up v)
+  pub links_then : (s t u : Serving P) → s.number ≤ t.number → LinksStay turns starts pool s t
+      → LinksStay turns starts pool t u → LinksStay turns starts pool s u
+  links_then s t u more first next =
+      λ l came sent gone up v. next l came sent gone (omega (arith, more, up)) (first l came sent gone up v)
 
   -- a new world is the current one
-  renewed : (is next later : Bool) (w new : Stage SystemState P) (before : Option (Stage SystemState P)) (c : ℕ) (came sent : List ℕ) (gone : Bool) → later ≡ false
-      → IsVisitOf turns starts pool (which is next w before) c came sent gone → IsVisitOf turns starts pool (which later is new (Some w)) c came sent gone
+  renewed : (is next later : Bool) (w new : Stage SystemState P) (before : Option (Stage SystemState P)) (c : ℕ)
+      (came sent : List ℕ) (gone : Bool) → later ≡ false
+      → IsVisitOf turns starts pool (which is next w before) c came sent gone
+      → IsVisitOf turns starts pool (which later is new (Some w)) c came sent gone
   renewed true next false w new before c came sent gone none v = v
   renewed false true false w new before c came sent gone none v = is_lost before c came sent gone v
   renewed false false false w new before c came sent gone none v = v
   renewed is next true w new before c came sent gone none v = absurd (cc (none))
 
   pub links_renewed : (n : ℕ) (w new : Stage SystemState P) (before : Option (Stage SystemState P))
-      → LinksStay turns starts pool (record { number = n; current = w; before = before }) (record { number = n + 1; current = new; before = Some w })
+      → LinksStay turns starts pool (record { number = n; current = w; before = before })
+      (record { number = n + 1; current = new; before = Some w })
   links_renewed n w new before = λ l came sent gone up v. (
       let same : (l.generation + 1 == n + 1) ≡ (l.generation == n) = grind (arith, nat_tests) in
       let none : (l.generation == n + 1) ≡ false = grind (arith, nat_tests, up) in
-      subst (λ (b : Bool). IsVisitOf turns starts pool (which (l.generation == n + 1) b new (Some w)) l.conn came sent gone) (sym same)
-      (renewed (l.generation == n) (l.generation + 1 == n) (l.generation == n + 1) w new before l.conn came sent gone none v))
+      subst (λ (b : Bool). IsVisitOf turns starts pool (which (l.generation == n + 1) b new (Some w)) l.conn came sent
+      gone) (sym same)
+      (renewed (l.generation == n) (l.generation + 1 == n) (l.generation == n + 1) w new before l.conn came sent gone
+      none v))
 
-  pub links_renewed_as : (n m : ℕ) (w current : Stage SystemState P) (before retiring : Option (Stage SystemState P)) → m ≡ n + 1 → retiring ≡ Some w
-      → LinksStay turns starts pool (record { number = n; current = w; before = before }) (record { number = m; current = current; before = retiring })
+  pub links_renewed_as : (n m : ℕ) (w current : Stage SystemState P) (before retiring : Option (Stage SystemState P))
+      → m ≡ n + 1 → retiring ≡ Some w
+      → LinksStay turns starts pool (record { number = n; current = w; before = before })
+      (record { number = m; current = current; before = retiring })
   links_renewed_as n m w current before retiring more is =
-      subst (λ (k : ℕ). LinksStay turns starts pool (record { number = n; current = w; before = before }) (record { number = k; current = current; before = retiring })) (sym more)
-      (subst (λ (b : Option (Stage SystemState P)). LinksStay turns starts pool (record { number = n; current = w; before = before }) (record { number = n + 1; current = current; before = b })) (sym is)
+      subst (λ (k : ℕ). LinksStay turns starts pool (record { number = n; current = w; before = before })
+      (record { number = k; current = current; before = retiring })) (sym more)
+      (subst
+      (λ (b : Option (Stage SystemState P)). LinksStay turns starts pool
+      (record { number = n; current = w; before = before })
+      (record { number = n + 1; current = current; before = b })) (sym is)
       (links_renewed n w current before))
 
   -- ---- a step of one connection
 
-  own_current : (b e : Bool) (w after : Stage SystemState P) (before : Option (Stage SystemState P)) (c : ℕ) (came sent more next : List ℕ) (gone last : Bool) → b ≡ true
+  own_current : (b e : Bool) (w after : Stage SystemState P) (before : Option (Stage SystemState P)) (c : ℕ)
+      (came sent more next : List ℕ) (gone last : Bool) → b ≡ true
       → VisitsAdvance turns starts pool c more next last w after
-      → IsVisitOf turns starts pool (which b e w before) c came sent gone → IsVisitOf turns starts pool (which b e after before) c (came ++ more) (sent ++ next) (gone || last)
+      → IsVisitOf turns starts pool (which b e w before) c came sent gone
+      → IsVisitOf turns starts pool (which b e after before) c (came ++ more) (sent ++ next) (gone || last)
   own_current true e w after before c came sent more next gone last is goes v = goes.own came sent gone v
   own_current false e w after before c came sent more next gone last is goes v = absurd (cc (is))
 
-  other_current : (b e : Bool) (w after : Stage SystemState P) (before : Option (Stage SystemState P)) (d c : ℕ) (came sent more next : List ℕ) (gone last : Bool) → (b ≡ true → d ≢ c)
+  other_current : (b e : Bool) (w after : Stage SystemState P) (before : Option (Stage SystemState P)) (d c : ℕ)
+      (came sent more next : List ℕ) (gone last : Bool) → (b ≡ true → d ≢ c)
       → VisitsAdvance turns starts pool d more next last w after
-      → IsVisitOf turns starts pool (which b e w before) c came sent gone → IsVisitOf turns starts pool (which b e after before) c came sent gone
-  other_current true e w after before d c came sent more next gone last apart goes v = goes.others c came sent gone (apart refl) v
+      → IsVisitOf turns starts pool (which b e w before) c came sent gone
+      → IsVisitOf turns starts pool (which b e after before) c came sent gone
+  other_current true e w after before d c came sent more next gone last apart goes v =
+      goes.others c came sent gone (apart refl) v
   other_current false e w after before d c came sent more next gone last apart goes v = v
 
-  pub link_current : (n : ℕ) (w after : Stage SystemState P) (before : Option (Stage SystemState P)) (d : Link) (more next : List ℕ) (last : Bool) → (d.generation == n) ≡ true
+  pub link_current : (n : ℕ) (w after : Stage SystemState P) (before : Option (Stage SystemState P)) (d : Link)
+      (more next : List ℕ) (last : Bool) → (d.generation == n) ≡ true
       → VisitsAdvance turns starts pool d.conn more next last w after
-      → LinkProceeds turns starts pool d more next last (record { number = n; current = w; before = before }) (record { number = n; current = after; before = before })
+      → LinkProceeds turns starts pool d more next last (record { number = n; current = w; before = before })
+      (record { number = n; current = after; before = before })
   link_current n w after before d more next last is goes = record {
-    own = λ came sent gone v. own_current (d.generation == n) (d.generation + 1 == n) w after before d.conn came sent more next gone last is goes v;
-    others = λ l came sent gone apart v. other_current (l.generation == n) (l.generation + 1 == n) w after before d.conn l.conn came sent more next gone last (λ of. conns_differ d l n apart is of) goes v;
+    own = λ came sent gone v. own_current (d.generation == n) (d.generation + 1 == n) w after before d.conn came sent
+        more next gone last is goes v;
+    others = λ l came sent gone apart v. other_current (l.generation == n) (l.generation + 1 == n) w after before d.conn
+        l.conn came sent more next gone last (λ of. conns_differ d l n apart is of) goes v;
   }
 
-  own_before : (b e : Bool) (w u after : Stage SystemState P) (c : ℕ) (came sent more next : List ℕ) (gone last : Bool) → b ≡ false → e ≡ true
+  own_before : (b e : Bool) (w u after : Stage SystemState P) (c : ℕ) (came sent more next : List ℕ) (gone last : Bool)
+      → b ≡ false → e ≡ true
       → VisitsAdvance turns starts pool c more next last u after
-      → IsVisitOf turns starts pool (which b e w (Some u)) c came sent gone → IsVisitOf turns starts pool (which b e w (Some after)) c (came ++ more) (sent ++ next) (gone || last)
+      → IsVisitOf turns starts pool (which b e w (Some u)) c came sent gone
+      → IsVisitOf turns starts pool (which b e w (Some after)) c (came ++ more) (sent ++ next) (gone || last)
   own_before false true w u after c came sent more next gone last off is goes v = goes.own came sent gone v
   own_before false false w u after c came sent more next gone last off is goes v = absurd (cc (is))
   own_before true e w u after c came sent more next gone last off is goes v = absurd (cc (off))
 
-  other_before : (b e : Bool) (w u after : Stage SystemState P) (d c : ℕ) (came sent more next : List ℕ) (gone last : Bool) → (e ≡ true → d ≢ c)
+  other_before : (b e : Bool) (w u after : Stage SystemState P) (d c : ℕ) (came sent more next : List ℕ)
+      (gone last : Bool) → (e ≡ true → d ≢ c)
       → VisitsAdvance turns starts pool d more next last u after
-      → IsVisitOf turns starts pool (which b e w (Some u)) c came sent gone → IsVisitOf turns starts pool (which b e w (Some after)) c came sent gone
+      → IsVisitOf turns starts pool (which b e w (Some u)) c came sent gone
+      → IsVisitOf turns starts pool (which b e w (Some after)) c came sent gone
   other_before true e w u after d c came sent more next gone last apart goes v = v
-  other_before false true w u after d c came sent more next gone last apart goes v = goes.others c came sent gone (apart refl) v
+  other_before false true w u after d c came sent more next gone last apart goes v =
+      goes.others c came sent gone (apart refl) v
   other_before false false w u after d c came sent more next gone last apart goes v = v
 
-  pub link_before : (n : ℕ) (w u after : Stage SystemState P) (d : Link) (more next : List ℕ) (last : Bool) → (d.generation == n) ≡ false → (d.generation + 1 == n) ≡ true
+  pub link_before : (n : ℕ) (w u after : Stage SystemState P) (d : Link) (more next : List ℕ) (last : Bool)
+      → (d.generation == n) ≡ false → (d.generation + 1 == n) ≡ true
       → VisitsAdvance turns starts pool d.conn more next last u after
-      → LinkProceeds turns starts pool d more next last (record { number = n; current = w; before = Some u }) (record { number = n; current = w; before = Some after })
+      → LinkProceeds turns starts pool d more next last (record { number = n; current = w; before = Some u })
+      (record { number = n; current = w; before = Some after })
   link_before n w u after d more next last off is goes = record {
-    own = λ came sent gone v. own_before (d.generation == n) (d.generation + 1 == n) w u after d.conn came sent more next gone last off is goes v;
-    others = λ l came sent gone apart v. other_before (l.generation == n) (l.generation + 1 == n) w u after d.conn l.conn came sent more next gone last (λ of. conns_before d l n apart is of) goes v;
+    own = λ came sent gone v. own_before (d.generation == n) (d.generation + 1 == n) w u after d.conn came sent more
+        next gone last off is goes v;
+    others = λ l came sent gone apart v. other_before (l.generation == n) (l.generation + 1 == n) w u after d.conn
+        l.conn came sent more next gone last (λ of. conns_before d l n apart is of) goes v;
   }
 
   -- nothing happened to a connection
-  keeps_visit : (s : Serving P) (l : Link) (came sent : List ℕ) (gone : Bool) → HasLinkVisited turns starts pool s l came sent gone → HasLinkVisited turns starts pool s l (came ++ []) (sent ++ []) (gone || false)
+  keeps_visit : (s : Serving P) (l : Link) (came sent : List ℕ) (gone : Bool)
+      → HasLinkVisited turns starts pool s l came sent gone
+      → HasLinkVisited turns starts pool s l (came ++ []) (sent ++ []) (gone || false)
   keeps_visit s l came sent gone v =
-      subst (λ (xs : List ℕ). HasLinkVisited turns starts pool s l xs (sent ++ []) (gone || false)) (sym (append-nil came))
+      subst (λ (xs : List ℕ). HasLinkVisited turns starts pool s l xs (sent ++ []) (gone || false))
+      (sym (append-nil came))
       (subst (λ (xs : List ℕ). HasLinkVisited turns starts pool s l came xs (gone || false)) (sym (append-nil sent))
       (subst (λ (b : Bool). HasLinkVisited turns starts pool s l came sent b) (sym (or-false gone)) v))
     where
@@ -148,7 +207,11 @@ module _ {P : Type 0} (turns : TransitionRelation P) (starts : Stage SystemState
       or-false false = refl
 
   pub link_same : (s : Serving P) (d : Link) → LinkProceeds turns starts pool d [] [] false s s
-  link_same s d = record { own = λ came sent gone v. keeps_visit s d came sent gone v; others = λ l came sent gone apart v. v }
+  link_same s d = record {
+    own = λ came sent gone v. keeps_visit s d came sent gone v;
+    others =
+        λ l came sent gone apart v. v;
+  }
 
 -- ---- the connection of a client that may have none
 
@@ -157,19 +220,35 @@ module _ {P : Type 0} (turns : TransitionRelation P) (starts : Stage SystemState
   slot_same pool s None = links_same turns starts pool s
   slot_same pool s (Some d) = link_same turns starts pool s d
 
-  pub slot_current : (pool q n : ℕ) (w after : Stage SystemState P) (before : Option (Stage SystemState P)) (o : Option Link) (d : Link) (e : ℕ) (more next : List ℕ) (last : Bool) → o ≡ Some d → e ≡ d.conn → q ≡ pool
+  pub slot_current : (pool q n : ℕ) (w after : Stage SystemState P) (before : Option (Stage SystemState P))
+      (o : Option Link) (d : Link) (e : ℕ) (more next : List ℕ) (last : Bool) → o ≡ Some d → e ≡ d.conn → q ≡ pool
       → (d.generation == n) ≡ true → VisitsAdvance turns starts q e more next last w after
-      → SlotProceeds turns starts pool o more next last (record { number = n; current = w; before = before }) (record { number = n; current = after; before = before })
+      → SlotProceeds turns starts pool o more next last (record { number = n; current = w; before = before })
+      (record { number = n; current = after; before = before })
   slot_current pool q n w after before o d e more next last has same own is goes =
-      subst (λ (x : Option Link). SlotProceeds turns starts pool x more next last (record { number = n; current = w; before = before }) (record { number = n; current = after; before = before })) (sym has)
+      subst
+      (λ (x : Option Link). SlotProceeds turns starts pool x more next last
+      (record { number = n; current = w; before = before })
+      (record { number = n; current = after; before = before })) (sym has)
       (link_current turns starts pool n w after before d more next last is
-      (subst (λ (k : ℕ). VisitsAdvance turns starts pool k more next last w after) same (subst (λ (k : ℕ). VisitsAdvance turns starts k e more next last w after) own goes)))
+      (subst (λ (k : ℕ). VisitsAdvance turns starts pool k more next last w after) same
+      (subst (λ (k : ℕ). VisitsAdvance turns starts k e more next last w after) own goes)))
 
-  pub slot_before : (pool q n : ℕ) (w u after : Stage SystemState P) (before : Option (Stage SystemState P)) (o : Option Link) (d : Link) (e : ℕ) (more next : List ℕ) (last : Bool) → o ≡ Some d → e ≡ d.conn → q ≡ pool → before ≡ Some u
-      → (d.generation == n) ≡ false → (d.generation + 1 == n) ≡ true → VisitsAdvance turns starts q e more next last u after
-      → SlotProceeds turns starts pool o more next last (record { number = n; current = w; before = before }) (record { number = n; current = w; before = Some after })
+  pub slot_before : (pool q n : ℕ) (w u after : Stage SystemState P) (before : Option (Stage SystemState P))
+      (o : Option Link) (d : Link) (e : ℕ) (more next : List ℕ) (last : Bool) → o ≡ Some d → e ≡ d.conn → q ≡ pool
+      → before ≡ Some u
+      → (d.generation == n) ≡ false → (d.generation + 1 == n) ≡ true
+      → VisitsAdvance turns starts q e more next last u after
+      → SlotProceeds turns starts pool o more next last (record { number = n; current = w; before = before })
+      (record { number = n; current = w; before = Some after })
   slot_before pool q n w u after before o d e more next last has same own there off is goes =
-      subst (λ (b : Option (Stage SystemState P)). SlotProceeds turns starts pool o more next last (record { number = n; current = w; before = b }) (record { number = n; current = w; before = Some after })) (sym there)
-      (subst (λ (x : Option Link). SlotProceeds turns starts pool x more next last (record { number = n; current = w; before = Some u }) (record { number = n; current = w; before = Some after })) (sym has)
+      subst (λ (b : Option (Stage SystemState P)). SlotProceeds turns starts pool o more next last
+      (record { number = n; current = w; before = b }) (record { number = n; current = w; before = Some after }))
+      (sym there)
+      (subst
+      (λ (x : Option Link). SlotProceeds turns starts pool x more next last
+      (record { number = n; current = w; before = Some u })
+      (record { number = n; current = w; before = Some after })) (sym has)
       (link_before turns starts pool n w u after d more next last off is
-      (subst (λ (k : ℕ). VisitsAdvance turns starts pool k more next last u after) same (subst (λ (k : ℕ). VisitsAdvance turns starts k e more next last u after) own goes))))
+      (subst (λ (k : ℕ). VisitsAdvance turns starts pool k more next last u after) same
+      (subst (λ (k : ℕ). VisitsAdvance turns starts k e more next last u after) own goes))))

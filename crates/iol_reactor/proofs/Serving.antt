@@ -32,7 +32,8 @@ pub serving_all : (pool c : ℕ) (xs : List Choice) → AreOn c xs → AreServin
 serving_all pool c [] on = tt
 serving_all pool c (x ∷ xs) on = (serving_on pool c x on.0, serving_all pool c xs on.1)
 
-pub serving-append : (pool : ℕ) (xs ys : List Choice) → AreServing pool xs → AreServing pool ys → AreServing pool (xs ++ ys)
+pub serving-append : (pool : ℕ) (xs ys : List Choice) → AreServing pool xs → AreServing pool ys
+    → AreServing pool (xs ++ ys)
 serving-append pool [] ys first next = next
 serving-append pool (x ∷ xs) ys first next = (first.0, serving-append pool xs ys first.1 next)
 
@@ -40,7 +41,8 @@ module _ {P : Type 0} (turns : TransitionRelation P) where
   continues_none : (pool : ℕ) (w : Stage State P) → Continues turns pool w w
   continues_none pool w = record { choices = []; replies = []; run = refl; serving = tt }
 
-  continues_then : (pool : ℕ) (w mid after : Stage State P) → Continues turns pool w mid → Continues turns pool mid after → Continues turns pool w after
+  continues_then : (pool : ℕ) (w mid after : Stage State P) → Continues turns pool w mid
+      → Continues turns pool mid after → Continues turns pool w after
   continues_then pool w mid after a b = record {
     choices = a.choices ++ b.choices;
     replies = a.replies ++ b.replies;
@@ -51,24 +53,38 @@ module _ {P : Type 0} (turns : TransitionRelation P) where
   pub continues_same : (pool : ℕ) (w after : Stage State P) → after ≡ w → Continues turns pool w after
   continues_same pool w after same = record { choices = []; replies = []; run = same; serving = tt }
 
-  pub continues_on : (pool c : ℕ) (came sent : List ℕ) (gone : Bool) (w after : Stage State P) → Proceeds turns c came sent gone w after → Continues turns pool w after
-  continues_on pool c came sent gone w after g = record { choices = g.choices; replies = g.replies; run = g.run; serving = serving_all pool c g.choices g.alone }
+  pub continues_on : (pool c : ℕ) (came sent : List ℕ) (gone : Bool) (w after : Stage State P)
+      → Proceeds turns c came sent gone w after → Continues turns pool w after
+  continues_on pool c came sent gone w after g =
+      record { choices = g.choices; replies = g.replies; run = g.run; serving = serving_all pool c g.choices g.alone }
 
-  pub continues_new : (pool : ℕ) (r : Reply) (w after : Stage State P) → OutsideStep copying turns w (event.ConnNew pool) r after → Continues turns pool w after
-  continues_new pool r w after step = record { choices = choice.Outside (event.ConnNew pool) ∷ []; replies = r ∷ []; run = (after, step, refl); serving = (refl, tt) }
+  pub continues_new : (pool : ℕ) (r : Reply) (w after : Stage State P)
+      → OutsideStep copying turns w (event.ConnNew pool) r after → Continues turns pool w after
+  continues_new pool r w after step =
+      record {
+        choices = choice.Outside (event.ConnNew pool) ∷ [];
+        replies = r ∷ [];
+        run = (after, step, refl);
+        serving = (refl, tt);
+      }
 
   -- bytes that arrive
 
   pub arrives_none : (c : ℕ) (bytes : List ℕ) (w : Stage State P) → Arrives turns c bytes bytes w w
   arrives_none c bytes w = record { came = []; split = refl; proceeds = goes_none turns c w w refl }
 
-  pub arrives_refused : (c : ℕ) (bytes rest : List ℕ) (w after : Stage State P) → rest ≡ bytes → after ≡ w → Arrives turns c bytes rest w after
-  arrives_refused c bytes rest w after still same = record { came = []; split = sym still; proceeds = goes_none turns c w after same }
+  pub arrives_refused : (c : ℕ) (bytes rest : List ℕ) (w after : Stage State P) → rest ≡ bytes → after ≡ w
+      → Arrives turns c bytes rest w after
+  arrives_refused c bytes rest w after still same =
+      record { came = []; split = sym still; proceeds = goes_none turns c w after same }
 
-  pub arrives_page : (c n : ℕ) (bytes rest came : List ℕ) (w after : Stage State P) → bytes ≡ came ++ rest → length came ≡ n → ArrivesAs turns c n came w after → Arrives turns c bytes rest w after
-  arrives_page c n bytes rest came w after split count step = record { came = came; split = split; proceeds = goes_arrived turns c n came w after count step }
+  pub arrives_page : (c n : ℕ) (bytes rest came : List ℕ) (w after : Stage State P) → bytes ≡ came ++ rest
+      → length came ≡ n → ArrivesAs turns c n came w after → Arrives turns c bytes rest w after
+  arrives_page c n bytes rest came w after split count step =
+      record { came = came; split = split; proceeds = goes_arrived turns c n came w after count step }
 
-  pub arrives_then : (c : ℕ) (bytes more rest : List ℕ) (w mid after : Stage State P) → Arrives turns c bytes more w mid → Arrives turns c more rest mid after → Arrives turns c bytes rest w after
+  pub arrives_then : (c : ℕ) (bytes more rest : List ℕ) (w mid after : Stage State P) → Arrives turns c bytes more w mid
+      → Arrives turns c more rest mid after → Arrives turns c bytes rest w after
   arrives_then c bytes more rest w mid after a b = record {
     came = a.came ++ b.came;
     split = a.split ∙ (ap (λ (l : List ℕ). a.came ++ l) b.split ∙ sym (append_assoc a.came b.came rest));
@@ -76,25 +92,40 @@ module _ {P : Type 0} (turns : TransitionRelation P) where
   }
 
   -- a peer that has ended
-  pub ends_reported : (c : ℕ) (how : How) (r : Reply) (w after : Stage State P) → OutsideStep copying turns w (event.PeerClosed c how) r after → Ends turns c how w after
+  pub ends_reported : (c : ℕ) (how : How) (r : Reply) (w after : Stage State P)
+      → OutsideStep copying turns w (event.PeerClosed c how) r after → Ends turns c how w after
   ends_reported c how r w after step = record { reply = r; step = step }
 
-  served_first : (starts : Stage SystemState P → Type 0) (pool : ℕ) (w : Stage SystemState P) → starts w → HasServed turns starts pool w
-  served_first starts pool w started = record { begun = w; started = started; honest = record { same = refl }; continues = λ honest. continues_none pool (copied w) }
+  served_first : (starts : Stage SystemState P → Type 0) (pool : ℕ) (w : Stage SystemState P) → starts w
+      → HasServed turns starts pool w
+  served_first starts pool w started =
+      record {
+        begun = w;
+        started = started;
+        honest = record { same = refl };
+        continues =
+            λ honest. continues_none pool (copied w);
+      }
 
-  served_next : (starts : Stage SystemState P → Type 0) (pool : ℕ) (w after : Stage SystemState P) → KeepsHonesty w.machine after.machine
-      → IfHonest w.machine.disk (Continues turns pool (copied w) (copied after)) → HasServed turns starts pool w → HasServed turns starts pool after
+  served_next : (starts : Stage SystemState P → Type 0) (pool : ℕ) (w after : Stage SystemState P)
+      → KeepsHonesty w.machine after.machine
+      → IfHonest w.machine.disk (Continues turns pool (copied w) (copied after)) → HasServed turns starts pool w
+      → HasServed turns starts pool after
   served_next starts pool w after kept next h = record {
     begun = h.begun;
     started = h.started;
     honest = record { same = kept.same ∙ h.honest.same };
-    continues = λ honest. continues_then pool (copied h.begun) (copied w) (copied after) (h.continues honest) (next (h.honest.same ∙ honest));
+    continues = λ honest. continues_then pool (copied h.begun) (copied w) (copied after) (h.continues honest)
+        (next (h.honest.same ∙ honest));
   }
 
   -- the same, of a fact that only holds
-  pub began : (starts : Stage SystemState P → Type 0) (pool : ℕ) (w : Stage SystemState P) → starts w → ∥ HasServed turns starts pool w ∥₁
+  pub began : (starts : Stage SystemState P → Type 0) (pool : ℕ) (w : Stage SystemState P) → starts w
+      → ∥ HasServed turns starts pool w ∥₁
   began starts pool w started = ∣ served_first starts pool w started ∣₁
 
-  pub proceeds : (starts : Stage SystemState P → Type 0) (pool : ℕ) (w after : Stage SystemState P) → KeepsHonesty w.machine after.machine
-      → IfHonest w.machine.disk (Continues turns pool (copied w) (copied after)) → ∥ HasServed turns starts pool w ∥₁ → ∥ HasServed turns starts pool after ∥₁
+  pub proceeds : (starts : Stage SystemState P → Type 0) (pool : ℕ) (w after : Stage SystemState P)
+      → KeepsHonesty w.machine after.machine
+      → IfHonest w.machine.disk (Continues turns pool (copied w) (copied after)) → ∥ HasServed turns starts pool w ∥₁
+      → ∥ HasServed turns starts pool after ∥₁
   proceeds starts pool w after kept next h = ∥∥₁_map h (served_next starts pool w after kept next)

@@ -1,5 +1,6 @@
 -- The history of a connection of a world that serves, step by step.
-use Rattle.std.proofs.Common.{◌≡◌, ◌==◌, ◌∙◌, ℕ, Bool, true, false, ◌||◌, List, [], ◌∷◌, ◌++◌, refl, sym, ap, subst, arith, append-nil, take, if◌then◌else◌}
+use Rattle.std.proofs.Common.{◌≡◌, ◌==◌, ◌∙◌, ℕ, Bool, true, false, ◌||◌, List, [], ◌∷◌, ◌++◌, refl, sym, ap, subst}
+use Rattle.std.proofs.Common.{arith, append-nil, take, if◌then◌else◌}
 use Rattle.std.specs.Prelude.{◌≢◌}
 use Rattle.std.specs.List.{list_any}
 use Rattle.std.proofs.lemmas.Bool.Decides.{nat_tests}
@@ -24,7 +25,8 @@ use Rattle.iol_proc.specs.declared.choice.Choice.TheVariants as choice
 use Rattle.iol_proc.proofs.Streams.{runs_follow, stream_over-append, sent_over-append}
 use Rattle.iol_serve.specs.Service.{IsOn, AreOn, Proceeds}
 use Rattle.iol_reactor.specs.Serving.{Arrives, HasServed}
-use Rattle.iol_reactor.specs.Visits.{Carries, HasVisited, Visits, VisitsArrive, VisitsContinue, VisitsAdvance, VisitsStay}
+use Rattle.iol_reactor.specs.Visits.{Carries, HasVisited, Visits, VisitsArrive, VisitsContinue, VisitsAdvance}
+use Rattle.iol_reactor.specs.Visits.{VisitsStay}
 use Rattle.iol_reactor.proofs.Serving.{serving-append, serving_all}
 
 -- ---- events of other connections bring nothing to this one
@@ -39,7 +41,8 @@ none_if true xs is = absurd (cc (is))
 
 came_other : (d c : ℕ) (x : Choice) (r : Reply) → d ≢ c → IsOn d x → came_with c x r ≡ []
 came_other d c (choice.Turn by) r apart on = refl
-came_other d c (choice.Outside (event.Arrive e bytes)) (reply.Count k) apart on = none_if (e == c) (take k bytes) (differs d c e apart on)
+came_other d c (choice.Outside (event.Arrive e bytes)) (reply.Count k) apart on =
+    none_if (e == c) (take k bytes) (differs d c e apart on)
 came_other d c (choice.Outside (event.Arrive e bytes)) r apart on = refl
 came_other d c (choice.Outside (event.PeerClosed e how)) r apart on = refl
 came_other d c (choice.Outside (event.Transmit e max)) r apart on = refl
@@ -49,7 +52,8 @@ sent_other : (d c : ℕ) (x : Choice) (r : Reply) → d ≢ c → IsOn d x → s
 sent_other d c (choice.Turn by) r apart on = refl
 sent_other d c (choice.Outside (event.Arrive e bytes)) r apart on = refl
 sent_other d c (choice.Outside (event.PeerClosed e how)) r apart on = refl
-sent_other d c (choice.Outside (event.Transmit e max)) (reply.Segment bytes sum) apart on = none_if (e == c) bytes (differs d c e apart on)
+sent_other d c (choice.Outside (event.Transmit e max)) (reply.Segment bytes sum) apart on =
+    none_if (e == c) bytes (differs d c e apart on)
 sent_other d c (choice.Outside (event.Transmit e max)) r apart on = refl
 sent_other d c (choice.Outside e) r apart on = absurd on
 
@@ -90,42 +94,91 @@ or-false false = refl
 module _ {P : Type 0} (turns : TransitionRelation P) where
   carries_none : (pool c : ℕ) (w : Stage State P) → Carries turns pool c [] [] false w w
   unfolding stream_over sent_over
-  carries_none pool c w = record { continues = record { choices = []; replies = []; run = refl; serving = tt }; comes = refl; goes = refl; reports = refl }
+  carries_none pool c w = record {
+    continues = record { choices = []; replies = []; run = refl; serving = tt };
+    comes =
+        refl;
+    goes = refl;
+    reports = refl;
+  }
 
-  carries_then : (pool c : ℕ) (came sent more next : List ℕ) (gone last : Bool) (w mid after : Stage State P) → Carries turns pool c came sent gone w mid
-      → Carries turns pool c more next last mid after → Carries turns pool c (came ++ more) (sent ++ next) (gone || last) w after
+  carries_then : (pool c : ℕ) (came sent more next : List ℕ) (gone last : Bool) (w mid after : Stage State P)
+      → Carries turns pool c came sent gone w mid
+      → Carries turns pool c more next last mid after
+      → Carries turns pool c (came ++ more) (sent ++ next) (gone || last) w after
   carries_then pool c came sent more next gone last w mid after a b = record {
     continues = record {
       choices = a.continues.choices ++ b.continues.choices;
       replies = a.continues.replies ++ b.continues.replies;
-      run = runs_follow copying turns w mid after a.continues.choices b.continues.choices a.continues.replies b.continues.replies a.continues.run b.continues.run;
+      run = runs_follow copying turns w mid after a.continues.choices b.continues.choices a.continues.replies
+          b.continues.replies a.continues.run b.continues.run;
       serving = serving-append pool a.continues.choices b.continues.choices a.continues.serving b.continues.serving;
     };
-    comes = stream_over-append copying turns w mid a.continues.choices b.continues.choices a.continues.replies b.continues.replies c a.continues.run
-        ∙ (ap (λ (l : List ℕ). l ++ stream_over c b.continues.choices b.continues.replies) a.comes ∙ ap (λ (l : List ℕ). came ++ l) b.comes);
-    goes = sent_over-append copying turns w mid a.continues.choices b.continues.choices a.continues.replies b.continues.replies c a.continues.run
-        ∙ (ap (λ (l : List ℕ). l ++ sent_over c b.continues.choices b.continues.replies) a.goes ∙ ap (λ (l : List ℕ). sent ++ l) b.goes);
+    comes = stream_over-append copying turns w mid a.continues.choices b.continues.choices a.continues.replies
+        b.continues.replies c a.continues.run
+        ∙ (ap (λ (l : List ℕ). l ++ stream_over c b.continues.choices b.continues.replies) a.comes
+        ∙ ap (λ (l : List ℕ). came ++ l) b.comes);
+    goes = sent_over-append copying turns w mid a.continues.choices b.continues.choices a.continues.replies
+        b.continues.replies c a.continues.run
+        ∙ (ap (λ (l : List ℕ). l ++ sent_over c b.continues.choices b.continues.replies) a.goes
+        ∙ ap (λ (l : List ℕ). sent ++ l) b.goes);
     reports = list_any-append (λ x. drops_with x c) a.continues.choices b.continues.choices
-        ∙ (ap (λ (t : Bool). t || list_any (λ x. drops_with x c) b.continues.choices) a.reports ∙ ap (λ (t : Bool). gone || t) b.reports);
+        ∙ (ap (λ (t : Bool). t || list_any (λ x. drops_with x c) b.continues.choices) a.reports
+        ∙ ap (λ (t : Bool). gone || t) b.reports);
   }
 
-  pub carries_own : (pool c : ℕ) (came sent : List ℕ) (gone : Bool) (w after : Stage State P) → Proceeds turns c came sent gone w after → Carries turns pool c came sent gone w after
-  carries_own pool c came sent gone w after g = record { continues = record { choices = g.choices; replies = g.replies; run = g.run; serving = serving_all pool c g.choices g.alone }; comes = g.comes; goes = g.goes; reports = g.reports }
+  pub carries_own : (pool c : ℕ) (came sent : List ℕ) (gone : Bool) (w after : Stage State P)
+      → Proceeds turns c came sent gone w after → Carries turns pool c came sent gone w after
+  carries_own pool c came sent gone w after g =
+      record {
+        continues = record {
+          choices = g.choices;
+          replies = g.replies;
+          run = g.run;
+          serving =
+              serving_all pool c g.choices g.alone;
+        };
+        comes = g.comes;
+        goes = g.goes;
+        reports = g.reports;
+      }
 
-  carries_other : (pool c d : ℕ) (came sent : List ℕ) (gone : Bool) (w after : Stage State P) → d ≢ c → Proceeds turns d came sent gone w after → Carries turns pool c [] [] false w after
+  carries_other : (pool c d : ℕ) (came sent : List ℕ) (gone : Bool) (w after : Stage State P) → d ≢ c
+      → Proceeds turns d came sent gone w after → Carries turns pool c [] [] false w after
   carries_other pool c d came sent gone w after apart g = record {
-    continues = record { choices = g.choices; replies = g.replies; run = g.run; serving = serving_all pool d g.choices g.alone };
+    continues = record {
+      choices = g.choices;
+      replies = g.replies;
+      run = g.run;
+      serving =
+          serving_all pool d g.choices g.alone;
+    };
     comes = streams_other d c g.choices g.replies apart g.alone;
     goes = sents_other d c g.choices g.replies apart g.alone;
     reports = all_drops_other d c g.choices apart g.alone;
   }
 
-  pub carries_made : (pool c : ℕ) (r : Reply) (w after : Stage State P) → OutsideStep copying turns w (event.ConnNew pool) r after → Carries turns pool c [] [] false w after
+  pub carries_made : (pool c : ℕ) (r : Reply) (w after : Stage State P)
+      → OutsideStep copying turns w (event.ConnNew pool) r after → Carries turns pool c [] [] false w after
   unfolding stream_over sent_over
-  carries_made pool c r w after step = record { continues = record { choices = choice.Outside (event.ConnNew pool) ∷ []; replies = r ∷ []; run = (after, step, refl); serving = (refl, tt) }; comes = refl; goes = refl; reports = refl }
+  carries_made pool c r w after step =
+      record {
+        continues = record {
+          choices = choice.Outside (event.ConnNew pool) ∷ [];
+          replies = r ∷ [];
+          run =
+              (after, step, refl);
+          serving = (refl, tt);
+        };
+        comes = refl;
+        goes = refl;
+        reports = refl;
+      }
 
-  visits_then : (pool c : ℕ) (came sent more next : List ℕ) (gone last : Bool) (begun w after : Stage State P) → Visits turns pool c came sent gone begun w
-      → Carries turns pool c more next last w after → Visits turns pool c (came ++ more) (sent ++ next) (gone || last) begun after
+  visits_then : (pool c : ℕ) (came sent more next : List ℕ) (gone last : Bool) (begun w after : Stage State P)
+      → Visits turns pool c came sent gone begun w
+      → Carries turns pool c more next last w after
+      → Visits turns pool c (came ++ more) (sent ++ next) (gone || last) begun after
   visits_then pool c came sent more next gone last begun w after v more_of = record {
     before = v.before;
     past = v.past;
@@ -135,7 +188,8 @@ module _ {P : Type 0} (turns : TransitionRelation P) where
   }
 
   -- nothing of it
-  visits_still : (pool c : ℕ) (came sent : List ℕ) (gone : Bool) (begun w after : Stage State P) → Visits turns pool c came sent gone begun w
+  visits_still : (pool c : ℕ) (came sent : List ℕ) (gone : Bool) (begun w after : Stage State P)
+      → Visits turns pool c came sent gone begun w
       → Carries turns pool c [] [] false w after → Visits turns pool c came sent gone begun after
   visits_still pool c came sent gone begun w after v more =
       subst (λ (l : List ℕ). Visits turns pool c l sent gone begun after) (append-nil came)
@@ -145,10 +199,20 @@ module _ {P : Type 0} (turns : TransitionRelation P) where
 
   pub visits_continue : VisitsContinue turns
   visits_continue = record {
-    new = λ pool c begun w after past made. record { before = w; past = past; first = after; made = made; since = carries_none pool c after };
-    own = λ pool c came sent more next gone last begun w after v g. visits_then pool c came sent more next gone last begun w after v (carries_own pool c more next last w after g);
-    other = λ pool c d came sent more next gone last begun w after apart v g. visits_still pool c came sent gone begun w after v (carries_other pool c d more next last w after apart g);
-    made = λ pool c came sent gone r begun w after v step. visits_still pool c came sent gone begun w after v (carries_made pool c r w after step);
+    new = λ pool c begun w after past made. record {
+      before = w;
+      past = past;
+      first = after;
+      made = made;
+      since =
+          carries_none pool c after;
+    };
+    own = λ pool c came sent more next gone last begun w after v g. visits_then pool c came sent more next gone last
+        begun w after v (carries_own pool c more next last w after g);
+    other = λ pool c d came sent more next gone last begun w after apart v g. visits_still pool c came sent gone begun w
+        after v (carries_other pool c d more next last w after apart g);
+    made = λ pool c came sent gone r begun w after v step. visits_still pool c came sent gone begun w after v
+        (carries_made pool c r w after step);
   }
 
 -- whether a connection exists does not depend on the bytes of files
@@ -159,8 +223,10 @@ lacks_same m c = refl
 -- ---- histories in a world over a store, which may be dishonest
 
 module _ {P : Type 0} (turns : TransitionRelation P) (starts : Stage SystemState P → Type 0) (pool : ℕ) where
-  visited_next : (c : ℕ) (came sent more next : List ℕ) (gone last : Bool) (w after : Stage SystemState P) → KeepsHonesty w.machine after.machine
-      → ((begun : Stage State P) → w.machine.disk.honest ≡ true → Visits turns pool c came sent gone begun (copied w) → Visits turns pool c more next last begun (copied after))
+  visited_next : (c : ℕ) (came sent more next : List ℕ) (gone last : Bool) (w after : Stage SystemState P)
+      → KeepsHonesty w.machine after.machine
+      → ((begun : Stage State P) → w.machine.disk.honest ≡ true → Visits turns pool c came sent gone begun (copied w)
+      → Visits turns pool c more next last begun (copied after))
       → HasVisited turns starts pool c came sent gone w → HasVisited turns starts pool c more next last after
   visited_next c came sent more next gone last w after kept goes v = record {
     begun = v.begun;
@@ -171,41 +237,56 @@ module _ {P : Type 0} (turns : TransitionRelation P) (starts : Stage SystemState
 
   -- nothing arrives and nothing is sent on any connection
   pub visits_stay : (w after : Stage SystemState P) → KeepsHonesty w.machine after.machine
-      → ((c : ℕ) → IfHonest w.machine.disk (Carries turns pool c [] [] false (copied w) (copied after))) → VisitsStay turns starts pool w after
+      → ((c : ℕ) → IfHonest w.machine.disk (Carries turns pool c [] [] false (copied w) (copied after)))
+      → VisitsStay turns starts pool w after
   visits_stay w after kept carries = λ c came sent gone v. visited_next c came sent came sent gone gone w after kept
-      (λ begun honest past. visits_still turns pool c came sent gone begun (copied w) (copied after) past (carries c honest)) v
+      (λ begun honest past. visits_still turns pool c came sent gone begun (copied w) (copied after) past
+      (carries c honest)) v
 
   -- the same world, as the copying machine has it
-  pub visits_same : (w after : Stage SystemState P) → KeepsHonesty w.machine after.machine → copied after ≡ copied w → VisitsStay turns starts pool w after
-  visits_same w after kept same = visits_stay w after kept (λ c honest. subst (λ (v : Stage State P). Carries turns pool c [] [] false (copied w) v) (sym same) (carries_none turns pool c (copied w)))
+  pub visits_same : (w after : Stage SystemState P) → KeepsHonesty w.machine after.machine → copied after ≡ copied w
+      → VisitsStay turns starts pool w after
+  visits_same w after kept same =
+      visits_stay w after kept (λ c honest. subst (λ (v : Stage State P). Carries turns pool c [] [] false (copied w) v)
+      (sym same) (carries_none turns pool c (copied w)))
 
   -- turns, and events of d
-  pub visits_advance : (d : ℕ) (more next : List ℕ) (last : Bool) (w after : Stage SystemState P) → KeepsHonesty w.machine after.machine
-      → IfHonest w.machine.disk (Proceeds turns d more next last (copied w) (copied after)) → VisitsAdvance turns starts pool d more next last w after
+  pub visits_advance : (d : ℕ) (more next : List ℕ) (last : Bool) (w after : Stage SystemState P)
+      → KeepsHonesty w.machine after.machine
+      → IfHonest w.machine.disk (Proceeds turns d more next last (copied w) (copied after))
+      → VisitsAdvance turns starts pool d more next last w after
   visits_advance d more next last w after kept goes = record {
     own = λ came sent gone v. visited_next d came sent (came ++ more) (sent ++ next) gone (gone || last) w after kept
-        (λ begun honest past. visits_then turns pool d came sent more next gone last begun (copied w) (copied after) past (carries_own turns pool d more next last (copied w) (copied after) (goes honest))) v;
+        (λ begun honest past. visits_then turns pool d came sent more next gone last begun (copied w) (copied after)
+        past (carries_own turns pool d more next last (copied w) (copied after) (goes honest))) v;
     others = λ c came sent gone apart v. visited_next c came sent came sent gone gone w after kept
-        (λ begun honest past. visits_still turns pool c came sent gone begun (copied w) (copied after) past (carries_other turns pool c d more next last (copied w) (copied after) apart (goes honest))) v;
+        (λ begun honest past. visits_still turns pool c came sent gone begun (copied w) (copied after) past
+        (carries_other turns pool c d more next last (copied w) (copied after) apart (goes honest))) v;
   }
 
   -- the first bytes arrive on d
-  pub visits_arrive : (d : ℕ) (bytes rest came : List ℕ) (w after : Stage SystemState P) → KeepsHonesty w.machine after.machine
-      → bytes ≡ came ++ rest → IfHonest w.machine.disk (Arrives turns d bytes rest (copied w) (copied after)) → VisitsArrive turns starts pool d bytes rest w after
+  pub visits_arrive : (d : ℕ) (bytes rest came : List ℕ) (w after : Stage SystemState P)
+      → KeepsHonesty w.machine after.machine
+      → bytes ≡ came ++ rest → IfHonest w.machine.disk (Arrives turns d bytes rest (copied w) (copied after))
+      → VisitsArrive turns starts pool d bytes rest w after
   visits_arrive d bytes rest came w after kept split arrives = (
     came,
     split,
     visits_advance d came [] false w after kept
-        (λ honest. let a = arrives honest in subst (λ (l : List ℕ). Proceeds turns d l [] false (copied w) (copied after)) (append_cancel_right a.came came rest (sym a.split ∙ split)) a.proceeds),
+        (λ honest. let a = arrives honest in
+        subst (λ (l : List ℕ). Proceeds turns d l [] false (copied w) (copied after))
+        (append_cancel_right a.came came rest (sym a.split ∙ split)) a.proceeds),
   )
 
   -- a new connection
   pub visits_begin : (c : ℕ) (w after : Stage SystemState P) → KeepsHonesty w.machine after.machine
-      → IfHonest w.machine.disk (OutsideStep copying turns (copied w) (event.ConnNew pool) (reply.Conn c) (copied after))
+      → IfHonest w.machine.disk (OutsideStep copying turns (copied w) (event.ConnNew pool) (reply.Conn c)
+      (copied after))
       → ∥ HasServed turns starts pool w ∥₁ → ∥ HasVisited turns starts pool c [] [] false after ∥₁
   visits_begin c w after kept made served = ∥∥₁_map served (λ (h : HasServed turns starts pool w). record {
     begun = h.begun;
     started = h.started;
     honest = record { same = kept.same ∙ h.honest.same };
-    visits = λ honest. (visits_continue turns).new pool c (copied h.begun) (copied w) (copied after) (h.continues honest) (made (h.honest.same ∙ honest));
+    visits = λ honest. (visits_continue turns).new pool c (copied h.begun) (copied w) (copied after)
+        (h.continues honest) (made (h.honest.same ∙ honest));
   })

@@ -7,8 +7,8 @@ Counts None now r = ⊤
 Counts (Some n) None r = ⊥
 Counts (Some n) (Some m) r = MatchResult r (λ _. m ≡ n + 1) (λ _. m ≡ n)
 
--- If the number of clients that a listener gave, and the number that it may still give, are known: it gave at most as many as
--- the latter number has fallen, and that number is still known.
+-- If the number of clients that a listener gave, and the number that it may still give, are known: it gave at most as
+-- many as the latter number has fallen, and that number is still known.
 abbrev pub StaysWithin : (given left now now_left : Option ℕ) → Type 0
 StaysWithin given None now now_left = ⊤
 StaysWithin None (Some left) now now_left = ⊤

@@ -1,5 +1,6 @@
 -- A client: its connections, one after another, and the bytes between them and its socket.
-use Rattle.std.specs.Prelude.{◌≡◌, ◌≤◌, ℕ, Bool, true, false, List, [], ◌++◌, length, take, drop, map, Some, if◌then◌else◌}
+use Rattle.std.specs.Prelude.{◌≡◌, ◌≤◌, ℕ, Bool, true, false, List, [], ◌++◌, length, take, drop, map, Some}
+use Rattle.std.specs.Prelude.{if◌then◌else◌}
 use Rattle.std.specs.List.{AllByRecursion, concat}
 use Rattle.iol_core.specs.Calls.Outside.{lacks_conn}
 use Rattle.iol_system.specs.Machine.{SystemState}
@@ -26,7 +27,8 @@ pub record BytesMove : Type 0 where
   -- a new client
   pub none : Holds [] [] [] [] [] [] [] []
   -- the socket supplies more
-  pub read : (pc ps came sent waiting unsent supplied accepted more : List ℕ) → Holds pc ps came sent waiting unsent supplied accepted
+  pub read : (pc ps came sent waiting unsent supplied accepted more : List ℕ)
+      → Holds pc ps came sent waiting unsent supplied accepted
       → Holds pc ps came sent (waiting ++ more) unsent (supplied ++ more) accepted
   -- the socket accepts more
   pub flushed : (pc ps came sent waiting left supplied accepted more : List ℕ)
@@ -41,7 +43,8 @@ pub record BytesMove : Type 0 where
       → Holds pc ps came sent waiting [] supplied accepted
       → Holds pc ps came (sent ++ (more ++ left)) waiting left supplied (accepted ++ more)
   -- the connection is left
-  pub left : (pc ps came sent waiting unsent supplied accepted : List ℕ) → Holds pc ps came sent waiting unsent supplied accepted
+  pub left : (pc ps came sent waiting unsent supplied accepted : List ℕ)
+      → Holds pc ps came sent waiting unsent supplied accepted
       → Holds (pc ++ came) (ps ++ sent) [] [] waiting unsent supplied accepted
 
 -- ---- the connections of a client
@@ -68,7 +71,8 @@ pub record Visit (P : Type 0) : Type 0 where
   pub came : List ℕ
   pub sent : List ℕ
 
-module _ {P : Type 0} (turns : TransitionRelation P) (starts : Stage SystemState P → Type 0) (frames : List ℕ → Frame → Type 0) (pool : ℕ) where
+module _ {P : Type 0} (turns : TransitionRelation P) (starts : Stage SystemState P → Type 0) (frames : List ℕ → Frame
+    → Type 0) (pool : ℕ) where
   -- The bytes are those of requests, each of which keeps its connection.
   pub record AreWhole (came : List ℕ) : Type 0 where
     pub requests : List Request
@@ -121,7 +125,8 @@ module _ {P : Type 0} (turns : TransitionRelation P) (starts : Stage SystemState
   -- The connections of a client, one after another.
   pub record ConnectionsFollow : Type 0 where
     pub none : WereLeft [] []
-    pub more : (came sent : List ℕ) (v : Visit P) → WereLeft came sent → IsLeft v → WereLeft (came ++ v.came) (sent ++ v.sent)
+    pub more : (came sent : List ℕ) (v : Visit P) → WereLeft came sent → IsLeft v
+        → WereLeft (came ++ v.came) (sent ++ v.sent)
     -- a new connection
     pub first : (s : Serving P) (l : Link) → HasLinkVisited turns starts pool s l [] [] false → IsOpen s l [] []
     -- what happens to others
@@ -148,7 +153,8 @@ module _ {P : Type 0} (turns : TransitionRelation P) (starts : Stage SystemState
         → LinkProceeds turns starts pool l [] more false s after → IsAsking s l is_last input came sent
         → IsAsking after l is_last input came (sent ++ more)
     pub open_sends : (s after : Serving P) (l : Link) (came sent more : List ℕ)
-        → LinkProceeds turns starts pool l [] more false s after → IsOpen s l came sent → IsOpen after l came (sent ++ more)
+        → LinkProceeds turns starts pool l [] more false s after → IsOpen s l came sent
+        → IsOpen after l came (sent ++ more)
     -- its request was handed in whole, and keeps it
     pub answered : (s : Serving P) (l : Link) (input : Input) (came sent : List ℕ) → input.asked ≤ input.given
         → IsAsking s l false input came sent → IsOpen s l came sent

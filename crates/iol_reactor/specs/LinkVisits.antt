@@ -1,5 +1,6 @@
 -- The histories of clients' connections in the worlds that serve them.
-use Rattle.std.specs.Prelude.{◌≡◌, ◌≢◌, ◌≤◌, ◌+◌, ◌==◌, ◌||◌, ℕ, Bool, true, false, List, [], ◌++◌, Option, None, Some, if◌then◌else◌, option_map}
+use Rattle.std.specs.Prelude.{◌≡◌, ◌≢◌, ◌≤◌, ◌+◌, ◌==◌, ◌||◌, ℕ, Bool, true, false, List, [], ◌++◌, Option, None, Some}
+use Rattle.std.specs.Prelude.{if◌then◌else◌, option_map}
 use Rattle.std.specs.Io.KnownBytes.{Appends}
 use Rattle.iol_core.specs.Calls.Outside.{lacks_conn}
 use Rattle.iol_system.specs.Machine.{SystemState}
@@ -16,10 +17,12 @@ pub record Serving (P : Type 0) : Type 0 where
 
 -- the world of a connection, if it still serves
 abbrev pub world_of : {P : Type 0} → Serving P → Link → Option (Stage SystemState P)
-world_of s l = if l.generation == s.number then Some s.current else (if l.generation + 1 == s.number then s.before else None)
+world_of s l =
+    if l.generation == s.number then Some s.current else (if l.generation + 1 == s.number then s.before else None)
 
 -- the same, where the world before is part of this value
-abbrev pub serving : {P H : Type 0} → (number : ℕ) → (current : Stage SystemState P) → (world : H → Stage SystemState P) → Option H
+abbrev pub serving : {P H : Type 0} → (number : ℕ) → (current : Stage SystemState P) → (world : H → Stage SystemState P)
+    → Option H
     → Serving P
 serving number current world before = record { number = number; current = current; before = option_map world before }
 
@@ -35,7 +38,8 @@ module _ {P : Type 0} (turns : TransitionRelation P) (starts : Stage SystemState
 
   -- The history of each connection of a world up to the current one is unchanged.
   abbrev pub LinksStay : (s after : Serving P) → Type 0
-  LinksStay s after = (l : Link) (came sent : List ℕ) (gone : Bool) → l.generation ≤ s.number → HasLinkVisited s l came sent gone
+  LinksStay s after = (l : Link) (came sent : List ℕ) (gone : Bool) → l.generation ≤ s.number
+      → HasLinkVisited s l came sent gone
       → HasLinkVisited after l came sent gone
 
   -- The history of one is continued by these bytes, and those of the others are unchanged.

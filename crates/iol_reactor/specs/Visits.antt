@@ -70,7 +70,8 @@ module _ {P : Type 0} (turns : TransitionRelation P) where
 
   -- The history of each connection is unchanged.
   abbrev pub VisitsStay : (starts : Stage SystemState P → Type 0) (pool : ℕ) (w after : Stage SystemState P) → Type 0
-  VisitsStay starts pool w after = (c : ℕ) (came sent : List ℕ) (gone : Bool) → HasVisited starts pool c came sent gone w
+  VisitsStay starts pool w after = (c : ℕ) (came sent : List ℕ) (gone : Bool)
+      → HasVisited starts pool c came sent gone w
       → HasVisited starts pool c came sent gone after
 
   -- Each step of a world continues the history of each connection.
@@ -84,7 +85,8 @@ module _ {P : Type 0} (turns : TransitionRelation P) where
         → Visits pool c (came ++ more) (sent ++ next) (gone || last) begun after
     -- events of another connection
     pub other : (pool c d : ℕ) (came sent more next : List ℕ) (gone last : Bool) (begun w after : Stage State P) → d ≢ c
-        → Visits pool c came sent gone begun w → Proceeds turns d more next last w after → Visits pool c came sent gone begun after
+        → Visits pool c came sent gone begun w → Proceeds turns d more next last w after
+        → Visits pool c came sent gone begun after
     -- another connection is created, or refused
     pub made : (pool c : ℕ) (came sent : List ℕ) (gone : Bool) (r : Reply) (begun w after : Stage State P)
         → Visits pool c came sent gone begun w → OutsideStep copying turns w (event.ConnNew pool) r after

@@ -13,17 +13,23 @@ use Rattle.iol_serve.specs.Service.{Sends}
 use Rattle.iol_serve.proofs.Steps.{appends_none, goes_sent, sends_none}
 
 module _ {P : Type 0} (turns : TransitionRelation P) where
-  pub sends_drained : (c n : ℕ) (held now : Option (List ℕ)) (w after : Stage SystemState P) → SendsAs turns c n (copied w) (copied after)
-      → Appends held now (take n (bytes_of (conn_at (tables_of w.machine.kernel) c).outgoing)) → Sends turns c held now (copied w) (copied after)
+  pub sends_drained : (c n : ℕ) (held now : Option (List ℕ)) (w after : Stage SystemState P)
+      → SendsAs turns c n (copied w) (copied after)
+      → Appends held now (take n (bytes_of (conn_at (tables_of w.machine.kernel) c).outgoing))
+      → Sends turns c held now (copied w) (copied after)
   unfolding conn_at read_of state_view
   sends_drained c n held now w after step taken =
       let sent : List ℕ = take n (bytes_of (conn_at (tables_of w.machine.kernel) c).outgoing) in
       record {
         sent = sent;
         taken = taken;
-        proceeds = goes_sent turns c n sent (copied w) (copied after) step (sym (take-map (λ b. b.0) n _)) (λ none. ap (λ (k : ℕ). take k (bytes_of (conn_at (tables_of w.machine.kernel) c).outgoing)) none);
+        proceeds = goes_sent turns c n sent (copied w) (copied after) step (sym (take-map (λ b. b.0) n _))
+            (λ none. ap (λ (k : ℕ). take k (bytes_of (conn_at (tables_of w.machine.kernel) c).outgoing)) none);
       }
 
-  pub sends_refused : (c : ℕ) (held now : Option (List ℕ)) (w after : Stage SystemState P) → now ≡ held → after ≡ w → Sends turns c held now (copied w) (copied after)
+  pub sends_refused : (c : ℕ) (held now : Option (List ℕ)) (w after : Stage SystemState P) → now ≡ held → after ≡ w
+      → Sends turns c held now (copied w) (copied after)
   sends_refused c held now w after still same =
-      sends_none turns c held now (copied w) (copied after) (subst (λ (o : Option (List ℕ)). Appends held o []) (sym still) (appends_none held)) (ap (λ (v : Stage SystemState P). copied v) same)
+      sends_none turns c held now (copied w) (copied after)
+      (subst (λ (o : Option (List ℕ)). Appends held o []) (sym still) (appends_none held))
+      (ap (λ (v : Stage SystemState P). copied v) same)

@@ -20,7 +20,8 @@ hung_up-after ending.Failed step = refl
 hung_up-after ending.Silent step = refl
 hung_up-after ending.Long step = refl
 
-pub ended_last : (s : State) (c : ℕ) (was : Bool) (step : Step) → is_last was step ≡ true → (is_gone step ≡ true → HasEnded s c) → (step ≡ Over → lacks_conn s c ≡ true) → HasEnded s c
+pub ended_last : (s : State) (c : ℕ) (was : Bool) (step : Step) → is_last was step ≡ true
+    → (is_gone step ≡ true → HasEnded s c) → (step ≡ Over → lacks_conn s c ≡ true) → HasEnded s c
 ended_last s c was Moved last gone over = absurd (cc last)
 ended_last s c was Quiet last gone over = absurd (cc last)
 ended_last s c was Failed last gone over = gone refl
@@ -29,7 +30,8 @@ ended_last s c was Stalled last gone over = gone refl
 ended_last s c was Over last gone over = inl (over refl)
 
 -- where the last round leaves a connection over, the round told so
-pub over_last : {A : Type 0} (before : Ending) (step : Step) → is_last (hung_up before) step ≡ true → after before step ≡ ending.Over → (step ≡ Over → A) → A
+pub over_last : {A : Type 0} (before : Ending) (step : Step) → is_last (hung_up before) step ≡ true
+    → after before step ≡ ending.Over → (step ≡ Over → A) → A
 over_last before Moved last is over = absurd (cc last)
 over_last before Quiet last is over = absurd (cc last)
 over_last before Over last is over = over refl

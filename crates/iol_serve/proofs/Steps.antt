@@ -1,5 +1,6 @@
 -- Serving a connection, step by step.
-use Rattle.std.proofs.Common.{◌≡◌, ◌∙◌, ℕ, suc, zero, Bool, true, false, ◌||◌, List, [], ◌∷◌, ◌++◌, Option, None, Some, refl, sym, ap, subst, length, take, arith, append_assoc, append-nil, ◌==◌, if◌then◌else◌}
+use Rattle.std.proofs.Common.{◌≡◌, ◌∙◌, ℕ, suc, zero, Bool, true, false, ◌||◌, List, [], ◌∷◌, ◌++◌, Option, None, Some}
+use Rattle.std.proofs.Common.{refl, sym, ap, subst, length, take, arith, append_assoc, append-nil, ◌==◌, if◌then◌else◌}
 use Rattle.std.proofs.lemmas.Bool.Decides.{nat_tests}
 use Rattle.std.proofs.lemmas.List.Folds.{list_any-append}
 use Rattle.std.specs.List.{list_any}
@@ -36,7 +37,8 @@ appends_kept (Some xs) None keeps = absurd keeps
 
 pub appends_then : (a b d : Option (List ℕ)) (xs ys : List ℕ) → Appends a b xs → Appends b d ys → Appends a d (xs ++ ys)
 appends_then None b d xs ys first next = tt
-appends_then (Some k) (Some l) (Some m) xs ys first next = next ∙ (ap (λ (w : List ℕ). w ++ ys) first ∙ append_assoc k xs ys)
+appends_then (Some k) (Some l) (Some m) xs ys first next =
+    next ∙ (ap (λ (w : List ℕ). w ++ ys) first ∙ append_assoc k xs ys)
 appends_then (Some k) None d xs ys first next = absurd first
 appends_then (Some k) (Some l) None xs ys first next = absurd next
 
@@ -44,9 +46,11 @@ pub consumes_none : (left : Option (List ℕ)) → Consumes left left []
 consumes_none None = tt
 consumes_none (Some xs) = refl
 
-pub consumes_then : (a b d : Option (List ℕ)) (xs ys : List ℕ) → Consumes a b xs → Consumes b d ys → Consumes a d (xs ++ ys)
+pub consumes_then : (a b d : Option (List ℕ)) (xs ys : List ℕ) → Consumes a b xs → Consumes b d ys
+    → Consumes a d (xs ++ ys)
 consumes_then None b d xs ys first next = tt
-consumes_then (Some k) (Some l) (Some m) xs ys first next = first ∙ (ap (λ (w : List ℕ). xs ++ w) next ∙ sym (append_assoc xs ys m))
+consumes_then (Some k) (Some l) (Some m) xs ys first next =
+    first ∙ (ap (λ (w : List ℕ). xs ++ w) next ∙ sym (append_assoc xs ys m))
 consumes_then (Some k) None d xs ys first next = absurd first
 consumes_then (Some k) (Some l) None xs ys first next = absurd next
 
@@ -96,23 +100,37 @@ take_all (suc n) (x ∷ xs) e = ap (λ (w : List ℕ). x ∷ w) (take_all n xs (
 module _ {P : Type 0} (turns : TransitionRelation P) where
   pub goes_none : (c : ℕ) (w after : Stage State P) → after ≡ w → Proceeds turns c [] [] false w after
   unfolding stream_over sent_over
-  goes_none c w after same = record { choices = []; replies = []; run = same; alone = tt; comes = refl; goes = refl; reports = refl }
+  goes_none c w after same = record {
+    choices = [];
+    replies = [];
+    run = same;
+    alone = tt;
+    comes = refl;
+    goes =
+        refl;
+    reports = refl;
+  }
 
-  pub goes_then : (c : ℕ) (came sent more rest : List ℕ) (gone last : Bool) (w mid after : Stage State P) → Proceeds turns c came sent gone w mid → Proceeds turns c more rest last mid after → Proceeds turns c (came ++ more) (sent ++ rest) (gone || last) w after
+  pub goes_then : (c : ℕ) (came sent more rest : List ℕ) (gone last : Bool) (w mid after : Stage State P)
+      → Proceeds turns c came sent gone w mid → Proceeds turns c more rest last mid after
+      → Proceeds turns c (came ++ more) (sent ++ rest) (gone || last) w after
   goes_then c came sent more rest gone last w mid after a b = record {
     choices = a.choices ++ b.choices;
     replies = a.replies ++ b.replies;
     run = runs_follow copying turns w mid after a.choices b.choices a.replies b.replies a.run b.run;
     alone = alone-append c a.choices b.choices a.alone b.alone;
     comes = stream_over-append copying turns w mid a.choices b.choices a.replies b.replies c a.run
-        ∙ (ap (λ (l : List ℕ). l ++ stream_over c b.choices b.replies) a.comes ∙ ap (λ (l : List ℕ). came ++ l) b.comes);
+        ∙ (ap (λ (l : List ℕ). l ++ stream_over c b.choices b.replies) a.comes
+        ∙ ap (λ (l : List ℕ). came ++ l) b.comes);
     goes = sent_over-append copying turns w mid a.choices b.choices a.replies b.replies c a.run
         ∙ (ap (λ (l : List ℕ). l ++ sent_over c b.choices b.replies) a.goes ∙ ap (λ (l : List ℕ). sent ++ l) b.goes);
     reports = list_any-append (λ x. drops_with x c) a.choices b.choices
-        ∙ (ap (λ (t : Bool). t || list_any (λ x. drops_with x c) b.choices) a.reports ∙ ap (λ (t : Bool). gone || t) b.reports);
+        ∙ (ap (λ (t : Bool). t || list_any (λ x. drops_with x c) b.choices) a.reports
+        ∙ ap (λ (t : Bool). gone || t) b.reports);
   }
 
-  pub goes_turns : (c i n : ℕ) (ds : List ℕ) (rs : List Reply) (w after : Stage State P) → WorldRun copying turns w (rounds ds i n) rs after → Proceeds turns c [] [] false w after
+  pub goes_turns : (c i n : ℕ) (ds : List ℕ) (rs : List Reply) (w after : Stage State P)
+      → WorldRun copying turns w (rounds ds i n) rs after → Proceeds turns c [] [] false w after
   goes_turns c i n ds rs w after ran = record {
     choices = rounds ds i n;
     replies = rs;
@@ -124,7 +142,9 @@ module _ {P : Type 0} (turns : TransitionRelation P) where
   }
 
   -- one thing that happens
-  goes_outside : (c : ℕ) (e : Event) (r : Reply) (came sent : List ℕ) (gone : Bool) (w after : Stage State P) → OutsideStep copying turns w e r after → IsOn c (choice.Outside e) → came_by c e r ≡ came → sent_by c e r ≡ sent → drops_unsent e c ≡ gone → Proceeds turns c came sent gone w after
+  goes_outside : (c : ℕ) (e : Event) (r : Reply) (came sent : List ℕ) (gone : Bool) (w after : Stage State P)
+      → OutsideStep copying turns w e r after → IsOn c (choice.Outside e) → came_by c e r ≡ came → sent_by c e r ≡ sent
+      → drops_unsent e c ≡ gone → Proceeds turns c came sent gone w after
   unfolding stream_over sent_over
   goes_outside c e r came sent gone w after step on comes goes reports = record {
     choices = choice.Outside e ∷ [];
@@ -136,43 +156,62 @@ module _ {P : Type 0} (turns : TransitionRelation P) where
     reports = or-false (drops_unsent e c) ∙ reports;
   }
 
-  pub goes_closed : (c : ℕ) (r : Reply) (w after : Stage State P) → OutsideStep copying turns w (event.PeerClosed c Done) r after → Proceeds turns c [] [] false w after
+  pub goes_closed : (c : ℕ) (r : Reply) (w after : Stage State P)
+      → OutsideStep copying turns w (event.PeerClosed c Done) r after → Proceeds turns c [] [] false w after
   goes_closed c r w after step = goes_outside c (event.PeerClosed c Done) r [] [] false w after step refl refl refl refl
 
-  pub goes_hung_up : (c : ℕ) (r : Reply) (w after : Stage State P) → OutsideStep copying turns w (event.PeerClosed c Gone) r after → Proceeds turns c [] [] true w after
-  goes_hung_up c r w after step = goes_outside c (event.PeerClosed c Gone) r [] [] true w after step refl refl refl (same_number c)
+  pub goes_hung_up : (c : ℕ) (r : Reply) (w after : Stage State P)
+      → OutsideStep copying turns w (event.PeerClosed c Gone) r after → Proceeds turns c [] [] true w after
+  goes_hung_up c r w after step =
+      goes_outside c (event.PeerClosed c Gone) r [] [] true w after step refl refl refl (same_number c)
 
-  pub goes_arrived : (c n : ℕ) (bytes : List ℕ) (w after : Stage State P) → length bytes ≡ n → ArrivesAs turns c n bytes w after → Proceeds turns c bytes [] false w after
-  goes_arrived c n bytes w after count step = goes_outside c (event.Arrive c bytes) (reply.Count n) bytes [] false w after step refl (own c (take n bytes) ∙ take_all n bytes count) refl refl
+  pub goes_arrived : (c n : ℕ) (bytes : List ℕ) (w after : Stage State P) → length bytes ≡ n
+      → ArrivesAs turns c n bytes w after → Proceeds turns c bytes [] false w after
+  goes_arrived c n bytes w after count step =
+      goes_outside c (event.Arrive c bytes) (reply.Count n) bytes [] false w after step refl (own c (take n bytes)
+      ∙ take_all n bytes count) refl refl
 
-  pub goes_sent : (c n : ℕ) (bytes : List ℕ) (w after : Stage State P) → SendsAs turns c n w after → (transmit w.machine c n).answer.0 ≡ bytes → (n ≡ 0 → bytes ≡ []) → Proceeds turns c [] bytes false w after
-  goes_sent c zero bytes w after step is none = subst (λ (l : List ℕ). Proceeds turns c [] l false w after) (sym (none refl)) (goes_none c w after step)
+  pub goes_sent : (c n : ℕ) (bytes : List ℕ) (w after : Stage State P) → SendsAs turns c n w after
+      → (transmit w.machine c n).answer.0 ≡ bytes → (n ≡ 0 → bytes ≡ []) → Proceeds turns c [] bytes false w after
+  goes_sent c zero bytes w after step is none =
+      subst (λ (l : List ℕ). Proceeds turns c [] l false w after) (sym (none refl)) (goes_none c w after step)
   goes_sent c (suc n) bytes w after step is none =
       let sent = (transmit w.machine c (suc n)).answer in
-      goes_outside c (event.Transmit c (suc n)) (reply.Segment sent.0 sent.1) [] bytes false w after step refl refl (own c sent.0 ∙ is) refl
+      goes_outside c (event.Transmit c (suc n)) (reply.Segment sent.0 sent.1) [] bytes false w after step refl refl
+      (own c sent.0 ∙ is) refl
 
   -- what is sent, and what is served
 
-  pub sends_none : (c : ℕ) (held now : Option (List ℕ)) (w after : Stage State P) → Appends held now [] → after ≡ w → Sends turns c held now w after
+  pub sends_none : (c : ℕ) (held now : Option (List ℕ)) (w after : Stage State P) → Appends held now [] → after ≡ w
+      → Sends turns c held now w after
   sends_none c held now w after kept same = record { sent = []; taken = kept; proceeds = goes_none c w after same }
 
-  pub sends_then : (c : ℕ) (a b d : Option (List ℕ)) (w mid after : Stage State P) → Sends turns c a b w mid → Sends turns c b d mid after → Sends turns c a d w after
+  pub sends_then : (c : ℕ) (a b d : Option (List ℕ)) (w mid after : Stage State P) → Sends turns c a b w mid
+      → Sends turns c b d mid after → Sends turns c a d w after
   sends_then c a b d w mid after first next = record {
     sent = first.sent ++ next.sent;
     taken = appends_then a b d first.sent next.sent first.taken next.taken;
     proceeds = goes_then c [] first.sent [] next.sent false false w mid after first.proceeds next.proceeds;
   }
 
-  pub serves_none : (c : ℕ) (left held now : Option (List ℕ)) (w : Stage State P) → Appends held now [] → Serves turns c false left left held now w w
-  serves_none c left held now w kept = record { came = []; sent = []; given = consumes_none left; taken = kept; proceeds = goes_none c w w refl }
+  pub serves_none : (c : ℕ) (left held now : Option (List ℕ)) (w : Stage State P) → Appends held now []
+      → Serves turns c false left left held now w w
+  serves_none c left held now w kept =
+      record { came = []; sent = []; given = consumes_none left; taken = kept; proceeds = goes_none c w w refl }
 
-  pub serves_sent : (c : ℕ) (left held now : Option (List ℕ)) (w after : Stage State P) → Sends turns c held now w after → Serves turns c false left left held now w after
-  serves_sent c left held now w after s = record { came = []; sent = s.sent; given = consumes_none left; taken = s.taken; proceeds = s.proceeds }
+  pub serves_sent : (c : ℕ) (left held now : Option (List ℕ)) (w after : Stage State P) → Sends turns c held now w after
+      → Serves turns c false left left held now w after
+  serves_sent c left held now w after s =
+      record { came = []; sent = s.sent; given = consumes_none left; taken = s.taken; proceeds = s.proceeds }
 
-  pub serves_alone : (c : ℕ) (gone : Bool) (left held : Option (List ℕ)) (w after : Stage State P) → Proceeds turns c [] [] gone w after → Serves turns c gone left left held held w after
-  serves_alone c gone left held w after g = record { came = []; sent = []; given = consumes_none left; taken = appends_none held; proceeds = g }
+  pub serves_alone : (c : ℕ) (gone : Bool) (left held : Option (List ℕ)) (w after : Stage State P)
+      → Proceeds turns c [] [] gone w after → Serves turns c gone left left held held w after
+  serves_alone c gone left held w after g =
+      record { came = []; sent = []; given = consumes_none left; taken = appends_none held; proceeds = g }
 
-  pub serves_then : (c : ℕ) (gone last : Bool) (l m r h i k : Option (List ℕ)) (w mid after : Stage State P) → Serves turns c gone l m h i w mid → Serves turns c last m r i k mid after → Serves turns c (gone || last) l r h k w after
+  pub serves_then : (c : ℕ) (gone last : Bool) (l m r h i k : Option (List ℕ)) (w mid after : Stage State P)
+      → Serves turns c gone l m h i w mid → Serves turns c last m r i k mid after
+      → Serves turns c (gone || last) l r h k w after
   serves_then c gone last l m r h i k w mid after first next = record {
     came = first.came ++ next.came;
     sent = first.sent ++ next.sent;
@@ -181,10 +220,21 @@ module _ {P : Type 0} (turns : TransitionRelation P) where
     proceeds = goes_then c first.came first.sent next.came next.sent gone last w mid after first.proceeds next.proceeds;
   }
 
-  pub serves_came : (c n : ℕ) (left rest held now : Option (List ℕ)) (w after : Stage State P) → Appends held now [] → TakesIn left rest n (λ bytes. ArrivesAs turns c n bytes w after) → Serves turns c false left rest held now w after
-  serves_came c n left rest held now w after kept t = record { came = t.bytes; sent = []; given = t.given; taken = kept; proceeds = goes_arrived c n t.bytes w after t.count t.arrives }
+  pub serves_came : (c n : ℕ) (left rest held now : Option (List ℕ)) (w after : Stage State P) → Appends held now []
+      → TakesIn left rest n (λ bytes. ArrivesAs turns c n bytes w after)
+      → Serves turns c false left rest held now w after
+  serves_came c n left rest held now w after kept t =
+      record {
+        came = t.bytes;
+        sent = [];
+        given = t.given;
+        taken = kept;
+        proceeds =
+            goes_arrived c n t.bytes w after t.count t.arrives;
+      }
 
-  pub serves_refused : (c : ℕ) (left rest held now : Option (List ℕ)) (w after : Stage State P) → rest ≡ left → Appends held now [] → after ≡ w → Serves turns c false left rest held now w after
+  pub serves_refused : (c : ℕ) (left rest held now : Option (List ℕ)) (w after : Stage State P) → rest ≡ left
+      → Appends held now [] → after ≡ w → Serves turns c false left rest held now w after
   serves_refused c left rest held now w after still kept same = record {
     came = [];
     sent = [];
@@ -193,15 +243,18 @@ module _ {P : Type 0} (turns : TransitionRelation P) where
     proceeds = goes_none c w after same;
   }
 
-  pub goes_as : (c : ℕ) (gone is : Bool) (w after : Stage State P) → gone ≡ is → Proceeds turns c [] [] gone w after → Proceeds turns c [] [] is w after
+  pub goes_as : (c : ℕ) (gone is : Bool) (w after : Stage State P) → gone ≡ is → Proceeds turns c [] [] gone w after
+      → Proceeds turns c [] [] is w after
   goes_as c gone is w after same g = subst (λ (b : Bool). Proceeds turns c [] [] b w after) same g
 
   -- told in other words whether the peer was told to be gone
-  pub serves_as : (c : ℕ) (gone is : Bool) (l r h k : Option (List ℕ)) (w after : Stage State P) → gone ≡ is → Serves turns c gone l r h k w after → Serves turns c is l r h k w after
+  pub serves_as : (c : ℕ) (gone is : Bool) (l r h k : Option (List ℕ)) (w after : Stage State P) → gone ≡ is
+      → Serves turns c gone l r h k w after → Serves turns c is l r h k w after
   serves_as c gone is l r h k w after same s = subst (λ (b : Bool). Serves turns c b l r h k w after) same s
 
   -- and then the writer takes nothing more
-  pub serves_kept : (c : ℕ) (gone : Bool) (l r h i k : Option (List ℕ)) (w after : Stage State P) → Appends i k [] → Serves turns c gone l r h i w after → Serves turns c gone l r h k w after
+  pub serves_kept : (c : ℕ) (gone : Bool) (l r h i k : Option (List ℕ)) (w after : Stage State P) → Appends i k []
+      → Serves turns c gone l r h i w after → Serves turns c gone l r h k w after
   serves_kept c gone l r h i k w after kept s = record {
     came = s.came;
     sent = s.sent;

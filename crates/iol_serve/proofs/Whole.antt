@@ -16,11 +16,14 @@ none_lacking (Some x) lacks = absurd (cc lacks)
 -- one that is not there has nothing to be sent
 lacking_sends_none : (s : State) (c : ℕ) → lacks_conn s c ≡ true → bytes_of (conn_at s c).outgoing ≡ []
 unfolding conn_at
-lacking_sends_none s c lacks = ap (λ (found : Option Connection). bytes_of (unwrap_or found no_conn).outgoing) (none_lacking (lookup s.conns c) lacks)
+lacking_sends_none s c lacks =
+    ap (λ (found : Option Connection). bytes_of (unwrap_or found no_conn).outgoing)
+    (none_lacking (lookup s.conns c) lacks)
 
 pub over_whole : {P : Type 0} (turns : TransitionRelation P) → HistoriesOfChoices turns → OverIsWhole turns
 over_whole turns histories c left rest held now w after orderly served lacks =
     let on = served.proceeds in
     let all = histories.unsent w after on.choices on.replies c orderly on.run on.reports in
     subst (λ (l : List ℕ). GoesFirst (bytes_of (conn_at w.machine c).outgoing) l []) on.goes
-    (subst (λ (l : List ℕ). GoesFirst (bytes_of (conn_at w.machine c).outgoing) (sent_over c on.choices on.replies) l) (lacking_sends_none after.machine c lacks) all)
+    (subst (λ (l : List ℕ). GoesFirst (bytes_of (conn_at w.machine c).outgoing) (sent_over c on.choices on.replies) l)
+    (lacking_sends_none after.machine c lacks) all)

@@ -36,7 +36,8 @@ after ending.Over step = ending.Over
 after before step = before
 
 -- One round, with this step as its result, serves the connection of the world.
-abbrev pub ServesBy : {P R W : Type 0} → TransitionRelation P → (c : ℕ) → Step → (left : R → Option (List ℕ)) (reader rest : R)
+abbrev pub ServesBy : {P R W : Type 0} → TransitionRelation P → (c : ℕ) → Step
+    → (left : R → Option (List ℕ)) (reader rest : R)
     (held : W → Option (List ℕ)) (writer written : W) (w after : Stage SystemState P) → Type 0
 ServesBy turns c step left reader rest held writer written w after =
     ServesIn turns c (is_gone step) left reader rest held writer written w after

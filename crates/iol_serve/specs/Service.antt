@@ -59,7 +59,8 @@ module _ {P : Type 0} (turns : TransitionRelation P) where
 
   -- The bytes received are those that a reader gave, and the bytes sent those that a writer took, in order and if
   -- known.
-  pub record Serves (c : ℕ) (gone : Bool) (left rest held now : Option (List ℕ)) (w after : Stage State P) : Type 0 where
+  pub record Serves (c : ℕ) (gone : Bool) (left rest held now : Option (List ℕ)) (w after : Stage State P) :
+      Type 0 where
     pub came : List ℕ
     pub sent : List ℕ
     pub given : Consumes left rest came
@@ -70,9 +71,11 @@ module _ {P : Type 0} (turns : TransitionRelation P) where
 -- an honest store. The parameters give the remaining bytes of a reader and the contents of a writer, if known.
 module _ {P : Type 0} (turns : TransitionRelation P) where
   abbrev pub ProceedsIn : (c : ℕ) (came sent : List ℕ) (gone : Bool) (w after : Stage SystemState P) → Type 0
-  ProceedsIn c came sent gone w after = IfHonest w.machine.disk (Proceeds turns c came sent gone (copied w) (copied after))
+  ProceedsIn c came sent gone w after =
+      IfHonest w.machine.disk (Proceeds turns c came sent gone (copied w) (copied after))
 
-  abbrev pub SendsIn : {W : Type 0} → (c : ℕ) (held : W → Option (List ℕ)) (writer written : W) (w after : Stage SystemState P)
+  abbrev pub SendsIn : {W : Type 0}
+      → (c : ℕ) (held : W → Option (List ℕ)) (writer written : W) (w after : Stage SystemState P)
       → Type 0
   SendsIn c held writer written w after = Sends turns c (held writer) (held written) (copied w) (copied after)
 

@@ -7,34 +7,41 @@ use Rattle.iol_sock.specs.Connections.{Conn}
 use Rattle.iol_sock.specs.Table.{ChangesOne, ConnTable, IsAmong, conn_in, with_conn}
 use Rattle.iol_sock.proofs.WaitingList.{some-none, conn_in-there, lookup-changed, changed-same}
 
--- From the table t to u a call went, on the connection of that number alone, from x to y. What the call says of x and y,
--- the tables say of their connections.
+-- From the table t to u a call went, on the connection of that number alone, from x to y. What the call says of x and
+-- y, the tables say of their connections.
 pub record AtPlace (t u : ConnTable) (number : ℕ) (x y : Conn (List Slice)) : Type 0 where
   pub old : x ≡ conn_in t.conns number
   pub new : y ≡ conn_in u.conns number
   pub one : ChangesOne t u number
 
-here : (t : ConnTable) (to n : ℕ) (x y : Conn (List Slice)) → Rises 0 t.conns to → lookup t.conns n ≡ Some x → AtPlace t (with_conn t n y) n x y
+here : (t : ConnTable) (to n : ℕ) (x y : Conn (List Slice)) → Rises 0 t.conns to → lookup t.conns n ≡ Some x
+    → AtPlace t (with_conn t n y) n x y
 here t to n x y r found =
     let old : conn_in t.conns n ≡ x = conn_in-there t.conns n x found in
-    let new : conn_in (changed t.conns n y) n ≡ y = conn_in-there (changed t.conns n y) n y (lookup-changed t.conns n y (λ none. some-none x (sym found ∙ none))) in
+    let new : conn_in (changed t.conns n y) n ≡ y =
+    conn_in-there (changed t.conns n y) n y (lookup-changed t.conns n y (λ none. some-none x (sym found ∙ none))) in
     record {
       old = sym old;
       new = sym new;
       one = record {
         others = ap (with_conn t n) (sym new);
-        same = λ e. ap (with_conn t n) (sym new ∙ e ∙ old) ∙ ap (λ es. record t { conns = es }) (changed-same t.conns 0 to n x r found);
+        same = λ e. ap (with_conn t n) (sym new ∙ e ∙ old)
+            ∙ ap (λ es. record t { conns = es }) (changed-same t.conns 0 to n x r found);
       };
     }
 
 -- the table t is seen as v
-pub at_place : {v t : ConnTable} {to n : ℕ} {x : Conn (List Slice)} (y : Conn (List Slice)) → v ≡ t → IsAmong v.conns to n x → AtPlace t (with_conn v n y) n x y
-at_place {v} {t} {to} {n} {x} y view found = subst (λ u. AtPlace u (with_conn v n y) n x y) view (here v to n x y found.rise found.value)
+pub at_place : {v t : ConnTable} {to n : ℕ} {x : Conn (List Slice)} (y : Conn (List Slice)) → v ≡ t
+    → IsAmong v.conns to n x → AtPlace t (with_conn v n y) n x y
+at_place {v} {t} {to} {n} {x} y view found =
+    subst (λ u. AtPlace u (with_conn v n y) n x y) view (here v to n x y found.rise found.value)
 
 -- before the call, the table t seen as v had x under that number
-pub was_at : {v t : ConnTable} {x : Conn (List Slice)} (n : ℕ) → v ≡ t → lookup v.conns n ≡ Some x → x ≡ conn_in t.conns n
+pub was_at : {v t : ConnTable} {x : Conn (List Slice)} (n : ℕ) → v ≡ t → lookup v.conns n ≡ Some x
+    → x ≡ conn_in t.conns n
 was_at {v} {t} {x} n view found = subst (λ u. x ≡ conn_in u.conns n) view (sym (conn_in-there v.conns n x found))
 
 -- the connection that was changed is now this
-pub changed_to : {t u : ConnTable} {number : ℕ} {z : Conn (List Slice)} → ChangesOne t u number → conn_in u.conns number ≡ z → u ≡ with_conn t number z
+pub changed_to : {t u : ConnTable} {number : ℕ} {z : Conn (List Slice)} → ChangesOne t u number
+    → conn_in u.conns number ≡ z → u ≡ with_conn t number z
 changed_to {t} {u} {number} one is = one.others ∙ ap (with_conn t number) is

@@ -1,5 +1,6 @@
 -- Connections of the copying machine, as they are read.
-use Rattle.std.proofs.Common.{◌≡◌, ℕ, ◌-◌, ◌==◌, ◌&&◌, ◌||◌, Bool, false, not, nat_lt, min, List, [], ◌∷◌, length, Option, refl, sym, ap, subst, ◌∙◌}
+use Rattle.std.proofs.Common.{◌≡◌, ℕ, ◌-◌, ◌==◌, ◌&&◌, ◌||◌, Bool, false, not, nat_lt, min, List, [], ◌∷◌, length}
+use Rattle.std.proofs.Common.{Option, refl, sym, ap, subst, ◌∙◌}
 use Rattle.std.specs.Prelude.{unwrap_or, is_some, is_none}
 use Rattle.iol_core.specs.State as machine
 use Rattle.iol_core.specs.State.{State, conn_at, is_gone, no_conn}
@@ -13,9 +14,11 @@ use Rattle.iol_hold.specs.Layout.{read}
 use Rattle.iol_hold.specs.declared.slices.Slice.{Slice}
 use Rattle.iol_hold.proofs.AtPlaces.{length-read}
 use Rattle.iol_sock.specs.Connections.{Conn, conn_view}
-use Rattle.iol_sock.specs.Meanings.{Reading, IsConn, IsOverAsMeant, ClosesAsMeant, ArrivesAsMeant, TakesAsMeant, WantsAsMeant, SendsAsMeant, QueuesAsMeant, FitsAsMeant}
+use Rattle.iol_sock.specs.Meanings.{Reading, IsConn, IsOverAsMeant, ClosesAsMeant, ArrivesAsMeant, TakesAsMeant}
+use Rattle.iol_sock.specs.Meanings.{WantsAsMeant, SendsAsMeant, QueuesAsMeant, FitsAsMeant}
 
-pub conn_at-is : (f : Reading) (s : State) (c : ℕ) (x : Conn (List Slice)) → IsConn f s c x → conn_at s c ≡ conn_view (read f) x
+pub conn_at-is : (f : Reading) (s : State) (c : ℕ) (x : Conn (List Slice)) → IsConn f s c x
+    → conn_at s c ≡ conn_view (read f) x
 unfolding conn_at
 conn_at-is f s c x e = ap (λ (o : Option machine.Connection). unwrap_or o no_conn) e
 
@@ -43,7 +46,9 @@ arrives_meant f s c x bytes e =
     let n : ℕ = length bytes in
     ap (λ l. met l (conn_at s c) n) (there f s c x e)
     ∙ ap (λ y. met false y n) (conn_at-is f s c x e)
-    ∙ ap (λ k. first ((BrokenPipe when (is_some x.peer || x.closed)) ∷ (WouldBlock when (nat_lt 0 n && (min n (MAX_QUEUE_BYTES - k) == 0))) ∷ [])) (length-read f x.incoming)
+    ∙ ap
+    (λ k. first ((BrokenPipe when (is_some x.peer || x.closed))
+    ∷ (WouldBlock when (nat_lt 0 n && (min n (MAX_QUEUE_BYTES - k) == 0))) ∷ [])) (length-read f x.incoming)
 
 pub takes_meant : TakesAsMeant
 takes_meant f s c x bytes e =
@@ -52,10 +57,12 @@ takes_meant f s c x bytes e =
 
 pub wants_meant : WantsAsMeant
 wants_meant f s c x [] r e h = h
-wants_meant f s c x (b ∷ bytes) r e h = subst (λ (y : machine.Connection). WantOfRoom y.pool r) (sym (conn_at-is f s c x e)) h
+wants_meant f s c x (b ∷ bytes) r e h =
+    subst (λ (y : machine.Connection). WantOfRoom y.pool r) (sym (conn_at-is f s c x e)) h
 
 sends : (lacks : Bool) → machine.Connection → (max : ℕ) → Option Refusal
-sends lacks y max = first ((BadFd when lacks) ∷ (BadRange when (max == 0)) ∷ (WouldBlock when (length y.outgoing == 0)) ∷ [])
+sends lacks y max =
+    first ((BadFd when lacks) ∷ (BadRange when (max == 0)) ∷ (WouldBlock when (length y.outgoing == 0)) ∷ [])
 
 pub sends_meant : SendsAsMeant
 unfolding sends
@@ -71,5 +78,11 @@ fits_meant f s c n x e =
 
 pub queues_meant : QueuesAsMeant
 queues_meant f s c n x e =
-    ap (λ (y : machine.Connection). first ((BrokenPipe when is_gone y.peer) ∷ (WouldBlock when (nat_lt 0 n && (min n (MAX_QUEUE_BYTES - length y.outgoing) == 0))) ∷ [])) (conn_at-is f s c x e)
-    ∙ ap (λ k. first ((BrokenPipe when is_gone x.peer) ∷ (WouldBlock when (nat_lt 0 n && (min n (MAX_QUEUE_BYTES - k) == 0))) ∷ [])) (length-read f x.outgoing)
+    ap
+    (λ (y : machine.Connection). first ((BrokenPipe when is_gone y.peer)
+    ∷ (WouldBlock when (nat_lt 0 n && (min n (MAX_QUEUE_BYTES - length y.outgoing) == 0))) ∷ []))
+    (conn_at-is f s c x e)
+    ∙ ap
+    (λ k.
+    first ((BrokenPipe when is_gone x.peer) ∷ (WouldBlock when (nat_lt 0 n && (min n (MAX_QUEUE_BYTES - k) == 0)))
+    ∷ [])) (length-read f x.outgoing)

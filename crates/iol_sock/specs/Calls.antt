@@ -6,7 +6,8 @@ use Rattle.iol_core.specs.declared.descriptors.How.{How}
 use Rattle.iol_core.specs.declared.limits.TheConstants.{MAX_QUEUE_BYTES, PAGE_BYTES}
 use Rattle.iol_core.specs.declared.refusals.Refusal.{Refusal}
 use Rattle.iol_core.specs.declared.refusals.Refusal.TheVariants.{Memory}
-use Rattle.iol_hold.specs.Prelude.{AllReadable, AllReclaimed, FreesOnly, Moves, Releases, SameLists, Stored, ReportsRoom}
+use Rattle.iol_hold.specs.Prelude.{AllReadable, AllReclaimed, FreesOnly, Moves, Releases, SameLists, Stored}
+use Rattle.iol_hold.specs.Prelude.{ReportsRoom}
 use Rattle.iol_hold.specs.Prelude.{bufs_of, byte_len, has_room, places, text_of}
 use Rattle.iol_hold.specs.declared.slices.Slice.{Slice}
 use Rattle.iol_pipe.specs.Arrivals.{ReadsIn}
@@ -40,7 +41,8 @@ most_read x max = min (min max PAGE_BYTES) (MAX_QUEUE_BYTES - byte_len x.incomin
 -- The bytes of one read arrive: the first of the reader's remaining bytes, where these are known. The call is refused
 -- by the first refusal that holds, else only for lack of room or memory, and a refusal changes nothing, the reader
 -- included.
-pub record ArrivesFrom {R : Type 0} (remaining : R → Option (List ℕ)) (reader after : R) (s t : Stored) (x y : Conn (List Slice))
+pub record ArrivesFrom {R : Type 0} (remaining : R → Option (List ℕ)) (reader after : R) (s t : Stored)
+    (x y : Conn (List Slice))
     (max : ℕ) (r : Result Arrived Refusal) : Type 0 where
   pub passed : OnOk r (IsPassed (read_refusals x max))
   pub refused : IfErr r (IsRefused (read_refusals x max) (WantOfRoom x.pool))
@@ -53,7 +55,8 @@ pub record ArrivesFrom {R : Type 0} (remaining : R → Option (List ℕ)) (reade
 
 -- A domain is given the front of the received bytes. A refusal changes nothing. If no byte is requested or queued, the
 -- call is not refused.
-pub record GivesFront {E : Type 0} (s t : Stored) (x y : Conn (List Slice)) (n d : ℕ) (r : Result (List Slice) E) : Type 0 where
+pub record GivesFront {E : Type 0} (s t : Stored) (x y : Conn (List Slice)) (n d : ℕ) (r : Result (List Slice) E) :
+    Type 0 where
   pub gives : IfOk r (λ a. GivesFirst s t x.incoming a y.incoming n d)
   pub none : min n (byte_len x.incoming) ≡ 0 → IsOk r
   pub others : y ≡ record x { incoming = y.incoming }
@@ -76,7 +79,8 @@ pub record Skips (s t : Stored) (x y : Conn (List Slice)) (n : ℕ) : Type 0 whe
 
 -- An aggregate's bytes are queued to be sent, as many as fit, and are shared. The call is refused by the first refusal
 -- that holds, else only for lack of memory, and not for that if no byte fits. A refusal changes nothing.
-pub record QueuesShared (s t : Stored) (x y : Conn (List Slice)) (from : List Slice) (r : Result ℕ Refusal) : Type 0 where
+pub record QueuesShared (s t : Stored) (x y : Conn (List Slice)) (from : List Slice) (r : Result ℕ Refusal) :
+    Type 0 where
   pub passed : OnOk r (IsPassed (queue_refusals x (byte_len from)))
   pub refused : IfErr r (IsRefused (queue_refusals x (byte_len from)) WantOfMemory)
   pub shares : IfOk r (SharesFitting s t x.outgoing y.outgoing from)
@@ -86,7 +90,8 @@ pub record QueuesShared (s t : Stored) (x y : Conn (List Slice)) (from : List Sl
 
 -- New bytes of a pool are queued to be sent, as many as fit. The call is refused by the first refusal that holds, else
 -- only for lack of room or memory, and a refusal changes nothing.
-pub record QueuesNew (s t : Stored) (x y : Conn (List Slice)) (pool : ℕ) (bytes : List ℕ) (r : Result ℕ Refusal) : Type 0 where
+pub record QueuesNew (s t : Stored) (x y : Conn (List Slice)) (pool : ℕ) (bytes : List ℕ) (r : Result ℕ Refusal) :
+    Type 0 where
   pub passed : OnOk r (IsPassed (queue_refusals x (length bytes)))
   pub refused : IfErr r (IsRefused (queue_refusals x (length bytes)) (WantOfRoom pool))
   pub adds : IfOk r (AddsFitting s t x.outgoing y.outgoing pool bytes)
@@ -108,7 +113,8 @@ pub record Segments (s t : Stored) (x y : Conn (List Slice)) (max : ℕ) (sums s
   pub err : OnErr r ((y ≡ x) × (t ≡ s) × (summed ≡ sums))
 
 -- The first bytes to be sent, at most max, were passed to a writer, and those that it took left the queue.
-pub record Drains {W : Type 0} (contents : W → Option (List ℕ)) (writer after : W) (s t : Stored) (x y : Conn (List Slice))
+pub record Drains {W : Type 0} (contents : W → Option (List ℕ)) (writer after : W) (s t : Stored)
+    (x y : Conn (List Slice))
     (max : ℕ) (d : Drained) : Type 0 where
   pub writes : Writes contents writer after s x.outgoing max d
   pub rest : places y.outgoing ≡ drop d.taken (places x.outgoing)

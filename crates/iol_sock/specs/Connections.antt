@@ -10,8 +10,8 @@ use Rattle.iol_hold.specs.Places.{byte_len}
 use Rattle.iol_hold.specs.Texts.{bufs_of}
 use Rattle.iol_hold.specs.declared.slices.Slice.{Slice}
 
--- The pool of what arrives, what came in and is not yet read, what is to be sent, whether a domain accepted it, whether one
--- closed it, and how its peer closed, if it did. A is what its queues are: lists of slices here.
+-- The pool of what arrives, what came in and is not yet read, what is to be sent, whether a domain accepted it, whether
+-- one closed it, and how its peer closed, if it did. A is what its queues are: lists of slices here.
 pub record Conn (A : Type 0) : Type 0 where
   pub pool : ℕ
   pub incoming : A
@@ -39,8 +39,8 @@ held_by c = bufs_of c.incoming ++ bufs_of c.outgoing
 abbrev pub new_conn : (pool : ℕ) → Conn (List Slice)
 new_conn p = record { pool = p; incoming = []; outgoing = []; accepted = false; closed = false; peer = None }
 
--- A connection whose peer closes it in this way: a peer that is gone stays gone, and bytes to be sent to a peer that is gone now
--- are dropped.
+-- A connection whose peer closes it in this way: a peer that is gone stays gone, and bytes to be sent to a peer that is
+-- gone now are dropped.
 abbrev pub closed_by : Conn (List Slice) → How → Conn (List Slice)
 closed_by c Done = record c { peer = if is_gone c.peer then Some Gone else Some Done }
 closed_by c Gone = record c { outgoing = []; peer = Some Gone }

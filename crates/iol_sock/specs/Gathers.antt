@@ -11,4 +11,5 @@ part_of s xs i most = take most (bytes_of (text_of s (take 1 (drop i xs))))
 
 -- The last call of a taker took fewer bytes than it was offered, if the drain is reported as failed.
 abbrev pub EndsShort : {G : Type 0} → (gathers : G → List ℕ → ℕ → G → Type 0) → (after : G) → (failed : Bool) → Type 0
-EndsShort {G} gathers after failed = failed ≡ true → (before : G) × (offered : List ℕ) × (n : ℕ) × gathers before offered n after × (n < length offered)
+EndsShort {G} gathers after failed = failed ≡ true → (before : G) × (offered : List ℕ) × (n : ℕ)
+    × gathers before offered n after × (n < length offered)

@@ -12,8 +12,8 @@ use Rattle.iol_hold.specs.declared.slices.Slice.{Slice}
 use Rattle.iol_desc.specs.EntryLists.{Rises}
 use Rattle.iol_sock.specs.Connections.{Conn}
 
--- the live connections by rising number, the number of the next one, and the number of connections that can be added without
--- allocating
+-- the live connections by rising number, the number of the next one, and the number of connections that can be added
+-- without allocating
 pub record ConnTable : Type 0 where
   pub conns : List (ℕ × Conn (List Slice))
   pub next : ℕ

@@ -8,7 +8,8 @@ use Rattle.iol_sum.specs.Sums.{Sums, sum_kept, used}
 pieces_at_an_odd_place : (swapped 0xf0eb ≡ 0xebf0) × (joined 0xf201 true 0xf0eb ≡ 0xddf2)
 pieces_at_an_odd_place = (refl, refl)
 
-pieces_at_an_even_place : (joined 0xc462 false 0x0001 ≡ 0xc463) × (joined 0xffff false 0xffff ≡ 0xffff) × (joined 0 false 0 ≡ 0)
+pieces_at_an_even_place : (joined 0xc462 false 0x0001 ≡ 0xc463) × (joined 0xffff false 0xffff ≡ 0xffff)
+    × (joined 0 false 0 ≡ 0)
 pieces_at_an_even_place = (refl, refl, refl)
 
 -- the first n bytes of page 0 in its first generation, and of page 0 used again
@@ -29,7 +30,11 @@ used_again = refl
 used_anew : used full (first 5) 50 ≡ record { entries = (first 5, 50) ∷ (first 3, 30) ∷ []; limit = 2 }
 used_anew = refl
 
-used_with_room : used (record { entries = full.entries; limit = 3 }) (first 5) 50 ≡ record { entries = (first 5, 50) ∷ full.entries; limit = 3 }
+used_with_room : used (record { entries = full.entries; limit = 3 }) (first 5) 50 ≡ record {
+  entries =
+      (first 5, 50) ∷ full.entries;
+  limit = 3;
+}
 used_with_room = refl
 
 -- the same bytes of the page used again have another key

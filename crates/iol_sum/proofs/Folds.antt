@@ -15,7 +15,8 @@ folded-none n e = grind (arith, nat_tests)
 pub folded-more : (m n k : ℕ) → m ≡ n + 65535 * k → (n ≡ 0 → k ≡ 0) → folded m ≡ folded n
 folded-more m n k e z = elim (cases_lt 0 n) [
   | inl h ↦ let a = folded-some n h in let b = folded-some m (omega arith) in omega arith
-  | inr h ↦ let k0 : k ≡ 0 = z (omega arith) in let a = folded-none n (omega arith) in let b = folded-none m (omega arith) in omega arith
+  | inr h ↦ let k0 : k ≡ 0 = z (omega arith) in let a = folded-none n (omega arith) in let b =
+      folded-none m (omega arith) in omega arith
 ]
 
 -- a number is its sum, and a multiple of 65535
@@ -26,7 +27,8 @@ folded-rest n = elim (cases_lt 0 n) [
 ]
 
 pub folded-add : (a c : ℕ) → folded (folded a + c) ≡ folded (a + c)
-folded-add a c = let r = folded-rest a in sym (folded-more (a + c) (folded a + c) r.0 (omega arith) (λ z. r.2 (omega arith)))
+folded-add a c = let r = folded-rest a in
+    sym (folded-more (a + c) (folded a + c) r.0 (omega arith) (λ z. r.2 (omega arith)))
 
 pub alike-add : (a b c : ℕ) → folded a ≡ folded b → folded (a + c) ≡ folded (b + c)
 alike-add a b c e = sym (folded-add a c) ∙ ap (λ n. folded (n + c)) e ∙ folded-add b c
@@ -38,17 +40,22 @@ alike-before a b c e =
     ap folded l ∙ alike-add a b c e ∙ ap folded r
 
 folded-times : (a : ℕ) → folded (256 * folded a) ≡ folded (256 * a)
-folded-times a = let r = folded-rest a in sym (folded-more (256 * a) (256 * folded a) (256 * r.0) (omega arith) (λ z. let y : r.0 ≡ 0 = r.2 (omega arith) in omega arith))
+folded-times a = let r = folded-rest a in
+    sym (folded-more (256 * a) (256 * folded a) (256 * r.0) (omega arith) (λ z. let y : r.0 ≡ 0 = r.2 (omega arith) in
+    omega arith))
 
 folded-swapped : (n : ℕ) → folded (256 * n) ≡ folded (swapped n)
 folded-swapped n = folded-more (256 * n) (swapped n) (n / 256) (omega arith) (λ z. omega arith)
 
 -- a rest at an even place, and at an odd one
 pub joined-even : (a b : ℕ) → folded (folded a + folded b) ≡ folded (a + b)
-joined-even a b = folded-add a (folded b) ∙ (let l : a + folded b ≡ folded b + a = omega arith in let r : b + a ≡ a + b = omega arith in ap folded l ∙ folded-add b a ∙ ap folded r)
+joined-even a b = folded-add a (folded b)
+    ∙ (let l : a + folded b ≡ folded b + a = omega arith in let r : b + a ≡ a + b = omega arith in
+    ap folded l ∙ folded-add b a ∙ ap folded r)
 
 pub joined-odd : (a b : ℕ) → folded (folded a + swapped (folded b)) ≡ folded (a + 256 * b)
-joined-odd a b = folded-add a (swapped (folded b)) ∙ alike-before (swapped (folded b)) (256 * b) a (sym (folded-swapped (folded b)) ∙ folded-times b)
+joined-odd a b = folded-add a (swapped (folded b))
+    ∙ alike-before (swapped (folded b)) (256 * b) a (sym (folded-swapped (folded b)) ∙ folded-times b)
 
 -- what fits 16 bits is its own sum
 pub folded-small : (n : ℕ) → n ≤ 65535 → folded n ≡ n

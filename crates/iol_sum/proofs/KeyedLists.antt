@@ -1,5 +1,6 @@
 -- Lists with keys, and the entries found, missed and removed there.
-use Rattle.std.proofs.Common.{◌≡◌, ℕ, zero, suc, ◌+◌, Bool, true, false, ◌&&◌, List, [], ◌∷◌, length, take, Some, None, refl, sym, ap, subst, ◌∙◌, arith}
+use Rattle.std.proofs.Common.{◌≡◌, ℕ, zero, suc, ◌+◌, Bool, true, false, ◌&&◌, List, [], ◌∷◌, length, take, Some, None}
+use Rattle.std.proofs.Common.{refl, sym, ap, subst, ◌∙◌, arith}
 use Rattle.std.specs.List.{AllByRecursion, IsDistinct}
 use Rattle.std.specs.Map.{keys_of, lookup, lookup_entry, remove_entry}
 use Rattle.std.proofs.lemmas.Bool.{eqb-true}
@@ -23,15 +24,19 @@ same-true j k h =
     let generation : j.generation ≡ k.generation = eqb-true _ _ b.0 in
     let from : j.from ≡ k.from = eqb-true _ _ d.0 in
     let len : j.len ≡ k.len = eqb-true _ _ d.1 in
-    ap (λ n. made n j.generation j.from j.len) page ∙ ap (λ n. made k.page n j.from j.len) generation ∙ ap (λ n. made k.page k.generation n j.len) from ∙ ap (λ n. made k.page k.generation k.from n) len
+    ap (λ n. made n j.generation j.from j.len) page ∙ ap (λ n. made k.page n j.from j.len) generation
+    ∙ ap (λ n. made k.page k.generation n j.len) from ∙ ap (λ n. made k.page k.generation k.from n) len
 
 -- the entry that a look-up found
-pub entry-found : (k : Key) (n : ℕ) (es : List (Key × ℕ)) → lookup (same k) es ≡ Some n → lookup_entry (same k) es ≡ Some (k, n)
+pub entry-found : (k : Key) (n : ℕ) (es : List (Key × ℕ)) → lookup (same k) es ≡ Some n
+    → lookup_entry (same k) es ≡ Some (k, n)
 entry-found k n [] h = cc
-entry-found k n (f ∷ es) h = (elim (same k f.0) as (λ y. same k f.0 ≡ y → lookup_entry (same k) (f ∷ es) ≡ Some (k, n)) [
-  | true ↦ λ t. let h' = rw t at h in let key : k ≡ f.0 = same-true k f.0 t in let value : f.1 ≡ n = cc in rw t (ap (λ v. Some (f.0, v)) value ∙ ap (λ j. Some (j, n)) (sym key))
-  | false ↦ λ t. rw t (entry-found k n es (rw t at h))
-]) refl
+entry-found k n (f ∷ es) h =
+    (elim (same k f.0) as (λ y. same k f.0 ≡ y → lookup_entry (same k) (f ∷ es) ≡ Some (k, n)) [
+      | true ↦ λ t. let h' = rw t at h in let key : k ≡ f.0 = same-true k f.0 t in let value : f.1 ≡ n = cc in
+          rw t (ap (λ v. Some (f.0, v)) value ∙ ap (λ j. Some (j, n)) (sym key))
+      | false ↦ λ t. rw t (entry-found k n es (rw t at h))
+    ]) refl
 
 pub entry-missed : (k : Key) (es : List (Key × ℕ)) → lookup (same k) es ≡ None → lookup_entry (same k) es ≡ None
 entry-missed k [] h = refl
@@ -41,12 +46,14 @@ entry-missed k (f ∷ es) h = (elim (same k f.0) as (λ y. same k f.0 ≡ y → 
 ]) refl
 
 -- one fewer
-pub length-removed : (k : Key) (n : ℕ) (es : List (Key × ℕ)) → lookup (same k) es ≡ Some n → length (remove_entry (same k) es) + 1 ≡ length es
+pub length-removed : (k : Key) (n : ℕ) (es : List (Key × ℕ)) → lookup (same k) es ≡ Some n
+    → length (remove_entry (same k) es) + 1 ≡ length es
 length-removed k n [] h = cc
-length-removed k n (f ∷ es) h = (elim (same k f.0) as (λ y. same k f.0 ≡ y → length (remove_entry (same k) (f ∷ es)) + 1 ≡ length (f ∷ es)) [
-  | true ↦ λ t. rw t (omega arith)
-  | false ↦ λ t. let r = length-removed k n es (rw t at h) in rw t (omega arith)
-]) refl
+length-removed k n (f ∷ es) h =
+    (elim (same k f.0) as (λ y. same k f.0 ≡ y → length (remove_entry (same k) (f ∷ es)) + 1 ≡ length (f ∷ es)) [
+      | true ↦ λ t. rw t (omega arith)
+      | false ↦ λ t. let r = length-removed k n es (rw t at h) in rw t (omega arith)
+    ]) refl
 
 -- no key of the list is k
 abbrev pub IsNew : Key → List (Key × ℕ) → Type 0
@@ -84,10 +91,16 @@ removed-new k (f ∷ es) d = (elim (same k f.0) as (λ y. same k f.0 ≡ y → I
 
 pub removed-distinct : (k : Key) (es : List (Key × ℕ)) → AreDistinct es → AreDistinct (remove_entry (same k) es)
 removed-distinct k [] d = d
-removed-distinct k (f ∷ es) d = (elim (same k f.0) as (λ y. same k f.0 ≡ y → AreDistinct (remove_entry (same k) (f ∷ es))) [
-  | true ↦ λ t. rw t (IsDistinct-tail same f.0 (keys_of es) d)
-  | false ↦ λ t. rw t (IsDistinct-cons same f.0 (keys_of (remove_entry (same k) es)) (IsNew-removed f.0 k es (IsDistinct-head same f.0 (keys_of es) d)) (removed-distinct k es (IsDistinct-tail same f.0 (keys_of es) d)))
-]) refl
+removed-distinct k (f ∷ es) d =
+    (elim (same k f.0) as (λ y. same k f.0 ≡ y → AreDistinct (remove_entry (same k) (f ∷ es))) [
+      | true ↦ λ t. rw t (IsDistinct-tail same f.0 (keys_of es) d)
+      | false ↦
+          λ t.
+          rw t
+          (IsDistinct-cons same f.0 (keys_of (remove_entry (same k) es))
+          (IsNew-removed f.0 k es (IsDistinct-head same f.0 (keys_of es) d))
+          (removed-distinct k es (IsDistinct-tail same f.0 (keys_of es) d)))
+    ]) refl
 
 pub take-distinct : (n : ℕ) (es : List (Key × ℕ)) → AreDistinct es → AreDistinct (take n es)
 unfolding IsDistinct

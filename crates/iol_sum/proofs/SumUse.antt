@@ -1,5 +1,6 @@
 -- What becomes of remembered sums when one is used.
-use Rattle.std.proofs.Common.{◌≡◌, ℕ, ◌+◌, ◌-◌, ◌≤◌, true, false, List, [], ◌∷◌, length, take, Option, Some, None, OnOk, OnErr, Result, Ok, Err, refl, sym, ap, subst, ◌∙◌, arith, inl, inr}
+use Rattle.std.proofs.Common.{◌≡◌, ℕ, ◌+◌, ◌-◌, ◌≤◌, true, false, List, [], ◌∷◌, length, take, Option, Some, None, OnOk}
+use Rattle.std.proofs.Common.{OnErr, Result, Ok, Err, refl, sym, ap, subst, ◌∙◌, arith, inl, inr}
 use Rattle.std.specs.List.{All}
 use Rattle.std.specs.Map.{keys_of, lookup, remove_entry}
 use Rattle.std.proofs.lemmas.List.{length-take}
@@ -10,7 +11,8 @@ use Rattle.lru.proofs.CallerLemmas.{Contains-lookup}
 use Rattle.iol_arena.specs.State.{State}
 use Rattle.iol_sum.specs.declared.keys.Key.{Key}
 use Rattle.iol_sum.specs.Sums.{Sums, same, sum_kept, IsRightSum, IsRight, others, used, Uses}
-use Rattle.iol_sum.proofs.KeyedLists.{same-true, entry-found, entry-missed, length-removed, AreDistinct, IsNew, removed-new, removed-distinct, take-distinct, take-new}
+use Rattle.iol_sum.proofs.KeyedLists.{same-true, entry-found, entry-missed, length-removed, AreDistinct, IsNew}
+use Rattle.iol_sum.proofs.KeyedLists.{removed-new, removed-distinct, take-distinct, take-new}
 
 -- as contracts see the kit's cache
 abbrev pub sums_of : LruCache Key ℕ → Sums
@@ -23,21 +25,27 @@ others-missed : (c : Sums) (k : Key) → sum_kept c k ≡ None → others c k �
 others-missed c k h = rw h refl
 
 -- a look-up that finds the sum
-pub Uses-found : (c new : LruCache Key ℕ) (k : Key) (n : ℕ) → lookup (same k) c.entries ≡ Some n → new ≡ lru_cache (promoted (same k) c.entries) c.cap → Uses (sums_of c) k n (sums_of new)
+pub Uses-found : (c new : LruCache Key ℕ) (k : Key) (n : ℕ) → lookup (same k) c.entries ≡ Some n
+    → new ≡ lru_cache (promoted (same k) c.entries) c.cap → Uses (sums_of c) k n (sums_of new)
 Uses-found c new k n h e =
     let found = entry-found k n c.entries h in
-    let all : promoted (same k) c.entries ≡ (k, n) ∷ others (sums_of c) k = rw found (ap (λ l. (k, n) ∷ l) (sym (others-found (sums_of c) k n h))) in
+    let all : promoted (same k) c.entries ≡ (k, n) ∷ others (sums_of c) k =
+    rw found (ap (λ l. (k, n) ∷ l) (sym (others-found (sums_of c) k n h))) in
     inl (ap sums_of e ∙ ap (λ l. sums_of (lru_cache l c.cap)) all)
 
 -- a look-up that finds none changes nothing
-pub unpromoted : (c new : LruCache Key ℕ) (k : Key) → lookup (same k) c.entries ≡ None → new ≡ lru_cache (promoted (same k) c.entries) c.cap → new ≡ c
+pub unpromoted : (c new : LruCache Key ℕ) (k : Key) → lookup (same k) c.entries ≡ None
+    → new ≡ lru_cache (promoted (same k) c.entries) c.cap → new ≡ c
 unpromoted c new k h e = e ∙ (rw (entry-missed k c.entries h) refl)
 
 -- a new sum is put in, or memory is refused
-pub Uses-put : {X E : Type 0} (c new : LruCache Key ℕ) (k : Key) (n : ℕ) (r : Result X E) → lookup (same k) c.entries ≡ None → OnOk r (new ≡ lru_cache (put_entries same c k n) c.cap) → OnErr r (new ≡ c) → Uses (sums_of c) k n (sums_of new)
+pub Uses-put : {X E : Type 0} (c new : LruCache Key ℕ) (k : Key) (n : ℕ) (r : Result X E)
+    → lookup (same k) c.entries ≡ None → OnOk r (new ≡ lru_cache (put_entries same c k n) c.cap) → OnErr r (new ≡ c)
+    → Uses (sums_of c) k n (sums_of new)
 Uses-put c new k n (Ok x) h done refused =
     let missed = entry-missed k c.entries h in
-    let all : put_entries same c k n ≡ (k, n) ∷ others (sums_of c) k = rw missed (ap (λ l. (k, n) ∷ l) (sym (others-missed (sums_of c) k h))) in
+    let all : put_entries same c k n ≡ (k, n) ∷ others (sums_of c) k =
+    rw missed (ap (λ l. (k, n) ∷ l) (sym (others-missed (sums_of c) k h))) in
     inl (ap sums_of done ∙ ap (λ l. sums_of (lru_cache l c.cap)) all)
 Uses-put c new k n (Err x) h done refused = inr (ap sums_of refused, h)
 
@@ -48,12 +56,16 @@ right-sum s k n c h e =
     let key : k ≡ at.0 = same-true k at.0 at.2 in
     subst (λ j. IsRightSum s (j, n)) (sym key) (All-contains (IsRightSum s) c.entries (at.0, n) h.each at.1)
 
-removed-right : (s : State) (k : Key) (es : List (Key × ℕ)) → All (IsRightSum s) es → All (IsRightSum s) (remove_entry (same k) es)
+removed-right : (s : State) (k : Key) (es : List (Key × ℕ)) → All (IsRightSum s) es
+    → All (IsRightSum s) (remove_entry (same k) es)
 removed-right s k [] h = h
-removed-right s k (f ∷ es) h = (elim (same k f.0) as (λ y. same k f.0 ≡ y → All (IsRightSum s) (remove_entry (same k) (f ∷ es))) [
-  | true ↦ λ t. rw t (All-tail (IsRightSum s) f es h)
-  | false ↦ λ t. rw t (All-cons (IsRightSum s) f (remove_entry (same k) es) (All-head (IsRightSum s) f es h) (removed-right s k es (All-tail (IsRightSum s) f es h)))
-]) refl
+removed-right s k (f ∷ es) h =
+    (elim (same k f.0) as (λ y. same k f.0 ≡ y → All (IsRightSum s) (remove_entry (same k) (f ∷ es))) [
+      | true ↦ λ t. rw t (All-tail (IsRightSum s) f es h)
+      | false ↦
+          λ t. rw t (All-cons (IsRightSum s) f (remove_entry (same k) es) (All-head (IsRightSum s) f es h)
+          (removed-right s k es (All-tail (IsRightSum s) f es h)))
+    ]) refl
 
 -- what may stand behind a key
 record Behind (s : State) (c : Sums) (k : Key) (es : List (Key × ℕ)) : Type 0 where
@@ -62,7 +74,8 @@ record Behind (s : State) (c : Sums) (k : Key) (es : List (Key × ℕ)) : Type 0
   new : IsNew k es
   fits : length es + 1 ≤ c.limit
 
-others-behind : (s : State) (c : Sums) (k : Key) → IsRight s c → (o : Option ℕ) → sum_kept c k ≡ o → Behind s c k (others c k)
+others-behind : (s : State) (c : Sums) (k : Key) → IsRight s c → (o : Option ℕ) → sum_kept c k ≡ o
+    → Behind s c k (others c k)
 others-behind s c k h (Some n) e = subst (Behind s c k) (sym (others-found c k n e)) (record {
   each = removed-right s k c.entries h.each;
   distinct = removed-distinct k c.entries h.distinct;
@@ -87,6 +100,7 @@ used-right s c k n at h =
     }
 
 -- remembered sums stay right as one is used
-pub Uses-right : (s : State) (old new : Sums) (k : Key) (n : ℕ) → IsRightSum s (k, n) → IsRight s old → Uses old k n new → IsRight s new
+pub Uses-right : (s : State) (old new : Sums) (k : Key) (n : ℕ) → IsRightSum s (k, n) → IsRight s old → Uses old k n new
+    → IsRight s new
 Uses-right s old new k n at h (inl e) = subst (IsRight s) (sym e) (used-right s old k n at h)
 Uses-right s old new k n at h (inr e) = subst (IsRight s) (sym e.0) h

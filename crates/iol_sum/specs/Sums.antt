@@ -1,5 +1,6 @@
 -- Remembered sums, the most recently used first.
-use Rattle.std.specs.Prelude.{◌≡◌, ℕ, ◌+◌, ◌-◌, ◌<◌, ◌≤◌, ◌⊎◌, Bool, nat_eq, ◌&&◌, if◌then◌else◌, Option, None, is_some, List, [], ◌∷◌, length, take, slice_range}
+use Rattle.std.specs.Prelude.{◌≡◌, ℕ, ◌+◌, ◌-◌, ◌<◌, ◌≤◌, ◌⊎◌, Bool, nat_eq, ◌&&◌, if◌then◌else◌, Option, None, is_some}
+use Rattle.std.specs.Prelude.{List, [], ◌∷◌, length, take, slice_range}
 use Rattle.std.specs.List.{All, IsDistinct}
 use Rattle.std.specs.Map.{keys_of, lookup, remove_entry}
 use Rattle.iol_core.specs.Checksum.{word_sum, folded}
@@ -55,12 +56,13 @@ others c k = if is_some (sum_kept c k) then remove_entry (same k) c.entries else
 abbrev pub used : Sums → Key → (sum : ℕ) → Sums
 used c k n = record { entries = (k, n) ∷ others c k; limit = c.limit }
 
--- The sum was used; or its key is new and nothing changed, for lack of memory. It is not stated that this occurs only for lack
--- of memory.
+-- The sum was used; or its key is new and nothing changed, for lack of memory. It is not stated that this occurs only
+-- for lack of memory.
 abbrev pub Uses : (old : Sums) → Key → (sum : ℕ) → (new : Sums) → Type 0
 Uses old k n new = (new ≡ used old k n) ⊎ ((new ≡ old) × (sum_kept old k ≡ None))
 
 -- the sums of the slices were used, in order
 unfoldable pub UsesEach : Stored → (old : Sums) → List Slice → (new : Sums) → Type 0
 UsesEach s old [] new = new ≡ old
-UsesEach s old (x ∷ xs) new = (mid : Sums) × Uses old (key_of x) (folded (word_sum (slice_bytes s x))) mid × UsesEach s mid xs new
+UsesEach s old (x ∷ xs) new = (mid : Sums) × Uses old (key_of x) (folded (word_sum (slice_bytes s x))) mid
+    × UsesEach s mid xs new

@@ -1,5 +1,6 @@
 -- What an event does that writes back, forgets what the store has, makes a pool, or sends.
-use Rattle.std.proofs.Common.{◌≡◌, ℕ, ◌<◌, ◌≤◌, Bool, List, [], ◌∷◌, length, true, false, refl, ap, sym, subst, inl, inr}
+use Rattle.std.proofs.Common.{◌≡◌, ℕ, ◌<◌, ◌≤◌, Bool, List, [], ◌∷◌, length, true, false, refl, ap, sym, subst, inl}
+use Rattle.std.proofs.Common.{inr}
 use Rattle.std.proofs.lemmas.Bool.{true≢false}
 use Rattle.std.specs.Prelude.{◌⊎◌, Result, Ok, Err, OnOk, MatchOption}
 use Rattle.iol_back.specs.Disk.{Disk}
@@ -40,11 +41,14 @@ use Rattle.iol_system.specs.Replies.{reported}
 use Rattle.iol_system.specs.Room.{BytesFit, HasRoomFor, IsEarly}
 use Rattle.iol_system.specs.Slices.{Divides}
 use Rattle.iol_system.specs.Still.{is_still, keeps_store, only_looks, takes_out}
-use Rattle.iol_system.proofs.Effects.{answer_lies, asks_none, does_of, kept_layout, lies_apart, never, plain_does, served}
-use Rattle.iol_system.proofs.ReplyAnswers.{Means, done, early_reported, no_room_reported, refused_reported, sent, reported_beside, reported_step}
+use Rattle.iol_system.proofs.Effects.{answer_lies, asks_none, does_of, kept_layout, lies_apart, never, plain_does}
+use Rattle.iol_system.proofs.Effects.{served}
+use Rattle.iol_system.proofs.ReplyAnswers.{Means, done, early_reported, no_room_reported, refused_reported, sent}
+use Rattle.iol_system.proofs.ReplyAnswers.{reported_beside, reported_step}
 use Rattle.iol_system.specs.WriteBack.{DropsClean, WritesBack}
 use Rattle.iol_system.proofs.HeldPlaces.{after_held, all_held, step_held, tables_hold, values_sent}
-use Rattle.iol_system.proofs.InPlace.{cache_in_place, drops_in_place, flushes_in_place, shares_file, shares_none, syncs_in_place}
+use Rattle.iol_system.proofs.InPlace.{cache_in_place, drops_in_place, flushes_in_place, shares_file, shares_none}
+use Rattle.iol_system.proofs.InPlace.{syncs_in_place}
 use Rattle.iol_system.proofs.WriteBack.{drops_back, flushes_back, none_back, syncs_back}
 use Rattle.iol_system.proofs.ResultReported.{ok_reported, lacks_reported, counts_reported, early_fault_in, early_fault}
 
@@ -62,12 +66,20 @@ pub record IsBack (e : Event) (old : KernelState) : Type 0 where
   pub publishes : (new : KernelState) → KeepsPages old.store new.store [] → Publishes old e new
   pub creates : (x : Reply) (new : KernelState) → Creates old e x new
   pub sums : (x : Reply) (new : KernelState) → new.sums ≡ old.sums → Remembers old e x new
-  pub late : (disk after : Disk) (x : Reply) (new : KernelState) → LeavesLate (system_of old disk) e x (system_of new after)
+  pub late : (disk after : Disk) (x : Reply) (new : KernelState)
+      → LeavesLate (system_of old disk) e x (system_of new after)
   pub ends : (disk : Disk) (x : Reply) → ReportsEnd (system_of old disk) e x
 
-module _ (m : State → Meaning (Unit {0})) (e : Event) (disk after : Disk) (old new : KernelState) (r : Result (Unit {0}) Refusal) where
-  stores_does : IsBack e old → Means done m e → (keeps_store e ≡ true → new.store ≡ old.store) → (asks_store (tables_of old) e ≡ false → after ≡ disk) → (asks_store (tables_of old) e ≡ true → FaultCounts disk after r) → ((p : ℕ) → r ≡ Err (NoRoom p) → ⊥)
-      → KeepsPages old.store new.store [] → WritesBack disk old e (reported done r) after new → KeepsInPlace (system_of old disk) e new → Serves m disk old r after new → (writes_store e ≡ false → after.slots ≡ disk.slots) → (IsEarly (reported done r) → (new ≡ old) × (after ≡ disk)) → new.domains ≡ old.domains → Does disk old e (reported done r) after new
+module _ (m : State → Meaning (Unit {0})) (e : Event) (disk after : Disk) (old new : KernelState)
+    (r : Result (Unit {0}) Refusal) where
+  stores_does : IsBack e old → Means done m e → (keeps_store e ≡ true → new.store ≡ old.store)
+      → (asks_store (tables_of old) e ≡ false → after ≡ disk)
+      → (asks_store (tables_of old) e ≡ true → FaultCounts disk after r) → ((p : ℕ) → r ≡ Err (NoRoom p) → ⊥)
+      → KeepsPages old.store new.store [] → WritesBack disk old e (reported done r) after new
+      → KeepsInPlace (system_of old disk) e new → Serves m disk old r after new
+      → (writes_store e ≡ false → after.slots ≡ disk.slots)
+      → (IsEarly (reported done r) → (new ≡ old) × (after ≡ disk)) → new.domains ≡ old.domains
+      → Does disk old e (reported done r) after new
   stores_does back means store unasked faults roomy pages written lies serves slots early domains =
       does_of (back.ends disk (reported done r)) (served done means serves)
       (record {
@@ -94,9 +106,12 @@ module _ (m : State → Meaning (Unit {0})) (e : Event) (disk after : Disk) (old
         sums = back.sums (reported done r) new serves.sums;
         written_back = written;
       })
-      (lies_apart (back.unshared (tables_of old)) back.moving (never back.looking) (never (back.inside (tables_of old))) store (all_held old new e (tables_hold old new domains)))
+      (lies_apart (back.unshared (tables_of old)) back.moving (never back.looking) (never (back.inside (tables_of old)))
+      store (all_held old new e (tables_hold old new domains)))
 
-no_room_of_three : (f p : ℕ) (a b c : Bool) → MatchOption (first ((NoDomain when a) ∷ (BadFd when b) ∷ (WrongMode when c) ∷ [])) (FaultOf f (NoRoom p)) (λ y. NoRoom p ≡ y) → ⊥
+no_room_of_three : (f p : ℕ) (a b c : Bool)
+    → MatchOption (first ((NoDomain when a) ∷ (BadFd when b) ∷ (WrongMode when c) ∷ [])) (FaultOf f (NoRoom p))
+    (λ y. NoRoom p ≡ y) → ⊥
 no_room_of_three f p true b c is = cc
 no_room_of_three f p false true c is = cc
 no_room_of_three f p false false true is = cc
@@ -106,42 +121,120 @@ module _ (by fd : ℕ) (disk after : Disk) (old new : KernelState) (r : Result (
   sync_roomy : Serves (λ s. files.fsync s by fd) disk old r after new → (p : ℕ) → r ≡ Err (NoRoom p) → ⊥
   sync_roomy serves p is =
       let s : State = with_slots serves.beside.before old in
-      let step : Step (files.fsync s by fd) s (Err (NoRoom p)) (with_slots serves.beside.after new) = subst (λ (x : Result (Unit {0}) Refusal). Step (files.fsync s by fd) s x (with_slots serves.beside.after new)) is serves.beside.step in
+      let step : Step (files.fsync s by fd) s (Err (NoRoom p)) (with_slots serves.beside.after new) =
+      subst (λ (x : Result (Unit {0}) Refusal). Step (files.fsync s by fd) s x (with_slots serves.beside.after new))
+      is serves.beside.step in
       no_room_of_three (files.file_on s by fd) p _ _ _ step.0
 
-  sync_early : (f : ℕ) (x : Result (Unit {0}) Refusal) → WritesDirty old.store f old.cache new.cache disk after x ⊎ (((g : ℕ) → x ≡ Err (Fault g) → ⊥) × (new ≡ old) × (after ≡ disk)) → IsEarly (reported done x) → (new ≡ old) × (after ≡ disk)
+  sync_early : (f : ℕ) (x : Result (Unit {0}) Refusal) → WritesDirty old.store f old.cache new.cache disk after x
+      ⊎ (((g : ℕ) → x ≡ Err (Fault g) → ⊥) × (new ≡ old) × (after ≡ disk)) → IsEarly (reported done x)
+      → (new ≡ old) × (after ≡ disk)
   sync_early f (Ok u) ends is = absurd is
-  sync_early f (Err y) ends is = elim ends [ inl wrote ↦ absurd (early_fault f y is wrote.ends.1) | inr same ↦ (same.1, same.2) ]
+  sync_early f (Err y) ends is =
+      elim ends [ inl wrote ↦ absurd (early_fault f y is wrote.ends.1) | inr same ↦ (same.1, same.2) ]
 
-  pub syncs_does : IsSound old → Serves (λ s. files.fsync s by fd) disk old r after new → SyncsFile (files.file_on (tables_of old) by fd) disk old r after new → Does disk old (event.Call by (call.Fsync fd)) (reported done r) after new
+  pub syncs_does : IsSound old → Serves (λ s. files.fsync s by fd) disk old r after new
+      → SyncsFile (files.file_on (tables_of old) by fd) disk old r after new
+      → Does disk old (event.Call by (call.Fsync fd)) (reported done r) after new
   syncs_does sound serves syncs =
-      stores_does (λ s. files.fsync s by fd) (event.Call by (call.Fsync fd)) disk after old new r (record { uses = λ s. refl; unshared = λ s. refl; inside = λ s. refl; moving = refl; looking = refl; unlent = refl; has = λ s. tt; fits = λ s. tt; divides = λ n. tt; publishes = λ n k. k; creates = λ x n. tt; sums = λ x n k. k; late = λ d a x n. tt; ends = λ d x. tt }) (λ s. reported_step done (λ a. refl) (files.fsync s by fd) s) (λ keeps. ap (λ (h : KernelState). h.store) syncs.same)
+      stores_does (λ s. files.fsync s by fd) (event.Call by (call.Fsync fd)) disk after old new r
+      (record {
+        uses = λ s. refl;
+        unshared = λ s. refl;
+        inside = λ s. refl;
+        moving = refl;
+        looking = refl;
+        unlent =
+            refl;
+        has = λ s. tt;
+        fits = λ s. tt;
+        divides = λ n. tt;
+        publishes = λ n k. k;
+        creates = λ x n. tt;
+        sums =
+            λ x n k. k;
+        late = λ d a x n. tt;
+        ends = λ d x. tt;
+      })
+      (λ s. reported_step done (λ a. refl) (files.fsync s by fd) s)
+      (λ keeps. ap (λ (h : KernelState). h.store) syncs.same)
       (λ none. absurd (true≢false none)) (λ asked. syncs.counts) (sync_roomy serves)
-      (pages_equal old.store new.store (ap (λ (h : KernelState). h.store) syncs.same)) (syncs_back by fd disk after old new r sound serves.sound syncs) (syncs_in_place by fd (files.file_on (tables_of old) by fd) disk after old new syncs.syncs) serves
-      (λ none. absurd (true≢false none)) (sync_early (files.file_on (tables_of old) by fd) r syncs.writes) (ap (λ (h : KernelState). h.domains) syncs.same)
+      (pages_equal old.store new.store (ap (λ (h : KernelState). h.store) syncs.same))
+      (syncs_back by fd disk after old new r sound serves.sound syncs)
+      (syncs_in_place by fd (files.file_on (tables_of old) by fd) disk after old new syncs.syncs) serves
+      (λ none. absurd (true≢false none)) (sync_early (files.file_on (tables_of old) by fd) r syncs.writes)
+      (ap (λ (h : KernelState). h.domains) syncs.same)
 
 module _ (disk after : Disk) (old new : KernelState) (r : Result (Unit {0}) Refusal) where
   flush_roomy : Serves outside.flush disk old r after new → (p : ℕ) → r ≡ Err (NoRoom p) → ⊥
   flush_roomy serves p is =
       let s : State = with_slots serves.beside.before old in
-      let step : Step (outside.flush s) s (Err (NoRoom p)) (with_slots serves.beside.after new) = subst (λ (x : Result (Unit {0}) Refusal). Step (outside.flush s) s x (with_slots serves.beside.after new)) is serves.beside.step in
+      let step : Step (outside.flush s) s (Err (NoRoom p)) (with_slots serves.beside.after new) =
+      subst (λ (x : Result (Unit {0}) Refusal). Step (outside.flush s) s x (with_slots serves.beside.after new)) is
+      serves.beside.step in
       step.0
 
-  flush_early : (x : Result (Unit {0}) Refusal) → StepsBeside outside.flush old x new → IsEarly (reported done x) → (new ≡ old) × (after ≡ disk)
+  flush_early : (x : Result (Unit {0}) Refusal) → StepsBeside outside.flush old x new → IsEarly (reported done x)
+      → (new ≡ old) × (after ≡ disk)
   flush_early (Ok u) beside is = absurd is
   flush_early (Err y) beside is = absurd (early_fault_in (with_slots beside.before old) y is beside.step.0)
 
-  pub flushes_does : IsSound old → Serves outside.flush disk old r after new → FlushesOne disk old r after new → Does disk old event.Flush (reported done r) after new
+  pub flushes_does : IsSound old → Serves outside.flush disk old r after new → FlushesOne disk old r after new
+      → Does disk old event.Flush (reported done r) after new
   flushes_does sound serves flushes =
-      stores_does outside.flush event.Flush disk after old new r (record { uses = λ s. refl; unshared = λ s. refl; inside = λ s. refl; moving = refl; looking = refl; unlent = refl; has = λ s. tt; fits = λ s. tt; divides = λ n. tt; publishes = λ n k. k; creates = λ x n. tt; sums = λ x n k. k; late = λ d a x n. tt; ends = λ d x. tt }) (λ s. reported_step done (λ a. refl) (outside.flush s) s) (λ keeps. ap (λ (h : KernelState). h.store) flushes.same)
+      stores_does outside.flush event.Flush disk after old new r
+      (record {
+        uses = λ s. refl;
+        unshared = λ s. refl;
+        inside = λ s. refl;
+        moving = refl;
+        looking = refl;
+        unlent =
+            refl;
+        has = λ s. tt;
+        fits = λ s. tt;
+        divides = λ n. tt;
+        publishes = λ n k. k;
+        creates = λ x n. tt;
+        sums =
+            λ x n k. k;
+        late = λ d a x n. tt;
+        ends = λ d x. tt;
+      })
+      (λ s. reported_step done (λ a. refl) (outside.flush s) s)
+      (λ keeps. ap (λ (h : KernelState). h.store) flushes.same)
       (λ none. absurd (true≢false none)) (λ asked. flushes.counts) (flush_roomy serves)
-      (pages_equal old.store new.store (ap (λ (h : KernelState). h.store) flushes.same)) (flushes_back disk after old new r sound flushes) (flushes_in_place disk after old new r sound flushes) serves
-      (λ none. absurd (true≢false none)) (flush_early r serves.beside) (ap (λ (h : KernelState). h.domains) flushes.same)
+      (pages_equal old.store new.store (ap (λ (h : KernelState). h.store) flushes.same))
+      (flushes_back disk after old new r sound flushes) (flushes_in_place disk after old new r sound flushes) serves
+      (λ none. absurd (true≢false none)) (flush_early r serves.beside)
+      (ap (λ (h : KernelState). h.domains) flushes.same)
 
-pub drops_does : (disk : Disk) (old new : KernelState) → Serves outside.drop_clean disk old (Ok tt) disk new → KeepsPages old.store new.store [] → DropsClean old new → KeepsDirty old.cache new.cache → Does disk old event.DropClean reply.Done disk new
+pub drops_does : (disk : Disk) (old new : KernelState) → Serves outside.drop_clean disk old (Ok tt) disk new
+    → KeepsPages old.store new.store [] → DropsClean old new → KeepsDirty old.cache new.cache
+    → Does disk old event.DropClean reply.Done disk new
 drops_does disk old new serves pages drops keeps =
-    stores_does outside.drop_clean event.DropClean disk disk old new (Ok tt) (record { uses = λ s. refl; unshared = λ s. refl; inside = λ s. refl; moving = refl; looking = refl; unlent = refl; has = λ s. tt; fits = λ s. tt; divides = λ n. tt; publishes = λ n k. k; creates = λ x n. tt; sums = λ x n k. k; late = λ d a x n. tt; ends = λ d x. tt }) (λ s. reported_step done (λ a. refl) (outside.drop_clean s) s) (never refl)
-    (λ none. refl) (λ asked. absurd (true≢false (sym asked))) (λ p is. cc) pages (drops_back old new disk drops) (drops_in_place disk old new keeps) serves
+    stores_does outside.drop_clean event.DropClean disk disk old new (Ok tt)
+    (record {
+      uses = λ s. refl;
+      unshared = λ s. refl;
+      inside = λ s. refl;
+      moving = refl;
+      looking = refl;
+      unlent =
+          refl;
+      has = λ s. tt;
+      fits = λ s. tt;
+      divides = λ n. tt;
+      publishes = λ n k. k;
+      creates = λ x n. tt;
+      sums =
+          λ x n k. k;
+      late = λ d a x n. tt;
+      ends = λ d x. tt;
+    })
+    (λ s. reported_step done (λ a. refl) (outside.drop_clean s) s) (never refl)
+    (λ none. refl) (λ asked. absurd (true≢false (sym asked))) (λ p is. cc) pages (drops_back old new disk drops)
+    (drops_in_place disk old new keeps) serves
     (λ none. refl) (λ is. absurd is) (ap (λ (h : KernelState). h.domains) drops.same)
 
 -- A new pool.
@@ -149,13 +242,18 @@ module _ (by chunks : ℕ) (list : List ℕ) (disk : Disk) (old new : KernelStat
   abbrev pool_event : Event
   pool_event = event.Call by (call.PoolCreate chunks list)
 
-  pool_creates : (r : Result ℕ Refusal) → OnOk r (AddsPool old.store.arena new.store.arena old.store.pools new.store.pools chunks (pools.distinct list)) → Creates old pool_event (reported reply.Pool r) new
+  pool_creates : (r : Result ℕ Refusal)
+      → OnOk r (AddsPool old.store.arena new.store.arena old.store.pools new.store.pools chunks (pools.distinct list))
+      → Creates old pool_event (reported reply.Pool r) new
   pool_creates (Ok p) adds = adds
   pool_creates (Err x) adds = tt
 
-  pub creates_does : (r : Result ℕ Refusal) → IsSound old → KeepsPlaces (λ s. pools.pool_create s by chunks list) old r new
-      → OnOk r (AddsPool old.store.arena new.store.arena old.store.pools new.store.pools chunks (pools.distinct list)) → OnOk r (chunks ≤ length (free_chunks old.store.arena))
-      → ((p : ℕ) → r ≡ Err (NoRoom p) → length (free_chunks old.store.arena) < chunks) → Does disk old pool_event (reported reply.Pool r) disk new
+  pub creates_does : (r : Result ℕ Refusal) → IsSound old
+      → KeepsPlaces (λ s. pools.pool_create s by chunks list) old r new
+      → OnOk r (AddsPool old.store.arena new.store.arena old.store.pools new.store.pools chunks (pools.distinct list))
+      → OnOk r (chunks ≤ length (free_chunks old.store.arena))
+      → ((p : ℕ) → r ≡ Err (NoRoom p) → length (free_chunks old.store.arena) < chunks)
+      → Does disk old pool_event (reported reply.Pool r) disk new
   creates_does r sound c adds room no_room =
       let m = λ (s : State). pools.pool_create s by chunks list in
       let means : Means reply.Pool m pool_event = (λ s. reported_step reply.Pool (λ a. refl) (m s) s) in
@@ -184,7 +282,9 @@ module _ (by chunks : ℕ) (list : List ℕ) (disk : Disk) (old new : KernelStat
         pages = never refl;
         still = λ still. means (layout_of old) (layout_of new) r (kept_layout m old new r c);
         places = never refl;
-        held = step_held old new pool_event (reported reply.Pool r) (means (layout_of old) (layout_of new) r (kept_layout m old new r c));
+        held =
+            step_held old new pool_event (reported reply.Pool r)
+            (means (layout_of old) (layout_of new) r (kept_layout m old new r c));
         store = never refl;
       })
 
@@ -193,11 +293,13 @@ module _ (conn max : ℕ) (disk : Disk) (old new : KernelState) where
   abbrev send_event : Event
   send_event = event.Transmit conn max
 
-  send_sums : (r : Result (List ℕ × ℕ) Refusal) → Transmits conn max old r new → Remembers old send_event (reported sent r) new
+  send_sums : (r : Result (List ℕ × ℕ) Refusal) → Transmits conn max old r new
+      → Remembers old send_event (reported sent r) new
   send_sums (Ok x) c = c.uses
   send_sums (Err x) c = ap (λ (h : KernelState). h.sums) c.refused
 
-  pub sends_does : (r : Result (List ℕ × ℕ) Refusal) → IsSound old → Transmits conn max old r new → Does disk old send_event (reported sent r) disk new
+  pub sends_does : (r : Result (List ℕ × ℕ) Refusal) → IsSound old → Transmits conn max old r new
+      → Does disk old send_event (reported sent r) disk new
   sends_does r sound c =
       let m = λ (s : State). outside.transmit s conn max in
       let means : Means sent m send_event = (λ s. reported_step sent (λ a. refl) (m s) s) in
@@ -209,5 +311,6 @@ module _ (conn max : ℕ) (disk : Disk) (old new : KernelState) where
         sound = c.sound;
         stays = c.stays;
       }) c.roomy c.refused (λ other. c.cache) (cache_in_place disk old new send_event c.cache) c.pages (send_sums r c)
-      (lies_apart refl refl (never refl) (λ out is. answer_lies sent m send_event old new r (λ s. refl) c.places is) (never refl)
+      (lies_apart refl refl (never refl) (λ out is. answer_lies sent m send_event old new r (λ s. refl) c.places is)
+      (never refl)
       (after_held m old new r send_event (values_sent conn max) c.places c.refused))

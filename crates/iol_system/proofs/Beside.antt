@@ -19,42 +19,58 @@ use Rattle.iol_kernel.specs.Views.{state_view}
 
 -- all but the slots are the same over each store
 
-pub domains-slots : (slots stored : List (List ℕ)) (h : KernelState) → (with_slots slots h).domains ≡ (held.machine_of stored h).domains
+pub domains-slots : (slots stored : List (List ℕ)) (h : KernelState)
+    → (with_slots slots h).domains ≡ (held.machine_of stored h).domains
 unfolding with_slots read_of state_view
 domains-slots slots stored h = refl
 
-pub pools-slots : (slots stored : List (List ℕ)) (h : KernelState) → (with_slots slots h).pools ≡ (held.machine_of stored h).pools
+pub pools-slots : (slots stored : List (List ℕ)) (h : KernelState)
+    → (with_slots slots h).pools ≡ (held.machine_of stored h).pools
 unfolding with_slots read_of state_view
 pools-slots slots stored h = refl
 
-pub files-slots : (slots stored : List (List ℕ)) (h : KernelState) → (with_slots slots h).files ≡ (held.machine_of stored h).files
+pub files-slots : (slots stored : List (List ℕ)) (h : KernelState)
+    → (with_slots slots h).files ≡ (held.machine_of stored h).files
 unfolding with_slots read_of state_view
 files-slots slots stored h = refl
 
 -- the state over a store is one with slots
-pub with_slots-machine : (stored : List (List ℕ)) (h : KernelState) → with_slots (held.machine_of stored h).slots h ≡ held.machine_of stored h
+pub with_slots-machine : (stored : List (List ℕ)) (h : KernelState)
+    → with_slots (held.machine_of stored h).slots h ≡ held.machine_of stored h
 unfolding with_slots read_of state_view
 with_slots-machine stored h = refl
 
-access_to : (slots stored : List (List ℕ)) (h : KernelState) → HasAccess (held.machine_of stored h) → HasAccess (with_slots slots h)
-access_to slots stored h access = access_same (held.machine_of stored h) (with_slots slots h) access (domains-slots slots stored h) (pools-slots slots stored h) (files-slots slots stored h)
+access_to : (slots stored : List (List ℕ)) (h : KernelState) → HasAccess (held.machine_of stored h)
+    → HasAccess (with_slots slots h)
+access_to slots stored h access =
+    access_same (held.machine_of stored h) (with_slots slots h) access (domains-slots slots stored h)
+    (pools-slots slots stored h) (files-slots slots stored h)
 
-access_from : (slots stored : List (List ℕ)) (h : KernelState) → HasAccess (with_slots slots h) → HasAccess (held.machine_of stored h)
-access_from slots stored h access = access_same (with_slots slots h) (held.machine_of stored h) access (sym (domains-slots slots stored h)) (sym (pools-slots slots stored h)) (sym (files-slots slots stored h))
+access_from : (slots stored : List (List ℕ)) (h : KernelState) → HasAccess (with_slots slots h)
+    → HasAccess (held.machine_of stored h)
+access_from slots stored h access =
+    access_same (with_slots slots h) (held.machine_of stored h) access (sym (domains-slots slots stored h))
+    (sym (pools-slots slots stored h)) (sym (files-slots slots stored h))
 
 -- what a domain may read over one store it may over each
-pub access_over : (stored other : List (List ℕ)) (h : KernelState) → HasAccess (held.machine_of stored h) → HasAccess (held.machine_of other h)
+pub access_over : (stored other : List (List ℕ)) (h : KernelState) → HasAccess (held.machine_of stored h)
+    → HasAccess (held.machine_of other h)
 access_over stored other h access = access_from [] other h (access_to [] stored h access)
 
-aggregate-slots : (slots stored : List (List ℕ)) (h : KernelState) (d a : ℕ) → aggregate (with_slots slots h) d a ≡ aggregate (held.machine_of stored h) d a
-aggregate-slots slots stored h d a = ap (λ (x : Domain Text). lookup x.aggs a) (domain-same (held.machine_of stored h) (with_slots slots h) d (domains-slots slots stored h))
+aggregate-slots : (slots stored : List (List ℕ)) (h : KernelState) (d a : ℕ)
+    → aggregate (with_slots slots h) d a ≡ aggregate (held.machine_of stored h) d a
+aggregate-slots slots stored h d a =
+    ap (λ (x : Domain Text). lookup x.aggs a)
+    (domain-same (held.machine_of stored h) (with_slots slots h) d (domains-slots slots stored h))
 
 -- after a step that is the machine's but for the bytes of files
-module _ (old new : KernelState) (e : Event) (r : Reply) (stored after : List (List ℕ)) (beside : StepsBeside (λ s. meaning s e) old (outcome r) new) where
+module _ (old new : KernelState) (e : Event) (r : Reply) (stored after : List (List ℕ))
+    (beside : StepsBeside (λ s. meaning s e) old (outcome r) new) where
   pub access_beside : HasAccess (held.machine_of stored old) → HasAccess (held.machine_of after new)
   access_beside access =
       access_from beside.after after new
-      (access_step (with_slots beside.before old) (with_slots beside.after new) e r (access_to beside.before stored old access) beside.step)
+      (access_step (with_slots beside.before old) (with_slots beside.after new) e r
+      (access_to beside.before stored old access) beside.step)
 
   pub values_beside : ValuesStay (held.machine_of stored old) e (held.machine_of after new)
   values_beside = record {

@@ -12,7 +12,8 @@ use Rattle.iol_kernel.specs.ReadsByCopy.{ShowsInto}
 use Rattle.iol_kernel.specs.Readings.{bytes_over}
 use Rattle.iol_system.specs.BorrowedMemory.{shown}
 
-two_tests : (a b : Bool) (y : Refusal) → first ((NoDomain when a) ∷ (BadAgg when b) ∷ []) ≡ Some y → (NoDomain ≡ y) ⊎ (BadAgg ≡ y)
+two_tests : (a b : Bool) (y : Refusal) → first ((NoDomain when a) ∷ (BadAgg when b) ∷ []) ≡ Some y
+    → (NoDomain ≡ y) ⊎ (BadAgg ≡ y)
 two_tests true b y is = inl (cc is)
 two_tests false true y is = inr (cc is)
 two_tests false false y is = absurd (cc is)
@@ -31,11 +32,18 @@ module _ (by a : ℕ) (memory filled : List ℕ) (h : KernelState) where
       let s = read_of (bytes_over [] h.store) h in
       two_tests (not (is_live s by)) (aggs.lacks_agg s by a) y (refused (bytes_over [] h.store))
 
-  pub shown_steps : (r : Result ℕ Refusal) (x : ShowsInto by a memory filled h r) → Steps (λ s. aggs.show s by a) h (shown x.bytes r) h
+  pub shown_steps : (r : Result ℕ Refusal) (x : ShowsInto by a memory filled h r)
+      → Steps (λ s. aggs.show s by a) h (shown x.bytes r) h
   shown_steps (Ok n) x = λ stored. ((x.shows stored).0, (x.shows stored).1, refl)
-  shown_steps (Err y) x = λ stored. (subst (λ (o : Option Refusal). MatchOption o (WantOfMemory y) (λ z. y ≡ z)) (sym (x.refused (bytes_over stored h.store))) refl, refl)
+  shown_steps (Err y) x =
+      λ stored. (
+        subst (λ (o : Option Refusal). MatchOption o (WantOfMemory y) (λ z. y ≡ z))
+            (sym (x.refused (bytes_over stored h.store))) refl,
+        refl,
+      )
 
-  pub shown_roomy : (r : Result ℕ Refusal) (x : ShowsInto by a memory filled h r) → (p : ℕ) → shown x.bytes r ≡ Err (NoRoom p) → ⊥
+  pub shown_roomy : (r : Result ℕ Refusal) (x : ShowsInto by a memory filled h r) → (p : ℕ)
+      → shown x.bytes r ≡ Err (NoRoom p) → ⊥
   shown_roomy (Ok n) x p is = cc is
   shown_roomy (Err y) x p is = not_room y p (tested y x.refused) (cc is)
 

@@ -1,5 +1,6 @@
 -- Chains: how they grow by a step, come apart, and what they give.
-use Rattle.std.proofs.Common.{◌≡◌, ◌∙◌, true, false, Some, ℕ, ◌+◌, ◌<◌, List, [], ◌∷◌, ◌++◌, length, take, get_or, refl, sym, ap, subst}
+use Rattle.std.proofs.Common.{◌≡◌, ◌∙◌, true, false, Some, ℕ, ◌+◌, ◌<◌, List, [], ◌∷◌, ◌++◌, length, take, get_or, refl}
+use Rattle.std.proofs.Common.{sym, ap, subst}
 use Rattle.std.proofs.lemmas.List.{take_more}
 use Rattle.std.specs.Prelude.{Bool, ◌||◌}
 use Rattle.std.specs.List.{list_any}
@@ -16,22 +17,29 @@ use Rattle.iol_system.specs.Machine.{SystemState, machine_of}
 use Rattle.iol_kernel.proofs.State.Stay.{stays_here}
 use Rattle.iol_system.specs.Promises.{Promises, Chain}
 use Rattle.iol_system.specs.Safe.{IsSafe}
-use Rattle.iol_system.specs.Laws.{RunsAsTheMachine, Between, RunsInParts, Moment, EachEventIsAStep, RunsStaySafe, RunsKeepHonesty, RunsKeepBuffers, RunsKeepValues, SharesOver, RunsShare}
+use Rattle.iol_system.specs.Laws.{RunsAsTheMachine, Between, RunsInParts, Moment, EachEventIsAStep, RunsStaySafe}
+use Rattle.iol_system.specs.Laws.{RunsKeepHonesty, RunsKeepBuffers, RunsKeepValues, SharesOver, RunsShare}
 
 -- one step more
-Chain-push : (old mid new : SystemState) (es : List Event) (rs : List Reply) (e : Event) (r : Reply) → Chain old es rs mid → Promises mid e r new → Chain old (es ++ e ∷ []) (rs ++ r ∷ []) new
+Chain-push : (old mid new : SystemState) (es : List Event) (rs : List Reply) (e : Event) (r : Reply)
+    → Chain old es rs mid → Promises mid e r new → Chain old (es ++ e ∷ []) (rs ++ r ∷ []) new
 Chain-push old mid new [] [] e r chain step = (new, subst (λ (s : SystemState). Promises s e r new) chain step, refl)
-Chain-push old mid new (a ∷ es) (b ∷ rs) e r chain step = (chain.0, chain.1, Chain-push chain.0 mid new es rs e r chain.2 step)
+Chain-push old mid new (a ∷ es) (b ∷ rs) e r chain step =
+    (chain.0, chain.1, Chain-push chain.0 mid new es rs e r chain.2 step)
 Chain-push old mid new [] (b ∷ rs) e r chain step = absurd chain
 Chain-push old mid new (a ∷ es) [] e r chain step = absurd chain
 
-pub chain_more : (old mid new : SystemState) (es : List Event) (rs : List Reply) (i : ℕ) (e : Event) (r : Reply) → i < length es → e ≡ get_or es i e → Chain old (take i es) rs mid → Promises mid e r new → Chain old (take (i + 1) es) (rs ++ r ∷ []) new
+pub chain_more : (old mid new : SystemState) (es : List Event) (rs : List Reply) (i : ℕ) (e : Event) (r : Reply)
+    → i < length es → e ≡ get_or es i e → Chain old (take i es) rs mid → Promises mid e r new
+    → Chain old (take (i + 1) es) (rs ++ r ∷ []) new
 chain_more old mid new es rs i e r lt is chain step =
-    rw (take_more es i e lt) (subst (λ (x : Event). Chain old (take i es ++ x ∷ []) (rs ++ r ∷ []) new) is (Chain-push old mid new (take i es) rs e r chain step))
+    rw (take_more es i e lt) (subst (λ (x : Event). Chain old (take i es ++ x ∷ []) (rs ++ r ∷ []) new) is
+    (Chain-push old mid new (take i es) rs e r chain step))
 
 pub chain_run : RunsAsTheMachine
 chain_run old new [] [] chain honest = ap machine_of chain
-chain_run old new (e ∷ es) (r ∷ rs) chain honest = (machine_of chain.0, chain.1.step honest, chain_run chain.0 new es rs chain.2 (chain.1.honest ∙ honest))
+chain_run old new (e ∷ es) (r ∷ rs) chain honest =
+    (machine_of chain.0, chain.1.step honest, chain_run chain.0 new es rs chain.2 (chain.1.honest ∙ honest))
 chain_run old new [] (r ∷ rs) chain honest = absurd chain
 chain_run old new (e ∷ es) [] chain honest = absurd chain
 
@@ -42,7 +50,8 @@ chain_honest old new [] (r ∷ rs) chain = absurd chain
 chain_honest old new (e ∷ es) [] chain = absurd chain
 
 pub chain_parts : RunsInParts
-chain_parts old new [] future rs chain = record { now = old; past_replies = []; future_replies = rs; replies = refl; before = refl; after = chain }
+chain_parts old new [] future rs chain =
+    record { now = old; past_replies = []; future_replies = rs; replies = refl; before = refl; after = chain }
 chain_parts old new (e ∷ past) future (r ∷ rs) chain =
     let rest : Between chain.0 past future rs new = chain_parts chain.0 new past future rs chain.2 in record {
       now = rest.now;
@@ -55,7 +64,10 @@ chain_parts old new (e ∷ past) future (r ∷ rs) chain =
 chain_parts old new (e ∷ past) future [] chain = absurd chain
 
 -- the first event of a run, and the rest
-chain_first : (old new before : SystemState) (past : List Event) (e : Event) (future : List Event) (rs past_replies future_replies : List Reply) → rs ≡ past_replies ++ future_replies → Chain old past past_replies before → Chain before (e ∷ future) future_replies new → Moment old past e future rs new
+chain_first : (old new before : SystemState) (past : List Event) (e : Event) (future : List Event)
+    (rs past_replies future_replies : List Reply) → rs ≡ past_replies ++ future_replies
+    → Chain old past past_replies before → Chain before (e ∷ future) future_replies new
+    → Moment old past e future rs new
 chain_first old new before past e future rs past_replies (r ∷ future_replies) replies past_runs chain = record {
   before = before;
   after = chain.0;
@@ -81,7 +93,8 @@ chain_safe old new [] (r ∷ rs) chain safe = absurd chain
 chain_safe old new (e ∷ es) [] chain safe = absurd chain
 
 pub chain_stays : RunsKeepBuffers
-chain_stays old new [] [] chain = subst (λ (s : SystemState). Stays old.kernel.store s.kernel.store) (sym chain) (stays_here old.kernel.store)
+chain_stays old new [] [] chain =
+    subst (λ (s : SystemState). Stays old.kernel.store s.kernel.store) (sym chain) (stays_here old.kernel.store)
 chain_stays old new (e ∷ es) (r ∷ rs) chain = stays_trans chain.1.stays (chain_stays chain.0 new es rs chain.2)
 chain_stays old new [] (r ∷ rs) chain = absurd chain
 chain_stays old new (e ∷ es) [] chain = absurd chain
@@ -90,8 +103,11 @@ pub neither : (a b : Bool) → (a || b) ≡ false → (a ≡ false) × (b ≡ fa
 neither false b e = (refl, e)
 neither true b e = absurd (true≢false e)
 
-value_kept : (old new : SystemState) (es : List Event) (rs : List Reply) (d a : ℕ) (t : Text) → aggregate (machine_of old) d a ≡ Some t → list_any (λ e. gives_up e d a) es ≡ false → Chain old es rs new → aggregate (machine_of new) d a ≡ Some t
-value_kept old new [] [] d a t is kept chain = subst (λ (s : SystemState). aggregate (machine_of s) d a ≡ Some t) (sym chain) is
+value_kept : (old new : SystemState) (es : List Event) (rs : List Reply) (d a : ℕ) (t : Text)
+    → aggregate (machine_of old) d a ≡ Some t → list_any (λ e. gives_up e d a) es ≡ false → Chain old es rs new
+    → aggregate (machine_of new) d a ≡ Some t
+value_kept old new [] [] d a t is kept chain =
+    subst (λ (s : SystemState). aggregate (machine_of s) d a ≡ Some t) (sym chain) is
 value_kept old new (e ∷ es) (r ∷ rs) d a t is kept chain =
     let both = neither (gives_up e d a) (list_any (λ x. gives_up x d a) es) kept in
     value_kept chain.0 new es rs d a t (chain.1.values.each d a t is both.0) both.1 chain.2
@@ -102,7 +118,12 @@ pub chain_values : RunsKeepValues
 chain_values old new es rs chain = record { each = λ d a t is kept. value_kept old new es rs d a t is kept chain }
 
 pub chain_shares : RunsShare
-chain_shares old new [] [] chain all = record { places = ap (λ (s : SystemState). layout_of s.kernel) chain; arena = ap (λ (s : SystemState). s.kernel.store.arena) chain; pools = ap (λ (s : SystemState). s.kernel.store.pools) chain }
+chain_shares old new [] [] chain all = record {
+  places = ap (λ (s : SystemState). layout_of s.kernel) chain;
+  arena =
+      ap (λ (s : SystemState). s.kernel.store.arena) chain;
+  pools = ap (λ (s : SystemState). s.kernel.store.pools) chain;
+}
 chain_shares old new (e ∷ es) (r ∷ rs) chain all =
     let rest : SharesOver chain.0 es rs new = chain_shares chain.0 new es rs chain.2 all.1 in record {
       places = (layout_of chain.0.kernel, chain.1.shares all.0, rest.places);

@@ -1,5 +1,6 @@
 -- A closed pool keeps chunks only where a buffer that is held lies in them.
-use Rattle.std.proofs.Common.{inl, inr, ◌≡◌, ◌∙◌, ℕ, ◌*◌, ◌/◌, Bool, true, false, List, [], ◌∷◌, ap, arith, refl, sym, subst}
+use Rattle.std.proofs.Common.{inl, inr, ◌≡◌, ◌∙◌, ℕ, ◌*◌, ◌/◌, Bool, true, false, List, [], ◌∷◌, ap, arith, refl, sym}
+use Rattle.std.proofs.Common.{subst}
 use Rattle.std.specs.Prelude.{◌&&◌}
 use Rattle.std.specs.List.{Contains, list_all}
 use Rattle.iol_core.specs.declared.numbers.BufId.{BufId}
@@ -16,7 +17,8 @@ some-fails : (f : ℕ → Bool) (xs : List ℕ) → list_all f xs ≡ false → 
 some-fails f [] is = absurd (cc)
 some-fails f (x ∷ xs) is = by (f x) refl (some-fails f xs)
   where
-    by : (b : Bool) → f x ≡ b → (list_all f xs ≡ false → (y : ℕ) × In xs y × (f y ≡ false)) → (y : ℕ) × In (x ∷ xs) y × (f y ≡ false)
+    by : (b : Bool) → f x ≡ b → (list_all f xs ≡ false → (y : ℕ) × In xs y × (f y ≡ false))
+        → (y : ℕ) × In (x ∷ xs) y × (f y ≡ false)
     by false fails later = (x, inl refl, fails)
     by true holds later =
         let rest = later (sym (ap (λ b. b && list_all f xs) holds) ∙ is) in
@@ -38,7 +40,8 @@ page-in : (c q : ℕ) → In (chunk_pages c) q → q / 16 ≡ c
 unfolding chunk_pages
 page-in c q is = (let both = range_in (c * 16) 16 q is in omega (arith, both.0, both.1))
 
-pool_gives : (s : Stored) (p : ℕ) → IsTidy s → IsStill s.arena → IsReclaimed s p → (pool_in s.pools p).closed ≡ true → HasGivenBack s p
+pool_gives : (s : Stored) (p : ℕ) → IsTidy s → IsStill s.arena → IsReclaimed s p → (pool_in s.pools p).closed ≡ true
+    → HasGivenBack s p
 pool_gives s p tidy still reclaimed closed = by (list_all (is_unused s.arena) cs) refl
   where
     cs : List ℕ
@@ -54,4 +57,5 @@ pool_gives s p tidy still reclaimed closed = by (list_all (is_unused s.arena) cs
         inr (there.0, there.1, subst (λ n. Contains cs n) at (contains_in cs c.0 c.1), tidy.held there.0 there.1)
 
 pub gives_back : ClosedPoolsGiveBack
-gives_back s safe p closed = pool_gives s.kernel.store p safe.sound.tidy safe.sound.still (safe.sound.reclaimed.each p) closed
+gives_back s safe p closed = pool_gives s.kernel.store p safe.sound.tidy safe.sound.still (safe.sound.reclaimed.each p)
+    closed

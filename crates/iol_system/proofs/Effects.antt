@@ -38,7 +38,8 @@ use Rattle.iol_system.specs.Machine.{SystemState, system_of, tables_of}
 use Rattle.iol_system.specs.PagesAndChunks.{Creates, Publishes, SamePages}
 use Rattle.iol_system.specs.Sums.{Remembers}
 use Rattle.iol_system.specs.Replies.{reported}
-use Rattle.iol_system.specs.Room.{BytesFit, HasRoomFor, LacksRoomFor, IsDone, IsEarly, IsFault, IsMemory, IsNoRoom, IsRefused}
+use Rattle.iol_system.specs.Room.{BytesFit, HasRoomFor, LacksRoomFor, IsDone, IsEarly, IsFault, IsMemory, IsNoRoom}
+use Rattle.iol_system.specs.Room.{IsRefused}
 use Rattle.iol_system.specs.Slices.{Divides}
 use Rattle.iol_system.specs.Still.{is_still, keeps_store, only_looks, takes_out}
 use Rattle.iol_system.specs.WriteBack.{WritesBack}
@@ -46,7 +47,8 @@ use Rattle.iol_core.proofs.Values.{KeepsValues, nothing}
 use Rattle.iol_system.proofs.HeldPlaces.{Held, after_held, all_held, step_held, tables_hold}
 use Rattle.iol_system.proofs.InPlace.{cache_in_place, cover_in_place, shares_file, shares_none}
 use Rattle.iol_system.proofs.PagesAndChunks.{carried_pages}
-use Rattle.iol_system.proofs.ReplyAnswers.{Means, Reports, done, early_reported, no_room_reported, refused_reported, reported_beside}
+use Rattle.iol_system.proofs.ReplyAnswers.{Means, Reports, done, early_reported, no_room_reported, refused_reported}
+use Rattle.iol_system.proofs.ReplyAnswers.{reported_beside}
 use Rattle.iol_system.proofs.WriteBack.{none_back, writes_back}
 
 -- a test that fails does not hold
@@ -54,8 +56,10 @@ pub never : {X : Type 0} {b : Bool} → b ≡ false → b ≡ true → X
 never fails is = absurd (true≢false (sym is ∙ fails))
 
 -- What an event does, in five parts: the machine's step,
-pub record Goes (disk : Disk) (old : KernelState) (e : Event) (r : Reply) (after : Disk) (new : KernelState) : Type 0 where
-  pub step : IsBackedBy disk old → ArePlaced (machine_of disk.slots old) → StepsTo (machine_of disk.slots old) e r (machine_of after.slots new)
+pub record Goes (disk : Disk) (old : KernelState) (e : Event) (r : Reply) (after : Disk) (new : KernelState) :
+    Type 0 where
+  pub step : IsBackedBy disk old → ArePlaced (machine_of disk.slots old)
+      → StepsTo (machine_of disk.slots old) e r (machine_of after.slots new)
   pub backed : IsBackedBy disk old → IsBackedBy after new
   pub beside : StepsBeside (λ s. meaning s e) old (outcome r) new
   pub honest : after.honest ≡ disk.honest
@@ -70,7 +74,8 @@ pub record Asks (disk : Disk) (old : KernelState) (e : Event) (r : Reply) (after
   pub asked : asks_store (tables_of old) e ≡ true → IsFault r → HasRoomFor (system_of old disk) e
 
 -- where it has room, and what a refusal leaves,
-pub record Refuses (disk : Disk) (old : KernelState) (e : Event) (r : Reply) (after : Disk) (new : KernelState) : Type 0 where
+pub record Refuses (disk : Disk) (old : KernelState) (e : Event) (r : Reply) (after : Disk) (new : KernelState) :
+    Type 0 where
   pub room : IsDone r → HasRoomFor (system_of old disk) e
   pub no_room : IsNoRoom r → LacksRoomFor (system_of old disk) e
   pub memory : IsMemory r → BytesFit (system_of old disk) e
@@ -79,7 +84,8 @@ pub record Refuses (disk : Disk) (old : KernelState) (e : Event) (r : Reply) (af
   pub late : LeavesLate (system_of old disk) e r (system_of new after)
 
 -- what becomes of files, pages and pools,
-pub record Alters (disk : Disk) (old : KernelState) (e : Event) (r : Reply) (after : Disk) (new : KernelState) : Type 0 where
+pub record Alters (disk : Disk) (old : KernelState) (e : Event) (r : Reply) (after : Disk) (new : KernelState) :
+    Type 0 where
   pub uncached : uses_cache (tables_of old) e ≡ false → makes_file e ≡ false → new.cache ≡ old.cache
   pub in_place : KeepsInPlace (system_of old disk) e new
   pub shares_file : IsDone r → SharesFile (system_of old disk) e r new
@@ -90,7 +96,8 @@ pub record Alters (disk : Disk) (old : KernelState) (e : Event) (r : Reply) (aft
   pub written_back : WritesBack disk old e r after new
 
 -- and what lies where it lay.
-pub record Lies (disk : Disk) (old : KernelState) (e : Event) (r : Reply) (after : Disk) (new : KernelState) : Type 0 where
+pub record Lies (disk : Disk) (old : KernelState) (e : Event) (r : Reply) (after : Disk) (new : KernelState) :
+    Type 0 where
   pub looks : only_looks e ≡ true → (new ≡ old) × (after ≡ disk)
   pub shares : is_sharing (tables_of old) e ≡ true → LaysOut (layout_of old) e r (layout_of new)
   pub pages : is_sharing (tables_of old) e ≡ true → SamePages old.store new.store
@@ -99,7 +106,9 @@ pub record Lies (disk : Disk) (old : KernelState) (e : Event) (r : Reply) (after
   pub held : Held old new e
   pub store : keeps_store e ≡ true → new.store ≡ old.store
 
-pub does_of : {disk after : Disk} {old new : KernelState} {e : Event} {r : Reply} → ReportsEnd (system_of old disk) e r → Goes disk old e r after new → Asks disk old e r after → Refuses disk old e r after new → Alters disk old e r after new → Lies disk old e r after new
+pub does_of : {disk after : Disk} {old new : KernelState} {e : Event} {r : Reply} → ReportsEnd (system_of old disk) e r
+    → Goes disk old e r after new → Asks disk old e r after → Refuses disk old e r after new
+    → Alters disk old e r after new → Lies disk old e r after new
     → Does disk old e r after new
 does_of ends goes asks refuses alters lies = record {
   step = goes.step;
@@ -137,7 +146,9 @@ does_of ends goes asks refuses alters lies = record {
 }
 
 -- by what the call means
-pub served : {A : Type 0} (f : A → Reply) {m : State → Meaning A} {e : Event} {disk after : Disk} {old new : KernelState} {r : Result A Refusal} → Means f m e → Serves m disk old r after new → Goes disk old e (reported f r) after new
+pub served : {A : Type 0} (f : A → Reply) {m : State → Meaning A} {e : Event} {disk after : Disk}
+    {old new : KernelState} {r : Result A Refusal} → Means f m e → Serves m disk old r after new
+    → Goes disk old e (reported f r) after new
 served f {m} {e} {disk} {after} {old} {new} {r} means serves = record {
   step = λ backed placed. means (machine_of disk.slots old) (machine_of after.slots new) r (serves.step backed placed);
   backed = serves.backed;
@@ -148,16 +159,30 @@ served f {m} {e} {disk} {after} {old} {new} {r} means serves = record {
 }
 
 -- the store is not asked
-pub asks_none : {disk : Disk} {old : KernelState} {e : Event} {r : Reply} → asks_store (tables_of old) e ≡ false → Asks disk old e r disk
+pub asks_none : {disk : Disk} {old : KernelState} {e : Event} {r : Reply} → asks_store (tables_of old) e ≡ false
+    → Asks disk old e r disk
 asks_none none = record { unasked = λ not'. refl; faults = never none; slots = λ honest back. refl; asked = never none }
 
 -- no place is handed on
-pub lies_apart : {disk after : Disk} {old new : KernelState} {e : Event} {r : Reply} → is_sharing (tables_of old) e ≡ false → is_still e ≡ false → (only_looks e ≡ true → (new ≡ old) × (after ≡ disk))
-    → (takes_out (tables_of old) e ≡ true → IsDone r → layout_of new ≡ (meaning (layout_of old) e).after) → (keeps_store e ≡ true → new.store ≡ old.store) → Held old new e → Lies disk old e r after new
-lies_apart unshared moving looks places store held = record { looks = looks; shares = never unshared; pages = never unshared; still = never moving; places = places; held = held; store = store }
+pub lies_apart : {disk after : Disk} {old new : KernelState} {e : Event} {r : Reply}
+    → is_sharing (tables_of old) e ≡ false → is_still e ≡ false → (only_looks e ≡ true → (new ≡ old) × (after ≡ disk))
+    → (takes_out (tables_of old) e ≡ true → IsDone r → layout_of new ≡ (meaning (layout_of old) e).after)
+    → (keeps_store e ≡ true → new.store ≡ old.store) → Held old new e → Lies disk old e r after new
+lies_apart unshared moving looks places store held =
+    record {
+      looks = looks;
+      shares = never unshared;
+      pages = never unshared;
+      still = never moving;
+      places =
+          places;
+      held = held;
+      store = store;
+    }
 
 -- a call that keeps places takes the step of the layout, too
-pub kept_layout : {A : Type 0} (m : State → Meaning A) (old new : KernelState) (r : Result A Refusal) → KeepsPlaces m old r new → Step (m (layout_of old)) (layout_of old) r (layout_of new)
+pub kept_layout : {A : Type 0} (m : State → Meaning A) (old new : KernelState) (r : Result A Refusal)
+    → KeepsPlaces m old r new → Step (m (layout_of old)) (layout_of old) r (layout_of new)
 kept_layout m old new r c = c.places (record { at = number_at; stored = [] }) keeps_numbers
 
 -- what may change the store does more than look
@@ -176,9 +201,12 @@ done_after m s t (reply.Refused y) step is = absurd is
 done_after m s t x step is = step.2
 
 -- the bytes that an answer leaves lie where they lay
-pub answer_lies : {A : Type 0} (f : A → Reply) (m : State → Meaning A) (e : Event) (old new : KernelState) (r : Result A Refusal) → ((s : State) → (meaning s e).after ≡ (m s).after)
-    → OnOk r ((g : Reading) → KeepsPools g → read_of g new ≡ (m (read_of g old)).after) → IsDone (reported f r) → layout_of new ≡ (meaning (layout_of old) e).after
-answer_lies f m e old new (Ok a) same places is = places (record { at = number_at; stored = [] }) keeps_numbers ∙ sym (same (layout_of old))
+pub answer_lies : {A : Type 0} (f : A → Reply) (m : State → Meaning A) (e : Event) (old new : KernelState)
+    (r : Result A Refusal) → ((s : State) → (meaning s e).after ≡ (m s).after)
+    → OnOk r ((g : Reading) → KeepsPools g → read_of g new ≡ (m (read_of g old)).after) → IsDone (reported f r)
+    → layout_of new ≡ (meaning (layout_of old) e).after
+answer_lies f m e old new (Ok a) same places is = places (record { at = number_at; stored = [] }) keeps_numbers
+    ∙ sym (same (layout_of old))
 answer_lies f m e old new (Err x) same places is = absurd is
 
 -- An event that wants no room and makes no buffer, and that neither asks the store nor works on the cache.
@@ -213,18 +241,42 @@ plain_call by (call.IolWrite fd a) is = never refl is
 plain_call by (call.Fsync fd) is = never refl is
 plain_call by (call.Read fd n) is = never refl is
 plain_call by (call.Write fd bytes) is = never refl is
-plain_call by k is = record { unwritten = refl; unlent = refl; asks = λ s. refl; has = λ s. tt; fits = λ s. tt; divides = λ o n. tt; publishes = λ o n k. k; late = λ o x n. tt }
+plain_call by k is = record {
+  unwritten = refl;
+  unlent = refl;
+  asks = λ s. refl;
+  has = λ s. tt;
+  fits =
+      λ s. tt;
+  divides = λ o n. tt;
+  publishes = λ o n k. k;
+  late = λ o x n. tt;
+}
 
 plain_of : (e : Event) → is_plain e ≡ true → IsPlain e
 plain_of (event.Call by k) is = plain_call by k is
 plain_of (event.Arrive c bytes) is = never refl is
 plain_of event.Flush is = never refl is
 plain_of event.DropClean is = never refl is
-plain_of e is = record { unwritten = refl; unlent = refl; asks = λ s. refl; has = λ s. tt; fits = λ s. tt; divides = λ o n. tt; publishes = λ o n k. k; late = λ o x n. tt }
+plain_of e is = record {
+  unwritten = refl;
+  unlent = refl;
+  asks = λ s. refl;
+  has = λ s. tt;
+  fits = λ s. tt;
+  divides =
+      λ o n. tt;
+  publishes = λ o n k. k;
+  late = λ o x n. tt;
+}
 
 -- An event as the reply of a call that means it: which reply it is, and what it tells of a file's end and makes.
-module _ {A : Type 0} (f : A → Reply) (m : State → Meaning A) {e : Event} {disk : Disk} {old new : KernelState} {r : Result A Refusal} (reports : Reports f) (is : is_plain e ≡ true) (means : Means f m e) (ends : ReportsEnd (system_of old disk) e (reported f r)) (creates : Creates old e (reported f r) new) where
-  pub plain_does : Goes disk old e (reported f r) disk new → ((p : ℕ) → r ≡ Err (NoRoom p) → ⊥) → OnErr r (new ≡ old) → (makes_file e ≡ false → new.cache ≡ old.cache) → KeepsInPlace (system_of old disk) e new → KeepsPages old.store new.store [] → Remembers old e (reported f r) new → Lies disk old e (reported f r) disk new
+module _ {A : Type 0} (f : A → Reply) (m : State → Meaning A) {e : Event} {disk : Disk} {old new : KernelState}
+    {r : Result A Refusal} (reports : Reports f) (is : is_plain e ≡ true) (means : Means f m e)
+    (ends : ReportsEnd (system_of old disk) e (reported f r)) (creates : Creates old e (reported f r) new) where
+  pub plain_does : Goes disk old e (reported f r) disk new → ((p : ℕ) → r ≡ Err (NoRoom p) → ⊥) → OnErr r (new ≡ old)
+      → (makes_file e ≡ false → new.cache ≡ old.cache) → KeepsInPlace (system_of old disk) e new
+      → KeepsPages old.store new.store [] → Remembers old e (reported f r) new → Lies disk old e (reported f r) disk new
       → Does disk old e (reported f r) disk new
   plain_does goes roomy kept uncached in_place pages sums lies =
       let plain = plain_of e is in
@@ -250,49 +302,86 @@ module _ {A : Type 0} (f : A → Reply) (m : State → Meaning A) {e : Event} {d
       }) lies
 
   -- a call that carries out
-  pub carried_does : (new.sums ≡ old.sums → Remembers old e (reported f r) new) → keeps_store e ≡ false → IsSound old → CarriesOut m old r new → Does disk old e (reported f r) disk new
+  pub carried_does : (new.sums ≡ old.sums → Remembers old e (reported f r) new) → keeps_store e ≡ false → IsSound old
+      → CarriesOut m old r new → Does disk old e (reported f r) disk new
   carried_does sums changes sound c =
       let step = means (layout_of old) (layout_of new) r (carried_layout m old new r c) in
-      plain_does (served f means (carried_serves m old new r sound c disk)) c.roomy c.refused (λ other. c.cache) (cache_in_place disk old new e c.cache) (carried_pages m old new r c) (sums c.sums) (record {
+      plain_does (served f means (carried_serves m old new r sound c disk)) c.roomy c.refused (λ other. c.cache)
+      (cache_in_place disk old new e c.cache) (carried_pages m old new r c) (sums c.sums) (record {
         looks = never (unlooking_of e changes);
         shares = λ shared. step;
         pages = λ shared. record { arena = c.arena; pools = c.pools };
         still = λ still. step;
-        places = λ out done. done_after (meaning (layout_of old) e) (layout_of old) (layout_of new) (reported f r) step done;
+        places = λ out done. done_after (meaning (layout_of old) e) (layout_of old) (layout_of new) (reported f r) step
+            done;
         held = step_held old new e (reported f r) step;
         store = never changes;
       })
 
   -- one that keeps places
-  pub kept_does : (new.sums ≡ old.sums → Remembers old e (reported f r) new) → ((s : State) → is_sharing s e ≡ false) → keeps_store e ≡ false → IsSound old → KeepsPlaces m old r new → ((p : ℕ) → r ≡ Err (NoRoom p) → ⊥) → Does disk old e (reported f r) disk new
+  pub kept_does : (new.sums ≡ old.sums → Remembers old e (reported f r) new) → ((s : State) → is_sharing s e ≡ false)
+      → keeps_store e ≡ false → IsSound old → KeepsPlaces m old r new → ((p : ℕ) → r ≡ Err (NoRoom p) → ⊥)
+      → Does disk old e (reported f r) disk new
   kept_does sums unshared changes sound c roomy =
       let step = means (layout_of old) (layout_of new) r (kept_layout m old new r c) in
-      plain_does (served f means (kept_serves m old new r sound c disk)) roomy c.refused (λ other. c.cache) (cache_in_place disk old new e c.cache) c.pages (sums c.sums) (record {
+      plain_does (served f means (kept_serves m old new r sound c disk)) roomy c.refused (λ other. c.cache)
+      (cache_in_place disk old new e c.cache) c.pages (sums c.sums) (record {
         looks = never (unlooking_of e changes);
         shares = never (unshared (tables_of old));
         pages = never (unshared (tables_of old));
         still = λ still. step;
-        places = λ out done. done_after (meaning (layout_of old) e) (layout_of old) (layout_of new) (reported f r) step done;
+        places = λ out done. done_after (meaning (layout_of old) e) (layout_of old) (layout_of new) (reported f r) step
+            done;
         held = step_held old new e (reported f r) step;
         store = never changes;
       })
 
   -- one that asks the store for a length
-  pub looks_does : (new.sums ≡ old.sums → Remembers old e (reported f r) new) → ((s : State) → is_sharing s e ≡ false) → is_still e ≡ false → ((s : State) → (meaning s e).after ≡ (m s).after) → ((s : State) → KeepsValues s (m s).after nothing) → (only_looks e ≡ true → new ≡ old) → LooksUp m disk old r new → Does disk old e (reported f r) disk new
+  pub looks_does : (new.sums ≡ old.sums → Remembers old e (reported f r) new) → ((s : State) → is_sharing s e ≡ false)
+      → is_still e ≡ false → ((s : State) → (meaning s e).after ≡ (m s).after)
+      → ((s : State) → KeepsValues s (m s).after nothing) → (only_looks e ≡ true → new ≡ old) → LooksUp m disk old r new
+      → Does disk old e (reported f r) disk new
   looks_does sums unshared moving same keeps looks c =
-      plain_does (served f means c.serves) c.roomy c.refused (λ other. c.cache) (cache_in_place disk old new e c.cache) (pages_equal old.store new.store c.store) (sums c.serves.sums)
-      (lies_apart (unshared (tables_of old)) moving (λ only. (looks only, refl)) (λ out done. answer_lies f m e old new r same c.places done) (λ kept. c.store) (after_held m old new r e keeps c.places c.refused))
+      plain_does (served f means c.serves) c.roomy c.refused (λ other. c.cache) (cache_in_place disk old new e c.cache)
+      (pages_equal old.store new.store c.store) (sums c.serves.sums)
+      (lies_apart (unshared (tables_of old)) moving (λ only. (looks only, refl))
+      (λ out done. answer_lies f m e old new r same c.places done) (λ kept. c.store)
+      (after_held m old new r e keeps c.places c.refused))
 
   -- one that makes a file
-  pub names_does : (new.sums ≡ old.sums → Remembers old e (reported f r) new) → ((s : State) → is_sharing s e ≡ false) → ((s : State) → takes_out s e ≡ false) → is_still e ≡ false → only_looks e ≡ false → makes_file e ≡ true → Names disk m old r new → Does disk old e (reported f r) disk new
+  pub names_does : (new.sums ≡ old.sums → Remembers old e (reported f r) new) → ((s : State) → is_sharing s e ≡ false)
+      → ((s : State) → takes_out s e ≡ false) → is_still e ≡ false → only_looks e ≡ false → makes_file e ≡ true
+      → Names disk m old r new → Does disk old e (reported f r) disk new
   names_does sums unshared inside moving unlooking made c =
-      let serves : Serves m disk old r disk new = record { step = λ backed placed. c.step backed.honest; backed = c.backed; beside = c.beside; honest = refl; sums = c.sums; sound = c.sound; stays = stays_equal old.store new.store c.store } in
-      plain_does (served f means serves) c.roomy c.refused (λ other. never other made) (cover_in_place disk old new e c.keeps) (pages_equal old.store new.store c.store) (sums c.sums)
-      (lies_apart (unshared (tables_of old)) moving (never unlooking) (never (inside (tables_of old))) (λ keeps. c.store) (all_held old new e (tables_hold old new (ap (λ (h : KernelState). h.domains) c.same))))
+      let serves : Serves m disk old r disk new =
+      record {
+        step = λ backed placed. c.step backed.honest;
+        backed = c.backed;
+        beside = c.beside;
+        honest =
+            refl;
+        sums = c.sums;
+        sound = c.sound;
+        stays = stays_equal old.store new.store c.store;
+      } in
+      plain_does (served f means serves) c.roomy c.refused (λ other. never other made)
+      (cover_in_place disk old new e c.keeps) (pages_equal old.store new.store c.store) (sums c.sums)
+      (lies_apart (unshared (tables_of old)) moving (never unlooking) (never (inside (tables_of old)))
+      (λ keeps. c.store) (all_held old new e (tables_hold old new (ap (λ (h : KernelState). h.domains) c.same))))
 
 -- bytes are shown
-pub shown : (by a : ℕ) (disk : Disk) (h : KernelState) (r : Result (List ℕ) Refusal) → IsSound h → Steps (λ s. aggs.show s by a) h r h → ((p : ℕ) → r ≡ Err (NoRoom p) → ⊥) → LooksUp (λ s. aggs.show s by a) disk h r h
-shown by a disk h r sound steps roomy = record { serves = still_serves (λ s. aggs.show s by a) h h r sound sound steps refl refl (stays_here h.store) disk; places = ok r; store = refl; cache = refl; roomy = roomy; refused = err r }
+pub shown : (by a : ℕ) (disk : Disk) (h : KernelState) (r : Result (List ℕ) Refusal) → IsSound h
+    → Steps (λ s. aggs.show s by a) h r h → ((p : ℕ) → r ≡ Err (NoRoom p) → ⊥)
+    → LooksUp (λ s. aggs.show s by a) disk h r h
+shown by a disk h r sound steps roomy =
+    record {
+      serves = still_serves (λ s. aggs.show s by a) h h r sound sound steps refl refl (stays_here h.store) disk;
+      places = ok r;
+      store = refl;
+      cache = refl;
+      roomy = roomy;
+      refused = err r;
+    }
   where
     ok : (x : Result (List ℕ) Refusal) → OnOk x ((f : Reading) → KeepsPools f → read_of f h ≡ read_of f h)
     ok (Ok bytes) = λ f keeps. refl
@@ -303,18 +392,25 @@ shown by a disk h r sound steps roomy = record { serves = still_serves (λ s. ag
     err (Err y) = refl
 
 -- the event that a reply was for, and the reply that was told
-pub as_event : {d e : Event} {disk after : Disk} {old new : KernelState} {x y : Reply} → d ≡ e → y ≡ x → Does disk old e x after new → Does disk old d y after new
-as_event {d} {e} {disk} {after} {old} {new} {x} {y} is reports does = subst (λ (k : Event). Does disk old k y after new) (sym is) (subst (λ (z : Reply). Does disk old e z after new) (sym reports) does)
+pub as_event : {d e : Event} {disk after : Disk} {old new : KernelState} {x y : Reply} → d ≡ e → y ≡ x
+    → Does disk old e x after new → Does disk old d y after new
+as_event {d} {e} {disk} {after} {old} {new} {x} {y} is reports does =
+    subst (λ (k : Event). Does disk old k y after new) (sym is)
+    (subst (λ (z : Reply). Does disk old e z after new) (sym reports) does)
 
-pub as_call : {by : ℕ} {j k : Call} {disk after : Disk} {old new : KernelState} {x y : Reply} → j ≡ k → y ≡ x → Does disk old (event.Call by k) x after new → Does disk old (event.Call by j) y after new
+pub as_call : {by : ℕ} {j k : Call} {disk after : Disk} {old new : KernelState} {x y : Reply} → j ≡ k → y ≡ x
+    → Does disk old (event.Call by k) x after new → Does disk old (event.Call by j) y after new
 as_call {by} is reports does = as_event (ap (λ k. event.Call by k) is) reports does
 
 -- the domain that a pool's list names now
-pub domain_admitted : (by p d : ℕ) (old new : KernelState) (r : Result (Unit {0}) Refusal) → OnOk r (new ≡ with_reader old p d) → Creates old (event.Call by (call.PoolAdmit p d)) (reported done r) new
+pub domain_admitted : (by p d : ℕ) (old new : KernelState) (r : Result (Unit {0}) Refusal)
+    → OnOk r (new ≡ with_reader old p d) → Creates old (event.Call by (call.PoolAdmit p d)) (reported done r) new
 domain_admitted by p d old new (Ok u) same = same
 domain_admitted by p d old new (Err x) same = tt
 
 -- the file that came
-pub file_created : (disk : Disk) (m : State → Meaning ℕ) (by p : ℕ) (name : List ℕ) (old new : KernelState) (r : Result ℕ Refusal) → Names disk m old r new → Creates old (event.Call by (call.FileNew name p)) (reported reply.File r) new
+pub file_created : (disk : Disk) (m : State → Meaning ℕ) (by p : ℕ) (name : List ℕ) (old new : KernelState)
+    (r : Result ℕ Refusal) → Names disk m old r new
+    → Creates old (event.Call by (call.FileNew name p)) (reported reply.File r) new
 file_created disk m by p name old new (Ok n) c = record { same = c.same; added = c.added }
 file_created disk m by p name old new (Err x) c = tt

@@ -33,16 +33,31 @@ unfolding file_in
 file-none n = elim (cases_eq n 0) [ inl k ↦ grind (arith, nat_tests, k) | inr k ↦ grind (arith, nat_tests, k) ]
 
 -- a store has nothing to be told of files that are not there
-no_files : (h : KernelState) (disk : Disk) → disk.honest ≡ true → (fs : List CachedFile) → fs ≡ h.cache.files → fs ≡ [] → IsBackedBy disk h
+no_files : (h : KernelState) (disk : Disk) → disk.honest ≡ true → (fs : List CachedFile) → fs ≡ h.cache.files → fs ≡ []
+    → IsBackedBy disk h
 no_files h disk honest fs same none = record {
   honest = honest;
   short = λ f there. absurd (none_there h.cache.files f (sym same ∙ none) there);
-  mirrors = record { each = λ f. record { each = λ i. subst (λ (gs : List CachedFile). IsStored h.store (content disk.slots f) i (cover (extents_in gs f) i)) (sym (sym same ∙ none)) (nothing f i) } };
+  mirrors =
+      record {
+        each =
+            λ f. record {
+              each =
+                  λ i.
+                  subst (λ (gs : List CachedFile). IsStored h.store (content disk.slots f) i
+                  (cover (extents_in gs f) i))
+                  (sym (sym same ∙ none)) (nothing f i);
+            };
+      };
 }
   where
     nothing : (f i : ℕ) → IsStored h.store (content disk.slots f) i (cover (extents_in [] f) i)
-    nothing f i = subst (λ (x : CachedFile). IsStored h.store (content disk.slots f) i (cover x.extents.extents i)) (sym (file-none f)) tt
+    nothing f i = subst (λ (x : CachedFile). IsStored h.store (content disk.slots f) i (cover x.extents.extents i))
+        (sym (file-none f)) tt
 
-pub new_backed : (h : KernelState) (disk : Disk) → disk.honest ≡ true → IsSound h → (machine_of [] h).files ≡ [] → IsBackedBy disk h
+pub new_backed : (h : KernelState) (disk : Disk) → disk.honest ≡ true → IsSound h → (machine_of [] h).files ≡ []
+    → IsBackedBy disk h
 new_backed h disk honest sound none =
-    no_files h disk honest h.cache.files refl (no_map (λ (x : CachedFile). x.pool) h.cache.files (sound.filed ∙ ap (map (λ (x : machine.File). x.pool)) (files_none h none)))
+    no_files h disk honest h.cache.files refl
+    (no_map (λ (x : CachedFile). x.pool) h.cache.files (sound.filed
+    ∙ ap (map (λ (x : machine.File). x.pool)) (files_none h none)))

@@ -48,25 +48,40 @@ pub memory_refused : (x : Reply) → IsMemory x → IsRefused x
 memory_refused (reply.Refused y) is = tt
 memory_refused x is = is
 
-pub reported_step : {A : Type 0} (f : A → Reply) → Reports f → (m : Meaning A) (s t : State) (r : Result A Refusal) → Step m s r t → Step (replied f m) s (outcome (reported f r)) t
-reported_step f reports m s t (Ok a) step = subst (λ (o : Result Reply Refusal). Step (replied f m) s o t) (sym (answered (f a) (reports a))) (step.0, ap f step.1, step.2)
+pub reported_step : {A : Type 0} (f : A → Reply) → Reports f → (m : Meaning A) (s t : State) (r : Result A Refusal)
+    → Step m s r t → Step (replied f m) s (outcome (reported f r)) t
+reported_step f reports m s t (Ok a) step =
+    subst (λ (o : Result Reply Refusal). Step (replied f m) s o t) (sym (answered (f a) (reports a)))
+    (step.0, ap f step.1, step.2)
 reported_step f reports m s t (Err x) step = step
 
 -- what the call means is what the event means
 abbrev pub Means : {A : Type 0} → (f : A → Reply) → (State → Meaning A) → Event → Type 0
-Means {A} f m e = (s t : State) (r : Result A Refusal) → Step (m s) s r t → Step (meaning s e) s (outcome (reported f r)) t
+Means {A} f m e = (s t : State) (r : Result A Refusal) → Step (m s) s r t
+    → Step (meaning s e) s (outcome (reported f r)) t
 
-pub reported_beside : {A : Type 0} (f : A → Reply) (m : State → Meaning A) (e : Event) (old new : KernelState) (r : Result A Refusal) → Means f m e → StepsBeside m old r new → StepsBeside (λ s. meaning s e) old (outcome (reported f r)) new
-reported_beside f m e old new r means b = record { before = b.before; after = b.after; step = means (with_slots b.before old) (with_slots b.after new) r b.step }
+pub reported_beside : {A : Type 0} (f : A → Reply) (m : State → Meaning A) (e : Event) (old new : KernelState)
+    (r : Result A Refusal) → Means f m e → StepsBeside m old r new
+    → StepsBeside (λ s. meaning s e) old (outcome (reported f r)) new
+reported_beside f m e old new r means b =
+    record {
+      before = b.before;
+      after = b.after;
+      step =
+          means (with_slots b.before old) (with_slots b.after new) r b.step;
+    }
 
-pub no_room_reported : {A : Type 0} (f : A → Reply) (r : Result A Refusal) → Reports f → ((p : ℕ) → r ≡ Err (NoRoom p) → ⊥) → IsNoRoom (reported f r) → ⊥
+pub no_room_reported : {A : Type 0} (f : A → Reply) (r : Result A Refusal) → Reports f
+    → ((p : ℕ) → r ≡ Err (NoRoom p) → ⊥) → IsNoRoom (reported f r) → ⊥
 no_room_reported f (Ok a) reports roomy is = unrefused (f a) (reports a) (room_refused (f a) is)
 no_room_reported f (Err (NoRoom p)) reports roomy is = roomy p refl
 no_room_reported f (Err x) reports roomy is = is
 
-pub refused_reported : {A : Type 0} (f : A → Reply) (r : Result A Refusal) (X : Type 0) → Reports f → OnErr r X → IsRefused (reported f r) → X
+pub refused_reported : {A : Type 0} (f : A → Reply) (r : Result A Refusal) (X : Type 0) → Reports f → OnErr r X
+    → IsRefused (reported f r) → X
 refused_reported f (Ok a) X reports err is = absurd (unrefused (f a) (reports a) is)
 refused_reported f (Err x) X reports err is = err
 
-pub early_reported : {A : Type 0} (f : A → Reply) (r : Result A Refusal) (X : Type 0) → Reports f → OnErr r X → IsEarly (reported f r) → X
+pub early_reported : {A : Type 0} (f : A → Reply) (r : Result A Refusal) (X : Type 0) → Reports f → OnErr r X
+    → IsEarly (reported f r) → X
 early_reported f r X reports err is = refused_reported f r X reports err (early_refused (reported f r) is)

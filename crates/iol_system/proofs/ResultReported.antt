@@ -20,35 +20,43 @@ use Rattle.iol_system.proofs.ReplyAnswers.{Reports, answered, early_refused, mem
 
 -- what a result tells, the reply tells
 
-pub ok_reported : {A : Type 0} (f : A → Reply) (r : Result A Refusal) (X : Type 0) → OnOk r X → IsDone (reported f r) → X
+pub ok_reported : {A : Type 0} (f : A → Reply) (r : Result A Refusal) (X : Type 0) → OnOk r X → IsDone (reported f r)
+    → X
 ok_reported f (Ok a) X ok is = ok
 ok_reported f (Err x) X ok is = absurd is
 
-pub lacks_reported : {A : Type 0} (f : A → Reply) (r : Result A Refusal) (X : Type 0) → Reports f → ((p : ℕ) → r ≡ Err (NoRoom p) → X) → IsNoRoom (reported f r) → X
+pub lacks_reported : {A : Type 0} (f : A → Reply) (r : Result A Refusal) (X : Type 0) → Reports f
+    → ((p : ℕ) → r ≡ Err (NoRoom p) → X) → IsNoRoom (reported f r) → X
 lacks_reported f (Ok a) X reports lacks is = absurd (unrefused (f a) (reports a) (room_refused (f a) is))
 lacks_reported f (Err (NoRoom p)) X reports lacks is = lacks p refl
 lacks_reported f (Err x) X reports lacks is = absurd is
 
-pub memory_reported : {A : Type 0} (f : A → Reply) (r : Result A Refusal) (X : Type 0) → Reports f → (r ≡ Err Memory → X) → IsMemory (reported f r) → X
+pub memory_reported : {A : Type 0} (f : A → Reply) (r : Result A Refusal) (X : Type 0) → Reports f
+    → (r ≡ Err Memory → X) → IsMemory (reported f r) → X
 memory_reported f (Ok a) X reports fits is = absurd (unrefused (f a) (reports a) (memory_refused (f a) is))
 memory_reported f (Err Memory) X reports fits is = fits refl
 memory_reported f (Err x) X reports fits is = absurd is
 
-pub counts_reported : {A : Type 0} (f : A → Reply) (r : Result A Refusal) (old new : Disk) → Reports f → FaultCounts old new r → FaultCounts old new (outcome (reported f r))
-counts_reported f (Ok a) old new reports counts = subst (λ (o : Result Reply Refusal). FaultCounts old new o) (sym (answered (f a) (reports a))) counts
+pub counts_reported : {A : Type 0} (f : A → Reply) (r : Result A Refusal) (old new : Disk) → Reports f
+    → FaultCounts old new r → FaultCounts old new (outcome (reported f r))
+counts_reported f (Ok a) old new reports counts =
+    subst (λ (o : Result Reply Refusal). FaultCounts old new o) (sym (answered (f a) (reports a))) counts
 counts_reported f (Err (Fault n)) old new reports counts = counts
 counts_reported f (Err x) old new reports counts = counts
 
-pub has_reported : {A : Type 0} (f : A → Reply) (r : Result A Refusal) (has lacks : Type 0) → ReportsRoom has lacks r → IsDone (reported f r) → has
+pub has_reported : {A : Type 0} (f : A → Reply) (r : Result A Refusal) (has lacks : Type 0) → ReportsRoom has lacks r
+    → IsDone (reported f r) → has
 has_reported f (Ok a) has lacks room is = room
 has_reported f (Err x) has lacks room is = absurd is
 
-pub room_reported : {A : Type 0} (f : A → Reply) (r : Result A Refusal) (has lacks : Type 0) → Reports f → ReportsRoom has lacks r → IsNoRoom (reported f r) → lacks
+pub room_reported : {A : Type 0} (f : A → Reply) (r : Result A Refusal) (has lacks : Type 0) → Reports f
+    → ReportsRoom has lacks r → IsNoRoom (reported f r) → lacks
 room_reported f (Ok a) has lacks reports room is = absurd (unrefused (f a) (reports a) (room_refused (f a) is))
 room_reported f (Err (NoRoom p)) has lacks reports room is = room
 room_reported f (Err x) has lacks reports room is = absurd is
 
-pub fault_reported : {A : Type 0} (f : A → Reply) (r : Result A Refusal) (has lacks : Type 0) → Reports f → ReportsRoom has lacks r → IsFault (reported f r) → has
+pub fault_reported : {A : Type 0} (f : A → Reply) (r : Result A Refusal) (has lacks : Type 0) → Reports f
+    → ReportsRoom has lacks r → IsFault (reported f r) → has
 fault_reported f (Ok a) has lacks reports room is = room
 fault_reported f (Err (Fault n)) has lacks reports room is = room
 fault_reported f (Err x) has lacks reports room is = absurd is
@@ -74,7 +82,8 @@ pub early_fault : (f : ℕ) (x : Refusal) → IsEarly (reply.Refused x) → x �
 early_fault f x is fault = subst (λ (y : Refusal). IsEarly (reply.Refused y)) fault is
 
 -- so what is left at an early refusal is X, where that holds of every refusal that is not late
-pub early_of : {A : Type 0} (f : A → Reply) (r : Result A Refusal) (X : Type 0) (Late : Refusal → Type 0) → Reports f → ((x : Refusal) → IsEarly (reply.Refused x) → Late x → ⊥) → IfErr r (λ x. X ⊎ Late x) → IsEarly (reported f r) → X
+pub early_of : {A : Type 0} (f : A → Reply) (r : Result A Refusal) (X : Type 0) (Late : Refusal → Type 0) → Reports f
+    → ((x : Refusal) → IsEarly (reply.Refused x) → Late x → ⊥) → IfErr r (λ x. X ⊎ Late x) → IsEarly (reported f r) → X
 early_of f (Ok a) X Late reports apart left is = absurd (unrefused (f a) (reports a) (early_refused (f a) is))
 early_of f (Err x) X Late reports apart left is = elim left [ inl here ↦ here | inr late ↦ absurd (apart x is late) ]
 
@@ -84,26 +93,34 @@ unless_refused : (x : Reply) (P : Refusal → Type 0) → (IsRefused x → ⊥) 
 unless_refused (reply.Refused y) P not' = absurd (not' tt)
 unless_refused x P not' = tt
 
-pub late_reported : {A : Type 0} (f : A → Reply) (r : Result A Refusal) (P : Refusal → Type 0) → Reports f → IfErr r P → IfRefused (reported f r) P
+pub late_reported : {A : Type 0} (f : A → Reply) (r : Result A Refusal) (P : Refusal → Type 0) → Reports f → IfErr r P
+    → IfRefused (reported f r) P
 late_reported f (Ok a) P reports left = unless_refused (f a) P (unrefused (f a) (reports a))
 late_reported f (Err x) P reports left = left
 
-pub err_more : {A : Type 0} (r : Result A Refusal) (P Q : Refusal → Type 0) → ((x : Refusal) → P x → Q x) → IfErr r P → IfErr r Q
+pub err_more : {A : Type 0} (r : Result A Refusal) (P Q : Refusal → Type 0) → ((x : Refusal) → P x → Q x) → IfErr r P
+    → IfErr r Q
 err_more (Ok a) P Q to left = tt
 err_more (Err x) P Q to left = to x left
 
 -- the same, with what holds at every refusal
-pub with_tables : {A : Type 0} (r : Result A Refusal) (X : Type 0) (P : Refusal → Type 0) → OnErr r X → IfErr r P → IfErr r (λ x. X × P x)
+pub with_tables : {A : Type 0} (r : Result A Refusal) (X : Type 0) (P : Refusal → Type 0) → OnErr r X → IfErr r P
+    → IfErr r (λ x. X × P x)
 with_tables (Ok a) X P here left = tt
 with_tables (Err x) X P here left = (here, left)
 
 -- the tables are as they were, where the domains are
-pub tables_kept : {A : Type 0} (r : Result A Refusal) (old new : KernelState) → new ≡ record old { store = new.store; cache = new.cache; domains = new.domains } → OnErr r (new.domains ≡ old.domains) → OnErr r (SameTables old new)
+pub tables_kept : {A : Type 0} (r : Result A Refusal) (old new : KernelState)
+    → new ≡ record old { store = new.store; cache = new.cache; domains = new.domains }
+    → OnErr r (new.domains ≡ old.domains) → OnErr r (SameTables old new)
 tables_kept (Ok a) old new same kept = tt
-tables_kept (Err x) old new same kept = same ∙ ap (λ (ds : List (Domain (List Slice))). let h : KernelState = record old { store = new.store; cache = new.cache; domains = ds } in h) kept
+tables_kept (Err x) old new same kept =
+    same ∙ ap (λ (ds : List (Domain (List Slice))). let h : KernelState =
+    record old { store = new.store; cache = new.cache; domains = ds } in h) kept
 
 -- when a read was refused, whatever by
-pub untimed : {A : Type 0} (r : Result A Refusal) (X Y : Type 0) (Late : Refusal → Type 0) → IfErr r (λ x. (IsBeforeRoom x × X × Y) ⊎ Late x) → IfErr r (λ x. (X × Y) ⊎ Late x)
+pub untimed : {A : Type 0} (r : Result A Refusal) (X Y : Type 0) (Late : Refusal → Type 0)
+    → IfErr r (λ x. (IsBeforeRoom x × X × Y) ⊎ Late x) → IfErr r (λ x. (X × Y) ⊎ Late x)
 untimed (Ok a) X Y Late left = tt
 untimed (Err x) X Y Late (inl here) = inl (here.1, here.2)
 untimed (Err x) X Y Late (inr late) = inr late

@@ -28,7 +28,8 @@ use Rattle.iol_system.proofs.Beside.{access_beside, values_beside, files-slots}
 use Rattle.iol_system.proofs.Empty.{slots-enough, new_backed}
 use Rattle.iol_system.proofs.Hopeless.{extents_met}
 
-pub new_safe : (s : SystemState) (slots : List (List ℕ)) → IsSound s.kernel → machine_of s ≡ new_state slots → MAX_FILES ≤ length slots → IfHonest s.disk (IsBackedBy s.disk s.kernel) → IsSafe s
+pub new_safe : (s : SystemState) (slots : List (List ℕ)) → IsSound s.kernel → machine_of s ≡ new_state slots
+    → MAX_FILES ≤ length slots → IfHonest s.disk (IsBackedBy s.disk s.kernel) → IsSafe s
 new_safe s slots sound new enough backed = record {
   sound = sound;
   access = subst HasAccess (sym new) (access_new slots);
@@ -37,13 +38,16 @@ new_safe s slots sound new enough backed = record {
 }
 
 -- a kernel with nothing in it, over a store
-pub started_safe : (h : KernelState) (disk : Disk) → IsSound h → ((stored : List (List ℕ)) → held.machine_of stored h ≡ new_state (slots_of stored)) → IsSafe (system_of h disk)
+pub started_safe : (h : KernelState) (disk : Disk) → IsSound h
+    → ((stored : List (List ℕ)) → held.machine_of stored h ≡ new_state (slots_of stored)) → IsSafe (system_of h disk)
 started_safe h disk sound new =
     new_safe (system_of h disk) (slots_of disk.slots) sound (new disk.slots) (slots-enough disk.slots)
-    (λ honest. new_backed h disk honest sound (sym (files-slots [] [] h) ∙ (files-slots [] [] h ∙ ap (λ (s : State). s.files) (new []))))
+    (λ honest. new_backed h disk honest sound (sym (files-slots [] [] h)
+    ∙ (files-slots [] [] h ∙ ap (λ (s : State). s.files) (new []))))
 
 -- an event that does not work on the cache does not ask the store
-asks_call : (s : State) (by : ℕ) (c : Call) → uses_cache s (event.Call by c) ≡ false → asks_store s (event.Call by c) ≡ false
+asks_call : (s : State) (by : ℕ) (c : Call) → uses_cache s (event.Call by c) ≡ false
+    → asks_store s (event.Call by c) ≡ false
 asks_call s by (call.IolRead fd n) unused = unused
 asks_call s by (call.Read fd n) unused = unused
 asks_call s by (call.Fsync fd) unused = absurd (true≢false unused)
@@ -55,7 +59,8 @@ asks_uses s event.Flush unused = absurd (true≢false unused)
 asks_uses s e unused = refl
 
 -- what the kernel does for an event, and what the copying machine says alone
-module _ (old new : SystemState) (e : Event) (r : Reply) (safe : IsSafe old) (does : Does old.disk old.kernel e r new.disk new.kernel) where
+module _ (old new : SystemState) (e : Event) (r : Reply) (safe : IsSafe old)
+    (does : Does old.disk old.kernel e r new.disk new.kernel) where
   stepped : IfHonest old.disk (StepsTo (machine_of old) e r (machine_of new))
   stepped honest = does.step (safe.backed honest) (safe.placed honest)
 
@@ -72,11 +77,16 @@ module _ (old new : SystemState) (e : Event) (r : Reply) (safe : IsSafe old) (do
     no_room = does.no_room;
     memory = does.memory;
     without_room = extents_met old new e r does.late does.refused;
-    early = λ is. (let same = does.early is in ap (λ (d : Disk). system_of new.kernel d) same.1 ∙ ap (λ (h : KernelState). system_of h old.disk) same.0);
+    early =
+        λ is. (let same = does.early is in ap (λ (d : Disk). system_of new.kernel d) same.1
+        ∙ ap (λ (h : KernelState). system_of h old.disk) same.0);
     uncached = does.uncached;
-    refused = λ unused was. ap (λ (d : Disk). system_of new.kernel d) (untouched unused was) ∙ ap (λ (h : KernelState). system_of h old.disk) (does.refused unused was);
+    refused = λ unused was. ap (λ (d : Disk). system_of new.kernel d) (untouched unused was)
+        ∙ ap (λ (h : KernelState). system_of h old.disk) (does.refused unused was);
     late = does.late;
-    looks = λ is. (let same = does.looks is in ap (λ (d : Disk). system_of new.kernel d) same.1 ∙ ap (λ (h : KernelState). system_of h old.disk) same.0);
+    looks =
+        λ is. (let same = does.looks is in ap (λ (d : Disk). system_of new.kernel d) same.1
+        ∙ ap (λ (h : KernelState). system_of h old.disk) same.0);
     shares = does.shares;
     pages = does.pages;
     still = does.still;
@@ -99,7 +109,8 @@ module _ (old new : SystemState) (e : Event) (r : Reply) (safe : IsSafe old) (do
       sound = does.sound;
       access = access_beside old.kernel new.kernel e r old.disk.slots new.disk.slots does.beside safe.access;
       backed = λ honest. does.backed (safe.backed (sym does.honest ∙ honest));
-      placed = λ honest. (let was : old.disk.honest ≡ true = sym does.honest ∙ honest in placed_step (machine_of old) (machine_of new) e r (safe.placed was) (stepped was));
+      placed = λ honest. (let was : old.disk.honest ≡ true = sym does.honest ∙ honest in
+          placed_step (machine_of old) (machine_of new) e r (safe.placed was) (stepped was));
     };
     stays = does.stays;
     values = values_beside old.kernel new.kernel e r old.disk.slots new.disk.slots does.beside;

@@ -1,5 +1,6 @@
 -- Where what is held is held as often, no page was freed, and no pool gave chunks back.
-use Rattle.std.proofs.Common.{inl, inr, ◌≡◌, ◌∙◌, ℕ, zero, suc, ◌-◌, ◌*◌, ◌/◌, ◌<◌, true, Bool, List, [], ◌∷◌, get_or, map, Option, Some, refl, sym, ap, arith, subst}
+use Rattle.std.proofs.Common.{inl, inr, ◌≡◌, ◌∙◌, ℕ, zero, suc, ◌-◌, ◌*◌, ◌/◌, ◌<◌, true, Bool, List, [], ◌∷◌, get_or}
+use Rattle.std.proofs.Common.{map, Option, Some, refl, sym, ap, arith, subst}
 use Rattle.std.specs.List.{Contains, list_all}
 use Rattle.std.proofs.lemmas.Bool.{cases_eq, cases_lt}
 use Rattle.std.proofs.lemmas.Bool.Decides.{nat_tests}
@@ -27,14 +28,17 @@ use Rattle.iol_system.proofs.LackOfRoom.{HeldAlike, no_room_left}
 
 -- The lists of pools.
 
-meant_map : (ps : List Pool) (i : ℕ) → pool_meant (get_or ps i no_pool) ≡ get_or (map pool_meant ps) i (pool_meant no_pool)
+meant_map : (ps : List Pool) (i : ℕ)
+    → pool_meant (get_or ps i no_pool) ≡ get_or (map pool_meant ps) i (pool_meant no_pool)
 meant_map [] i = refl
 meant_map (x ∷ xs) zero = refl
 meant_map (x ∷ xs) (suc i) = meant_map xs i
 
-meant_at : (ps : List Pool) (p : ℕ) → (p ≡ 0 → ⊥) → pool_meant (pool_in ps p) ≡ get_or (map pool_meant ps) (p - 1) (pool_meant no_pool)
+meant_at : (ps : List Pool) (p : ℕ) → (p ≡ 0 → ⊥)
+    → pool_meant (pool_in ps p) ≡ get_or (map pool_meant ps) (p - 1) (pool_meant no_pool)
 unfolding pool_in
-meant_at ps p some = let is : pool_in ps p ≡ get_or ps (p - 1) no_pool = grind (arith, nat_tests, some) in ap pool_meant is ∙ meant_map ps (p - 1)
+meant_at ps p some = let is : pool_in ps p ≡ get_or ps (p - 1) no_pool = grind (arith, nat_tests, some) in
+    ap pool_meant is ∙ meant_map ps (p - 1)
 
 nothing_at : (ps qs : List Pool) (p : ℕ) → p ≡ 0 → pool_in ps p ≡ pool_in qs p
 unfolding pool_in
@@ -43,7 +47,8 @@ nothing_at ps qs p z = grind (arith, nat_tests, z)
 same_meant : (s t : Stored) → SameLists s t → (p : ℕ) → pool_meant (pool_in t.pools p) ≡ pool_meant (pool_in s.pools p)
 same_meant s t same p = elim (cases_eq p 0) [
   | inl z ↦ ap pool_meant (nothing_at t.pools s.pools p z)
-  | inr some ↦ meant_at t.pools p some ∙ ap (λ l. get_or l (p - 1) (pool_meant no_pool)) same ∙ sym (meant_at s.pools p some)
+  | inr some ↦ meant_at t.pools p some ∙ ap (λ l. get_or l (p - 1) (pool_meant no_pool)) same
+      ∙ sym (meant_at s.pools p some)
 ]
 
 pool_of : (x y : Pool) → pool_meant x ≡ pool_meant y → x.chunks ≡ y.chunks → x ≡ y
@@ -56,7 +61,8 @@ pool_of x y meant chunks =
 
 all_true : (f : ℕ → Bool) (xs : List ℕ) → ((x : ℕ) → In xs x → f x ≡ true) → list_all f xs ≡ true
 all_true f [] each = refl
-all_true f (x ∷ xs) each = (let first = each x (inl refl) in let rest = all_true f xs (λ y i. each y (inr i)) in rw (first, rest) refl)
+all_true f (x ∷ xs) each = (let first = each x (inl refl) in let rest = all_true f xs (λ y i. each y (inr i)) in
+    rw (first, rest) refl)
 
 no_chunk : (cs : List ℕ) (c : ℕ) → cs ≡ [] → Contains cs c → ⊥
 no_chunk cs c none h = absurd (subst (λ l. In l c) none (in_contains cs c h))
@@ -67,19 +73,24 @@ module _ (s t : Stored) (tidy : IsTidy s) (still : IsStill s.arena) (alike : Hel
   held_still b live = omega (arith, tidy.held b live, alike.counts b)
 
   -- where the buffer on a page begins
-  begins : (b : BufId) (q : ℕ) → IsLive s.arena b → LiesOn s.arena b q → first_on (arena.entry_at s.arena q).kind q ≡ Some b.page
+  begins : (b : BufId) (q : ℕ) → IsLive s.arena b → LiesOn s.arena b q
+      → first_on (arena.entry_at s.arena q).kind q ≡ Some b.page
   begins b q live on = elim (cases_lt b.page q) [
-    | inl before ↦ (let tail : (arena.entry_at s.arena q).kind ≡ Tail b.page = (tidy.runs.each b.page _ live.head).tails q before on.to in ap (λ (k : PageKind). first_on k q) tail)
+    | inl before ↦ (let tail : (arena.entry_at s.arena q).kind ≡ Tail b.page =
+        (tidy.runs.each b.page _ live.head).tails q before on.to in ap (λ (k : PageKind). first_on k q) tail)
     | inr here ↦ (
         let same : q ≡ b.page = omega (arith, here, on.from) in
-        let head : (arena.entry_at s.arena q).kind ≡ Head (kind_len (arena.entry_at s.arena b.page).kind) = subst (λ n. (arena.entry_at s.arena n).kind ≡ Head (kind_len (arena.entry_at s.arena b.page).kind)) (sym same) live.head in
+        let head : (arena.entry_at s.arena q).kind ≡ Head (kind_len (arena.entry_at s.arena b.page).kind) =
+        subst (λ n. (arena.entry_at s.arena n).kind ≡ Head (kind_len (arena.entry_at s.arena b.page).kind))
+        (sym same) live.head in
         ap (λ (k : PageKind). first_on k q) head ∙ ap (λ n. let o : Option ℕ = Some n in o) same)
   ]
 
   named : (b : BufId) → IsLive s.arena b → buf_at s.arena b.page ≡ b
   named b live = ap (λ g. let z : BufId = record { page = b.page; generation = g } in z) live.generation
 
-  kind_stays : (q : ℕ) → (arena.entry_at t.arena q).kind ≡ Free → IsPlaced s.arena q → (arena.entry_at t.arena q).kind ≡ (arena.entry_at s.arena q).kind
+  kind_stays : (q : ℕ) → (arena.entry_at t.arena q).kind ≡ Free → IsPlaced s.arena q
+      → (arena.entry_at t.arena q).kind ≡ (arena.entry_at s.arena q).kind
   kind_stays q free (inl was) = free ∙ sym was
   kind_stays q free (inr (inl pending)) = absurd (still.each q pending)
   kind_stays q free (inr (inr (b, live, on))) =
@@ -101,7 +112,8 @@ module _ (s t : Stored) (tidy : IsTidy s) (still : IsStill s.arena) (alike : Hel
 
   -- A pool without its chunks had none in which anything lay.
   module _ (stays : Stays s t) (p : ℕ) (none : (pool_in t.pools p).chunks ≡ []) where
-    free_page : (q : ℕ) → Contains (pool_in s.pools p).chunks (q / 16) → IsPlaced s.arena q → arena.kind_free (arena.entry_at s.arena q).kind ≡ true
+    free_page : (q : ℕ) → Contains (pool_in s.pools p).chunks (q / 16) → IsPlaced s.arena q
+        → arena.kind_free (arena.entry_at s.arena q).kind ≡ true
     free_page q here (inl free) = ap arena.kind_free free
     free_page q here (inr (inl pending)) = absurd (still.each q pending)
     free_page q here (inr (inr (b, live, on))) =
@@ -116,10 +128,13 @@ module _ (s t : Stored) (tidy : IsTidy s) (still : IsStill s.arena) (alike : Hel
     unused c i = all_true (λ q. arena.kind_free (arena.entry_at s.arena q).kind) (chunk_pages c)
         (λ q j. (let r = range_in (c * 16) 16 q j in
         let at : q / 16 ≡ c = omega (arith, r.0, r.1) in
-        free_page q (subst (λ k. Contains (pool_in s.pools p).chunks k) (sym at) (contains_in (pool_in s.pools p).chunks c i)) (tidy.placed q)))
+        free_page q
+        (subst (λ k. Contains (pool_in s.pools p).chunks k) (sym at) (contains_in (pool_in s.pools p).chunks c i))
+        (tidy.placed q)))
 
     none_before : AllReclaimed s → (pool_in s.pools p).closed ≡ true → (pool_in s.pools p).chunks ≡ []
-    none_before reclaimed closed = (let all = all_true (is_unused s.arena) (pool_in s.pools p).chunks unused in reclaimed.each p (rw (closed, all) refl))
+    none_before reclaimed closed = (let all = all_true (is_unused s.arena) (pool_in s.pools p).chunks unused in
+        reclaimed.each p (rw (closed, all) refl))
 
   same_chunks : Stays s t → AllReclaimed s → (p : ℕ) → (pool_in t.pools p).chunks ≡ (pool_in s.pools p).chunks
   same_chunks stays reclaimed p = elim (alike.frees.chunks p) [
@@ -132,7 +147,8 @@ module _ (s t : Stored) (tidy : IsTidy s) (still : IsStill s.arena) (alike : Hel
 
   pub pools_stay : Stays s t → SameLists s t → AllReclaimed s → KeepsPools s t
   pools_stay stays lists reclaimed = record {
-    pools = λ p. pool_of (pool_in t.pools p) (pool_in s.pools p) (same_meant s t lists p) (same_chunks stays reclaimed p);
+    pools =
+        λ p. pool_of (pool_in t.pools p) (pool_in s.pools p) (same_meant s t lists p) (same_chunks stays reclaimed p);
     pages = same_page;
     counts = alike.counts;
   }
@@ -145,5 +161,6 @@ lists_of x y h k is = ap (λ (m : machine.State). m.pools) is
 pub no_room_pools : NoRoomKeepsPools
 no_room_pools old new e p safe x =
     let sound = safe.sound in
-    pools_stay old.kernel.store new.kernel.store sound.tidy sound.still ((no_room_left old new e p x).1 sound x.safe.sound) x.stays
+    pools_stay old.kernel.store new.kernel.store sound.tidy sound.still
+    ((no_room_left old new e p x).1 sound x.safe.sound) x.stays
     (lists_of x.beside.before x.beside.after old.kernel new.kernel x.beside.step.1) sound.reclaimed

@@ -20,7 +20,8 @@ read_of_most by fd len = event.Call by (call.Read fd (min len (2 ^ 32 - 1)))
 -- A read into memory: the step of `Read`, whose reply has the bytes at the front of the memory, as many as are
 -- returned. The rest of the memory is unchanged, and after a refusal all of it is. A read that is not of a file is
 -- never refused for lack of memory.
-pub record ReadsTo (by fd : ℕ) (memory filled : List ℕ) (old : SystemState) (r : Result ℕ Refusal) (new : SystemState) : Type 0 where
+pub record ReadsTo (by fd : ℕ) (memory filled : List ℕ) (old : SystemState) (r : Result ℕ Refusal) (new : SystemState) :
+    Type 0 where
   pub step : Promises old (read_of_most by fd (length memory)) (reported reply.Bytes (first_of filled r)) new
   pub count : IfOk r (λ n. n ≤ min (length memory) (2 ^ 32 - 1))
   pub len : length filled ≡ length memory

@@ -24,12 +24,14 @@ use Rattle.iol_system.specs.PagesAndChunks.{Creates, Publishes, SamePages}
 use Rattle.iol_system.specs.Sums.{Remembers}
 use Rattle.iol_system.specs.Slices.{Divides}
 use Rattle.iol_system.specs.Still.{is_still, keeps_store, only_looks, takes_out}
-use Rattle.iol_system.specs.Room.{BytesFit, HasRoomFor, LacksRoomFor, IsDone, IsEarly, IsFault, IsMemory, IsNoRoom, IsRefused}
+use Rattle.iol_system.specs.Room.{BytesFit, HasRoomFor, LacksRoomFor, IsDone, IsEarly, IsFault, IsMemory, IsNoRoom}
+use Rattle.iol_system.specs.Room.{IsRefused}
 use Rattle.iol_system.specs.WriteBack.{WritesBack}
 
 -- The effect of an event. With a store that has the same bytes as the clean extents in memory, and positions within
 -- files, it is the machine's step; and afterwards the store has them again. All other fields hold over any store.
-pub record Does (disk : Disk) (old : KernelState) (e : Event) (r : Reply) (after : Disk) (new : KernelState) : Type 0 where
+pub record Does (disk : Disk) (old : KernelState) (e : Event) (r : Reply) (after : Disk) (new : KernelState) :
+    Type 0 where
   pub step : IsBackedBy disk old → ArePlaced (machine_of disk.slots old)
       → StepsTo (machine_of disk.slots old) e r (machine_of after.slots new)
   pub backed : IsBackedBy disk old → IsBackedBy after new
@@ -69,6 +71,7 @@ abbrev pub DoesAlone : (by : ℕ) → Call → Kernel → Reply → Kernel → T
 DoesAlone by call old r new = (disk : Disk) → Does disk (state_of old) (event.Call by call) r disk (state_of new)
 
 -- the effect of a call of a domain on a kernel, over a store with this content
-abbrev pub DoesCall : {B : Type 0} → (by : ℕ) → Call → (disk : B → Disk) → (backing after : B) → Kernel → Reply → Kernel → Type 0
+abbrev pub DoesCall : {B : Type 0} → (by : ℕ) → Call → (disk : B → Disk) → (backing after : B) → Kernel → Reply → Kernel
+    → Type 0
 DoesCall by call disk backing after old r new =
     Does (disk backing) (state_of old) (event.Call by call) r (disk after) (state_of new)

@@ -36,7 +36,8 @@ IsInRange o n f i = ⊥
 abbrev pub IsWritten : KernelState → Event → (f i : ℕ) → Type 0
 IsWritten old (event.Call by (call.IolWrite fd a)) f i =
     IsInRange (descriptor (tables_of old) by fd) (byte_len (slices_in old.domains by a)) f i
-IsWritten old (event.Call by (call.Write fd bytes)) f i = IsInRange (descriptor (tables_of old) by fd) (length bytes) f i
+IsWritten old (event.Call by (call.Write fd bytes)) f i =
+    IsInRange (descriptor (tables_of old) by fd) (length bytes) f i
 IsWritten old e f i = ⊥
 
 -- new bytes in a pool need more pages there than are free
@@ -54,7 +55,8 @@ abbrev pub WriteWantsMore : KernelState → Option Descriptor → List Slice →
 WriteWantsMore h (Some (on.File f at mode)) xs p = (p ≡ pool_of_file h f) × LacksPages h p (copied_pages p xs)
 WriteWantsMore h o xs p = ⊥
 
--- the event may evict clean bytes of files of pool p: it drops all of them, or needs more pages of the pool than are free
+-- the event may evict clean bytes of files of pool p: it drops all of them, or needs more pages of the pool than are
+-- free
 abbrev pub MayLetGo : SystemState → Event → (p : ℕ) → Type 0
 MayLetGo s (event.Call by (call.AggMake bytes)) p = WantsMore s.kernel (for_made s.kernel by bytes) p
 MayLetGo s (event.Call by (call.IolRead fd n)) p = ReadWantsMore s (held_by (tables_of s.kernel) by fd) n p
@@ -76,19 +78,20 @@ LiesStill (event.Call by (call.Fsync fd)) c o = IsThereOrClean c o
 LiesStill event.Flush c o = IsThereOrClean c o
 LiesStill e c o = o ≡ Some c
 
--- Each byte of a file that is in memory keeps its place. Or the event writes it; or it was clean, and the event may evict it.
+-- Each byte of a file that is in memory keeps its place. Or the event writes it; or it was clean, and the event may
+-- evict it.
 pub record KeepsInPlace (old : SystemState) (e : Event) (new : KernelState) : Type 0 where
   pub each : (f i : ℕ) (c : Cell) → cover (extents_in old.kernel.cache.files f) i ≡ Some c
       → LiesStill e c (cover (extents_in new.cache.files f) i)
       ⊎ (IsWritten old.kernel e f i ⊎ ((c.dirty ≡ false) × MayLetGo old e (file_in old.kernel.cache.files f).pool))
 
--- Only pages, extents of files in memory and the domains' tables changed: pipes, connections, remembered sums and the list of
--- files are unchanged.
+-- Only pages, extents of files in memory and the domains' tables changed: pipes, connections, remembered sums and the
+-- list of files are unchanged.
 abbrev pub SameElsewhere : (old new : KernelState) → Type 0
 SameElsewhere old new = new ≡ record old { store = new.store; cache = new.cache; domains = new.domains }
 
--- A read of a file by reference returns bytes that were in memory at the same places, and the others at their places in new
--- extents. In the tables, the domain has one more aggregate, and the descriptor's position moved.
+-- A read of a file by reference returns bytes that were in memory at the same places, and the others at their places in
+-- new extents. In the tables, the domain has one more aggregate, and the descriptor's position moved.
 pub record ReadsShared (by fd n f at : ℕ) (mode : Mode) (old : SystemState) (new : KernelState) : Type 0 where
   pub gives : GivesRead (file_read by fd f at mode n) old.disk old.kernel new
   pub rest : SameElsewhere old.kernel new
@@ -98,10 +101,11 @@ abbrev pub SharesRead : (by fd n : ℕ) → SystemState → Option Descriptor �
 SharesRead by fd n old (Some (on.File f at mode)) new = ReadsShared by fd n f at mode old new
 SharesRead by fd n old o new = ⊤
 
--- A read of a file by copying has the effect of one by reference, over some pages; then its slices are released. So hits are
--- counted, the bytes that were not in memory are in new clean extents, and the bytes returned are those in memory. In the
--- tables, the descriptor's position moved.
-pub record CopiesShared (by fd n f at : ℕ) (mode : Mode) (old : SystemState) (bytes : List ℕ) (new : KernelState) : Type 0 where
+-- A read of a file by copying has the effect of one by reference, over some pages; then its slices are released. So
+-- hits are counted, the bytes that were not in memory are in new clean extents, and the bytes returned are those in
+-- memory. In the tables, the descriptor's position moved.
+pub record CopiesShared (by fd n f at : ℕ) (mode : Mode) (old : SystemState) (bytes : List ℕ) (new : KernelState) :
+    Type 0 where
   pub mid : Stored
   pub gives : GivesCopy (file_read by fd f at mode n) old.disk old.kernel mid new bytes
   pub frees : FreesOnly mid new.store
@@ -112,9 +116,9 @@ abbrev pub SharesCopy : (by fd n : ℕ) → SystemState → Option Descriptor �
 SharesCopy by fd n old (Some (on.File f at mode)) (reply.Bytes bytes) new = CopiesShared by fd n f at mode old bytes new
 SharesCopy by fd n old o r new = ⊤
 
--- A write of slices over a file: those of its pool are in the file at the same places. If there are bytes, room was made for
--- copies of the others, and then all of them replaced the bytes of the file, and nothing else of the cache changed. If there
--- are no bytes, the cache is unchanged. In the tables, the descriptor's position moved.
+-- A write of slices over a file: those of its pool are in the file at the same places. If there are bytes, room was
+-- made for copies of the others, and then all of them replaced the bytes of the file, and nothing else of the cache
+-- changed. If there are no bytes, the cache is unchanged. In the tables, the descriptor's position moved.
 pub record WritesShared (f at : ℕ) (xs : List Slice) (old new : KernelState) : Type 0 where
   pub lies : LiesDirty f at xs new.cache
   pub over : 0 < byte_len xs → WritesFile f at xs (holding_of old) (holding_of new)
@@ -127,8 +131,8 @@ abbrev pub SharesWrite : Option Descriptor → List Slice → (old new : KernelS
 SharesWrite (Some (on.File f at mode)) xs old new = WritesShared f at xs old new
 SharesWrite o xs old new = ⊤
 
--- A write over a file by copying: room was made for its bytes, and then they replaced those of the file, dirty and as any
--- write of their slices does. The slices were then released.
+-- A write over a file by copying: room was made for its bytes, and then they replaced those of the file, dirty and as
+-- any write of their slices does. The slices were then released.
 abbrev pub SharesPut : (pool : ℕ) → List ℕ → Option Descriptor → (old new : KernelState) → Type 0
 SharesPut pool bytes (Some (on.File f at mode)) old new =
     AfterRoom pool (length bytes) old (λ roomy. LaysOver f at pool bytes roomy new)
@@ -136,10 +140,12 @@ SharesPut pool bytes o old new = ⊤
 
 -- the bytes that a call on a file shares with it, or copies from it
 abbrev pub SharesFile : SystemState → Event → Reply → KernelState → Type 0
-SharesFile old (event.Call by (call.IolRead fd n)) r new = SharesRead by fd n old (held_by (tables_of old.kernel) by fd) new
+SharesFile old (event.Call by (call.IolRead fd n)) r new =
+    SharesRead by fd n old (held_by (tables_of old.kernel) by fd) new
 SharesFile old (event.Call by (call.IolWrite fd a)) r new =
     SharesWrite (descriptor (tables_of old.kernel) by fd) (slices_in old.kernel.domains by a) old.kernel new
-SharesFile old (event.Call by (call.Read fd n)) r new = SharesCopy by fd n old (held_by (tables_of old.kernel) by fd) r new
+SharesFile old (event.Call by (call.Read fd n)) r new =
+    SharesCopy by fd n old (held_by (tables_of old.kernel) by fd) r new
 SharesFile old (event.Call by (call.Write fd bytes)) r new =
     SharesPut (for_written old.kernel by fd bytes).pool bytes (descriptor (tables_of old.kernel) by fd) old.kernel new
 SharesFile old e r new = ⊤

@@ -35,19 +35,20 @@ SameTables old new = new ≡ record old { store = new.store; cache = new.cache }
 abbrev pub MadeRoomFor : Wants → (old : KernelState) → Reply → (new : KernelState) → Type 0
 MadeRoomFor w old r new = IfRefused r (MayHaveEvicted w.pool w.count old new)
 
--- A refused read of a file by reference: hits may have been counted, and clean extents may have been evicted to make room, in
--- the order of eviction.
+-- A refused read of a file by reference: hits may have been counted, and clean extents may have been evicted to make
+-- room, in the order of eviction.
 abbrev pub ReadLeaves : (by fd n : ℕ) → (old : SystemState) → Option Descriptor → Reply → (new : SystemState) → Type 0
 ReadLeaves by fd n old (Some (on.File f at mode)) r new =
     IfRefused r (λ x. SameTables old.kernel new.kernel
     × LeavesAtRefusal (file_read by fd f at mode n) old.disk old.kernel new.disk new.kernel x)
 ReadLeaves by fd n old o r new = ⊤
 
--- A refused read of a file by copying left the state that one by reference leaves, over some pages of which some were freed
--- since.
+-- A refused read of a file by copying left the state that one by reference leaves, over some pages of which some were
+-- freed since.
 pub record LeavesCopied (by fd n f at : ℕ) (mode : Mode) (old new : SystemState) (x : Refusal) : Type 0 where
   pub mid : Stored
-  pub leaves : LeavesAtRefusal (file_read by fd f at mode n) old.disk old.kernel new.disk (record new.kernel { store = mid }) x
+  pub leaves : LeavesAtRefusal (file_read by fd f at mode n) old.disk old.kernel new.disk
+      (record new.kernel { store = mid }) x
   pub frees : FreesOnly mid new.kernel.store
   pub lists : SameLists mid new.kernel.store
   pub same : SameTables old.kernel new.kernel
@@ -57,14 +58,15 @@ abbrev pub CopyLeaves : (by fd n : ℕ) → (old : SystemState) → Option Descr
 CopyLeaves by fd n old (Some (on.File f at mode)) r new = IfRefused r (LeavesCopied by fd n f at mode old new)
 CopyLeaves by fd n old o r new = ⊤
 
--- A refused write of slices to a file at most evicted extents, and the bytes placed are released; if there is no room, no
--- extent was evicted.
+-- A refused write of slices to a file at most evicted extents, and the bytes placed are released; if there is no room,
+-- no extent was evicted.
 abbrev pub WriteLeaves : (old : KernelState) → Option Descriptor → List Slice → Reply → (new : KernelState) → Type 0
-WriteLeaves old (Some (on.File f at mode)) xs r new = IfRefused r (λ x. SameTables old new × LeavesUnwritten f xs old new x)
+WriteLeaves old (Some (on.File f at mode)) xs r new =
+    IfRefused r (λ x. SameTables old new × LeavesUnwritten f xs old new x)
 WriteLeaves old o xs r new = ⊤
 
--- A refused write of bytes by copying at most evicted extents: for a queue, to place the bytes that it takes; for a file, the
--- bytes placed are released. If there is no room, nothing changed.
+-- A refused write of bytes by copying at most evicted extents: for a queue, to place the bytes that it takes; for a
+-- file, the bytes placed are released. If there is no room, nothing changed.
 abbrev pub PutLeaves : Wants → List ℕ → (old : KernelState) → Option Descriptor → Reply → (new : KernelState) → Type 0
 PutLeaves w bytes old (Some (on.File f at mode)) r new = IfRefused r (LeavesUnlaid w.pool bytes old new)
 PutLeaves w bytes old o r new = MadeRoomFor w old r new
@@ -77,7 +79,8 @@ CallLeaves old by (call.IolWrite fd a) r new =
     WriteLeaves old.kernel (descriptor (tables_of old.kernel) by fd) (slices_in old.kernel.domains by a) r new.kernel
 CallLeaves old by (call.Read fd n) r new = CopyLeaves by fd n old (held_by (tables_of old.kernel) by fd) r new
 CallLeaves old by (call.Write fd bytes) r new =
-    PutLeaves (for_written old.kernel by fd bytes) bytes old.kernel (descriptor (tables_of old.kernel) by fd) r new.kernel
+    PutLeaves (for_written old.kernel by fd bytes) bytes old.kernel (descriptor (tables_of old.kernel) by fd) r
+    new.kernel
 CallLeaves old by c r new = ⊤
 
 -- A refused event that places bytes, or reads or writes a file, changed nothing; or it came late, and only made room or

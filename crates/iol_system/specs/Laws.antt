@@ -144,12 +144,14 @@ EachStepKeepsChunks = (old new : SystemState) (e : Event) (r : Reply) → Promis
 
 -- a run from a safe system ends in a safe one; by the law on parts the system is safe at each moment
 abbrev pub RunsStaySafe : Type 0
-RunsStaySafe = (old new : SystemState) (es : List Event) (rs : List Reply) → Chain old es rs new → IsSafe old → IsSafe new
+RunsStaySafe = (old new : SystemState) (es : List Event) (rs : List Reply) → Chain old es rs new → IsSafe old
+    → IsSafe new
 
 -- a run from an orderly machine ends in an orderly one, over any store; a new one is orderly (`iol_laws`,
 -- `each_step_keeps_order`)
 abbrev pub RunsStayOrderly : Type 0
-RunsStayOrderly = (old new : SystemState) (es : List Event) (rs : List Reply) → Chain old es rs new → IsOrderly (machine_of old)
+RunsStayOrderly = (old new : SystemState) (es : List Event) (rs : List Reply) → Chain old es rs new
+    → IsOrderly (machine_of old)
     → IsOrderly (machine_of new)
 
 -- a run does not change whether a store is honest
@@ -186,9 +188,11 @@ pub record SharesOver (old : SystemState) (es : List Event) (rs : List Reply) (n
   pub pools : new.kernel.store.pools ≡ old.kernel.store.pools
 
 -- each event of a run is a sharing call at its moment
-abbrev pub AllShare : (old : SystemState) (es : List Event) (rs : List Reply) (new : SystemState) → Chain old es rs new → Type 0
+abbrev pub AllShare : (old : SystemState) (es : List Event) (rs : List Reply) (new : SystemState) → Chain old es rs new
+    → Type 0
 AllShare old [] rs new chain = Unit {0}
-AllShare old (e ∷ es) (r ∷ rs) new chain = (is_sharing (tables_of old.kernel) e ≡ true) × AllShare chain.0 es rs new chain.2
+AllShare old (e ∷ es) (r ∷ rs) new chain = (is_sharing (tables_of old.kernel) e ≡ true)
+    × AllShare chain.0 es rs new chain.2
 AllShare old (e ∷ es) [] new chain = Unit {0}
 
 -- a run of sharing calls copies nothing

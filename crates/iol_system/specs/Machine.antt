@@ -14,8 +14,8 @@ pub record SystemState : Type 0 where
 abbrev pub machine_of : SystemState → State
 machine_of s = held.machine_of s.disk.slots s.kernel
 
--- the copying machine's state except for the bytes of files: domains, pools, pipes and connections, for any content of the
--- store
+-- the copying machine's state except for the bytes of files: domains, pools, pipes and connections, for any content of
+-- the store
 abbrev pub tables_of : KernelState → State
 tables_of h = held.machine_of [] h
 

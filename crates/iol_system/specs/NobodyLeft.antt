@@ -14,8 +14,8 @@ pub record IsLeft (s : SystemState) : Type 0 where
   pub conns : (machine_of s).conns ≡ []
   pub extents : extents_in_all s.kernel.cache.files ≡ 0
 
--- Every page that is not retired is free, whether its chunk is a pool's or not. So the free pages of each pool are all its
--- pages, except for those that are retired.
+-- Every page that is not retired is free, whether its chunk is a pool's or not. So the free pages of each pool are all
+-- its pages, except for those that are retired.
 pub record IsAllFree (s : Stored) : Type 0 where
   pub every : (q : ℕ) → spent s.arena q ≡ false → usable s.arena q ≡ true
   pub each : (p : ℕ) → free_of s p ≡ filter (λ q. not (spent s.arena q)) (pages_of s p)

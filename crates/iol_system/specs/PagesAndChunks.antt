@@ -26,30 +26,32 @@ use Rattle.iol_kernel.specs.KernelState.{KernelState}
 use Rattle.iol_system.specs.Machine.{tables_of}
 use Rattle.iol_system.specs.Wants.{Wants, for_arrived, for_made, for_written}
 
--- Room was made for bytes in a pool, and then they were placed and stored where `put` says. Their buffers are on the lowest
--- pages that were free then, whose generation was incremented, and no other page was filled. Nothing else changed: so no more
--- extents of files were evicted.
+-- Room was made for bytes in a pool, and then they were placed and stored where `put` says. Their buffers are on the
+-- lowest pages that were free then, whose generation was incremented, and no other page was filled. Nothing else
+-- changed: so no more extents of files were evicted.
 abbrev pub Makes : (put : State → Text → State) → Wants → (old new : KernelState) → Type 0
 Makes put w old new = AfterRoom w.pool w.count old (λ roomy. MakesBytes put w.pool w.count roomy new)
 
--- Room was made for bytes in a pool, and the lowest of the pages that were free then were filled: the generation of each was
--- incremented, and no other page was filled. This applies to a `write` to a file, which then puts the bytes in place of the
--- file's (`SharesPut`).
+-- Room was made for bytes in a pool, and the lowest of the pages that were free then were filled: the generation of
+-- each was incremented, and no other page was filled. This applies to a `write` to a file, which then puts the bytes in
+-- place of the file's (`SharesPut`).
 abbrev pub Fills : Wants → (old new : KernelState) → Type 0
-Fills w old new = AfterRoom w.pool w.count old (λ roomy. KeepsPages roomy.store new.store (lowest_of roomy.store w.pool w.count))
+Fills w old new =
+    AfterRoom w.pool w.count old (λ roomy. KeepsPages roomy.store new.store (lowest_of roomy.store w.pool w.count))
 
 -- bytes are written by copying
 abbrev pub Puts : (by fd : ℕ) → Wants → Option Descriptor → (old new : KernelState) → Type 0
 Puts by fd w (Some (on.File f at mode)) old new = Fills w old new
 Puts by fd w o old new = Makes (λ s t. written s by fd (descriptor s by fd) t) w old new
 
--- a call on a file makes buffers on the lowest pages of its pool that are free after room is made; on anything else it makes
--- none
+-- a call on a file makes buffers on the lowest pages of its pool that are free after room is made; on anything else it
+-- makes none
 abbrev pub FillsForFile : KernelState → Option Descriptor → KernelState → Type 0
 FillsForFile old (Some (on.File f at mode)) new = FillsLowest (pool_of_file old f) old.store new.store
 FillsForFile old o new = KeepsPages old.store new.store []
 
--- `agg_make` makes buffers in the caller's default pool, and `write` in that of a file, or to anything else in the caller's
+-- `agg_make` makes buffers in the caller's default pool, and `write` in that of a file, or to anything else in the
+-- caller's
 abbrev pub CallPublishes : KernelState → (by : ℕ) → Call → KernelState → Type 0
 CallPublishes old by (call.AggMake bytes) new = Makes (λ s t. with_agg s by t) (for_made old by bytes) old new
 CallPublishes old by (call.IolRead fd n) new = FillsForFile old (held_by (tables_of old) by fd) new
@@ -59,8 +61,8 @@ CallPublishes old by (call.Write fd bytes) new =
     Puts by fd (for_written old by fd bytes) (descriptor (tables_of old) by fd) old new
 CallPublishes old by c new = KeepsPages old.store new.store []
 
--- A call makes buffers as `CallPublishes` says, and an arrival makes some in the connection's pool, for the bytes taken. Any
--- other event makes none.
+-- A call makes buffers as `CallPublishes` says, and an arrival makes some in the connection's pool, for the bytes
+-- taken. Any other event makes none.
 abbrev pub Publishes : KernelState → Event → KernelState → Type 0
 Publishes old (event.Call by c) new = CallPublishes old by c new
 Publishes old (event.Arrive c bytes) new = Makes (with_incoming c) (for_arrived old c bytes) old new
@@ -71,14 +73,14 @@ pub record SamePages (old new : Stored) : Type 0 where
   pub arena : new.arena ≡ old.arena
   pub pools : new.pools ≡ old.pools
 
--- A file was added, with no extent in memory. Nothing else changed: no page and no other table, and no extent or height of
--- other files.
+-- A file was added, with no extent in memory. Nothing else changed: no page and no other table, and no extent or height
+-- of other files.
 pub record CreatesFile (old new : KernelState) : Type 0 where
   pub same : new ≡ record old { files = new.files; cache = new.cache }
   pub added : AddsEmpty old.cache new.cache
 
--- What a call creates. A new pool has as many chunks as were asked for, the lowest free ones, and the others have theirs. A
--- pool to which a domain was admitted names it, and nothing else changed. A new file has no extent in memory.
+-- What a call creates. A new pool has as many chunks as were asked for, the lowest free ones, and the others have
+-- theirs. A pool to which a domain was admitted names it, and nothing else changed. A new file has no extent in memory.
 abbrev pub CallCreates : KernelState → Call → Reply → KernelState → Type 0
 CallCreates old (call.PoolCreate chunks list) (reply.Pool p) new =
     AddsPool old.store.arena new.store.arena old.store.pools new.store.pools chunks (distinct list)

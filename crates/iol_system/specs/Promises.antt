@@ -22,7 +22,8 @@ use Rattle.iol_system.specs.Late.{LeavesLate}
 use Rattle.iol_system.specs.Machine.{SystemState, machine_of, tables_of}
 use Rattle.iol_system.specs.PagesAndChunks.{Creates, Publishes, SamePages}
 use Rattle.iol_system.specs.Sums.{Remembers}
-use Rattle.iol_system.specs.Room.{BytesFit, HasRoomFor, LacksRoomFor, IsDone, IsEarly, IsFault, IsMemory, IsNoRoom, IsRefused}
+use Rattle.iol_system.specs.Room.{BytesFit, HasRoomFor, LacksRoomFor, IsDone, IsEarly, IsFault, IsMemory, IsNoRoom}
+use Rattle.iol_system.specs.Room.{IsRefused}
 use Rattle.iol_system.specs.Safe.{IsSafe}
 use Rattle.iol_system.specs.Slices.{Divides}
 use Rattle.iol_system.specs.Still.{is_still, keeps_store, only_looks, takes_out}
@@ -60,7 +61,8 @@ pub record Promises (old : SystemState) (e : Event) (r : Reply) (new : SystemSta
   pub refused : uses_cache (tables_of old.kernel) e ≡ false → IsRefused r → new ≡ old
   -- an event that does not work on the extents of files in memory leaves them unchanged, except that a new file has
   -- none
-  pub uncached : uses_cache (tables_of old.kernel) e ≡ false → makes_file e ≡ false → new.kernel.cache ≡ old.kernel.cache
+  pub uncached : uses_cache (tables_of old.kernel) e ≡ false → makes_file e ≡ false
+      → new.kernel.cache ≡ old.kernel.cache
   -- what a late refusal may leave: clean parts of files evicted, in the order of eviction, hits counted, and pages with
   -- an incremented generation that were filled and are free again
   pub late : LeavesLate old e r new

@@ -31,7 +31,8 @@ abbrev pub LacksRoomToRead : SystemState → Option Descriptor → (n : ℕ) →
 LacksRoomToRead s (Some (on.File f at mode)) n = NoRoomToRead f at n s.disk (holding_of s.kernel)
 LacksRoomToRead s o n = ⊥
 
--- An `iol_write` to a file has room for copies of the bytes of other pools than the file's. One to anything else needs none.
+-- An `iol_write` to a file has room for copies of the bytes of other pools than the file's. One to anything else needs
+-- none.
 abbrev pub HasRoomToWrite : KernelState → Option Descriptor → List Slice → Type 0
 HasRoomToWrite h (Some (on.File f at mode)) xs = pages_to_write h f xs ≤ length (pages_of h.store (pool_of_file h f))
 HasRoomToWrite h o xs = ⊤
@@ -41,8 +42,8 @@ abbrev pub LacksRoomToWrite : KernelState → Option Descriptor → List Slice �
 LacksRoomToWrite h (Some (on.File f at mode)) xs = length (pages_of h.store (pool_of_file h f)) < pages_to_write h f xs
 LacksRoomToWrite h o xs = ⊥
 
--- The pages that a call's new bytes need fit their pool, together with those that something other than clean extents holds;
--- or its chunks are free.
+-- The pages that a call's new bytes need fit their pool, together with those that something other than clean extents
+-- holds; or its chunks are free.
 abbrev pub CallHasRoom : SystemState → (by : ℕ) → Call → Type 0
 CallHasRoom s by (call.AggMake bytes) = Fits s.kernel (for_made s.kernel by bytes)
 CallHasRoom s by (call.PoolCreate chunks list) = chunks ≤ length (free_chunks s.kernel.store.arena)
@@ -82,7 +83,8 @@ CallBytesFit s by (call.AggMake bytes) = Fits s.kernel (for_made s.kernel by byt
 CallBytesFit s by (call.Write fd bytes) = Fits s.kernel (for_written s.kernel by fd bytes)
 CallBytesFit s by c = ⊤
 
--- The new bytes of an `agg_make`, of a `write` or of an arrival fit their pool. Any other event places no bytes of its own.
+-- The new bytes of an `agg_make`, of a `write` or of an arrival fit their pool. Any other event places no bytes of its
+-- own.
 abbrev pub BytesFit : SystemState → Event → Type 0
 BytesFit s (event.Call by c) = CallBytesFit s by c
 BytesFit s (event.Arrive c bytes) = Fits s.kernel (for_arrived s.kernel c bytes)

@@ -7,8 +7,8 @@ use Rattle.iol_core.specs.declared.events.Event.{Event}
 use Rattle.iol_core.specs.declared.events.Event.TheVariants as event
 use Rattle.iol_kernel.specs.FileReads.{held_by}
 
--- Whether the event is about domains, pools, descriptors or drops, and not about bytes: every byte that it leaves keeps its
--- place. The bytes of a file may be only in the store, so calls that ask for a length are not among these.
+-- Whether the event is about domains, pools, descriptors or drops, and not about bytes: every byte that it leaves keeps
+-- its place. The bytes of a file may be only in the store, so calls that ask for a length are not among these.
 abbrev pub is_still : Event → Bool
 is_still (event.Call by call.DomainNew) = true
 is_still (event.Call by call.Exit) = true
@@ -32,8 +32,8 @@ only_looks (event.Call by (call.Show a)) = true
 only_looks (event.Call by (call.Length fd)) = true
 only_looks e = false
 
--- Whether the event takes bytes out, to a peer or by a copy off a queue, or moves a position. Its meaning for places is its
--- meaning for bytes: every byte that it leaves keeps its place.
+-- Whether the event takes bytes out, to a peer or by a copy off a queue, or moves a position. Its meaning for places is
+-- its meaning for bytes: every byte that it leaves keeps its place.
 abbrev pub takes_out : State → Event → Bool
 takes_out s (event.Call by (call.Seek fd at)) = true
 takes_out s (event.Call by (call.Read fd n)) = not (is_file (held_by s by fd))

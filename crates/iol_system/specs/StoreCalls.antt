@@ -15,8 +15,8 @@ asks_store s (event.Call by (call.Fsync fd)) = true
 asks_store s event.Flush = true
 asks_store s e = false
 
--- Whether the event may change the extents of files in memory: if new bytes need room, and if files are read, written or
--- written back. It may do so even if it is refused in the end.
+-- Whether the event may change the extents of files in memory: if new bytes need room, and if files are read, written
+-- or written back. It may do so even if it is refused in the end.
 abbrev pub uses_cache : State → Event → Bool
 uses_cache s (event.Call by (call.AggMake bytes)) = true
 uses_cache s (event.Call by (call.IolRead fd n)) = is_file (held_by s by fd)

@@ -55,7 +55,8 @@ pub record CleansFirst (old new : Cached) : Type 0 where
 
 -- a `flush` cleans the dirty extent of least file and offset; or nothing was dirty, and it changes nothing
 abbrev pub IsFlushed : KernelState → Event → KernelState → Type 0
-IsFlushed old event.Flush new = CleansFirst old.cache new.cache ⊎ (AllClean (length old.cache.files) old.cache × (new ≡ old))
+IsFlushed old event.Flush new = CleansFirst old.cache new.cache
+    ⊎ (AllClean (length old.cache.files) old.cache × (new ≡ old))
 IsFlushed old e new = ⊤
 
 -- The clean extents of all files were evicted, those of each pool in their order; no clean extent is left. Nothing else
@@ -72,7 +73,8 @@ IsDropped old e new = ⊤
 
 -- The extents that an `fsync` wrote back, whatever the reply: the first dirty extents of its file, up to the one at
 -- which the store failed.
-pub record SyncsAs (f : ℕ) (disk : Disk) (old : KernelState) (r : Reply) (after : Disk) (new : KernelState) : Type 0 where
+pub record SyncsAs (f : ℕ) (disk : Disk) (old : KernelState) (r : Reply) (after : Disk) (new : KernelState) :
+    Type 0 where
   pub answer : Result (Unit {0}) Refusal
   pub is : r ≡ reported (λ u. reply.Done) answer
   pub syncs : SyncsFile f disk old answer after new
@@ -90,13 +92,15 @@ pub record FlushesAs (disk : Disk) (old : KernelState) (r : Reply) (after : Disk
 
 -- The extents that an `fsync` or a `flush` wrote back, refused or not.
 abbrev pub StoresBack : Disk → KernelState → Event → Reply → Disk → KernelState → Type 0
-StoresBack disk old (event.Call by (call.Fsync fd)) r after new = SyncsOn (descriptor (tables_of old) by fd) disk old r after new
+StoresBack disk old (event.Call by (call.Fsync fd)) r after new =
+    SyncsOn (descriptor (tables_of old) by fd) disk old r after new
 StoresBack disk old event.Flush r after new = FlushesAs disk old r after new
 StoresBack disk old e r after new = ⊤
 
 -- What one event writes back or drops: the extents that are clean and stored if it succeeds, and those that were
 -- written whatever the reply.
-pub record WritesBack (disk : Disk) (old : KernelState) (e : Event) (r : Reply) (after : Disk) (new : KernelState) : Type 0 where
+pub record WritesBack (disk : Disk) (old : KernelState) (e : Event) (r : Reply) (after : Disk) (new : KernelState) :
+    Type 0 where
   pub synced : IsDone r → IsSynced old e new
   pub kept : IsBackedBy after new → IsDone r → IsKept old e (system_of new after)
   pub flushed : IsDone r → IsFlushed old e new

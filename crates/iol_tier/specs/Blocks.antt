@@ -1,5 +1,6 @@
 -- Keys in blocks.
-use Rattle.std.specs.Prelude.{◌≡◌, ℕ, ◌+◌, ◌-◌, ◌*◌, ◌<◌, ◌≤◌, ◌^◌, ◌==◌, min, max, cond, Bool, false, IsTrue, List, [], ◌∷◌, ◌++◌, length, slice_index_or, insert, remove}
+use Rattle.std.specs.Prelude.{◌≡◌, ℕ, ◌+◌, ◌-◌, ◌*◌, ◌<◌, ◌≤◌, ◌^◌, ◌==◌, min, max, cond, Bool, false, IsTrue, List, []}
+use Rattle.std.specs.Prelude.{◌∷◌, ◌++◌, length, slice_index_or, insert, remove}
 
 -- a block: its keys, and how many it can hold
 pub record Block : Type 0 where
@@ -79,7 +80,8 @@ pub record HasPlace (old new : Block) : Type 0 where
 
 -- All blocks.
 
--- The same keys, of which one moved over each border between two blocks: block `to` has one more, block `from` one less.
+-- The same keys, of which one moved over each border between two blocks: block `to` has one more, block `from` one
+-- less.
 pub record Shifts (to from : ℕ) (old new : List Block) : Type 0 where
   pub keys : joined new ≡ joined old
   pub count : length new ≡ length old

@@ -1,5 +1,6 @@
 -- Keys in order.
-use Rattle.std.specs.Prelude.{◌≡◌, ℕ, ◌+◌, ◌-◌, ◌*◌, ◌<◌, ◌≤◌, ◌^◌, min, List, length, slice_index_or, insert, remove, Result, OnOk, OnErr}
+use Rattle.std.specs.Prelude.{◌≡◌, ℕ, ◌+◌, ◌-◌, ◌*◌, ◌<◌, ◌≤◌, ◌^◌, min, List, length, slice_index_or, insert, remove}
+use Rattle.std.specs.Prelude.{Result, OnOk, OnErr}
 
 -- the keys, and the number of keys that can be inserted without allocating
 pub record Tiered : Type 0 where

@@ -1,5 +1,6 @@
 -- Slots that are filled from the last file to the first.
-use Rattle.std.proofs.Common.{◌≡◌, ℕ, ◌+◌, ◌<◌, ◌≤◌, List, [], ◌∷◌, ◌++◌, length, map, take, Some, slice_get, inl, inr, arith, ap, sym, subst, ◌∙◌, append_assoc, length-append}
+use Rattle.std.proofs.Common.{◌≡◌, ℕ, ◌+◌, ◌<◌, ◌≤◌, List, [], ◌∷◌, ◌++◌, length, map, take, Some, slice_get, inl, inr}
+use Rattle.std.proofs.Common.{arith, ap, sym, subst, ◌∙◌, append_assoc, length-append}
 use Rattle.std.proofs.Math.Seq.{get_or-append_seam}
 use Rattle.std.proofs.lemmas.Bool.{cases_eq}
 use Rattle.std.proofs.lemmas.Bool.Decides.{nat_tests}
@@ -32,16 +33,20 @@ fills_none all = record {
 -- the file behind the first ones
 content-seam : (rest tail : List (List ℕ)) (b : List ℕ) (f : ℕ) → f ≡ length rest + 1 → content (rest ++ b ∷ tail) f ≡ b
 unfolding content
-content-seam rest tail b f is = let e = get_or-append_seam rest b tail [] in grind (arith, nat_tests, common_steps, e, is)
+content-seam rest tail b f is = let e = get_or-append_seam rest b tail [] in
+    grind (arith, nat_tests, common_steps, e, is)
 
 -- the last of those that hold none yet has its bytes appended
-pub one_filled : (all rest slots new : List (List ℕ)) (b : List ℕ) (f : ℕ) → Fills all (rest ++ b ∷ []) slots → f ≡ length rest + 1
+pub one_filled : (all rest slots new : List (List ℕ)) (b : List ℕ) (f : ℕ) → Fills all (rest ++ b ∷ []) slots
+    → f ≡ length rest + 1
     → content new f ≡ content slots f ++ b → OthersStay f slots new → Fills all rest new
 one_filled all rest slots new b f fills is appended others = record {
   tail = b ∷ fills.tail;
   whole = whole;
   there = λ k past. elim (cases_eq k f) [
-    | inl same ↦ subst (λ (i : ℕ). content new i ≡ content all i) (sym same) (bytes ∙ sym (subst (λ (l : List (List ℕ)). content l f ≡ b) whole (content-seam rest fills.tail b f is)))
+    | inl same ↦
+        subst (λ (i : ℕ). content new i ≡ content all i) (sym same) (bytes
+        ∙ sym (subst (λ (l : List (List ℕ)). content l f ≡ b) whole (content-seam rest fills.tail b f is)))
     | inr other ↦ others.each k other ∙ fills.there k (omega (arith, past, other, is, longer))
   ];
   none = λ k within. others.each k (λ e. omega (arith, e, within, is)) ∙ fills.none k (omega (arith, within, longer));
@@ -66,7 +71,8 @@ all_filled all rest slots empty fills = record {
 }
 
 -- the lengths of files that are read one after another
-pub lengths_more : (lengths : List ℕ) (k : ℕ) (contents : List (List ℕ)) (b : List ℕ) → map length contents ≡ take k lengths
+pub lengths_more : (lengths : List ℕ) (k : ℕ) (contents : List (List ℕ)) (b : List ℕ)
+    → map length contents ≡ take k lengths
     → slice_get lengths k ≡ Some (length b) → map length (contents ++ b ∷ []) ≡ take (k + 1) lengths
 lengths_more lengths k contents b are is =
     map-append length contents (b ∷ [])

@@ -1,5 +1,6 @@
 -- The replies to the lines of a script: events are steps of a system, reports give its resource use.
-use Rattle.std.specs.Prelude.{◌≡◌, ◌*◌, ℕ, true, false, List, [], ◌∷◌, ◌⊎◌, Option, Result, Err, IfErr, IfSome, OnOk, ◌++◌, replicate, unwrap_or}
+use Rattle.std.specs.Prelude.{◌≡◌, ◌*◌, ℕ, true, false, List, [], ◌∷◌, ◌⊎◌, Option, Result, Err, IfErr, IfSome, OnOk}
+use Rattle.std.specs.Prelude.{◌++◌, replicate, unwrap_or}
 use Rattle.std.specs.Io.KnownBytes.{Appends}
 use Rattle.iol_core.specs.State.{new_state}
 use Rattle.iol_core.specs.declared.configuration.TheConstants.Config.{DEFAULT}
@@ -17,7 +18,8 @@ use Rattle.iolite.specs.declared.script.Line.{Line}
 use Rattle.iolite.specs.declared.script.Line.TheVariants as line
 use Rattle.iolite.specs.Failure.{status_of}
 use Rattle.iolite.specs.PrintedText.{answer_text, lines_of, newline}
-use Rattle.iolite.specs.Script.{Asks, AskInOrder, HasBadLine, IsBadScript, IsJudged, IsScriptText, Says, asking, commands, lines, without_blank}
+use Rattle.iolite.specs.Script.{Asks, AskInOrder, HasBadLine, IsBadScript, IsJudged, IsScriptText, Says, asking}
+use Rattle.iolite.specs.Script.{commands, lines, without_blank}
 
 -- A new system with the setup of a script: only domain 1 exists, no page was ever used, the parameters are the given or
 -- default ones, and the store is in memory with the bytes that the script stored. No sum is remembered, and the cache
@@ -25,7 +27,8 @@ use Rattle.iolite.specs.Script.{Asks, AskInOrder, HasBadLine, IsBadScript, IsJud
 pub record IsNew (setup : Setup) (s : SystemState) : Type 0 where
   pub machine : machine_of s ≡ new_state (slots_of setup.slots)
   pub store : s.disk ≡ record { slots = setup.slots; failures = 0; honest = true; reported = lengths_of setup.slots }
-  pub entries : s.kernel.store.arena.entries ≡ replicate ((unwrap_or setup.config DEFAULT).chunks * CHUNK_PAGES) no_entry
+  pub entries : s.kernel.store.arena.entries ≡ replicate ((unwrap_or setup.config DEFAULT).chunks * CHUNK_PAGES)
+      no_entry
   pub taken : s.kernel.store.arena.taken ≡ replicate (unwrap_or setup.config DEFAULT).chunks false
   pub limit : s.kernel.store.arena.limit ≡ (unwrap_or setup.config DEFAULT).gen_limit
   pub sums : s.kernel.sums.entries ≡ []
@@ -99,7 +102,8 @@ pub record ReplaysText {W : Type 0} (text : List ℕ) (held holds : Option (List
 -- bytes of the input are known, and the output is unchanged. After another failure the output is unchanged or the
 -- script has begun; if memory ran out, with all results so far. Otherwise the input is the text of a script, and all
 -- lines were executed and printed.
-pub record Replays {W : Type 0} (input held holds : Option (List ℕ)) (output printed : W) (r : Result (Unit {0}) Failure)
+pub record Replays {W : Type 0} (input held holds : Option (List ℕ)) (output printed : W)
+    (r : Result (Unit {0}) Failure)
     : Type 0 where
   pub untouched : IfErr r (λ failure. status_of failure ≡ 2 → printed ≡ output)
   pub ok : OnOk r (IfSome input IsScriptText)
@@ -110,7 +114,8 @@ pub record Replays {W : Type 0} (input held holds : Option (List ℕ)) (output p
 
 -- Of these lines, those with an action were executed, from start to end, and each result was printed or is still
 -- buffered.
-pub record Answering (ls : List (List ℕ)) (start end : SystemState) (old new : Option (List ℕ)) (left : List ℕ) : Type 0 where
+pub record Answering (ls : List (List ℕ)) (start end : SystemState) (old new : Option (List ℕ)) (left : List ℕ) :
+    Type 0 where
   pub asked : List Line
   pub answers : List Answer
   pub asks : AskInOrder (asking (without_blank ls)) asked

@@ -1,5 +1,6 @@
 -- The calls in a script's lines: their names and arguments.
-use Rattle.std.specs.Prelude.{◌≡◌, ◌≤◌, ◌*◌, ℕ, List, [], ◌∷◌, ◌⊎◌, All, Option, Some, None, length, map, cond, codes, bytes_eq, ◌==◌, ⊤}
+use Rattle.std.specs.Prelude.{◌≡◌, ◌≤◌, ◌*◌, ℕ, List, [], ◌∷◌, ◌⊎◌, All, Option, Some, None, length, map, cond, codes}
+use Rattle.std.specs.Prelude.{bytes_eq, ◌==◌, ⊤}
 use Rattle.std.specs.List.{repeat, slice_split}
 use Rattle.iol_core.specs.declared.descriptors.Mode.{Mode}
 use Rattle.iol_core.specs.declared.descriptors.Mode.TheVariants as mode
@@ -121,7 +122,8 @@ IsCalled name.AggReplace rest c =
     IsLong (word rest) × IsShort (word range) × IsShort (word last) × IsLong (rest_of last)
     × (c ≡ call.AggReplace (value (word rest)) (value (word range)) (value (word last)) (value (rest_of last)))
 IsCalled name.PoolCreate rest c =
-    IsShort (word rest) × AreDomains (rest_of rest) × (c ≡ call.PoolCreate (value (word rest)) (domains_of (rest_of rest)))
+    IsShort (word rest) × AreDomains (rest_of rest)
+    × (c ≡ call.PoolCreate (value (word rest)) (domains_of (rest_of rest)))
 IsCalled name.AggMake rest c = c ≡ call.AggMake (decoded rest)
 IsCalled name.AggFill rest c =
     let text = decoded (rest_of rest) in

@@ -58,7 +58,7 @@ IsCommand words c = ⊥
 abbrev pub IsNoCommand : (words : List (List ℕ)) → Type 0
 IsNoCommand words = (c : Command) → ¬ (IsCommand words c)
 
--- Words for which the status may be that of an invalid command or script: they are no command, or `replay`, whose script may be
--- invalid.
+-- Words for which the status may be that of an invalid command or script: they are no command, or `replay`, whose
+-- script may be invalid.
 abbrev pub MayBeBad : (words : List (List ℕ)) → Type 0
 MayBeBad words = IsNoCommand words ⊎ IsCommand words Replay

@@ -28,7 +28,8 @@ IsPeerClosed rest e = IsShort (word rest)
     × ((how : How) × (rest_of rest ≡ how_word how) × (e ≡ event.PeerClosed (value (word rest)) how))
 
 abbrev pub IsTransmit : (rest : List ℕ) → Event → Type 0
-IsTransmit rest e = IsShort (word rest) × IsShort (rest_of rest) × (e ≡ event.Transmit (value (word rest)) (value (rest_of rest)))
+IsTransmit rest e = IsShort (word rest) × IsShort (rest_of rest)
+    × (e ≡ event.Transmit (value (word rest)) (value (rest_of rest)))
 
 -- the external event of a name
 abbrev pub Happens : (name rest : List ℕ) → Event → Type 0

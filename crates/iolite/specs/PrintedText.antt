@@ -23,7 +23,8 @@ bytes_text (b ∷ bs) = codes " " ++ percent_encode ESCAPED (b ∷ bs)
 
 -- the four hexadecimal digits of a number below 2^16
 abbrev pub four_digits : ℕ → List ℕ
-four_digits n = hexadecimal (n / 4096) ++ hexadecimal (n / 256 % 16) ++ hexadecimal (n / 16 % 16) ++ hexadecimal (n % 16)
+four_digits n = hexadecimal (n / 4096) ++ hexadecimal (n / 256 % 16) ++ hexadecimal (n / 16 % 16)
+    ++ hexadecimal (n % 16)
 
 -- its name, and the number of the pool or file
 abbrev pub refusal_text : Refusal → List ℕ
@@ -60,7 +61,8 @@ pool_line p = codes "pool " ++ decimal p.pool ++ codes " pages " ++ decimal p.pa
 -- and a last line
 abbrev pub report_text : Report → List ℕ
 report_text r = flat_map pool_line r.pools.items
-    ++ codes "extents " ++ decimal r.extents ++ codes " dirty " ++ decimal r.dirty ++ codes " buffers " ++ decimal r.buffers
+    ++ codes "extents " ++ decimal r.extents ++ codes " dirty " ++ decimal r.dirty ++ codes " buffers "
+    ++ decimal r.buffers
 
 abbrev pub answer_text : Answer → List ℕ
 answer_text (answer.Reply r) = reply_text r

@@ -1,5 +1,6 @@
 -- Scripts: valid scripts, the actions of their lines, and invalid ones.
-use Rattle.std.specs.Prelude.{◌≡◌, ◌≢◌, ◌⊎◌, ◌<◌, ◌≤◌, ◌==◌, ℕ, Bool, true, false, not, ◌&&◌, List, [], ◌∷◌, ◌++◌, All, length, codes, IsUtf8, ⊤}
+use Rattle.std.specs.Prelude.{◌≡◌, ◌≢◌, ◌⊎◌, ◌<◌, ◌≤◌, ◌==◌, ℕ, Bool, true, false, not, ◌&&◌, List, [], ◌∷◌, ◌++◌, All}
+use Rattle.std.specs.Prelude.{length, codes, IsUtf8, ⊤}
 use Rattle.std.specs.List.{filter, slice_split}
 use Rattle.iol_core.specs.declared.events.Event.{Event}
 use Rattle.iol_core.specs.declared.events.Event.TheVariants as event
@@ -97,8 +98,8 @@ pub record IsJudged (ls : List (List ℕ)) (setup : Setup) : Type 0 where
   pub set_up : SetUp headers start setup
   pub ask : All AsksSomething (asking ls)
 
--- After lines with this setup, a line is no command: it has no action, and it is no header, or a header after an action, or an
--- invalid header.
+-- After lines with this setup, a line is no command: it has no action, and it is no header, or a header after an
+-- action, or an invalid header.
 abbrev pub IsBadAfter : Setup → (late : Type 0) → List ℕ → Type 0
 IsBadAfter setup late l =
     ((is_header (word l) ≡ false) × ((x : Line) → ¬ (Asks l x)))

@@ -1,5 +1,6 @@
 -- The header lines of a script: the parameters of its system, the store call that fails, and the contents of the store.
-use Rattle.std.specs.Prelude.{◌≡◌, ◌⊎◌, ◌<◌, ◌≤◌, ◌+◌, ◌*◌, ◌++◌, ◌||◌, ℕ, Bool, List, [], ◌∷◌, Some, None, Result, Err, OnOk, length, codes, bytes_eq}
+use Rattle.std.specs.Prelude.{◌≡◌, ◌⊎◌, ◌<◌, ◌≤◌, ◌+◌, ◌*◌, ◌++◌, ◌||◌, ℕ, Bool, List, [], ◌∷◌, Some, None, Result, Err}
+use Rattle.std.specs.Prelude.{OnOk, length, codes, bytes_eq}
 use Rattle.std.specs.List.{repeat}
 use Rattle.percent_encoding.specs.Percent.{percent_decode as decoded}
 use Rattle.iol_core.specs.Configuration.{IsInRange}
@@ -64,8 +65,8 @@ pub record StoresRepeated (slot numeral text : List ℕ) (old new : Setup) : Typ
   pub short : value numeral * length (decoded text) ≤ MAX_REPEATED_BYTES
   pub stores : StoresBytes slot (repeat (value numeral) (decoded text)) old new
 
--- the effect of a header, by its first word and its arguments: `config CHUNKS GENERATIONS SUMS`, `fault CALL`, `store SLOT
--- TEXT`, `storen SLOT COUNT TEXT`
+-- the effect of a header, by its first word and its arguments: `config CHUNKS GENERATIONS SUMS`, `fault CALL`,
+-- `store SLOT TEXT`, `storen SLOT COUNT TEXT`
 abbrev pub SetsUp : (name rest : List ℕ) → (old new : Setup) → Type 0
 SetsUp name rest old new =
     ((name ≡ codes "config") × SetsSizes rest old new)

@@ -31,6 +31,8 @@ HasWatched (suc (suc n)) by asked m = NoneWaits m by
 
 -- Over an honest store: if a world of watchers is idle after turns, each of them has watched for two yields, and so no
 -- connection is waiting that its domain may accept.
-abbrev pub AllHaveWatched : {P : Type 0} → (world after : Stage SystemState P) → (asked : P → Bool) → (idle : Bool) → Type 0
+abbrev pub AllHaveWatched : {P : Type 0} → (world after : Stage SystemState P) → (asked : P → Bool) → (idle : Bool)
+    → Type 0
 AllHaveWatched world after asked idle = IfHonest world.machine.disk
-    (idle ≡ true → AllQuiescent (λ n by p last m. HasWatched n by (asked p) m) after.process_slots (machine_of after.machine))
+    (idle ≡ true
+    → AllQuiescent (λ n by p last m. HasWatched n by (asked p) m) after.process_slots (machine_of after.machine))

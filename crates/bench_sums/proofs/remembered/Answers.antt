@@ -4,7 +4,8 @@ use Rattle.bench_sums.proofs.remembered.Goals as goal
 
 pub fill-requires : goal.fill-requires
 fill-requires c = record {
-  «open» = subst (λ ps. (pool_in ps c.in_ok-pool.pool).closed ≡ false) c.pools.ensures (sym c.is_closed.ensures ∙ c.if-is_closed.false);
+  «open» = subst (λ ps. (pool_in ps c.in_ok-pool.pool).closed ≡ false) c.pools.ensures (sym c.is_closed.ensures
+      ∙ c.if-is_closed.false);
 }
 
 -- a new cache is right of any store

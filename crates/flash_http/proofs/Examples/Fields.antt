@@ -2,7 +2,8 @@
 use Rattle.std.proofs.Common.{◌≡◌, List, [], ◌∷◌, true, false, Some, None, refl}
 use Rattle.std.specs.Prelude.{codes}
 use Rattle.httparse.specs.Grammar.{trim_ows}
-use Rattle.flash_http.specs.Fields.{Field, values_of, has_one_host, has_content, names_close, one_range, is_served_method, is_known_method}
+use Rattle.flash_http.specs.Fields.{Field, values_of, has_one_host, has_content, names_close, one_range}
+use Rattle.flash_http.specs.Fields.{is_served_method, is_known_method}
 
 abbrev fields : List Field
 fields = (codes "Host", codes "a:80") ∷ (codes "RANGE", codes "bytes=0-1") ∷ (codes "Content-Length", codes "0") ∷ []

@@ -8,7 +8,8 @@ use Rattle.flash_http.specs.Request.{Reading, serve, refuse, refusal, range_of, 
 
 -- a head of HTTP/1.1 with a host and these fields
 abbrev head : (method : List ℕ) → List Field → Reading
-head method fields = record { method = method; target = codes "/f"; minor = 1; fields = (codes "Host", codes "a") ∷ fields }
+head method fields =
+    record { method = method; target = codes "/f"; minor = 1; fields = (codes "Host", codes "a") ∷ fields }
 
 fine : refusal (head (codes "GET") []) ≡ None
 fine = refl
@@ -40,7 +41,15 @@ range_of_a_head_alone : range_of (head (codes "HEAD") ((codes "Range", codes "by
 range_of_a_head_alone = refl
 
 served_file : served (head (codes "GET") []) (Some (codes "f", codes "q=1"))
-    ≡ serve (record { head_only = false; name = codes "f"; query = codes "q=1"; keep = true; range = None; chunked = true })
+    ≡ serve (record {
+      head_only = false;
+      name = codes "f";
+      query = codes "q=1";
+      keep = true;
+      range = None;
+      chunked =
+          true;
+    })
 served_file = refl
 
 no_file : served (head (codes "HEAD") []) None ≡ refuse 400 true true

@@ -1,11 +1,13 @@
 -- Replies leave a client's request unchanged, and extend its buffered stream; and the script whose text it holds.
-use Rattle.std.proofs.Common.{◌≡◌, ℕ, List, [], ◌∷◌, ap, ◌∙◌, refl, sym, subst, Option, Some, None, true, false, Bool, append-nil}
+use Rattle.std.proofs.Common.{◌≡◌, ℕ, List, [], ◌∷◌, ap, ◌∙◌, refl, sym, subst, Option, Some, None, true, false, Bool}
+use Rattle.std.proofs.Common.{append-nil}
 use Rattle.std.specs.Prelude.{◌&&◌, not}
 use Rattle.iol_core.specs.declared.events.Call.TheVariants as call
 use Rattle.iol_core.specs.declared.events.Reply.{Reply}
 use Rattle.iol_core.specs.declared.events.Reply.TheVariants as reply
 use Rattle.flash_http.specs.Request.{Answer, serve, refuse}
-use Rattle.flash_laws.specs.Client.{Client, is_for_script, conn_wants, wants, can_run, kept_if, after_drop_whole, file_after_reply, keeps_text, text_on, proceeds, after_reply, Readies, new_client}
+use Rattle.flash_laws.specs.Client.{Client, is_for_script, conn_wants, wants, can_run, kept_if, after_drop_whole}
+use Rattle.flash_laws.specs.Client.{file_after_reply, keeps_text, text_on, proceeds, after_reply, Readies, new_client}
 use Rattle.flash_laws.specs.Client.Holdings.{HoldsNoOther}
 use Rattle.flash_laws.specs.Client.OfferedBytes.{kept_by}
 use Rattle.flash_laws.specs.Conn as conn
@@ -22,8 +24,10 @@ use Rattle.flash_laws.proofs.Forms.{at, of as client}
 
 -- ---- a script is read whole
 
-pub client-whole : (scripts : Bool) (fd f : ℕ) (kept : List ℕ) (q : Answer) (d : Phase) (run : Option Running) (script : List ℕ) → run ≡ None
-    → is_for_script scripts q ≡ true → d ≡ Reading f → wants scripts fd (client (at kept q d) run script) ≡ call.IolRead f most_read
+pub client-whole : (scripts : Bool) (fd f : ℕ) (kept : List ℕ) (q : Answer) (d : Phase) (run : Option Running)
+    (script : List ℕ) → run ≡ None
+    → is_for_script scripts q ≡ true → d ≡ Reading f
+    → wants scripts fd (client (at kept q d) run script) ≡ call.IolRead f most_read
 client-whole scripts fd f kept q d None script none for_script reads =
     ap (λ b. conn_wants b fd (at kept q d)) for_script ∙ ap (λ (e : Phase). conn_wants true fd (at kept q e)) reads
 client-whole scripts fd f kept q d (Some y) script none for_script reads = absurd (cc (none))
@@ -35,7 +39,8 @@ abbrev Keeps : Client → Reply → (received : List ℕ) → Client → Type 0
 Keeps x r received y = (y.conn.q ≡ x.conn.q) × (y.conn.kept ≡ kept_by x r received)
 
 file-keeps : (kept : List ℕ) (q : Answer) (d : Phase) (script : List ℕ) (r : Reply) (received : List ℕ) (b : Bool)
-    → Keeps (client (at kept q d) None script) r received (file_after_reply b (client (at kept q d) None script) r received)
+    → Keeps (client (at kept q d) None script) r received
+    (file_after_reply b (client (at kept q d) None script) r received)
 file-keeps kept q Rests script (reply.Agg n) [] false = (refl, sym (append-nil kept))
 file-keeps kept q Rests script (reply.Agg n) (c ∷ received) false = (refl, refl)
 file-keeps kept q (Spares a (Body b size len)) script r received false = (refl, refl)
@@ -46,17 +51,22 @@ file-keeps kept q d script r received false = (refl, refl)
 file-keeps kept q d script r received true = (refl, refl)
 
 -- a run leaves both as they are
-run-keeps : (x : Client) (y z : Running) (was over : Bool) → ((proceeds was over x y z).conn.q ≡ x.conn.q) × ((proceeds was over x y z).conn.kept ≡ x.conn.kept)
+run-keeps : (x : Client) (y z : Running) (was over : Bool) → ((proceeds was over x y z).conn.q ≡ x.conn.q)
+    × ((proceeds was over x y z).conn.kept ≡ x.conn.kept)
 run-keeps x y z false true = (refl, refl)
 run-keeps x y z false false = (refl, refl)
 run-keeps x y z true true = (refl, refl)
 run-keeps x y z true false = (refl, refl)
 
-pub client-keeps : (scripts : Bool) (worker : ℕ) (kept : List ℕ) (q : Answer) (d : Phase) (run : Option Running) (script : List ℕ) (r : Reply) (received : List ℕ)
-    → Keeps (client (at kept q d) run script) r received (after_reply scripts worker (client (at kept q d) run script) r received)
-client-keeps scripts worker kept q d None script r received = file-keeps kept q d script r received (is_for_script scripts q)
+pub client-keeps : (scripts : Bool) (worker : ℕ) (kept : List ℕ) (q : Answer) (d : Phase) (run : Option Running)
+    (script : List ℕ) (r : Reply) (received : List ℕ)
+    → Keeps (client (at kept q d) run script) r received
+    (after_reply scripts worker (client (at kept q d) run script) r received)
+client-keeps scripts worker kept q d None script r received =
+    file-keeps kept q d script r received (is_for_script scripts q)
 client-keeps scripts worker kept (serve w) d (Some y) script r received =
-    run-keeps (client (at kept (serve w) d) (Some y) script) y (running.after_reply worker w y r received) (is_over y) (is_over (running.after_reply worker w y r received))
+    run-keeps (client (at kept (serve w) d) (Some y) script) y (running.after_reply worker w y r received) (is_over y)
+    (is_over (running.after_reply worker w y r received))
 client-keeps scripts worker kept (refuse status head_only close) d (Some y) script r received = (refl, refl)
 
 -- ---- of what script it holds the text
@@ -77,23 +87,35 @@ module _ (scripts : Bool) (kept : List ℕ) (q : Answer) (script : List ℕ) whe
 
   -- where no script's text was read none is held
   unheld : (d : Phase) → is_read d ≡ false → HoldsNoOther scripts (plain d) → script ≡ []
-  unheld d unread holds = holds (ap (λ b. is_for_script scripts q && (not (is_head_only q) && b)) unread ∙ last-false (is_for_script scripts q) (not (is_head_only q)))
+  unheld d unread holds =
+      holds (ap (λ b. is_for_script scripts q && (not (is_head_only q) && b)) unread
+      ∙ last-false (is_for_script scripts q) (not (is_head_only q)))
 
   -- the text is kept that is to run
-  read-holds : (f n : ℕ) (received : List ℕ) (b h runs : Bool) → b ≡ true → (b && (not h && is_read (Shuts f (TextOf n runs)))) ≡ false → kept_if h runs received ≡ []
+  read-holds : (f n : ℕ) (received : List ℕ) (b h runs : Bool) → b ≡ true
+      → (b && (not h && is_read (Shuts f (TextOf n runs)))) ≡ false → kept_if h runs received ≡ []
   read-holds f n received b true runs is none = refl
   read-holds f n received b false false is none = refl
   read-holds f n received false false true is none = absurd (cc (is))
   read-holds f n received true false true is none = absurd (cc (none))
 
-  reads-hold : (f : ℕ) (r : Reply) (received : List ℕ) → is_for_script scripts q ≡ true → HoldsNoOther scripts (plain (Reading f))
+  reads-hold : (f : ℕ) (r : Reply) (received : List ℕ) → is_for_script scripts q ≡ true
+      → HoldsNoOther scripts (plain (Reading f))
       → HoldsNoOther scripts (file_after_reply true (plain (Reading f)) r received)
-  reads-hold f (reply.Agg n) received is holds = λ none. read-holds f n received (is_for_script scripts q) (is_head_only q) (can_run received) is none
+  reads-hold f (reply.Agg n) received is holds =
+      λ none. read-holds f n received (is_for_script scripts q) (is_head_only q) (can_run received) is none
   reads-hold f r received is holds = λ none. unheld (Reading f) refl holds
 
-  spares-hold : (a : ℕ) (r : Reply) (received : List ℕ) (h : Bool) → is_head_only q ≡ h → HoldsNoOther scripts (plain (Spares a Script))
-      → HoldsNoOther scripts (record { conn = conn.after_reply (at kept q (Spares a Script)) r received; run = after_drop_whole h r; script = script })
-  spares-hold a r received true is holds = λ none. holds (ap (λ k. is_for_script scripts q && (not k && true)) is ∙ inner-false (is_for_script scripts q))
+  spares-hold : (a : ℕ) (r : Reply) (received : List ℕ) (h : Bool) → is_head_only q ≡ h
+      → HoldsNoOther scripts (plain (Spares a Script))
+      → HoldsNoOther scripts (record {
+        conn = conn.after_reply (at kept q (Spares a Script)) r received;
+        run =
+            after_drop_whole h r;
+        script = script;
+      })
+  spares-hold a r received true is holds =
+      λ none. holds (ap (λ k. is_for_script scripts q && (not k && true)) is ∙ inner-false (is_for_script scripts q))
   spares-hold a reply.Done received false is holds = λ none. absurd (cc (none))
   spares-hold a r received false is holds = holds
 
@@ -102,12 +124,14 @@ module _ (scripts : Bool) (kept : List ℕ) (q : Answer) (script : List ℕ) whe
   closed-holds f a received holds = by q holds
     where
       by : (p : Answer) → HoldsNoOther scripts (client (at kept p (Shuts f (TextOf a true))) None script)
-          → HoldsNoOther scripts (file_after_reply true (client (at kept p (Shuts f (TextOf a true))) None script) reply.Done received)
+          → HoldsNoOther scripts (file_after_reply true (client (at kept p (Shuts f (TextOf a true))) None script)
+          reply.Done received)
       by (serve w) holds = holds
       by (refuse status head_only close) holds = holds
 
   -- for a request that is not for a script none is held
-  file-holds : (d : Phase) (r : Reply) (received : List ℕ) (b : Bool) → is_for_script scripts q ≡ b → HoldsNoOther scripts (plain d)
+  file-holds : (d : Phase) (r : Reply) (received : List ℕ) (b : Bool) → is_for_script scripts q ≡ b
+      → HoldsNoOther scripts (plain d)
       → HoldsNoOther scripts (file_after_reply b (plain d) r received)
   file-holds d r received false is holds = λ none. holds (ap (λ b. b && (not (is_head_only q) && is_read d)) is)
   file-holds (Reading f) r received true is holds = reads-hold f r received is holds
@@ -122,19 +146,23 @@ module _ (scripts : Bool) (kept : List ℕ) (q : Answer) (script : List ℕ) whe
       subst (λ (x : Client). HoldsNoOther scripts x) (sym (is ∙ ap (λ (c : Conn). client c None script) same)) holds
 
   -- a request begins with no text held
-  begun-holds : (d : Phase) (y : Client) (b : Bool) → is_read d ≡ b → HoldsNoOther scripts (plain d) → Readies (plain d) y → HoldsNoOther scripts y
+  begun-holds : (d : Phase) (y : Client) (b : Bool) → is_read d ≡ b → HoldsNoOther scripts (plain d)
+      → Readies (plain d) y → HoldsNoOther scripts y
   begun-holds d y false unread holds begun = λ none. ap (λ (z : Client). z.script) begun.2 ∙ unheld d unread holds
-  begun-holds (Shuts f (TextOf a true)) y true read holds begun = stays-ready (Shuts f (TextOf a true)) y begun.0 holds begun.1 begun.2
+  begun-holds (Shuts f (TextOf a true)) y true read holds begun =
+      stays-ready (Shuts f (TextOf a true)) y begun.0 holds begun.1 begun.2
   begun-holds (Spares a Script) y true read holds begun = stays-ready (Spares a Script) y begun.0 holds begun.1 begun.2
   begun-holds d y true read holds begun = absurd (cc (read))
 
 -- what a run's job is made of is held until it is made
-text-holds : (script : List ℕ) (was now : Bool) → (was ≡ false → script ≡ []) → now ≡ false → text_on was now script ≡ []
+text-holds : (script : List ℕ) (was now : Bool) → (was ≡ false → script ≡ []) → now ≡ false
+    → text_on was now script ≡ []
 text-holds script true false holds none = refl
 text-holds script false false holds none = holds refl
 text-holds script was true holds none = absurd (cc (none))
 
-run-holds : (scripts : Bool) (c : Conn) (script : List ℕ) (y z : Running) (was over : Bool) → HoldsNoOther scripts (client c (Some y) script)
+run-holds : (scripts : Bool) (c : Conn) (script : List ℕ) (y z : Running) (was over : Bool)
+    → HoldsNoOther scripts (client c (Some y) script)
     → HoldsNoOther scripts (proceeds was over (client c (Some y) script) y z)
 run-holds scripts c script y z was over holds = by was over
   where
@@ -147,17 +175,25 @@ run-holds scripts c script y z was over holds = by was over
     by true true = on
     by true false = on
 
-pub client-holds : (scripts : Bool) (worker : ℕ) (kept : List ℕ) (q : Answer) (d : Phase) (run : Option Running) (script : List ℕ) (r : Reply) (received : List ℕ)
-    → HoldsNoOther scripts (client (at kept q d) run script) → HoldsNoOther scripts (after_reply scripts worker (client (at kept q d) run script) r received)
-client-holds scripts worker kept q d None script r received holds = file-holds scripts kept q script d r received (is_for_script scripts q) refl holds
+pub client-holds : (scripts : Bool) (worker : ℕ) (kept : List ℕ) (q : Answer) (d : Phase) (run : Option Running)
+    (script : List ℕ) (r : Reply) (received : List ℕ)
+    → HoldsNoOther scripts (client (at kept q d) run script)
+    → HoldsNoOther scripts (after_reply scripts worker (client (at kept q d) run script) r received)
+client-holds scripts worker kept q d None script r received holds =
+    file-holds scripts kept q script d r received (is_for_script scripts q) refl holds
 client-holds scripts worker kept (serve w) d (Some y) script r received holds =
-    run-holds scripts (at kept (serve w) d) script y (running.after_reply worker w y r received) (is_over y) (is_over (running.after_reply worker w y r received)) holds
+    run-holds scripts (at kept (serve w) d) script y (running.after_reply worker w y r received) (is_over y)
+    (is_over (running.after_reply worker w y r received)) holds
 client-holds scripts worker kept (refuse status head_only close) d (Some y) script r received holds = holds
 
-pub client-ready : (scripts : Bool) (kept : List ℕ) (q : Answer) (d : Phase) (run : Option Running) (script : List ℕ) (y : Client)
-    → HoldsNoOther scripts (client (at kept q d) run script) → Readies (client (at kept q d) run script) y → HoldsNoOther scripts y
-client-ready scripts kept q d None script y holds begun = begun-holds scripts kept q script d y (is_read d) refl holds begun
-client-ready scripts kept q d (Some z) script y holds begun = subst (λ (x : Client). HoldsNoOther scripts x) (sym begun) holds
+pub client-ready : (scripts : Bool) (kept : List ℕ) (q : Answer) (d : Phase) (run : Option Running) (script : List ℕ)
+    (y : Client)
+    → HoldsNoOther scripts (client (at kept q d) run script) → Readies (client (at kept q d) run script) y
+    → HoldsNoOther scripts y
+client-ready scripts kept q d None script y holds begun =
+    begun-holds scripts kept q script d y (is_read d) refl holds begun
+client-ready scripts kept q d (Some z) script y holds begun =
+    subst (λ (x : Client). HoldsNoOther scripts x) (sym begun) holds
 
 pub new-holds : (scripts : Bool) → HoldsNoOther scripts new_client
 new-holds scripts = λ none. refl

@@ -1,6 +1,7 @@
 -- The phases of a client, for every expected response: the data in the machine, the offered bytes, and the text of a
 -- script that was read.
-use Rattle.std.proofs.Common.{◌≡◌, ℕ, ◌+◌, ◌-◌, List, [], ◌∷◌, ◌++◌, drop, ap, ◌∙◌, refl, sym, subst, Some, None, true, false, Bool, append_assoc, if◌then◌else◌}
+use Rattle.std.proofs.Common.{◌≡◌, ℕ, ◌+◌, ◌-◌, List, [], ◌∷◌, ◌++◌, drop, ap, ◌∙◌, refl, sym, subst, Some, None, true}
+use Rattle.std.proofs.Common.{false, Bool, append_assoc, if◌then◌else◌}
 use Rattle.std.specs.Prelude.{◌||◌, nat_lt, nat_le, slice_range}
 use Rattle.std.proofs.lemmas.List.{take-append-drop}
 use Rattle.iol_core.specs.State.{State, descriptor}
@@ -23,11 +24,14 @@ use Rattle.flash_http.specs.Range.{selected}
 use Rattle.flash_http.specs.Request.{Answer, serve, refuse}
 use Rattle.flash_laws.specs.Answers.{keeps}
 use Rattle.flash_laws.specs.Client.{conn_wants}
-use Rattle.flash_laws.specs.Conn.{Following, is_head_only, most_read, piece_end, count_of, wants, sends_of, resolved, following, headed, after_receive, after_reply}
+use Rattle.flash_laws.specs.Conn.{Following, is_head_only, most_read, piece_end, count_of, wants, sends_of, resolved}
+use Rattle.flash_laws.specs.Conn.{following, headed, after_receive, after_reply}
 use Rattle.flash_laws.specs.declared.phase.FileResult.{FileResult}
 use Rattle.flash_laws.specs.declared.phase.FileResult.TheVariants.{File, Text as TextOf}
 use Rattle.flash_laws.specs.declared.phase.Phase.{Phase}
-use Rattle.flash_laws.specs.declared.phase.Phase.TheVariants.{Rests, Got, Opens, Reads as Reading, Shuts, Picks, Spares, Heads, Joins, Sends, Cuts, Offers, Swaps, Sent, Breaks, Drops, Closes, Over}
+use Rattle.flash_laws.specs.declared.phase.Phase.TheVariants.{Rests, Got, Opens, Reads as Reading, Shuts, Picks, Spares}
+use Rattle.flash_laws.specs.declared.phase.Phase.TheVariants.{Heads, Joins, Sends, Cuts, Offers, Swaps, Sent, Breaks}
+use Rattle.flash_laws.specs.declared.phase.Phase.TheVariants.{Drops, Closes, Over}
 use Rattle.flash_laws.specs.Conn.Fits.{Has, is_closing, Names}
 use Rattle.flash_laws.specs.Client.ResponseState.{is_read, is_opening}
 use Rattle.flash_laws.specs.Conn.OfferedBytes.{taken_of}
@@ -37,13 +41,16 @@ use Rattle.flash_laws.proofs.Conn.AnswerParts as having
 
 -- ---- what the machine has after a call, but for those that open and read
 
-module _ (steps : EachStepLeavesTheRest) (own : CallsServeTheirDomain) (m n : State) (order : IsOrderly m) (kept : List ℕ) where
-  rests : (q : Answer) (expected : List ℕ) (r : Reply) (received : List ℕ) → Names n r received → Has n q expected (after_receive kept q r received).phase
+module _ (steps : EachStepLeavesTheRest) (own : CallsServeTheirDomain) (m n : State) (order : IsOrderly m)
+    (kept : List ℕ) where
+  rests : (q : Answer) (expected : List ℕ) (r : Reply) (received : List ℕ) → Names n r received
+      → Has n q expected (after_receive kept q r received).phase
   rests q expected (reply.Agg a) [] names = record { after = []; readable = ([], names); follows = refl; apart = refl }
   rests q expected (reply.Agg a) (b ∷ l) names = (b ∷ l, names)
   rests q expected r received names = tt
 
-  got : (q : Answer) (expected : List ℕ) (a : ℕ) (r : Reply) (received : List ℕ) → Has m q expected (Got a) → StepsTo m (event.Call server (call.AggDrop a)) r n
+  got : (q : Answer) (expected : List ℕ) (a : ℕ) (r : Reply) (received : List ℕ) → Has m q expected (Got a)
+      → StepsTo m (event.Call server (call.AggDrop a)) r n
       → Has n q expected (after_reply (at kept q (Got a)) r received).phase
   got q expected a r received has step = by r (own.drops m n server a r order step)
     where
@@ -52,23 +59,37 @@ module _ (steps : EachStepLeavesTheRest) (own : CallsServeTheirDomain) (m n : St
       by (reply.Refused y) did = subst (λ (s : State). Has s q expected (Got a)) (sym did) has
       by r did = absurd did
 
-  pub phase : (fd c : ℕ) (q : Answer) (d : Phase) (expected : List ℕ) (r : Reply) (received : List ℕ) → descriptor m server fd ≡ Some (on.Connection c)
-      → is_opening d ≡ false → is_closing d ≡ false → Has m q expected d → StepsTo m (event.Call server (wants fd (at kept q d))) r n
+  pub phase : (fd c : ℕ) (q : Answer) (d : Phase) (expected : List ℕ) (r : Reply) (received : List ℕ)
+      → descriptor m server fd ≡ Some (on.Connection c)
+      → is_opening d ≡ false → is_closing d ≡ false → Has m q expected d
+      → StepsTo m (event.Call server (wants fd (at kept q d))) r n
       → Names n r received → Has n q expected (after_reply (at kept q d) r received).phase
   phase fd c q Rests expected r received open_on read busy has step names = rests q expected r received names
   phase fd c q (Got a) expected r received open_on read busy has step names = got q expected a r received has step
-  phase fd c q (Shuts f k) expected r received open_on read busy has step names = having.shuts steps own m n order q f k expected r has step
-  phase fd c q (Picks a first last len) expected r received open_on read busy has step names = having.picks steps own m n order q a first last len expected r has step
-  phase fd c q (Spares a k) expected r received open_on read busy has step names = having.spares steps own m n order q a k expected r has step
-  phase fd c q (Heads k) expected r received open_on read busy has step names = having.heads steps own m n order q k expected r received has step names
-  phase fd c q (Joins a size body len) expected r received open_on read busy has step names = having.joins steps own m n order q a size body len expected r has step
-  phase fd c q (Sends a len taken more) expected r received open_on read busy has step names = having.sends steps own m n order q fd c a len taken more expected r open_on has step
-  phase fd c q (Cuts a from len taken more) expected r received open_on read busy has step names = having.cuts steps own m n order q a from len taken more expected r has step
-  phase fd c q (Offers a from len piece taken more) expected r received open_on read busy has step names = having.offers_piece steps own m n order q fd c a from len piece taken more expected r open_on has step
-  phase fd c q (Swaps a from len piece taken more) expected r received open_on read busy has step names = having.swaps steps own m n order q a from len piece taken more expected r has step
-  phase fd c q (Sent a taken more) expected r received open_on read busy has step names = having.sent_all steps own m n order q a taken more expected r has step
-  phase fd c q (Breaks piece a more) expected r received open_on read busy has step names = having.breaks steps own m n order q piece a more expected r has step
-  phase fd c q (Drops a more) expected r received open_on read busy has step names = having.drops steps own m n order q a more expected r has step
+  phase fd c q (Shuts f k) expected r received open_on read busy has step names =
+      having.shuts steps own m n order q f k expected r has step
+  phase fd c q (Picks a first last len) expected r received open_on read busy has step names =
+      having.picks steps own m n order q a first last len expected r has step
+  phase fd c q (Spares a k) expected r received open_on read busy has step names =
+      having.spares steps own m n order q a k expected r has step
+  phase fd c q (Heads k) expected r received open_on read busy has step names =
+      having.heads steps own m n order q k expected r received has step names
+  phase fd c q (Joins a size body len) expected r received open_on read busy has step names =
+      having.joins steps own m n order q a size body len expected r has step
+  phase fd c q (Sends a len taken more) expected r received open_on read busy has step names =
+      having.sends steps own m n order q fd c a len taken more expected r open_on has step
+  phase fd c q (Cuts a from len taken more) expected r received open_on read busy has step names =
+      having.cuts steps own m n order q a from len taken more expected r has step
+  phase fd c q (Offers a from len piece taken more) expected r received open_on read busy has step names =
+      having.offers_piece steps own m n order q fd c a from len piece taken more expected r open_on has step
+  phase fd c q (Swaps a from len piece taken more) expected r received open_on read busy has step names =
+      having.swaps steps own m n order q a from len piece taken more expected r has step
+  phase fd c q (Sent a taken more) expected r received open_on read busy has step names =
+      having.sent_all steps own m n order q a taken more expected r has step
+  phase fd c q (Breaks piece a more) expected r received open_on read busy has step names =
+      having.breaks steps own m n order q piece a more expected r has step
+  phase fd c q (Drops a more) expected r received open_on read busy has step names =
+      having.drops steps own m n order q a more expected r has step
   phase fd c q Closes expected r received open_on read busy has step names = absurd (cc (busy))
   phase fd c q Over expected r received open_on read busy has step names = absurd (cc (busy))
   phase fd c q x expected r received open_on read busy has step names = absurd (cc (read))
@@ -76,7 +97,8 @@ module _ (steps : EachStepLeavesTheRest) (own : CallsServeTheirDomain) (m n : St
 -- ---- what is offered
 
 abbrev pub Next : State → (expected : List ℕ) → (a taken : ℕ) → Type 0
-Next m expected a taken = (bytes : List ℕ) × (after : List ℕ) × (readable_at m server a ≡ Some bytes) × (bytes ++ after ≡ drop taken expected)
+Next m expected a taken = (bytes : List ℕ) × (after : List ℕ) × (readable_at m server a ≡ Some bytes)
+    × (bytes ++ after ≡ drop taken expected)
 
 -- the descriptor, and the aggregate, that a call writes
 abbrev pub written_fd : Call → (other : ℕ) → ℕ
@@ -91,7 +113,8 @@ reads-none : (b : Bool) (f g a : ℕ) → (if b then call.Length f else call.Iol
 reads-none true f g a e = cc (e)
 reads-none false f g a e = cc (e)
 
-pub next-expected : (m : State) (fd g a : ℕ) (kept : List ℕ) (q : Answer) (d : Phase) (expected : List ℕ) → Has m q expected d
+pub next-expected : (m : State) (fd g a : ℕ) (kept : List ℕ) (q : Answer) (d : Phase) (expected : List ℕ)
+    → Has m q expected d
     → wants fd (at kept q d) ≡ call.IolWrite g a → (g ≡ fd) × Next m expected a (taken_of d)
 next-expected m fd g a kept q (Sends b len taken more) expected has is =
     let same : b ≡ a = ap (λ k. written k b) is in
@@ -108,14 +131,16 @@ next-expected m fd g a kept q (Offers b from len piece taken more) expected has 
         rest ++ has.whole.after,
         ap (λ z. readable_at m server z) (sym same) ∙ has.is_readable,
         sym (append_assoc (slice_range bytes from (piece_end from len)) rest has.whole.after)
-            ∙ (ap (λ (l : List ℕ). l ++ has.whole.after) (take-append-drop (piece_end from len - from) (drop from bytes)) ∙ has.whole.next),
+            ∙ (ap (λ (l : List ℕ). l ++ has.whole.after)
+            (take-append-drop (piece_end from len - from) (drop from bytes)) ∙ has.whole.next),
       ),
     )
 next-expected m fd g a kept q (Reading f) expected has is = absurd (reads-none (is_head_only q) f g a is)
 next-expected m fd g a kept q d expected has is = absurd (cc (is))
 
 -- what is written for a script's request is what would be written for a file's
-pub script-writes : (fd g a : ℕ) (kept : List ℕ) (q : Answer) (d : Phase) (b : Bool) → conn_wants b fd (at kept q d) ≡ call.IolWrite g a → wants fd (at kept q d) ≡ call.IolWrite g a
+pub script-writes : (fd g a : ℕ) (kept : List ℕ) (q : Answer) (d : Phase) (b : Bool)
+    → conn_wants b fd (at kept q d) ≡ call.IolWrite g a → wants fd (at kept q d) ≡ call.IolWrite g a
 script-writes fd g a kept q d false is = is
 script-writes fd g a kept q (Reading f) true is = absurd (cc (is))
 script-writes fd g a kept q d true is = is
@@ -134,7 +159,8 @@ is_apart d = true
 abbrev is_reading : Phase → Bool
 is_reading d = is_read d || is_opening d
 
-either-unread : (t : Bool) (x y : Phase) → is_reading x ≡ false → is_reading y ≡ false → is_reading (if t then x else y) ≡ false
+either-unread : (t : Bool) (x y : Phase) → is_reading x ≡ false → is_reading y ≡ false
+    → is_reading (if t then x else y) ≡ false
 either-unread true x y one two = one
 either-unread false x y one two = two
 
@@ -142,7 +168,8 @@ headed-unread : (n size : ℕ) (more : Following) → is_reading (headed n size 
 headed-unread n size None = refl
 headed-unread n size (Some x) = either-unread (nat_le (size + x.1) MAX_AGGREGATE_BYTES) _ _ refl refl
 
-apart-unread : (kept : List ℕ) (q : Answer) (d : Phase) (r : Reply) (received : List ℕ) → is_apart d ≡ true → is_reading (after_reply (at kept q d) r received).phase ≡ false
+apart-unread : (kept : List ℕ) (q : Answer) (d : Phase) (r : Reply) (received : List ℕ) → is_apart d ≡ true
+    → is_reading (after_reply (at kept q d) r received).phase ≡ false
 apart-unread kept q Rests (reply.Agg n) [] left = refl
 apart-unread kept q Rests (reply.Agg n) (b ∷ received) left = refl
 apart-unread kept q Rests r received left = refl
@@ -165,7 +192,8 @@ apart-unread kept q (Cuts a from len taken more) r received left = refl
 apart-unread kept q (Offers a from len piece taken more) (reply.Count n) received left = refl
 apart-unread kept q (Offers a from len piece taken more) (reply.Refused no.BrokenPipe) received left = refl
 apart-unread kept q (Offers a from len piece taken more) r received left = refl
-apart-unread kept q (Swaps a from len piece taken more) reply.Done received left = either-unread (nat_lt from len) _ _ refl refl
+apart-unread kept q (Swaps a from len piece taken more) reply.Done received left =
+    either-unread (nat_lt from len) _ _ refl refl
 apart-unread kept q (Swaps a from len piece taken more) r received left = refl
 apart-unread kept q (Sent a taken (Some x)) reply.Done received left = refl
 apart-unread kept q (Sent a taken None) reply.Done received left = either-unread (keeps q) _ _ refl refl
@@ -200,7 +228,8 @@ resolved-read (refuse status head_only close) (File a len) = refl
 resolved-read q k = refl
 
 -- no script's text is read by a call for a file
-pub unread-after_reply : (kept : List ℕ) (q : Answer) (d : Phase) (r : Reply) (received : List ℕ) → is_read d ≡ false → is_read (after_reply (at kept q d) r received).phase ≡ false
+pub unread-after_reply : (kept : List ℕ) (q : Answer) (d : Phase) (r : Reply) (received : List ℕ) → is_read d ≡ false
+    → is_read (after_reply (at kept q d) r received).phase ≡ false
 unread-after_reply kept q Opens (reply.Fd f) received was = refl
 unread-after_reply kept q Opens (reply.Refused no.WouldBlock) received was = refl
 unread-after_reply kept q Opens (reply.Refused x) received was = refl
@@ -214,20 +243,26 @@ unread-after_reply kept q (Shuts f k) reply.Done received was = resolved-unread 
 unread-after_reply kept q (Shuts f k) r received was = was
 unread-after_reply kept q (Spares a k) reply.Done received was = refl
 unread-after_reply kept q (Spares a k) r received was = was
-unread-after_reply kept q d r received was = (neither-true (is_read (after_reply (at kept q d) r received).phase) (is_opening (after_reply (at kept q d) r received).phase) (apart-unread kept q d r received refl)).0
+unread-after_reply kept q d r received was =
+    (neither-true (is_read (after_reply (at kept q d) r received).phase)
+    (is_opening (after_reply (at kept q d) r received).phase) (apart-unread kept q d r received refl)).0
 
 -- and what is read is not read again
-pub read-after_reply : (kept : List ℕ) (q : Answer) (d : Phase) (r : Reply) (received : List ℕ) → is_opening d ≡ false → is_opening (after_reply (at kept q d) r received).phase ≡ false
+pub read-after_reply : (kept : List ℕ) (q : Answer) (d : Phase) (r : Reply) (received : List ℕ) → is_opening d ≡ false
+    → is_opening (after_reply (at kept q d) r received).phase ≡ false
 read-after_reply kept q Opens r received was = absurd (cc (was))
 read-after_reply kept q (Reading f) r received was = absurd (cc (was))
 read-after_reply kept q (Shuts f k) reply.Done received was = resolved-read q k
 read-after_reply kept q (Shuts f k) r received was = refl
 read-after_reply kept q (Spares a k) reply.Done received was = refl
 read-after_reply kept q (Spares a k) r received was = refl
-read-after_reply kept q d r received was = (neither-true (is_read (after_reply (at kept q d) r received).phase) (is_opening (after_reply (at kept q d) r received).phase) (apart-unread kept q d r received refl)).1
+read-after_reply kept q d r received was =
+    (neither-true (is_read (after_reply (at kept q d) r received).phase)
+    (is_opening (after_reply (at kept q d) r received).phase) (apart-unread kept q d r received refl)).1
 
 -- the request stays the same
-pub asks-after_reply : (kept : List ℕ) (q : Answer) (d : Phase) (r : Reply) (received : List ℕ) → (after_reply (at kept q d) r received).q ≡ q
+pub asks-after_reply : (kept : List ℕ) (q : Answer) (d : Phase) (r : Reply) (received : List ℕ)
+    → (after_reply (at kept q d) r received).q ≡ q
 asks-after_reply kept q Rests (reply.Agg n) [] = refl
 asks-after_reply kept q Rests (reply.Agg n) (b ∷ received) = refl
 asks-after_reply kept q d r received = refl

@@ -1,5 +1,6 @@
 -- A call for a client reduces the rank of its request, reads more output of its script, or is retried later.
-use Rattle.std.proofs.Common.{inl, inr, ◌≡◌, ℕ, ◌+◌, ◌<◌, ◌⊎◌, List, [], ap, ◌∙◌, refl, sym, subst, arith, Option, Some, None, true, false, Bool, if◌then◌else◌}
+use Rattle.std.proofs.Common.{inl, inr, ◌≡◌, ℕ, ◌+◌, ◌<◌, ◌⊎◌, List, [], ap, ◌∙◌, refl, sym, subst, arith, Option, Some}
+use Rattle.std.proofs.Common.{None, true, false, Bool, if◌then◌else◌}
 use Rattle.iol_core.specs.State.{State, descriptor, is_live}
 use Rattle.iol_core.specs.Run.{StepsTo}
 use Rattle.iol_core.specs.declared.descriptors.Descriptor.TheVariants as on
@@ -16,7 +17,9 @@ use Rattle.iol_laws.specs.Order.{IsOrderly}
 use Rattle.iol_laws.specs.RefusalsLeft.{RefusalsThatAreLeft}
 use Rattle.flash_http.specs.Request.{Answer, serve, refuse, Wanted}
 use Rattle.flash_laws.specs.Answers.{response, script_text}
-use Rattle.flash_laws.specs.Client.{Client, is_for_script, conn_wants, job_of, wants, after_drop_whole, conn_after_reply, file_after_reply, keeps_text, text_on, after_run, proceeds, run_after_reply, after_reply}
+use Rattle.flash_laws.specs.Client.{Client, is_for_script, conn_wants, job_of, wants, after_drop_whole}
+use Rattle.flash_laws.specs.Client.{conn_after_reply, file_after_reply, keeps_text, text_on, after_run, proceeds}
+use Rattle.flash_laws.specs.Client.{run_after_reply, after_reply}
 use Rattle.flash_laws.specs.Client.OfferedBytes.{is_working, ReceivesMore}
 use Rattle.flash_laws.specs.Conn as conn
 use Rattle.flash_laws.specs.Conn.{Conn, most_read, after_close_file}
@@ -68,7 +71,8 @@ none-more : (q : Answer) (d : Phase) → is_read d ≡ false → more_left q d �
 none-more q d is = ap (λ b. if b then to_run q else 0) is
 
 -- what is said of a file's phase is so of the client
-lift : (kept : List ℕ) (q : Answer) (script : List ℕ) (d e : Phase) (r : Reply) → is_read d ≡ false → is_read e ≡ false → Nears (file.rank q) d r e
+lift : (kept : List ℕ) (q : Answer) (script : List ℕ) (d e : Phase) (r : Reply) → is_read d ≡ false → is_read e ≡ false
+    → Nears (file.rank q) d r e
     → Nears rank (client (at kept q d) None script) r (client (at kept q e) None script)
 lift kept q script d e r was now (inl (inl less)) = inl (inl less)
 lift kept q script d e r was now (inl (inr fewer)) =
@@ -85,35 +89,45 @@ is_scripts (Reading f) = true
 is_scripts (Spares a Script) = true
 is_scripts d = false
 
-pub wants-plain : (fd : ℕ) (kept : List ℕ) (q : Answer) (d : Phase) → is_scripts d ≡ false → conn_wants true fd (at kept q d) ≡ conn.wants fd (at kept q d)
+pub wants-plain : (fd : ℕ) (kept : List ℕ) (q : Answer) (d : Phase) → is_scripts d ≡ false
+    → conn_wants true fd (at kept q d) ≡ conn.wants fd (at kept q d)
 wants-plain fd kept q (Reading f) plain = absurd (cc (plain))
 wants-plain fd kept q d plain = refl
 
-pub after_reply-plain : (kept : List ℕ) (q : Answer) (script : List ℕ) (d : Phase) (r : Reply) (received : List ℕ) → is_scripts d ≡ false
-    → file_after_reply true (client (at kept q d) None script) r received ≡ conn_after_reply (client (at kept q d) None script) r received
+pub after_reply-plain : (kept : List ℕ) (q : Answer) (script : List ℕ) (d : Phase) (r : Reply) (received : List ℕ)
+    → is_scripts d ≡ false
+    → file_after_reply true (client (at kept q d) None script) r received
+    ≡ conn_after_reply (client (at kept q d) None script) r received
 after_reply-plain kept q script (Reading f) r received plain = absurd (cc (plain))
 after_reply-plain kept q script (Spares a Script) r received plain = absurd (cc (plain))
 after_reply-plain kept q script d r received plain = refl
 
 -- a busy connection keeps what it has kept, and its request
-conn-at : (kept : List ℕ) (q : Answer) (d : Phase) (r : Reply) (received : List ℕ) → is_busy d ≡ true → conn.after_reply (at kept q d) r received ≡ at kept q (conn.after_reply (at kept q d) r received).phase
+conn-at : (kept : List ℕ) (q : Answer) (d : Phase) (r : Reply) (received : List ℕ) → is_busy d ≡ true
+    → conn.after_reply (at kept q d) r received ≡ at kept q (conn.after_reply (at kept q d) r received).phase
 conn-at kept q Rests r received busy = absurd (cc (busy))
 conn-at kept q d r received busy = refl
 
-module _ (own : CallsServeTheirDomain) (may : RefusalsThatAreLeft) (m n : State) (order : IsOrderly m) (lives : is_live m server ≡ true)
+module _ (own : CallsServeTheirDomain) (may : RefusalsThatAreLeft) (m n : State) (order : IsOrderly m)
+    (lives : is_live m server ≡ true)
     (fd c : ℕ) (open_on : descriptor m server fd ≡ Some (on.Connection c)) (kept script : List ℕ) where
   -- a phase of a file
-  file-near : (q : Answer) (d : Phase) (expected : List ℕ) (r : Reply) (received : List ℕ) → is_busy d ≡ true → is_read d ≡ false → Has m q expected d
-      → CanMake m (conn.wants fd (at kept q d)) → StepsTo m (event.Call server (conn.wants fd (at kept q d))) r n → Names n r received
+  file-near : (q : Answer) (d : Phase) (expected : List ℕ) (r : Reply) (received : List ℕ) → is_busy d ≡ true
+      → is_read d ≡ false → Has m q expected d
+      → CanMake m (conn.wants fd (at kept q d)) → StepsTo m (event.Call server (conn.wants fd (at kept q d))) r n
+      → Names n r received
       → Nears rank (client (at kept q d) None script) r (conn_after_reply (client (at kept q d) None script) r received)
   file-near q d expected r received busy unread has can step names =
-      subst (λ (z : Conn). Nears rank (client (at kept q d) None script) r (client z None script)) (sym (conn-at kept q d r received busy))
-      (lift kept q script d (conn.after_reply (at kept q d) r received).phase r unread (unread-after_reply kept q d r received unread)
+      subst (λ (z : Conn). Nears rank (client (at kept q d) None script) r (client z None script))
+      (sym (conn-at kept q d r received busy))
+      (lift kept q script d (conn.after_reply (at kept q d) r received).phase r unread
+      (unread-after_reply kept q d r received unread)
       (near own may m n order lives fd c kept q d expected r received open_on busy has can step names))
 
   -- the text of a script is read
   text-near : (q : Answer) (f : ℕ) (r : Reply) (received : List ℕ) → StepsTo m (event.Call server (call.IolRead f most_read)) r n
-      → Nears rank (client (at kept q (Reading f)) None script) r (file_after_reply true (client (at kept q (Reading f)) None script) r received)
+      → Nears rank (client (at kept q (Reading f)) None script) r
+      (file_after_reply true (client (at kept q (Reading f)) None script) r received)
   text-near q f (reply.Agg k) received step = inl (inl (omega arith))
   text-near q f (reply.Count k) received step = let e = step.1 in absurd (cc (e))
   text-near q f (reply.Refused no.WouldBlock) received step = inr (refl, refl)
@@ -121,61 +135,96 @@ module _ (own : CallsServeTheirDomain) (may : RefusalsThatAreLeft) (m n : State)
   text-near q f r received step = let e = step.1 in absurd (cc (e))
 
   -- a request for a file, or for a script of which no text that runs is read
-  of-file : (b : Bool) (q : Answer) (d : Phase) (expected : List ℕ) (r : Reply) (received : List ℕ) → is_busy d ≡ true → is_read d ≡ false → Has m q expected d
-      → CanMake m (conn_wants b fd (at kept q d)) → StepsTo m (event.Call server (conn_wants b fd (at kept q d))) r n → Names n r received
-      → Nears rank (client (at kept q d) None script) r (file_after_reply b (client (at kept q d) None script) r received)
-  of-file false q d expected r received busy unread has can step names = file-near q d expected r received busy unread has can step names
+  of-file : (b : Bool) (q : Answer) (d : Phase) (expected : List ℕ) (r : Reply) (received : List ℕ) → is_busy d ≡ true
+      → is_read d ≡ false → Has m q expected d
+      → CanMake m (conn_wants b fd (at kept q d)) → StepsTo m (event.Call server (conn_wants b fd (at kept q d))) r n
+      → Names n r received
+      → Nears rank (client (at kept q d) None script) r
+      (file_after_reply b (client (at kept q d) None script) r received)
+  of-file false q d expected r received busy unread has can step names =
+      file-near q d expected r received busy unread has can step names
   of-file true q d expected r received busy unread has can step names = by (is_scripts d) refl
     where
-      reading : (e : Phase) → d ≡ e → is_scripts e ≡ true → Nears rank (client (at kept q d) None script) r (file_after_reply true (client (at kept q d) None script) r received)
+      reading : (e : Phase) → d ≡ e → is_scripts e ≡ true
+          → Nears rank (client (at kept q d) None script) r
+          (file_after_reply true (client (at kept q d) None script) r received)
       reading (Reading f) is scripts =
-          let read : StepsTo m (event.Call server (call.IolRead f most_read)) r n = subst (λ (e : Phase). StepsTo m (event.Call server (conn_wants true fd (at kept q e))) r n) is step in
-          subst (λ (e : Phase). Nears rank (client (at kept q e) None script) r (file_after_reply true (client (at kept q e) None script) r received)) (sym is) (text-near q f r received read)
+          let read : StepsTo m (event.Call server (call.IolRead f most_read)) r n = subst
+          (λ (e : Phase). StepsTo m (event.Call server (conn_wants true fd (at kept q e))) r n) is step in
+          subst
+          (λ (e : Phase). Nears rank (client (at kept q e) None script) r
+          (file_after_reply true (client (at kept q e) None script) r received)) (sym is)
+          (text-near q f r received read)
       reading (Spares a Script) is scripts = absurd (let e = ap (λ z. is_read z) is in cc (e, unread))
       reading e is scripts = absurd (cc (scripts))
 
-      by : (b : Bool) → is_scripts d ≡ b → Nears rank (client (at kept q d) None script) r (file_after_reply true (client (at kept q d) None script) r received)
+      by : (b : Bool) → is_scripts d ≡ b
+          → Nears rank (client (at kept q d) None script) r
+          (file_after_reply true (client (at kept q d) None script) r received)
       by true is = reading d refl is
       by false plain =
           let same = wants-plain fd kept q d plain in
-          subst (λ (z : Client). Nears rank (client (at kept q d) None script) r z) (sym (after_reply-plain kept q script d r received plain))
-          (file-near q d expected r received busy unread has (subst (λ (k : Call). CanMake m k) same can) (subst (λ (k : Call). StepsTo m (event.Call server k) r n) same step) names)
+          subst (λ (z : Client). Nears rank (client (at kept q d) None script) r z)
+          (sym (after_reply-plain kept q script d r received plain))
+          (file-near q d expected r received busy unread has (subst (λ (k : Call). CanMake m k) same can)
+          (subst (λ (k : Call). StepsTo m (event.Call server k) r n) same step) names)
 
   -- ---- a script that can run
 
   -- its text is let go, and then it runs, but for HEAD
-  spared-near : (w : Wanted) (a : ℕ) (bytes : List ℕ) (r : Reply) (received : List ℕ) → StepsTo m (event.Call server (call.AggDrop a)) r n
+  spared-near : (w : Wanted) (a : ℕ) (bytes : List ℕ) (r : Reply) (received : List ℕ)
+      → StepsTo m (event.Call server (call.AggDrop a)) r n
       → readable_at m server a ≡ Some bytes
-      → Nears rank (client (at kept (serve w) (Spares a Script)) None script) r (file_after_reply true (client (at kept (serve w) (Spares a Script)) None script) r received)
+      → Nears rank (client (at kept (serve w) (Spares a Script)) None script) r
+      (file_after_reply true (client (at kept (serve w) (Spares a Script)) None script) r received)
   spared-near w a bytes r received step readable =
-      drops own may m n order lives rank (client (at kept (serve w) (Spares a Script)) None script) (λ z. file_after_reply true (client (at kept (serve w) (Spares a Script)) None script) z received) a bytes r readable step
+      drops own may m n order lives rank (client (at kept (serve w) (Spares a Script)) None script)
+      (λ z. file_after_reply true (client (at kept (serve w) (Spares a Script)) None script) z received) a bytes r
+      readable step
       (by w.head_only)
     where
-      by : (h : Bool) → IsBelow (rank (client (at kept (serve w) (Heads Script)) (after_drop_whole h reply.Done) script)) (rank (client (at kept (serve w) (Spares a Script)) None script))
+      by : (h : Bool)
+          → IsBelow (rank (client (at kept (serve w) (Heads Script)) (after_drop_whole h reply.Done) script))
+          (rank (client (at kept (serve w) (Spares a Script)) None script))
       by true = inr (refl, omega arith)
       by false = inr (refl, omega arith)
 
-  read-near : (w : Wanted) (d : Phase) (r : Reply) (received : List ℕ) → is_read d ≡ true → Has m (serve w) (script_text w) d
+  read-near : (w : Wanted) (d : Phase) (r : Reply) (received : List ℕ) → is_read d ≡ true
+      → Has m (serve w) (script_text w) d
       → StepsTo m (event.Call server (conn_wants true fd (at kept (serve w) d))) r n
-      → Nears rank (client (at kept (serve w) d) None script) r (file_after_reply true (client (at kept (serve w) d) None script) r received)
+      → Nears rank (client (at kept (serve w) d) None script) r
+      (file_after_reply true (client (at kept (serve w) d) None script) r received)
   read-near w (Shuts f (TextOf a true)) r received read has step =
       closes own may m n order lives rank (client (at kept (serve w) (Shuts f (TextOf a true))) None script)
-      (λ z. client (at kept (serve w) (after_close_file (serve w) f (TextOf a true) z)) None script) f (on.File has.0.0 has.0.1 modes.Read) r has.0.2 step (inr (refl, omega arith))
+      (λ z. client (at kept (serve w) (after_close_file (serve w) f (TextOf a true) z)) None script) f
+      (on.File has.0.0 has.0.1 modes.Read) r has.0.2 step (inr (refl, omega arith))
   read-near w (Spares a Script) r received read has step = spared-near w a has.0.0 r received step has.0.1
   read-near w d r received read has step = absurd (cc (read))
 
-  of-script : (scripts : Bool) (w : Wanted) (d : Phase) (text : List ℕ) (o : Progress) (r : Reply) (received : List ℕ) → is_busy d ≡ true
-      → HasNoRun scripts m w (client (at kept (serve w) d) None script) text o → (b : Bool) → is_for_script scripts (serve w) ≡ b
-      → CanMake m (conn_wants b fd (at kept (serve w) d)) → StepsTo m (event.Call server (conn_wants b fd (at kept (serve w) d))) r n → Names n r received
-      → Nears rank (client (at kept (serve w) d) None script) r (file_after_reply b (client (at kept (serve w) d) None script) r received)
+  of-script : (scripts : Bool) (w : Wanted) (d : Phase) (text : List ℕ) (o : Progress) (r : Reply) (received : List ℕ)
+      → is_busy d ≡ true
+      → HasNoRun scripts m w (client (at kept (serve w) d) None script) text o → (b : Bool)
+      → is_for_script scripts (serve w) ≡ b
+      → CanMake m (conn_wants b fd (at kept (serve w) d))
+      → StepsTo m (event.Call server (conn_wants b fd (at kept (serve w) d))) r n → Names n r received
+      → Nears rank (client (at kept (serve w) d) None script) r
+      (file_after_reply b (client (at kept (serve w) d) None script) r received)
   of-script scripts w d text o r received busy has b for_script can step names = by (is_read d) refl
     where
-      runs : (c : Bool) → b ≡ c → is_read d ≡ true → Nears rank (client (at kept (serve w) d) None script) r (file_after_reply b (client (at kept (serve w) d) None script) r received)
-      runs true is read = subst (λ z. Nears rank (client (at kept (serve w) d) None script) r (file_after_reply z (client (at kept (serve w) d) None script) r received)) (sym is)
-          (read-near w d r received read has.has (subst (λ z. StepsTo m (event.Call server (conn_wants z fd (at kept (serve w) d))) r n) is step))
+      runs : (c : Bool) → b ≡ c → is_read d ≡ true
+          → Nears rank (client (at kept (serve w) d) None script) r
+          (file_after_reply b (client (at kept (serve w) d) None script) r received)
+      runs true is read =
+          subst
+          (λ z. Nears rank (client (at kept (serve w) d) None script) r
+          (file_after_reply z (client (at kept (serve w) d) None script) r received)) (sym is)
+          (read-near w d r received read has.has
+          (subst (λ z. StepsTo m (event.Call server (conn_wants z fd (at kept (serve w) d))) r n) is step))
       runs false is read = absurd (clash (is_for_script scripts (serve w)) (has.script read) (for_script ∙ is))
 
-      by : (z : Bool) → is_read d ≡ z → Nears rank (client (at kept (serve w) d) None script) r (file_after_reply b (client (at kept (serve w) d) None script) r received)
+      by : (z : Bool) → is_read d ≡ z
+          → Nears rank (client (at kept (serve w) d) None script) r
+          (file_after_reply b (client (at kept (serve w) d) None script) r received)
       by true read = runs b refl read
       by false unread = of-file b (serve w) d (script_text w) r received busy unread has.has can step names
 
@@ -186,72 +235,118 @@ text-same true script = refl
 text-same false script = refl
 
 -- a run that is as it was leaves the client so
-stands : (c : Conn) (script : List ℕ) (y z : Running) → z ≡ y → proceeds false false (client c (Some y) script) y z ≡ client c (Some y) script
-stands c script y z same = subst (λ (k : Running). proceeds false false (client c (Some y) script) y k ≡ client c (Some y) script) (sym same)
+stands : (c : Conn) (script : List ℕ) (y z : Running) → z ≡ y
+    → proceeds false false (client c (Some y) script) y z ≡ client c (Some y) script
+stands c script y z same =
+    subst (λ (k : Running). proceeds false false (client c (Some y) script) y k ≡ client c (Some y) script) (sym same)
     (ap (λ (t : List ℕ). client c (Some y) t) (text-same (keeps_text y) script))
 
-end-below : (kept : List ℕ) (w : Wanted) (e : Phase) (k : ℕ) → IsEnd e → 0 < k → IsBelow (rank (client (at kept (serve w) e) None [])) (0, k)
+end-below : (kept : List ℕ) (w : Wanted) (e : Phase) (k : ℕ) → IsEnd e → 0 < k
+    → IsBelow (rank (client (at kept (serve w) e) None [])) (0, k)
 end-below kept w e k ends some = elim ends [
-  | inl rests ↦ subst (λ (d : Phase). IsBelow (rank (client (at kept (serve w) d) None [])) (0, k)) (sym rests) (inr (refl, some))
-  | inr closes ↦ subst (λ (d : Phase). IsBelow (rank (client (at kept (serve w) d) None [])) (0, k)) (sym closes) (inr (refl, some))
+  | inl rests ↦ subst (λ (d : Phase). IsBelow (rank (client (at kept (serve w) d) None [])) (0, k)) (sym rests)
+      (inr (refl, some))
+  | inr closes ↦ subst (λ (d : Phase). IsBelow (rank (client (at kept (serve w) d) None [])) (0, k)) (sym closes)
+      (inr (refl, some))
 ]
 
 -- the client with its run gone on from y to z
-abbrev Goes : (kept : List ℕ) → Phase → (script : List ℕ) → Wanted → (y z : Running) → Reply → (was over : Bool) → Type 0
-Goes kept d script w y z r was over = Nears rank (client (at kept (serve w) d) (Some y) script) r (proceeds was over (client (at kept (serve w) d) (Some y) script) y z)
+abbrev Goes : (kept : List ℕ) → Phase → (script : List ℕ) → Wanted → (y z : Running) → Reply → (was over : Bool)
+    → Type 0
+Goes kept d script w y z r was over =
+    Nears rank (client (at kept (serve w) d) (Some y) script) r
+    (proceeds was over (client (at kept (serve w) d) (Some y) script) y z)
 
-module _ (steps : EachStepLeavesTheRest) (own : CallsServeTheirDomain) (may : RefusalsThatAreLeft) (m n : State) (order : IsOrderly m) (lives : is_live m server ≡ true)
+module _ (steps : EachStepLeavesTheRest) (own : CallsServeTheirDomain) (may : RefusalsThatAreLeft) (m n : State)
+    (order : IsOrderly m) (lives : is_live m server ≡ true)
     (fd c : ℕ) (open_on : descriptor m server fd ≡ Some (on.Connection c)) where
   -- one that is over leaves the connection at rest, or to be closed
-  over-ends : (job : ℕ → List ℕ) (worker : ℕ) (w : Wanted) (y : Running) (r : Reply) (received : List ℕ) (o : Progress) → is_over y ≡ false → HasRun job m w o y
-      → StepsTo m (event.Call server (running.wants job fd w y)) r n → Names n r received → is_over (running.after_reply worker w y r received) ≡ true → IsEnd (after_run (running.after_reply worker w y r received))
+  over-ends : (job : ℕ → List ℕ) (worker : ℕ) (w : Wanted) (y : Running) (r : Reply) (received : List ℕ) (o : Progress)
+      → is_over y ≡ false → HasRun job m w o y
+      → StepsTo m (event.Call server (running.wants job fd w y)) r n → Names n r received
+      → is_over (running.after_reply worker w y r received) ≡ true
+      → IsEnd (after_run (running.after_reply worker w y r received))
   over-ends job worker w Awaits (reply.Fds from write) received o going has step names over = absurd (cc (over))
   over-ends job worker w Awaits r received o going has step names over = absurd (cc (over))
   over-ends job worker w (Runs run s) r received o going has step names over =
-      let got = running_on.replied steps own m n order job w fd c worker (Runs run s) r received o open_on (λ e. absurd (cc (e))) going has step names in
+      let got = running_on.replied steps own m n order job w fd c worker (Runs run s) r received o open_on
+      (λ e. absurd (cc (e))) going has step names in
       run-ends job n w got.0 (running.after_reply worker w (Runs run s) r received) got.2 over
   over-ends job worker w (Leaves d) r received o going has step names over =
-      let got = running_on.replied steps own m n order job w fd c worker (Leaves d) r received o open_on (λ e. absurd (cc (e))) going has step names in
+      let got = running_on.replied steps own m n order job w fd c worker (Leaves d) r received o open_on
+      (λ e. absurd (cc (e))) going has step names in
       run-ends job n w got.0 (running.after_reply worker w (Leaves d) r received) got.2 over
   over-ends job worker w Ends r received o going has step names over = absurd (cc (going))
 
-  run-near : (kept : List ℕ) (d : Phase) (script : List ℕ) (worker : ℕ) (w : Wanted) (y : Running) (r : Reply) (received text : List ℕ) (o : Progress) → is_over y ≡ false
-      → IsRun m w y script text o → CanMake m (running.wants (job_of w script) fd w y) → StepsTo m (event.Call server (running.wants (job_of w script) fd w y)) r n → Names n r received
-      → Nears rank (client (at kept (serve w) d) (Some y) script) r (run_after_reply worker (serve w) (client (at kept (serve w) d) (Some y) script) y r received) ⊎ RunReceives y r received
-  run-near kept d script worker w y r received text o going has can step names = by (run_nears own may (job_of w text) m n fd c worker w y r received o order lives open_on going has.has
-      (subst (λ (k : Call). CanMake m k) same can) (subst (λ (k : Call). StepsTo m (event.Call server k) r n) same step) names)
+  run-near : (kept : List ℕ) (d : Phase) (script : List ℕ) (worker : ℕ) (w : Wanted) (y : Running) (r : Reply)
+      (received text : List ℕ) (o : Progress) → is_over y ≡ false
+      → IsRun m w y script text o → CanMake m (running.wants (job_of w script) fd w y)
+      → StepsTo m (event.Call server (running.wants (job_of w script) fd w y)) r n → Names n r received
+      → Nears rank (client (at kept (serve w) d) (Some y) script) r
+      (run_after_reply worker (serve w) (client (at kept (serve w) d) (Some y) script) y r received)
+      ⊎ RunReceives y r received
+  run-near kept d script worker w y r received text o going has can step names =
+      by (run_nears own may (job_of w text) m n fd c worker w y r received o order lives open_on going has.has
+      (subst (λ (k : Call). CanMake m k) same can) (subst (λ (k : Call). StepsTo m (event.Call server k) r n) same step)
+      names)
     where
       same : running.wants (job_of w script) fd w y ≡ running.wants (job_of w text) fd w y
       same = wants-text fd w y script text has.kept
 
-      less : (over : Bool) → is_over (running.after_reply worker w y r received) ≡ over → run_calls w (running.after_reply worker w y r received) < run_calls w y → Goes kept d script w y (running.after_reply worker w y r received) r false over
-      less true over fewer = inl (end-below kept w (after_run (running.after_reply worker w y r received)) (run_calls w y)
-          (over-ends (job_of w text) worker w y r received o going has.has (subst (λ (k : Call). StepsTo m (event.Call server k) r n) same step) names over) (omega (arith, fewer)))
+      less : (over : Bool) → is_over (running.after_reply worker w y r received) ≡ over
+          → run_calls w (running.after_reply worker w y r received) < run_calls w y
+          → Goes kept d script w y (running.after_reply worker w y r received) r false over
+      less true over fewer =
+          inl (end-below kept w (after_run (running.after_reply worker w y r received)) (run_calls w y)
+          (over-ends (job_of w text) worker w y r received o going has.has
+          (subst (λ (k : Call). StepsTo m (event.Call server k) r n) same step) names over) (omega (arith, fewer)))
       less false over fewer = inl (inr (refl, fewer))
 
-      unmoved : (over : Bool) → is_over (running.after_reply worker w y r received) ≡ over → Nears (run_rank w) y r (running.after_reply worker w y r received) → Goes kept d script w y (running.after_reply worker w y r received) r false over
+      unmoved : (over : Bool) → is_over (running.after_reply worker w y r received) ≡ over
+          → Nears (run_rank w) y r (running.after_reply worker w y r received)
+          → Goes kept d script w y (running.after_reply worker w y r received) r false over
       unmoved over is (inl (inl falls)) = absurd (omega (arith, falls))
       unmoved over is (inl (inr fewer)) = less over is fewer.1
-      unmoved true is (inr still) = absurd (clash (is_over (running.after_reply worker w y r received)) is (ap (λ k. is_over k) still.0 ∙ going))
-      unmoved false is (inr still) = inr (stands (at kept (serve w) d) script y (running.after_reply worker w y r received) still.0, still.1)
+      unmoved true is (inr still) =
+          absurd (clash (is_over (running.after_reply worker w y r received)) is (ap (λ k. is_over k) still.0 ∙ going))
+      unmoved false is (inr still) =
+          inr (stands (at kept (serve w) d) script y (running.after_reply worker w y r received) still.0, still.1)
 
       by : Nears (run_rank w) y r (running.after_reply worker w y r received) ⊎ RunReceives y r received
-          → Goes kept d script w y (running.after_reply worker w y r received) r (is_over y) (is_over (running.after_reply worker w y r received)) ⊎ RunReceives y r received
-      by (inl nearer) = inl (subst (λ b. Goes kept d script w y (running.after_reply worker w y r received) r b (is_over (running.after_reply worker w y r received))) (sym going) (unmoved (is_over (running.after_reply worker w y r received)) refl nearer))
+          → Goes kept d script w y (running.after_reply worker w y r received) r (is_over y)
+          (is_over (running.after_reply worker w y r received)) ⊎ RunReceives y r received
+      by (inl nearer) =
+          inl
+          (subst (λ b. Goes kept d script w y (running.after_reply worker w y r received) r b
+          (is_over (running.after_reply worker w y r received))) (sym going)
+          (unmoved (is_over (running.after_reply worker w y r received)) refl nearer))
       by (inr more) = inr more
 
 -- ---- any client
 
-pub client-nears : EachStepLeavesTheRest → CallsServeTheirDomain → RefusalsThatAreLeft → (scripts : Bool) (m n : State) (fd c worker : ℕ) (kept : List ℕ) (q : Answer) (d : Phase)
-    (run : Option Running) (script : List ℕ) (r : Reply) (received : List ℕ) (known : Known) → IsOrderly m → is_live m server ≡ true → descriptor m server fd ≡ Some (on.Connection c)
-    → is_working (client (at kept q d) run script) ≡ true → HasKnown scripts m (client (at kept q d) run script) known → CanMake m (wants scripts fd (client (at kept q d) run script))
+pub client-nears : EachStepLeavesTheRest → CallsServeTheirDomain → RefusalsThatAreLeft
+    → (scripts : Bool) (m n : State) (fd c worker : ℕ) (kept : List ℕ) (q : Answer) (d : Phase)
+    (run : Option Running) (script : List ℕ) (r : Reply) (received : List ℕ) (known : Known) → IsOrderly m
+    → is_live m server ≡ true → descriptor m server fd ≡ Some (on.Connection c)
+    → is_working (client (at kept q d) run script) ≡ true → HasKnown scripts m (client (at kept q d) run script) known
+    → CanMake m (wants scripts fd (client (at kept q d) run script))
     → StepsTo m (event.Call server (wants scripts fd (client (at kept q d) run script))) r n → Names n r received
-    → Nears rank (client (at kept q d) run script) r (after_reply scripts worker (client (at kept q d) run script) r received) ⊎ ReceivesMore (client (at kept q d) run script) r received
-client-nears steps own may scripts m n fd c worker kept q d None script r received (OfFile o) order lives open_on busy has can step names =
-    inl (of-file own may m n order lives fd c open_on kept script (is_for_script scripts q) q d (response q o) r received busy has.unread has.has can step names)
-client-nears steps own may scripts m n fd c worker kept q d (Some y) script r received (OfFile o) order lives open_on busy has can step names = absurd (let none = has.none in cc (none))
-client-nears steps own may scripts m n fd c worker kept (refuse status head_only close) d run script r received (OfScript text o) order lives open_on busy has can step names = absurd has
-client-nears steps own may scripts m n fd c worker kept (serve w) d None script r received (OfScript text o) order lives open_on busy has can step names =
-    inl (of-script own may m n order lives fd c open_on kept script scripts w d text o r received busy has (is_for_script scripts (serve w)) refl can step names)
-client-nears steps own may scripts m n fd c worker kept (serve w) d (Some y) script r received (OfScript text o) order lives open_on busy has can step names =
-    run-near steps own may m n order lives fd c open_on kept d script worker w y r received text o (not-true (is_over y) busy) has can step names
+    → Nears rank (client (at kept q d) run script) r
+    (after_reply scripts worker (client (at kept q d) run script) r received)
+    ⊎ ReceivesMore (client (at kept q d) run script) r received
+client-nears steps own may scripts m n fd c worker kept q d None script r received (OfFile o) order lives open_on busy
+    has can step names =
+    inl (of-file own may m n order lives fd c open_on kept script (is_for_script scripts q) q d (response q o) r
+    received busy has.unread has.has can step names)
+client-nears steps own may scripts m n fd c worker kept q d (Some y) script r received (OfFile o) order lives open_on
+    busy has can step names = absurd (let none = has.none in cc (none))
+client-nears steps own may scripts m n fd c worker kept (refuse status head_only close) d run script r received
+    (OfScript text o) order lives open_on busy has can step names = absurd has
+client-nears steps own may scripts m n fd c worker kept (serve w) d None script r received (OfScript text o) order lives
+    open_on busy has can step names =
+    inl (of-script own may m n order lives fd c open_on kept script scripts w d text o r received busy has
+    (is_for_script scripts (serve w)) refl can step names)
+client-nears steps own may scripts m n fd c worker kept (serve w) d (Some y) script r received (OfScript text o) order
+    lives open_on busy has can step names =
+    run-near steps own may m n order lives fd c open_on kept d script worker w y r received text o
+    (not-true (is_over y) busy) has can step names

@@ -1,5 +1,6 @@
 -- The server's own calls preserve its data of a response, for every expected response.
-use Rattle.std.proofs.Common.{◌≡◌, ℕ, ◌+◌, ◌-◌, ◌==◌, ◌<◌, ◌≤◌, List, [], ◌++◌, length, drop, ap, ◌∙◌, refl, sym, subst, arith, Some, None, true, false, Bool, append-nil, if◌then◌else◌}
+use Rattle.std.proofs.Common.{◌≡◌, ℕ, ◌+◌, ◌-◌, ◌==◌, ◌<◌, ◌≤◌, List, [], ◌++◌, length, drop, ap, ◌∙◌, refl, sym, subst}
+use Rattle.std.proofs.Common.{arith, Some, None, true, false, Bool, append-nil, if◌then◌else◌}
 use Rattle.std.specs.Prelude.{nat_lt, nat_le, slice_range}
 use Rattle.std.proofs.lemmas.List.{drop-drop}
 use Rattle.std.proofs.lemmas.Bool.{or_parts, or_from}
@@ -24,18 +25,24 @@ use Rattle.flash_http.specs.declared.ranges.Selection.TheVariants.{Whole, Bytes,
 use Rattle.flash_http.specs.Range.{selected, LiesWithin}
 use Rattle.flash_http.specs.Request.{Answer, serve, refuse, Wanted}
 use Rattle.flash_laws.specs.Answers.{keeps, body_unless, chosen, file_text, unsatisfiable}
-use Rattle.flash_laws.specs.Conn.{Following, has_followed, content_agg, piece_end, count_of, text_of, sends_of, resolved, after_close_file, after_slice, after_drop_whole, following, headed, after_head, after_join, after_send, after_cut, moved_on, after_offer, after_swap, proceeds, after_taken, after_break, drops_next, after_drop}
+use Rattle.flash_laws.specs.Conn.{Following, has_followed, content_agg, piece_end, count_of, text_of, sends_of}
+use Rattle.flash_laws.specs.Conn.{resolved, after_close_file, after_slice, after_drop_whole, following, headed}
+use Rattle.flash_laws.specs.Conn.{after_head, after_join, after_send, after_cut, moved_on, after_offer, after_swap}
+use Rattle.flash_laws.specs.Conn.{proceeds, after_taken, after_break, drops_next, after_drop}
 use Rattle.flash_laws.specs.declared.phase.FileResult.{FileResult}
 use Rattle.flash_laws.specs.declared.phase.FileResult.TheVariants.{File, Length, Fails, Text as TextOf}
 use Rattle.flash_laws.specs.declared.phase.Payload.{Payload}
 use Rattle.flash_laws.specs.declared.phase.Payload.TheVariants.{Body}
 use Rattle.flash_laws.specs.declared.phase.Phase.{Phase}
-use Rattle.flash_laws.specs.declared.phase.Phase.TheVariants.{Rests, Shuts, Picks, Spares, Heads, Joins, Sends, Cuts, Offers, Swaps, Sent, Breaks, Drops, Closes}
-use Rattle.flash_laws.specs.Conn.Fits.{MoreIsReadable, HoldsRest, HoldsUnsent, HasFile, HasFileResult, HasContent, Has, Names}
+use Rattle.flash_laws.specs.declared.phase.Phase.TheVariants.{Rests, Shuts, Picks, Spares, Heads, Joins, Sends, Cuts}
+use Rattle.flash_laws.specs.declared.phase.Phase.TheVariants.{Offers, Swaps, Sent, Breaks, Drops, Closes}
+use Rattle.flash_laws.specs.Conn.Fits.{MoreIsReadable, HoldsRest, HoldsUnsent, HasFile, HasFileResult, HasContent, Has}
+use Rattle.flash_laws.specs.Conn.Fits.{Names}
 use Rattle.flash_laws.specs.Site.{server}
 use Rattle.flash_laws.proofs.Conn.Responses.{some-inj}
 use Rattle.flash_laws.proofs.Counts.{counted, made-short}
-use Rattle.flash_laws.proofs.Conn.ReadableBytes.{text-same, readable-stays, new-other, new-follows, follows-stay, content-on}
+use Rattle.flash_laws.proofs.Conn.ReadableBytes.{text-same, readable-stays, new-other, new-follows, follows-stay}
+use Rattle.flash_laws.proofs.Conn.ReadableBytes.{content-on}
 use Rattle.flash_laws.proofs.Lists.{not-equal, turned, next-rest, none-left, both-long, few-taken, length-part}
 use Rattle.flash_http.proofs.SelectionLaws.{selected-within}
 
@@ -48,7 +55,8 @@ module _ (steps : EachStepLeavesTheRest) (own : CallsServeTheirDomain) (m n : St
   pub follows : (k : Call) (r : Reply) → StepsTo m (event.Call server k) r n
       → (more : Following) (bytes : List ℕ) → ((a : ℕ) → has_followed more a ≡ true
       → gives_up (event.Call server k) server a ≡ false) → MoreIsReadable m more bytes → MoreIsReadable n more bytes
-  follows k r step more bytes un is = follows-stay m n more bytes (λ a l has readable. stays k r step a l readable (un a has)) is
+  follows k r step more bytes un is =
+      follows-stay m n more bytes (λ a l has readable. stays k r step a l readable (un a has)) is
 
   apart : (more : Following) (a b : ℕ) → has_followed more a ≡ false → has_followed more b ≡ true → (a == b) ≡ false
   apart more a b no_a is_b = not-equal a b (λ e. let p = ap (λ k. has_followed more k) e in absurd (cc (p, no_a, is_b)))
@@ -60,8 +68,10 @@ module _ (steps : EachStepLeavesTheRest) (own : CallsServeTheirDomain) (m n : St
   sent-whole : (w : Wanted) (a len : ℕ) (expected : List ℕ) (h : HasFile m w expected a len) (sel : Selection)
       → selected w.range len ≡ sel → expected ≡ file_text w len ++ chosen sel h.bytes
   sent-whole w a len expected h sel is =
-      h.expected_is ∙ (ap (λ z. file_text w z ++ body_unless w.head_only (chosen (selected w.range z) h.bytes)) (sym h.count)
-      ∙ (ap (λ b. file_text w len ++ body_unless b (chosen (selected w.range len) h.bytes)) h.whole ∙ ap (λ (z : Selection). file_text w len ++ chosen z h.bytes) is))
+      h.expected_is
+      ∙ (ap (λ z. file_text w z ++ body_unless w.head_only (chosen (selected w.range z) h.bytes)) (sym h.count)
+      ∙ (ap (λ b. file_text w len ++ body_unless b (chosen (selected w.range len) h.bytes)) h.whole
+      ∙ ap (λ (z : Selection). file_text w len ++ chosen z h.bytes) is))
 
   pub shuts : (q : Answer) (g : ℕ) (k : FileResult) (expected : List ℕ) (r : Reply) → Has m q expected (Shuts g k)
       → StepsTo m (event.Call server (call.Close g)) r n → Has n q expected (after_close_file q g k r)
@@ -73,18 +83,40 @@ module _ (steps : EachStepLeavesTheRest) (own : CallsServeTheirDomain) (m n : St
       done (refuse status head_only close) (Fails was) h is_readable = h
       done (serve w) (TextOf a true) h is_readable = ((h.0.0, is_readable a h.0.0 h.0.1), refl, h.1)
       done (serve w) (TextOf a false) h is_readable = ((h.0.0, is_readable a h.0.0 h.0.1), refl, h.1)
-      done (refuse status head_only close) (TextOf a true) h is_readable = ((h.0.0, is_readable a h.0.0 h.0.1), refl, h.1)
-      done (refuse status head_only close) (TextOf a false) h is_readable = ((h.0.0, is_readable a h.0.0 h.0.1), refl, h.1)
+      done (refuse status head_only close) (TextOf a true) h is_readable =
+          ((h.0.0, is_readable a h.0.0 h.0.1), refl, h.1)
+      done (refuse status head_only close) (TextOf a false) h is_readable =
+          ((h.0.0, is_readable a h.0.0 h.0.1), refl, h.1)
       done (refuse status head_only close) (File a len) h is_readable = absurd h
       done (serve w) (File a len) h is_readable = cut (selected w.range len) refl (selected-within w.range len)
         where
           cut : (sel : Selection) → selected w.range len ≡ sel → LiesWithin len (selected w.range len)
               → Has n (serve w) expected (sends_of sel a len)
-          cut Whole is within = record { bytes = h.bytes; is_readable = is_readable a h.bytes h.is_readable; count = h.count; expected_is = sent-whole w a len expected h Whole is }
+          cut Whole is within = record {
+            bytes = h.bytes;
+            is_readable = is_readable a h.bytes h.is_readable;
+            count =
+                h.count;
+            expected_is = sent-whole w a len expected h Whole is;
+          }
           cut (Bytes first last) is within =
               let in_file : LiesWithin len (Bytes first last) = subst (λ (z : Selection). LiesWithin len z) is within in
-              record { bytes = h.bytes; is_readable = is_readable a h.bytes h.is_readable; some = (let le = in_file.0 in omega (arith, le)); count = length-part h.bytes first last in_file.0 (subst (λ z. last < z) h.count in_file.1); expected_is = sent-whole w a len expected h (Bytes first last) is }
-          cut Unsatisfiable is within = ((h.bytes, is_readable a h.bytes h.is_readable), refl, sent-whole w a len expected h Unsatisfiable is ∙ ap (λ b. file_text w len ++ body_unless b unsatisfiable) (sym h.whole))
+              record {
+                bytes = h.bytes;
+                is_readable = is_readable a h.bytes h.is_readable;
+                some =
+                    (let le = in_file.0 in omega (arith, le));
+                count =
+                    length-part h.bytes first last in_file.0 (subst (λ z. last < z) h.count in_file.1);
+                expected_is =
+                    sent-whole w a len expected h (Bytes first last) is;
+              }
+          cut Unsatisfiable is within = (
+            (h.bytes, is_readable a h.bytes h.is_readable),
+            refl,
+            sent-whole w a len expected h Unsatisfiable is
+                ∙ ap (λ b. file_text w len ++ body_unless b unsatisfiable) (sym h.whole),
+          )
       done x (Length len) h is_readable = h
 
       by : (r : Reply) → o.Closes m server g r n → StepsTo m (event.Call server (call.Close g)) r n
@@ -96,7 +128,8 @@ module _ (steps : EachStepLeavesTheRest) (own : CallsServeTheirDomain) (m n : St
   pub picks : (q : Answer) (a first to len : ℕ) (expected : List ℕ) (r : Reply)
       → Has m q expected (Picks a first to len) → StepsTo m (event.Call server (call.AggCut a first to)) r n
       → Has n q expected (after_slice a first to len r)
-  picks q a first to len expected r has step = by r (own.cut m n server a first to has.bytes r order has.is_readable step) step
+  picks q a first to len expected r has step =
+      by r (own.cut m n server a first to has.bytes r order has.is_readable step) step
     where
       by : (r : Reply) → o.Makes m server (slice_range has.bytes first to) r n
           → StepsTo m (event.Call server (call.AggCut a first to)) r n
@@ -104,7 +137,14 @@ module _ (steps : EachStepLeavesTheRest) (own : CallsServeTheirDomain) (m n : St
       by (reply.Agg x) did step = (
         (has.bytes, stays (call.AggCut a first to) (reply.Agg x) step a has.bytes has.is_readable refl),
         turned a x (new-other m a x has.bytes has.is_readable did.1),
-        record { bytes = slice_range has.bytes first to; is_readable = did.0; count = has.count; expected_is = has.expected_is ∙ ap (λ (l : List ℕ). l ++ slice_range has.bytes first to) (text-same q a x 0 (to - first) len) },
+        record {
+          bytes = slice_range has.bytes first to;
+          is_readable = did.0;
+          count = has.count;
+          expected_is =
+              has.expected_is
+              ∙ ap (λ (l : List ℕ). l ++ slice_range has.bytes first to) (text-same q a x 0 (to - first) len);
+        },
       )
       by (reply.Refused y) did step = unchanged q (Picks a first to len) expected has did
       by r did step = absurd did
@@ -115,7 +155,10 @@ module _ (steps : EachStepLeavesTheRest) (own : CallsServeTheirDomain) (m n : St
     where
       by : (r : Reply) → o.Drops m server a r n → StepsTo m (event.Call server (call.AggDrop a)) r n
           → Has n q expected (after_drop_whole a k r)
-      by reply.Done did step = content-on m n q expected k (λ b l u readable. stays (call.AggDrop a) reply.Done step b l readable (not-equal a b (λ e. let p = ap (λ z. content_agg k z) e in let not_a = has.1 in absurd (cc (p, not_a, u))))) has.2
+      by reply.Done did step =
+          content-on m n q expected k (λ b l u readable. stays (call.AggDrop a) reply.Done step b l readable
+          (not-equal a b (λ e. let p = ap (λ z. content_agg k z) e in let not_a = has.1 in absurd (cc (p, not_a, u)))))
+          has.2
       by (reply.Refused y) did step = unchanged q (Spares a k) expected has did
       by r did step = absurd did
 
@@ -125,7 +168,8 @@ module _ (steps : EachStepLeavesTheRest) (own : CallsServeTheirDomain) (m n : St
   headed-keeps q a size None expected has = has
   headed-keeps q a size (Some x) expected has = by (nat_le (size + x.1) MAX_AGGREGATE_BYTES) refl
     where
-      by : (b : Bool) → nat_le (size + x.1) MAX_AGGREGATE_BYTES ≡ b → Has n q expected (if b then Joins a size x.0 x.1 else Sends a size 0 (Some x))
+      by : (b : Bool) → nat_le (size + x.1) MAX_AGGREGATE_BYTES ≡ b
+          → Has n q expected (if b then Joins a size x.0 x.1 else Sends a size 0 (Some x))
       by true fits = (has, grind (arith, nat_tests, fits))
       by false fits = has
 
@@ -145,25 +189,50 @@ module _ (steps : EachStepLeavesTheRest) (own : CallsServeTheirDomain) (m n : St
       by (reply.Agg x) did step names =
           let p = parts k has in
           let receives : received ≡ text_of q k = some-inj _ _ (sym names ∙ did.0) in
-          headed-keeps q x (count_of received) (following k) expected (record { bytes = text_of q k; after = p.0; is_readable = did.0; size = ap (λ (l : List ℕ). count_of l) receives ∙ counted (text_of q k) (made-short m n server x (text_of q k) step); follows = follows (call.AggMake (text_of q k)) (reply.Agg x) step (following k) p.0 (λ a u. refl) p.1; next = p.2; apart = new-follows m (following k) p.0 x p.1 did.1 })
+          headed-keeps q x (count_of received) (following k) expected
+          (record {
+            bytes = text_of q k;
+            after = p.0;
+            is_readable = did.0;
+            size =
+                ap (λ (l : List ℕ). count_of l) receives
+                ∙ counted (text_of q k) (made-short m n server x (text_of q k) step);
+            follows =
+                follows (call.AggMake (text_of q k)) (reply.Agg x) step (following k) p.0 (λ a u. refl) p.1;
+            next =
+                p.2;
+            apart = new-follows m (following k) p.0 x p.1 did.1;
+          })
       by (reply.Refused y) did step names = unchanged q (Heads k) expected has did
       by r did step names = absurd did
 
   pub joins : (q : Answer) (a size b len : ℕ) (expected : List ℕ) (r : Reply)
       → Has m q expected (Joins a size b len) → StepsTo m (event.Call server (call.AggJoin a b)) r n
       → Has n q expected (after_join a size b len r)
-  joins q a size b len expected r has step = by r (own.join m n server a b has.0.bytes has.0.after r order has.0.is_readable has.0.follows.0 step) step
+  joins q a size b len expected r has step =
+      by r (own.join m n server a b has.0.bytes has.0.after r order has.0.is_readable has.0.follows.0 step) step
     where
       by : (r : Reply) → o.Makes m server (has.0.bytes ++ has.0.after) r n
           → StepsTo m (event.Call server (call.AggJoin a b)) r n → Has n q expected (after_join a size b len r)
-      by (reply.Agg x) did step = record { bytes = has.0.bytes ++ has.0.after; after = []; is_readable = did.0; size = both-long has.0.bytes has.0.after size len has.0.size has.0.follows.1; follows = refl; next = append-nil (has.0.bytes ++ has.0.after) ∙ has.0.next; apart = refl }
+      by (reply.Agg x) did step = record {
+        bytes = has.0.bytes ++ has.0.after;
+        after = [];
+        is_readable = did.0;
+        size =
+            both-long has.0.bytes has.0.after size len has.0.size has.0.follows.1;
+        follows = refl;
+        next =
+            append-nil (has.0.bytes ++ has.0.after) ∙ has.0.next;
+        apart = refl;
+      }
       by (reply.Refused y) did step = unchanged q (Joins a size b len) expected has did
       by r did step = absurd did
 
   pub sends : (q : Answer) (fd c a len taken : ℕ) (more : Following) (expected : List ℕ) (r : Reply)
       → descriptor m server fd ≡ Some (on.Connection c) → Has m q expected (Sends a len taken more)
       → StepsTo m (event.Call server (call.IolWrite fd a)) r n → Has n q expected (after_send a len taken more r)
-  sends q fd c a len taken more expected r open_on has step = by r (own.write_conn m n server fd c a has.bytes r order open_on has.is_readable step) step
+  sends q fd c a len taken more expected r open_on has step =
+      by r (own.write_conn m n server fd c a has.bytes r order open_on has.is_readable step) step
     where
       by : (r : Reply) → o.WritesConn m c has.bytes r n
           → StepsTo m (event.Call server (call.IolWrite fd a)) r n
@@ -181,10 +250,40 @@ module _ (steps : EachStepLeavesTheRest) (own : CallsServeTheirDomain) (m n : St
 
           cases : (b : Bool) → nat_lt k len ≡ b
               → Has n q expected (if b then Cuts a k len (taken + k) more else Sent a (taken + len) more)
-          cases false all = (let size = has.size in let within = puts.within in let le : length has.bytes ≤ k = grind (arith, nat_tests, all, size) in let here : taken + len ≡ taken + k = omega (arith, le, within, size) in
-              record { bytes = has.bytes; after = has.after; is_readable = is_readable; follows = more_stays; next = none-left has.bytes has.after k len has.size all ∙ (rest ∙ ap (λ z. drop z expected) (sym here)); apart = has.apart })
-          cases true part = (record { bytes = has.bytes; after = has.after; is_readable = is_readable; size = has.size; follows = more_stays; next = rest; apart = has.apart }, grind (arith, nat_tests, part))
-      by (reply.Refused no.BrokenPipe) did step = subst (λ (s : State). HoldsUnsent s a more) (sym did) (record { after = has.after; readable = (has.bytes, has.is_readable); follows = has.follows; apart = has.apart })
+          cases false all = (let size = has.size in let within = puts.within in let le : length has.bytes ≤ k =
+              grind (arith, nat_tests, all, size) in let here : taken + len ≡ taken + k =
+              omega (arith, le, within, size) in
+              record {
+                bytes = has.bytes;
+                after = has.after;
+                is_readable = is_readable;
+                follows = more_stays;
+                next =
+                    none-left has.bytes has.after k len has.size all ∙ (rest ∙ ap (λ z. drop z expected) (sym here));
+                apart = has.apart;
+              })
+          cases true part = (
+            record {
+              bytes = has.bytes;
+              after = has.after;
+              is_readable = is_readable;
+              size = has.size;
+              follows =
+                  more_stays;
+              next = rest;
+              apart = has.apart;
+            },
+            grind (arith, nat_tests, part),
+          )
+      by (reply.Refused no.BrokenPipe) did step =
+          subst (λ (s : State). HoldsUnsent s a more) (sym did)
+          (record {
+            after = has.after;
+            readable = (has.bytes, has.is_readable);
+            follows = has.follows;
+            apart =
+                has.apart;
+          })
       by (reply.Refused y) did step = unchanged q (Sends a len taken more) expected has did
       by r did step = absurd did
 
@@ -192,7 +291,8 @@ module _ (steps : EachStepLeavesTheRest) (own : CallsServeTheirDomain) (m n : St
       → Has m q expected (Cuts a from len taken more)
       → StepsTo m (event.Call server (call.AggCut a from (piece_end from len))) r n
       → Has n q expected (after_cut a from len taken more r)
-  cuts q a from len taken more expected r has step = by r (own.cut m n server a from (piece_end from len) has.0.bytes r order has.0.is_readable step) step
+  cuts q a from len taken more expected r has step =
+      by r (own.cut m n server a from (piece_end from len) has.0.bytes r order has.0.is_readable step) step
     where
       by : (r : Reply) → o.Makes m server (slice_range has.0.bytes from (piece_end from len)) r n
           → StepsTo m (event.Call server (call.AggCut a from (piece_end from len))) r n
@@ -202,15 +302,18 @@ module _ (steps : EachStepLeavesTheRest) (own : CallsServeTheirDomain) (m n : St
             whole = record {
               bytes = has.0.bytes;
               after = has.0.after;
-              is_readable = stays (call.AggCut a from (piece_end from len)) (reply.Agg x) step a has.0.bytes has.0.is_readable refl;
+              is_readable = stays (call.AggCut a from (piece_end from len)) (reply.Agg x) step a has.0.bytes
+                  has.0.is_readable refl;
               size = has.0.size;
-              follows = follows (call.AggCut a from (piece_end from len)) (reply.Agg x) step more has.0.after (λ b u. refl) has.0.follows;
+              follows = follows (call.AggCut a from (piece_end from len)) (reply.Agg x) step more has.0.after
+                  (λ b u. refl) has.0.follows;
               next = has.0.next;
               apart = has.0.apart;
             };
             some = has.1;
             is_readable = did.0;
-            other = or_from (a == x) (has_followed more x) (new-other m a x has.0.bytes has.0.is_readable did.1) (new-follows m more has.0.after x has.0.follows did.1);
+            other = or_from (a == x) (has_followed more x) (new-other m a x has.0.bytes has.0.is_readable did.1)
+                (new-follows m more has.0.after x has.0.follows did.1);
           }
       by (reply.Refused y) did step = unchanged q (Cuts a from len taken more) expected has did
       by r did step = absurd did
@@ -220,7 +323,9 @@ module _ (steps : EachStepLeavesTheRest) (own : CallsServeTheirDomain) (m n : St
       → Has m q expected (Offers a from len piece taken more)
       → StepsTo m (event.Call server (call.IolWrite fd piece)) r n
       → Has n q expected (after_offer a from len piece taken more r)
-  offers_piece q fd c a from len piece taken more expected r open_on has step = by r (own.write_conn m n server fd c piece (slice_range has.whole.bytes from (piece_end from len)) r order open_on has.is_readable step) step
+  offers_piece q fd c a from len piece taken more expected r open_on has step =
+      by r (own.write_conn m n server fd c piece (slice_range has.whole.bytes from (piece_end from len)) r order open_on
+      has.is_readable step) step
     where
       by : (r : Reply) → o.WritesConn m c (slice_range has.whole.bytes from (piece_end from len)) r n
           → StepsTo m (event.Call server (call.IolWrite fd piece)) r n
@@ -228,21 +333,37 @@ module _ (steps : EachStepLeavesTheRest) (own : CallsServeTheirDomain) (m n : St
       by (reply.Count k) puts step =
           let few = few-taken k from len has.whole.bytes has.whole.size puts.within in
           subst (λ z. Has n q expected (moved_on a from len piece taken more z)) (sym few.1) (
-            (slice_range has.whole.bytes from (piece_end from len), stays (call.IolWrite fd piece) (reply.Count k) step piece (slice_range has.whole.bytes from (piece_end from len)) has.is_readable refl),
+            (
+              slice_range has.whole.bytes from (piece_end from len),
+              stays (call.IolWrite fd piece) (reply.Count k) step piece
+                  (slice_range has.whole.bytes from (piece_end from len)) has.is_readable refl,
+            ),
             has.other,
             record {
               bytes = has.whole.bytes;
               after = has.whole.after;
-              is_readable = stays (call.IolWrite fd piece) (reply.Count k) step a has.whole.bytes has.whole.is_readable refl;
+              is_readable = stays (call.IolWrite fd piece) (reply.Count k) step a has.whole.bytes has.whole.is_readable
+                  refl;
               size = has.whole.size;
-              follows = follows (call.IolWrite fd piece) (reply.Count k) step more has.whole.after (λ b u. refl) has.whole.follows;
-              next = ap (λ (l : List ℕ). l ++ has.whole.after) (sym (drop-drop k from has.whole.bytes)) ∙ next-rest k taken (drop from has.whole.bytes) has.whole.after expected has.whole.next few.0;
+              follows = follows (call.IolWrite fd piece) (reply.Count k) step more has.whole.after (λ b u. refl)
+                  has.whole.follows;
+              next = ap (λ (l : List ℕ). l ++ has.whole.after) (sym (drop-drop k from has.whole.bytes))
+                  ∙ next-rest k taken (drop from has.whole.bytes) has.whole.after expected has.whole.next few.0;
               apart = has.whole.apart;
             },
           )
       by (reply.Refused no.BrokenPipe) did step =
-          subst (λ (s : State). Has s q expected (Breaks piece a more)) (sym did)
-          ((slice_range has.whole.bytes from (piece_end from len), has.is_readable), has.other, record { after = has.whole.after; readable = (has.whole.bytes, has.whole.is_readable); follows = has.whole.follows; apart = has.whole.apart })
+          subst (λ (s : State). Has s q expected (Breaks piece a more)) (sym did) (
+            (slice_range has.whole.bytes from (piece_end from len), has.is_readable),
+            has.other,
+            record {
+              after = has.whole.after;
+              readable = (has.whole.bytes, has.whole.is_readable);
+              follows =
+                  has.whole.follows;
+              apart = has.whole.apart;
+            },
+          )
       by (reply.Refused y) did step = unchanged q (Offers a from len piece taken more) expected has did
       by r did step = absurd did
 
@@ -261,15 +382,39 @@ module _ (steps : EachStepLeavesTheRest) (own : CallsServeTheirDomain) (m n : St
           both = or_parts (a == piece) (has_followed more piece) has.1
 
           is_readable : readable_at n server a ≡ Some has.2.bytes
-          is_readable = stays (call.AggDrop piece) reply.Done step a has.2.bytes has.2.is_readable (turned a piece both.0)
+          is_readable =
+              stays (call.AggDrop piece) reply.Done step a has.2.bytes has.2.is_readable (turned a piece both.0)
 
           more_stays : MoreIsReadable n more has.2.after
-          more_stays = follows (call.AggDrop piece) reply.Done step more has.2.after (λ b u. apart more piece b both.1 u) has.2.follows
+          more_stays =
+              follows (call.AggDrop piece) reply.Done step more has.2.after (λ b u. apart more piece b both.1 u)
+              has.2.follows
 
           cases : (b : Bool) → nat_lt from len ≡ b
               → Has n q expected (if b then Cuts a from len taken more else Sent a taken more)
-          cases true part = (record { bytes = has.2.bytes; after = has.2.after; is_readable = is_readable; size = has.2.size; follows = more_stays; next = has.2.next; apart = has.2.apart }, grind (arith, nat_tests, part))
-          cases false all = record { bytes = has.2.bytes; after = has.2.after; is_readable = is_readable; follows = more_stays; next = none-left has.2.bytes has.2.after from len has.2.size all ∙ has.2.next; apart = has.2.apart }
+          cases true part = (
+            record {
+              bytes = has.2.bytes;
+              after = has.2.after;
+              is_readable = is_readable;
+              size =
+                  has.2.size;
+              follows = more_stays;
+              next = has.2.next;
+              apart = has.2.apart;
+            },
+            grind (arith, nat_tests, part),
+          )
+          cases false all = record {
+            bytes = has.2.bytes;
+            after = has.2.after;
+            is_readable = is_readable;
+            follows =
+                more_stays;
+            next = none-left has.2.bytes has.2.after from len has.2.size all ∙ has.2.next;
+            apart =
+                has.2.apart;
+          }
       by (reply.Refused y) did step = unchanged q (Swaps a from len piece taken more) expected has did
       by r did step = absurd did
 
@@ -282,7 +427,18 @@ module _ (steps : EachStepLeavesTheRest) (own : CallsServeTheirDomain) (m n : St
           → StepsTo m (event.Call server (call.AggDrop piece)) r n → Has n q expected (after_break piece a more r)
       by reply.Done did step =
           let both = or_parts (a == piece) (has_followed more piece) has.1 in
-          record { after = has.2.after; readable = (has.2.readable.0, stays (call.AggDrop piece) reply.Done step a has.2.readable.0 has.2.readable.1 (turned a piece both.0)); follows = follows (call.AggDrop piece) reply.Done step more has.2.after (λ b u. apart more piece b both.1 u) has.2.follows; apart = has.2.apart }
+          record {
+            after = has.2.after;
+            readable = (
+              has.2.readable.0,
+              stays (call.AggDrop piece) reply.Done step a has.2.readable.0 has.2.readable.1
+                  (turned a piece both.0),
+            );
+            follows =
+                follows (call.AggDrop piece) reply.Done step more has.2.after (λ b u. apart more piece b both.1 u)
+                has.2.follows;
+            apart = has.2.apart;
+          }
       by (reply.Refused y) did step = unchanged q (Breaks piece a more) expected has did
       by r did step = absurd did
 
@@ -293,7 +449,17 @@ module _ (steps : EachStepLeavesTheRest) (own : CallsServeTheirDomain) (m n : St
     where
       after : (more : Following) (rest : List ℕ) → MoreIsReadable n more rest → rest ≡ drop taken expected
           → Has n q expected (proceeds q taken more)
-      after (Some x) rest is_readable next = record { bytes = rest; after = []; is_readable = is_readable.0; size = is_readable.1; follows = refl; next = append-nil rest ∙ next; apart = refl }
+      after (Some x) rest is_readable next =
+          record {
+            bytes = rest;
+            after = [];
+            is_readable = is_readable.0;
+            size = is_readable.1;
+            follows = refl;
+            next =
+                append-nil rest ∙ next;
+            apart = refl;
+          }
       after None rest is_readable next = cases (keeps q)
         where
           cases : (b : Bool) → Has n q expected (if b then Rests else Closes)
@@ -302,7 +468,10 @@ module _ (steps : EachStepLeavesTheRest) (own : CallsServeTheirDomain) (m n : St
 
       by : (r : Reply) → o.Drops m server a r n → StepsTo m (event.Call server (call.AggDrop a)) r n
           → Has n q expected (after_taken q a taken more r)
-      by reply.Done did step = after more has.after (follows (call.AggDrop a) reply.Done step more has.after (λ b u. apart more a b has.apart u) has.follows) has.next
+      by reply.Done did step =
+          after more has.after
+          (follows (call.AggDrop a) reply.Done step more has.after (λ b u. apart more a b has.apart u) has.follows)
+          has.next
       by (reply.Refused y) did step = unchanged q (Sent a taken more) expected has did
       by r did step = absurd did
 
@@ -313,10 +482,18 @@ module _ (steps : EachStepLeavesTheRest) (own : CallsServeTheirDomain) (m n : St
     where
       next : (more : Following) (after : List ℕ) → MoreIsReadable n more after → Has n q expected (drops_next more)
       next None after is_readable = tt
-      next (Some x) after is_readable = record { after = []; readable = (after, is_readable.0); follows = refl; apart = refl }
+      next (Some x) after is_readable = record {
+        after = [];
+        readable = (after, is_readable.0);
+        follows = refl;
+        apart =
+            refl;
+      }
 
       by : (r : Reply) → o.Drops m server a r n → StepsTo m (event.Call server (call.AggDrop a)) r n
           → Has n q expected (after_drop a more r)
-      by reply.Done did step = next more has.after (follows (call.AggDrop a) reply.Done step more has.after (λ b u. apart more a b has.apart u) has.follows)
+      by reply.Done did step =
+          next more has.after
+          (follows (call.AggDrop a) reply.Done step more has.after (λ b u. apart more a b has.apart u) has.follows)
       by (reply.Refused y) did step = unchanged q (Drops a more) expected has did
       by r did step = absurd did

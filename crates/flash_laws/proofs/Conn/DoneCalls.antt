@@ -14,19 +14,26 @@ use Rattle.flash_http.specs.declared.ranges.Selection.TheVariants.{Bytes}
 use Rattle.flash_http.specs.Range.{selected}
 use Rattle.flash_http.specs.Request.{Answer, serve, refuse}
 use Rattle.flash_laws.specs.Answers.{keeps}
-use Rattle.flash_laws.specs.Conn.{Following, Conn, uses_fd, name_of, text_of, is_head_only, most_kept, most_read, piece_end, count_of, wants, sends_of, resolved, after_receive, after_open, after_read, after_close_file, after_slice, after_drop_whole, following, headed, after_head, after_join, after_send, after_cut, after_offer, after_swap, proceeds, after_taken, after_break, drops_next, after_drop, after_discard, after_reply}
+use Rattle.flash_laws.specs.Conn.{Following, Conn, uses_fd, name_of, text_of, is_head_only, most_kept, most_read}
+use Rattle.flash_laws.specs.Conn.{piece_end, count_of, wants, sends_of, resolved, after_receive, after_open, after_read}
+use Rattle.flash_laws.specs.Conn.{after_close_file, after_slice, after_drop_whole, following, headed, after_head}
+use Rattle.flash_laws.specs.Conn.{after_join, after_send, after_cut, after_offer, after_swap, proceeds, after_taken}
+use Rattle.flash_laws.specs.Conn.{after_break, drops_next, after_drop, after_discard, after_reply}
 use Rattle.flash_laws.specs.Conn.Fits.{is_closing}
 use Rattle.flash_laws.specs.Conn.OfferedBytes.{may_repeat}
 use Rattle.flash_laws.specs.Site.{server}
 use Rattle.flash_laws.specs.declared.phase.FileResult.{FileResult}
 use Rattle.flash_laws.specs.declared.phase.FileResult.TheVariants.{File}
 use Rattle.flash_laws.specs.declared.phase.Phase.{Phase}
-use Rattle.flash_laws.specs.declared.phase.Phase.TheVariants.{Rests, Got, Opens, Reads as Reading, Shuts, Picks, Spares, Heads, Joins, Sends, Cuts, Offers, Swaps, Sent, Breaks, Drops, Closes}
+use Rattle.flash_laws.specs.declared.phase.Phase.TheVariants.{Rests, Got, Opens, Reads as Reading, Shuts, Picks, Spares}
+use Rattle.flash_laws.specs.declared.phase.Phase.TheVariants.{Heads, Joins, Sends, Cuts, Offers, Swaps, Sent, Breaks}
+use Rattle.flash_laws.specs.declared.phase.Phase.TheVariants.{Drops, Closes}
 use Rattle.flash_laws.proofs.Forms.{at}
 use Rattle.flash_laws.proofs.Lists.{self}
 use Rattle.flash_laws.proofs.Conn.Repeats.{either, drops, closes, makes, cuts, joins, reads, writes, opens, lengths}
 
-rests-not : (kept : List ℕ) (q : Answer) (received : List ℕ) (k : ℕ) → (after_receive kept q (reply.Agg k) received).phase ≡ Rests → ⊥
+rests-not : (kept : List ℕ) (q : Answer) (received : List ℕ) (k : ℕ)
+    → (after_receive kept q (reply.Agg k) received).phase ≡ Rests → ⊥
 rests-not kept q [] k same = cc (same)
 rests-not kept q (b ∷ received) k same = cc (same)
 
@@ -39,7 +46,8 @@ resolved-not (serve w) f (File a len) same = by (selected w.range len) same
 resolved-not (refuse status head_only close) f (File a len) same = cc (same)
 resolved-not x f k same = cc (same)
 
-headed-not : (n size : ℕ) (more : Following) (d : Phase) → ((a b c e : ℕ) → Joins a b c e ≡ d → ⊥) → ((a b c : ℕ) (f : Following) → Sends a b c f ≡ d → ⊥) → headed n size more ≡ d → ⊥
+headed-not : (n size : ℕ) (more : Following) (d : Phase) → ((a b c e : ℕ) → Joins a b c e ≡ d → ⊥)
+    → ((a b c : ℕ) (f : Following) → Sends a b c f ≡ d → ⊥) → headed n size more ≡ d → ⊥
 headed-not n size None d joins sends same = sends n size 0 None same
 headed-not n size (Some x) d joins sends same = by (nat_le (size + x.1) MAX_AGGREGATE_BYTES) same
   where
@@ -56,40 +64,66 @@ drops_next-not a (Some x) same = cc (same)
 drops_next-not a None same = cc (same)
 
 module _ (m n : State) (fd : ℕ) (kept : List ℕ) (q : Answer) where
-  reading : (f : ℕ) (b : Bool) (r : Reply) (received : List ℕ) → StepsTo m (event.Call server (if b then call.Length f else call.IolRead f most_read)) r n
-      → after_read f r received ≡ Reading f → may_repeat (if b then call.Length f else call.IolRead f most_read) r ≡ true
-  reading f true r received step same = lengths m n (Reading f) (λ z. after_read f z received) f r step (λ k e. cc (e)) same
-  reading f false r received step same = reads m n (Reading f) (λ z. after_read f z received) f most_read r step (λ k e. cc (e)) same
+  reading : (f : ℕ) (b : Bool) (r : Reply) (received : List ℕ)
+      → StepsTo m (event.Call server (if b then call.Length f else call.IolRead f most_read)) r n
+      → after_read f r received ≡ Reading f → may_repeat (if b then call.Length f else call.IolRead f most_read) r
+      ≡ true
+  reading f true r received step same =
+      lengths m n (Reading f) (λ z. after_read f z received) f r step (λ k e. cc (e)) same
+  reading f false r received step same =
+      reads m n (Reading f) (λ z. after_read f z received) f most_read r step (λ k e. cc (e)) same
 
-  pub moved : (d : Phase) (r : Reply) (received : List ℕ) → is_closing d ≡ false → StepsTo m (event.Call server (wants fd (at kept q d))) r n
+  pub moved : (d : Phase) (r : Reply) (received : List ℕ) → is_closing d ≡ false
+      → StepsTo m (event.Call server (wants fd (at kept q d))) r n
       → (after_reply (at kept q d) r received).phase ≡ d → may_repeat (wants fd (at kept q d)) r ≡ true
-  moved Rests r received going step same = reads m n Rests (λ z. (after_receive kept q z received).phase) fd (most_kept - length kept) r step (rests-not kept q received) same
+  moved Rests r received going step same =
+      reads m n Rests (λ z. (after_receive kept q z received).phase) fd (most_kept - length kept) r step
+      (rests-not kept q received) same
   moved (Got b) r received going step same = drops m n (Got b) (λ z. after_discard b z) b r step (λ e. cc (e)) same
-  moved Opens r received going step same = opens m n Opens (λ z. after_open z) (name_of q) modes.Read r step (λ k e. cc (e)) same
+  moved Opens r received going step same =
+      opens m n Opens (λ z. after_open z) (name_of q) modes.Read r step (λ k e. cc (e)) same
   moved (Reading f) r received going step same = reading f (is_head_only q) r received step same
-  moved (Shuts f k) r received going step same = closes m n (Shuts f k) (λ z. after_close_file q f k z) f r step (resolved-not q f k) same
-  moved (Picks b from to len) r received going step same = cuts m n (Picks b from to len) (λ z. after_slice b from to len z) b from to r step (λ k e. cc (e)) same
-  moved (Spares b k) r received going step same = drops m n (Spares b k) (λ z. after_drop_whole b k z) b r step (λ e. cc (e)) same
+  moved (Shuts f k) r received going step same =
+      closes m n (Shuts f k) (λ z. after_close_file q f k z) f r step (resolved-not q f k) same
+  moved (Picks b from to len) r received going step same =
+      cuts m n (Picks b from to len) (λ z. after_slice b from to len z) b from to r step (λ k e. cc (e)) same
+  moved (Spares b k) r received going step same =
+      drops m n (Spares b k) (λ z. after_drop_whole b k z) b r step (λ e. cc (e)) same
   moved (Heads k) r received going step same = makes m n (Heads k) (λ z. after_head k z received) (text_of q k) r step
-      (λ a. headed-not a (count_of received) (following k) (Heads k) (λ a b c e same. cc (same)) (λ a b c f same. cc (same))) same
-  moved (Joins b size body len) r received going step same = joins m n (Joins b size body len) (λ z. after_join b size body len z) b body r step (λ k e. cc (e)) same
-  moved (Sends b len taken more) r received going step same = writes m n (Sends b len taken more) (λ z. after_send b len taken more z) fd b r step
-      (λ k. either (nat_lt k len) (Cuts b k len (taken + k) more) (Sent b (taken + len) more) (Sends b len taken more) (λ e. cc (e)) (λ e. cc (e))) (λ e. cc (e)) same
-  moved (Cuts b from len taken more) r received going step same = cuts m n (Cuts b from len taken more) (λ z. after_cut b from len taken more z) b from (piece_end from len) r step (λ k e. cc (e)) same
-  moved (Offers b from len piece taken more) r received going step same = writes m n (Offers b from len piece taken more) (λ z. after_offer b from len piece taken more z) fd piece r step (λ k e. cc (e)) (λ e. cc (e)) same
-  moved (Swaps b from len piece taken more) r received going step same = drops m n (Swaps b from len piece taken more) (λ z. after_swap b from len piece taken more z) piece r step
-      (either (nat_lt from len) (Cuts b from len taken more) (Sent b taken more) (Swaps b from len piece taken more) (λ e. cc (e)) (λ e. cc (e))) same
-  moved (Sent b taken more) r received going step same = drops m n (Sent b taken more) (λ z. after_taken q b taken more z) b r step (proceeds-not q b taken more) same
-  moved (Breaks piece b more) r received going step same = drops m n (Breaks piece b more) (λ z. after_break piece b more z) piece r step (λ e. cc (e)) same
-  moved (Drops b more) r received going step same = drops m n (Drops b more) (λ z. after_drop b more z) b r step (drops_next-not b more) same
+      (λ a. headed-not a (count_of received) (following k) (Heads k) (λ a b c e same. cc (same))
+      (λ a b c f same. cc (same))) same
+  moved (Joins b size body len) r received going step same =
+      joins m n (Joins b size body len) (λ z. after_join b size body len z) b body r step (λ k e. cc (e)) same
+  moved (Sends b len taken more) r received going step same =
+      writes m n (Sends b len taken more) (λ z. after_send b len taken more z) fd b r step
+      (λ k. either (nat_lt k len) (Cuts b k len (taken + k) more) (Sent b (taken + len) more) (Sends b len taken more)
+      (λ e. cc (e)) (λ e. cc (e))) (λ e. cc (e)) same
+  moved (Cuts b from len taken more) r received going step same =
+      cuts m n (Cuts b from len taken more) (λ z. after_cut b from len taken more z) b from (piece_end from len) r step
+      (λ k e. cc (e)) same
+  moved (Offers b from len piece taken more) r received going step same =
+      writes m n (Offers b from len piece taken more) (λ z. after_offer b from len piece taken more z) fd piece r step
+      (λ k e. cc (e)) (λ e. cc (e)) same
+  moved (Swaps b from len piece taken more) r received going step same =
+      drops m n (Swaps b from len piece taken more) (λ z. after_swap b from len piece taken more z) piece r step
+      (either (nat_lt from len) (Cuts b from len taken more) (Sent b taken more) (Swaps b from len piece taken more)
+      (λ e. cc (e)) (λ e. cc (e))) same
+  moved (Sent b taken more) r received going step same =
+      drops m n (Sent b taken more) (λ z. after_taken q b taken more z) b r step (proceeds-not q b taken more) same
+  moved (Breaks piece b more) r received going step same =
+      drops m n (Breaks piece b more) (λ z. after_break piece b more z) piece r step (λ e. cc (e)) same
+  moved (Drops b more) r received going step same =
+      drops m n (Drops b more) (λ z. after_drop b more z) b r step (drops_next-not b more) same
   moved x r received going step same = absurd (cc (going))
 
   -- a descriptor comes by opening a file alone
-  came : (f : ℕ) (b : Bool) (g : ℕ) → StepsTo m (event.Call server (if b then call.Length f else call.IolRead f most_read)) (reply.Fd g) n → ⊥
+  came : (f : ℕ) (b : Bool) (g : ℕ)
+      → StepsTo m (event.Call server (if b then call.Length f else call.IolRead f most_read)) (reply.Fd g) n → ⊥
   came f true g step = let e = step.1 in cc (e)
   came f false g step = let e = step.1 in cc (e)
 
-  pub opened : (d : Phase) (f : ℕ) (received : List ℕ) → StepsTo m (event.Call server (wants fd (at kept q d))) (reply.Fd f) n
+  pub opened : (d : Phase) (f : ℕ) (received : List ℕ)
+      → StepsTo m (event.Call server (wants fd (at kept q d))) (reply.Fd f) n
       → uses_fd (after_reply (at kept q d) (reply.Fd f) received).phase f ≡ true
   opened Opens f received step = self f
   opened (Reading g) f received step = absurd (came g (is_head_only q) f step)
@@ -97,8 +131,10 @@ module _ (m n : State) (fd : ℕ) (kept : List ℕ) (q : Answer) where
 
 pub conn-moves : (m n : State) (fd : ℕ) (x : Conn) (r : Reply) (received : List ℕ) → is_closing x.phase ≡ false
     → StepsTo m (event.Call server (wants fd x)) r n → after_reply x r received ≡ x → may_repeat (wants fd x) r ≡ true
-conn-moves m n fd x r received going step same = moved m n fd x.kept x.q x.phase r received going step (ap (λ (z : Conn). z.phase) same)
+conn-moves m n fd x r received going step same =
+    moved m n fd x.kept x.q x.phase r received going step (ap (λ (z : Conn). z.phase) same)
 
-pub conn-opened : (m n : State) (fd f : ℕ) (x : Conn) (received : List ℕ) → StepsTo m (event.Call server (wants fd x)) (reply.Fd f) n
+pub conn-opened : (m n : State) (fd f : ℕ) (x : Conn) (received : List ℕ)
+    → StepsTo m (event.Call server (wants fd x)) (reply.Fd f) n
     → uses_fd (after_reply x (reply.Fd f) received).phase f ≡ true
 conn-opened m n fd f x received step = opened m n fd x.kept x.q x.phase f received step

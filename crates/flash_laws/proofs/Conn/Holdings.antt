@@ -1,5 +1,6 @@
 -- The result of a call belongs to its connection, and is given up when that connection no longer uses it.
-use Rattle.std.proofs.Common.{◌≡◌, ℕ, ◌+◌, ◌-◌, ◌==◌, List, [], ◌∷◌, ◌++◌, ap, ◌∙◌, refl, sym, Some, None, true, false, Bool, if◌then◌else◌, length, take, drop}
+use Rattle.std.proofs.Common.{◌≡◌, ℕ, ◌+◌, ◌-◌, ◌==◌, List, [], ◌∷◌, ◌++◌, ap, ◌∙◌, refl, sym, Some, None, true, false}
+use Rattle.std.proofs.Common.{Bool, if◌then◌else◌, length, take, drop}
 use Rattle.std.specs.Prelude.{nat_lt, nat_le, ◌||◌, slice_range}
 use Rattle.iol_core.specs.Access.{HasAccess}
 use Rattle.iol_core.specs.State.{State, descriptor, is_live, content}
@@ -27,13 +28,18 @@ use Rattle.flash_http.specs.declared.ranges.Selection.TheVariants.{Unsatisfiable
 use Rattle.flash_http.specs.Range.{selected}
 use Rattle.flash_http.specs.Request.{Answer, serve, refuse}
 use Rattle.flash_laws.specs.Answers.{response}
-use Rattle.flash_laws.specs.Conn.{Following, Conn, has_followed, file_result_agg, content_agg, uses_agg, uses_fd, name_of, text_of, is_head_only, most_kept, most_read, piece_end, count_of, wants, sends_of, put_out, resolved, following, headed, proceeds, drops_next, after_receive, after_reply}
+use Rattle.flash_laws.specs.Conn.{Following, Conn, has_followed, file_result_agg, content_agg, uses_agg, uses_fd}
+use Rattle.flash_laws.specs.Conn.{name_of, text_of, is_head_only, most_kept, most_read, piece_end, count_of, wants}
+use Rattle.flash_laws.specs.Conn.{sends_of, put_out, resolved, following, headed, proceeds, drops_next, after_receive}
+use Rattle.flash_laws.specs.Conn.{after_reply}
 use Rattle.flash_laws.specs.declared.phase.FileResult.{FileResult}
 use Rattle.flash_laws.specs.declared.phase.FileResult.TheVariants.{File, Length, Fails, Text as TextOf}
 use Rattle.flash_laws.specs.declared.phase.Payload.{Payload}
 use Rattle.flash_laws.specs.declared.phase.Payload.TheVariants.{Body}
 use Rattle.flash_laws.specs.declared.phase.Phase.{Phase}
-use Rattle.flash_laws.specs.declared.phase.Phase.TheVariants.{Rests, Got, Opens, Reads as Reading, Shuts, Picks, Spares, Heads, Joins, Sends, Cuts, Offers, Swaps, Sent, Breaks, Drops, Closes, Over}
+use Rattle.flash_laws.specs.declared.phase.Phase.TheVariants.{Rests, Got, Opens, Reads as Reading, Shuts, Picks, Spares}
+use Rattle.flash_laws.specs.declared.phase.Phase.TheVariants.{Heads, Joins, Sends, Cuts, Offers, Swaps, Sent, Breaks}
+use Rattle.flash_laws.specs.declared.phase.Phase.TheVariants.{Drops, Closes, Over}
 use Rattle.flash_laws.specs.Conn.Fits.{Has}
 use Rattle.flash_laws.specs.Conn.Holdings.{KeepsNothing}
 use Rattle.flash_laws.specs.Site.{server}
@@ -64,7 +70,8 @@ following-uses : (k : Payload) (a : ℕ) → content_agg k a ≡ true → has_fo
 following-uses (Body b size len) a u = u
 following-uses k a u = absurd (cc (u))
 
-headed-more : (n size : ℕ) (more : Following) (a : ℕ) → has_followed more a ≡ true → uses_agg (headed n size more) a ≡ true
+headed-more : (n size : ℕ) (more : Following) (a : ℕ) → has_followed more a ≡ true
+    → uses_agg (headed n size more) a ≡ true
 headed-more n size None a u = absurd (cc (u))
 headed-more n size (Some x) a u = by (nat_le (size + x.1) MAX_AGGREGATE_BYTES)
   where
@@ -105,37 +112,66 @@ pub leaves-after_reply : (fd : ℕ) (kept : List ℕ) (q : Answer) (d : Phase) (
     → Leaves fd (at kept q d) r (after_reply (at kept q d) r received).phase a
 leaves-after_reply fd kept q (Got b) reply.Done received a u unused = (u, refl)
 leaves-after_reply fd kept q (Got b) r received a u unused = absurd (clash (b == a) u unused)
-leaves-after_reply fd kept q (Shuts f k) reply.Done received a u unused = absurd (clash (uses_agg (resolved q k) a) (resolved-uses q k a u) unused)
+leaves-after_reply fd kept q (Shuts f k) reply.Done received a u unused =
+    absurd (clash (uses_agg (resolved q k) a) (resolved-uses q k a u) unused)
 leaves-after_reply fd kept q (Shuts f k) r received a u unused = absurd (clash (file_result_agg k a) u unused)
-leaves-after_reply fd kept q (Picks b first last len) (reply.Agg n) received a u unused = absurd (clash ((b == a) || (n == a)) (former_of (b == a) (n == a) u) unused)
+leaves-after_reply fd kept q (Picks b first last len) (reply.Agg n) received a u unused =
+    absurd (clash ((b == a) || (n == a)) (former_of (b == a) (n == a) u) unused)
 leaves-after_reply fd kept q (Picks b first last len) r received a u unused = absurd (clash (b == a) u unused)
-leaves-after_reply fd kept q (Spares b k) reply.Done received a u unused = (former_by (b == a) (content_agg k a) u unused, refl)
+leaves-after_reply fd kept q (Spares b k) reply.Done received a u unused =
+    (former_by (b == a) (content_agg k a) u unused, refl)
 leaves-after_reply fd kept q (Spares b k) r received a u unused = absurd (clash ((b == a) || content_agg k a) u unused)
-leaves-after_reply fd kept q (Heads k) (reply.Agg n) received a u unused = absurd (clash (uses_agg (headed n (count_of received) (following k)) a) (headed-more n (count_of received) (following k) a (following-uses k a u)) unused)
+leaves-after_reply fd kept q (Heads k) (reply.Agg n) received a u unused =
+    absurd
+    (clash (uses_agg (headed n (count_of received) (following k)) a)
+    (headed-more n (count_of received) (following k) a (following-uses k a u)) unused)
 leaves-after_reply fd kept q (Heads k) r received a u unused = absurd (clash (content_agg k a) u unused)
 leaves-after_reply fd kept q (Joins b size body len) (reply.Agg n) received a u unused = (u, refl)
-leaves-after_reply fd kept q (Joins b size body len) r received a u unused = absurd (clash ((b == a) || (body == a)) u unused)
-leaves-after_reply fd kept q (Sends b len taken more) (reply.Count k) received a u unused = absurd (leaves-sends fd kept q b len taken k more a (nat_lt k len) u unused)
-leaves-after_reply fd kept q (Sends b len taken more) (reply.Refused no.BrokenPipe) received a u unused = absurd (clash ((b == a) || has_followed more a) u unused)
-leaves-after_reply fd kept q (Sends b len taken more) r received a u unused = absurd (clash ((b == a) || has_followed more a) u unused)
-leaves-after_reply fd kept q (Cuts b from len taken more) (reply.Agg n) received a u unused = absurd (clash ((n == a) || ((b == a) || has_followed more a)) (later_of (n == a) ((b == a) || has_followed more a) u) unused)
-leaves-after_reply fd kept q (Cuts b from len taken more) r received a u unused = absurd (clash ((b == a) || has_followed more a) u unused)
-leaves-after_reply fd kept q (Offers b from len piece taken more) (reply.Count k) received a u unused = absurd (clash ((piece == a) || ((b == a) || has_followed more a)) u unused)
-leaves-after_reply fd kept q (Offers b from len piece taken more) (reply.Refused no.BrokenPipe) received a u unused = absurd (clash ((piece == a) || ((b == a) || has_followed more a)) u unused)
-leaves-after_reply fd kept q (Offers b from len piece taken more) r received a u unused = absurd (clash ((piece == a) || ((b == a) || has_followed more a)) u unused)
-leaves-after_reply fd kept q (Swaps b from len piece taken more) reply.Done received a u unused = (former_by (piece == a) ((b == a) || has_followed more a) u (swaps-more b from len taken more a (nat_lt from len) unused), refl)
-leaves-after_reply fd kept q (Swaps b from len piece taken more) r received a u unused = absurd (clash ((piece == a) || ((b == a) || has_followed more a)) u unused)
-leaves-after_reply fd kept q (Sent b taken more) reply.Done received a u unused = (former_by (b == a) (has_followed more a) u (proceeds-more q taken more a unused), refl)
-leaves-after_reply fd kept q (Sent b taken more) r received a u unused = absurd (clash ((b == a) || has_followed more a) u unused)
-leaves-after_reply fd kept q (Breaks piece b more) reply.Done received a u unused = (former_by (piece == a) ((b == a) || has_followed more a) u unused, refl)
-leaves-after_reply fd kept q (Breaks piece b more) r received a u unused = absurd (clash ((piece == a) || ((b == a) || has_followed more a)) u unused)
-leaves-after_reply fd kept q (Drops b more) reply.Done received a u unused = (former_by (b == a) (has_followed more a) u (drops-more more a unused), refl)
-leaves-after_reply fd kept q (Drops b more) r received a u unused = absurd (clash ((b == a) || has_followed more a) u unused)
+leaves-after_reply fd kept q (Joins b size body len) r received a u unused =
+    absurd (clash ((b == a) || (body == a)) u unused)
+leaves-after_reply fd kept q (Sends b len taken more) (reply.Count k) received a u unused =
+    absurd (leaves-sends fd kept q b len taken k more a (nat_lt k len) u unused)
+leaves-after_reply fd kept q (Sends b len taken more) (reply.Refused no.BrokenPipe) received a u unused =
+    absurd (clash ((b == a) || has_followed more a) u unused)
+leaves-after_reply fd kept q (Sends b len taken more) r received a u unused =
+    absurd (clash ((b == a) || has_followed more a) u unused)
+leaves-after_reply fd kept q (Cuts b from len taken more) (reply.Agg n) received a u unused =
+    absurd
+    (clash ((n == a) || ((b == a) || has_followed more a)) (later_of (n == a) ((b == a) || has_followed more a) u)
+    unused)
+leaves-after_reply fd kept q (Cuts b from len taken more) r received a u unused =
+    absurd (clash ((b == a) || has_followed more a) u unused)
+leaves-after_reply fd kept q (Offers b from len piece taken more) (reply.Count k) received a u unused =
+    absurd (clash ((piece == a) || ((b == a) || has_followed more a)) u unused)
+leaves-after_reply fd kept q (Offers b from len piece taken more) (reply.Refused no.BrokenPipe) received a u unused =
+    absurd (clash ((piece == a) || ((b == a) || has_followed more a)) u unused)
+leaves-after_reply fd kept q (Offers b from len piece taken more) r received a u unused =
+    absurd (clash ((piece == a) || ((b == a) || has_followed more a)) u unused)
+leaves-after_reply fd kept q (Swaps b from len piece taken more) reply.Done received a u unused = (
+  former_by (piece == a) ((b == a) || has_followed more a) u
+      (swaps-more b from len taken more a (nat_lt from len) unused),
+  refl,
+)
+leaves-after_reply fd kept q (Swaps b from len piece taken more) r received a u unused =
+    absurd (clash ((piece == a) || ((b == a) || has_followed more a)) u unused)
+leaves-after_reply fd kept q (Sent b taken more) reply.Done received a u unused =
+    (former_by (b == a) (has_followed more a) u (proceeds-more q taken more a unused), refl)
+leaves-after_reply fd kept q (Sent b taken more) r received a u unused =
+    absurd (clash ((b == a) || has_followed more a) u unused)
+leaves-after_reply fd kept q (Breaks piece b more) reply.Done received a u unused =
+    (former_by (piece == a) ((b == a) || has_followed more a) u unused, refl)
+leaves-after_reply fd kept q (Breaks piece b more) r received a u unused =
+    absurd (clash ((piece == a) || ((b == a) || has_followed more a)) u unused)
+leaves-after_reply fd kept q (Drops b more) reply.Done received a u unused =
+    (former_by (b == a) (has_followed more a) u (drops-more more a unused), refl)
+leaves-after_reply fd kept q (Drops b more) r received a u unused =
+    absurd (clash ((b == a) || has_followed more a) u unused)
 leaves-after_reply fd kept q d r received a u unused = absurd (cc (u))
 
 -- ---- the descriptor of a file that is used no more is closed
 
-pub shuts : (own : CallsServeTheirDomain) (m n : State) (fd : ℕ) (kept : List ℕ) (q : Answer) (d : Phase) (r : Reply) (received : List ℕ) (g : ℕ)
+pub shuts : (own : CallsServeTheirDomain) (m n : State) (fd : ℕ) (kept : List ℕ) (q : Answer) (d : Phase) (r : Reply)
+    (received : List ℕ) (g : ℕ)
     → StepsTo m (event.Call server (wants fd (at kept q d))) r n
     → uses_fd d g ≡ true → uses_fd (after_reply (at kept q d) r received).phase g ≡ false → descriptor n server g ≡ None
 shuts own m n fd kept q (Reading f) r received g step u unused = absurd (by r u unused)
@@ -148,7 +184,8 @@ shuts own m n fd kept q (Reading f) r received g step u unused = absurd (by r u 
     by r u unused = clash (f == g) u unused
 shuts own m n fd kept q (Shuts f k) r received g step u unused = by r (own.closes m n server f r step) unused
   where
-    by : (r : Reply) → o.Closes m server f r n → uses_fd (after_reply (at kept q (Shuts f k)) r received).phase g ≡ false
+    by : (r : Reply) → o.Closes m server f r n → uses_fd (after_reply (at kept q (Shuts f k)) r received).phase g
+        ≡ false
         → descriptor n server g ≡ None
     by reply.Done did unused = ap (λ z. descriptor n server z) (sym (same-number f g u)) ∙ did
     by (reply.Refused x) did unused = absurd (clash (f == g) u unused)
@@ -172,150 +209,194 @@ names_some (reply.Aggs x y) = true
 names_some r = false
 
 module _ (come : AggregatesComeAndGo) (own : CallsServeTheirDomain) (m n : State) (order : IsOrderly m)
-    (a : ℕ) (bytes : List ℕ) (before : readable_at m server a ≡ None) (after : readable_at n server a ≡ Some bytes) where
-  -- the reply names what comes
-  pub named : (e : Event) (r : Reply) → StepsTo m e r n → brings e r server a ≡ true
-  named e r step = by (brings e r server a) refl
-    where
-      by : (b : Bool) → brings e r server a ≡ b → brings e r server a ≡ true
-      by true is = is
-      by false is = (let none = come.none m n e r server a step before is in absurd (cc (none, after)))
-
-  -- nothing comes by a reply that names no aggregate
-  pub unnamed : (k : Call) (Word : Reply → Type 0) (r : Reply) → StepsTo m (event.Call server k) r n → Word r
-      → ((x : ℕ) → Word (reply.Agg x) → ⊥) → ((x y : ℕ) → Word (reply.Aggs x y) → ⊥) → ⊥
-  unnamed k Word r step did no_agg no_aggs = by r did (named-so k r (named (event.Call server k) r step))
-    where
-      named-so : (k : Call) (r : Reply) → brings (event.Call server k) r server a ≡ true → names_some r ≡ true
-      named-so (call.AggGive b to) (reply.Agg x) is = refl
-      named-so k (reply.Agg x) is = refl
-      named-so k (reply.Aggs x y) is = refl
-      named-so k r is = absurd (cc (is))
-
-      by : (r : Reply) → Word r → names_some r ≡ true → ⊥
-      by (reply.Agg x) did is = no_agg x did
-      by (reply.Aggs x y) did is = no_aggs x y did
-      by r did is = cc (is)
-
-  -- so to drop an aggregate brings none, nor does it to close, or to write
-  pub dropped : (b : ℕ) (r : Reply) → StepsTo m (event.Call server (call.AggDrop b)) r n → ⊥
-  dropped b r step = unnamed (call.AggDrop b) (λ x. o.Drops m server b x n) r step (own.drops m n server b r order step) (λ x bad. bad) (λ x y bad. bad)
-
-  pub closed : (g : ℕ) (r : Reply) → StepsTo m (event.Call server (call.Close g)) r n → ⊥
-  closed g r step = unnamed (call.Close g) (λ x. o.Closes m server g x n) r step (own.closes m n server g r step) (λ x bad. bad) (λ x y bad. bad)
-
-  pub written : (fd c b : ℕ) (sent : List ℕ) (r : Reply) → descriptor m server fd ≡ Some (on.Connection c)
-      → readable_at m server b ≡ Some sent → StepsTo m (event.Call server (call.IolWrite fd b)) r n → ⊥
-  written fd c b sent r open_on is_readable step =
-      unnamed (call.IolWrite fd b) (λ x. o.WritesConn m c sent x n) r step (own.write_conn m n server fd c b sent r order open_on is_readable step) (λ x bad. bad) (λ x y bad. bad)
-
-  -- what is made is named by the reply
-  pub made : (k : Call) (it : List ℕ) (uses : Reply → Bool) (r : Reply) → StepsTo m (event.Call server k) r n → o.Makes m server it r n
-      → ((x : ℕ) → brings (event.Call server k) (reply.Agg x) server a ≡ true → (x == a) ≡ true)
-      → ((x : Refusal) → brings (event.Call server k) (reply.Refused x) server a ≡ true → ⊥)
-      → ((x : ℕ) → (x == a) ≡ true → uses (reply.Agg x) ≡ true) → uses r ≡ true
-  made k it uses r step did number refused new = by r did (named (event.Call server k) r step)
-    where
-      by : (r : Reply) → o.Makes m server it r n → brings (event.Call server k) r server a ≡ true → uses r ≡ true
-      by (reply.Agg x) did is = new x (number x is)
-      by (reply.Refused x) did is = absurd (refused x is)
-      by r did is = absurd did
-
-  module _ (files : FileCallsServeTheirDomain) (kept : List ℕ) where
-    opened-nothing : (name : List ℕ) (r : Reply) → is_live m server ≡ true
-        → StepsTo m (event.Call server (call.OpenFile name modes.Read)) r n → ⊥
-    opened-nothing name r lives step = by r (files.opens m n server name modes.Read r lives step) (named (event.Call server (call.OpenFile name modes.Read)) r step)
+    (a : ℕ) (bytes : List ℕ) (before : readable_at m server a ≡ None) (after : readable_at n server a ≡ Some bytes)
+  where
+    -- the reply names what comes
+    pub named : (e : Event) (r : Reply) → StepsTo m e r n → brings e r server a ≡ true
+    named e r step = by (brings e r server a) refl
       where
-        by : (r : Reply) → of.Opening m server name modes.Read r n
-            → brings (event.Call server (call.OpenFile name modes.Read)) r server a ≡ true → ⊥
-        by (reply.Fd g) did is = cc (is)
-        by (reply.Refused x) did is = cc (is)
-        by r did is = did
+        by : (b : Bool) → brings e r server a ≡ b → brings e r server a ≡ true
+        by true is = is
+        by false is = (let none = come.none m n e r server a step before is in absurd (cc (none, after)))
 
-    rests : (fd c count : ℕ) (q : Answer) (r : Reply) (received : List ℕ) → descriptor m server fd ≡ Some (on.Connection c)
-        → StepsTo m (event.Call server (call.IolRead fd count)) r n → uses_agg (after_receive kept q r received).phase a ≡ true
-    rests fd c count q r received open_on step = by r received (own.read_conn m n server fd c count r order open_on step) (named (event.Call server (call.IolRead fd count)) r step)
+    -- nothing comes by a reply that names no aggregate
+    pub unnamed : (k : Call) (Word : Reply → Type 0) (r : Reply) → StepsTo m (event.Call server k) r n → Word r
+        → ((x : ℕ) → Word (reply.Agg x) → ⊥) → ((x y : ℕ) → Word (reply.Aggs x y) → ⊥) → ⊥
+    unnamed k Word r step did no_agg no_aggs = by r did (named-so k r (named (event.Call server k) r step))
       where
-        by : (r : Reply) (received : List ℕ) → o.ReadsConn m server c count r n
-            → brings (event.Call server (call.IolRead fd count)) r server a ≡ true
-            → uses_agg (after_receive kept q r received).phase a ≡ true
-        by (reply.Agg k) [] did is = former_of (k == a) false is
-        by (reply.Agg k) (b ∷ received) did is = is
-        by (reply.Refused x) received did is = absurd (cc (is))
-        by r received did is = absurd did
+        named-so : (k : Call) (r : Reply) → brings (event.Call server k) r server a ≡ true → names_some r ≡ true
+        named-so (call.AggGive b to) (reply.Agg x) is = refl
+        named-so k (reply.Agg x) is = refl
+        named-so k (reply.Aggs x y) is = refl
+        named-so k r is = absurd (cc (is))
 
-    pub reads : (q : Answer) (g i pos : ℕ) (r : Reply) (received : List ℕ) → HasAccess m → is_live m server ≡ true
-        → descriptor m server g ≡ Some (on.File i pos modes.Read) → (b : Bool)
-        → StepsTo m (event.Call server (if b then call.Length g else call.IolRead g most_read)) r n
-        → uses_agg (after_reply (at kept q (Reading g)) r received).phase a ≡ true
-    reads q g i pos r received access lives opened true step = absurd (by r (files.measures m n server g i pos modes.Read r lives opened step) (named (event.Call server (call.Length g)) r step))
+        by : (r : Reply) → Word r → names_some r ≡ true → ⊥
+        by (reply.Agg x) did is = no_agg x did
+        by (reply.Aggs x y) did is = no_aggs x y did
+        by r did is = cc (is)
+
+    -- so to drop an aggregate brings none, nor does it to close, or to write
+    pub dropped : (b : ℕ) (r : Reply) → StepsTo m (event.Call server (call.AggDrop b)) r n → ⊥
+    dropped b r step =
+        unnamed (call.AggDrop b) (λ x. o.Drops m server b x n) r step (own.drops m n server b r order step)
+        (λ x bad. bad) (λ x y bad. bad)
+
+    pub closed : (g : ℕ) (r : Reply) → StepsTo m (event.Call server (call.Close g)) r n → ⊥
+    closed g r step = unnamed (call.Close g) (λ x. o.Closes m server g x n) r step (own.closes m n server g r step)
+        (λ x bad. bad) (λ x y bad. bad)
+
+    pub written : (fd c b : ℕ) (sent : List ℕ) (r : Reply) → descriptor m server fd ≡ Some (on.Connection c)
+        → readable_at m server b ≡ Some sent → StepsTo m (event.Call server (call.IolWrite fd b)) r n → ⊥
+    written fd c b sent r open_on is_readable step =
+        unnamed (call.IolWrite fd b) (λ x. o.WritesConn m c sent x n) r step
+        (own.write_conn m n server fd c b sent r order open_on is_readable step) (λ x bad. bad) (λ x y bad. bad)
+
+    -- what is made is named by the reply
+    pub made : (k : Call) (it : List ℕ) (uses : Reply → Bool) (r : Reply) → StepsTo m (event.Call server k) r n
+        → o.Makes m server it r n
+        → ((x : ℕ) → brings (event.Call server k) (reply.Agg x) server a ≡ true → (x == a) ≡ true)
+        → ((x : Refusal) → brings (event.Call server k) (reply.Refused x) server a ≡ true → ⊥)
+        → ((x : ℕ) → (x == a) ≡ true → uses (reply.Agg x) ≡ true) → uses r ≡ true
+    made k it uses r step did number refused new = by r did (named (event.Call server k) r step)
       where
-        by : (r : Reply) → of.Reports m (length (content m i)) r n → brings (event.Call server (call.Length g)) r server a ≡ true → ⊥
-        by (reply.Count k) did is = cc (is)
-        by r did is = did
-    reads q g i pos r received access lives opened false step = by r (files.reads_file m n server g i pos most_read modes.Read r order lives (access.fds server g i pos modes.Read opened) refl opened step) (named (event.Call server (call.IolRead g most_read)) r step)
-      where
-        by : (r : Reply) → of.ReadsFile m server g i pos modes.Read (take most_read (drop pos (content m i))) r n
-            → brings (event.Call server (call.IolRead g most_read)) r server a ≡ true
-            → uses_agg (after_reply (at kept q (Reading g)) r received).phase a ≡ true
-        by (reply.Agg k) did is = is
-        by (reply.Refused x) did is = absurd (cc (is))
+        by : (r : Reply) → o.Makes m server it r n → brings (event.Call server k) r server a ≡ true → uses r ≡ true
+        by (reply.Agg x) did is = new x (number x is)
+        by (reply.Refused x) did is = absurd (refused x is)
         by r did is = absurd did
 
-    picks : (b first last len : ℕ) (q : Answer) (part : List ℕ) (r : Reply) (received : List ℕ) → readable_at m server b ≡ Some part
-        → StepsTo m (event.Call server (call.AggCut b first last)) r n
-        → uses_agg (after_reply (at kept q (Picks b first last len)) r received).phase a ≡ true
-    picks b first last len q part r received is_readable step =
-        made (call.AggCut b first last) (slice_range part first last) (λ z. uses_agg (after_reply (at kept q (Picks b first last len)) z received).phase a) r step
-        (own.cut m n server b first last part r order is_readable step) (λ x is. is) (λ x is. cc (is)) (λ x is. later_of (b == a) (x == a) is)
+    module _ (files : FileCallsServeTheirDomain) (kept : List ℕ) where
+      opened-nothing : (name : List ℕ) (r : Reply) → is_live m server ≡ true
+          → StepsTo m (event.Call server (call.OpenFile name modes.Read)) r n → ⊥
+      opened-nothing name r lives step =
+          by r (files.opens m n server name modes.Read r lives step)
+          (named (event.Call server (call.OpenFile name modes.Read)) r step)
+        where
+          by : (r : Reply) → of.Opening m server name modes.Read r n
+              → brings (event.Call server (call.OpenFile name modes.Read)) r server a ≡ true → ⊥
+          by (reply.Fd g) did is = cc (is)
+          by (reply.Refused x) did is = cc (is)
+          by r did is = did
 
-    heads : (fd : ℕ) (q : Answer) (k : Payload) (r : Reply) (received : List ℕ)
-        → StepsTo m (event.Call server (call.AggMake (text_of q k))) r n
-        → uses_agg (after_reply (at kept q (Heads k)) r received).phase a ≡ true
-    heads fd q k r received step =
-        made (call.AggMake (text_of q k)) (text_of q k) (λ z. uses_agg (after_reply (at kept q (Heads k)) z received).phase a) r step
-        (own.make m n server (text_of q k) r order step) (λ x is. is) (λ x is. cc (is)) (λ x is. headed-first x (count_of received) (following k) a is)
+      rests : (fd c count : ℕ) (q : Answer) (r : Reply) (received : List ℕ)
+          → descriptor m server fd ≡ Some (on.Connection c)
+          → StepsTo m (event.Call server (call.IolRead fd count)) r n
+          → uses_agg (after_receive kept q r received).phase a ≡ true
+      rests fd c count q r received open_on step =
+          by r received (own.read_conn m n server fd c count r order open_on step)
+          (named (event.Call server (call.IolRead fd count)) r step)
+        where
+          by : (r : Reply) (received : List ℕ) → o.ReadsConn m server c count r n
+              → brings (event.Call server (call.IolRead fd count)) r server a ≡ true
+              → uses_agg (after_receive kept q r received).phase a ≡ true
+          by (reply.Agg k) [] did is = former_of (k == a) false is
+          by (reply.Agg k) (b ∷ received) did is = is
+          by (reply.Refused x) received did is = absurd (cc (is))
+          by r received did is = absurd did
 
-    joins : (b size body len : ℕ) (q : Answer) (xs ys : List ℕ) (r : Reply) (received : List ℕ) → readable_at m server b ≡ Some xs
-        → readable_at m server body ≡ Some ys → StepsTo m (event.Call server (call.AggJoin b body)) r n
-        → uses_agg (after_reply (at kept q (Joins b size body len)) r received).phase a ≡ true
-    joins b size body len q xs ys r received is_readable more step =
-        made (call.AggJoin b body) (xs ++ ys) (λ z. uses_agg (after_reply (at kept q (Joins b size body len)) z received).phase a) r step
-        (own.join m n server b body xs ys r order is_readable more step) (λ x is. is) (λ x is. cc (is)) (λ x is. former_of (x == a) false is)
+      pub reads : (q : Answer) (g i pos : ℕ) (r : Reply) (received : List ℕ) → HasAccess m → is_live m server ≡ true
+          → descriptor m server g ≡ Some (on.File i pos modes.Read) → (b : Bool)
+          → StepsTo m (event.Call server (if b then call.Length g else call.IolRead g most_read)) r n
+          → uses_agg (after_reply (at kept q (Reading g)) r received).phase a ≡ true
+      reads q g i pos r received access lives opened true step =
+          absurd (by r (files.measures m n server g i pos modes.Read r lives opened step)
+          (named (event.Call server (call.Length g)) r step))
+        where
+          by : (r : Reply) → of.Reports m (length (content m i)) r n
+              → brings (event.Call server (call.Length g)) r server a ≡ true → ⊥
+          by (reply.Count k) did is = cc (is)
+          by r did is = did
+      reads q g i pos r received access lives opened false step =
+          by r (files.reads_file m n server g i pos most_read modes.Read r order lives
+          (access.fds server g i pos modes.Read opened) refl opened step)
+          (named (event.Call server (call.IolRead g most_read)) r step)
+        where
+          by : (r : Reply) → of.ReadsFile m server g i pos modes.Read (take most_read (drop pos (content m i))) r n
+              → brings (event.Call server (call.IolRead g most_read)) r server a ≡ true
+              → uses_agg (after_reply (at kept q (Reading g)) r received).phase a ≡ true
+          by (reply.Agg k) did is = is
+          by (reply.Refused x) did is = absurd (cc (is))
+          by r did is = absurd did
 
-    cuts : (b from len taken : ℕ) (more : Following) (q : Answer) (whole : List ℕ) (r : Reply) (received : List ℕ)
-        → readable_at m server b ≡ Some whole
-        → StepsTo m (event.Call server (call.AggCut b from (piece_end from len))) r n
-        → uses_agg (after_reply (at kept q (Cuts b from len taken more)) r received).phase a ≡ true
-    cuts b from len taken more q whole r received is_readable step =
-        made (call.AggCut b from (piece_end from len)) (slice_range whole from (piece_end from len)) (λ z. uses_agg (after_reply (at kept q (Cuts b from len taken more)) z received).phase a) r step
-        (own.cut m n server b from (piece_end from len) whole r order is_readable step) (λ x is. is) (λ x is. cc (is)) (λ x is. former_of (x == a) ((b == a) || has_followed more a) is)
+      picks : (b first last len : ℕ) (q : Answer) (part : List ℕ) (r : Reply) (received : List ℕ)
+          → readable_at m server b ≡ Some part
+          → StepsTo m (event.Call server (call.AggCut b first last)) r n
+          → uses_agg (after_reply (at kept q (Picks b first last len)) r received).phase a ≡ true
+      picks b first last len q part r received is_readable step =
+          made (call.AggCut b first last) (slice_range part first last)
+          (λ z. uses_agg (after_reply (at kept q (Picks b first last len)) z received).phase a) r step
+          (own.cut m n server b first last part r order is_readable step) (λ x is. is) (λ x is. cc (is))
+          (λ x is. later_of (b == a) (x == a) is)
 
-    pub brought : (fd c : ℕ) (q : Answer) (d : Phase) (expected : List ℕ) (r : Reply) (received : List ℕ) → HasAccess m → is_live m server ≡ true
-        → descriptor m server fd ≡ Some (on.Connection c) → Has m q expected d
-        → StepsTo m (event.Call server (wants fd (at kept q d))) r n → uses_agg (after_reply (at kept q d) r received).phase a ≡ true
-    brought fd c q Rests expected r received access lives open_on has step = rests fd c (most_kept - length kept) q r received open_on step
-    brought fd c q (Got b) expected r received access lives open_on has step = absurd (dropped b r step)
-    brought fd c q Opens expected r received access lives open_on has step = absurd (opened-nothing (name_of q) r lives step)
-    brought fd c q (Reading g) expected r received access lives open_on has step = reads q g has.1.0 has.1.1 r received access lives has.1.2 (is_head_only q) step
-    brought fd c q (Shuts g k) expected r received access lives open_on has step = absurd (closed g r step)
-    brought fd c q (Picks b first last len) expected r received access lives open_on has step = picks b first last len q has.bytes r received has.is_readable step
-    brought fd c q (Spares b k) expected r received access lives open_on has step = absurd (dropped b r step)
-    brought fd c q (Heads k) expected r received access lives open_on has step = heads fd q k r received step
-    brought fd c q (Joins b size body len) expected r received access lives open_on has step = joins b size body len q has.0.bytes has.0.after r received has.0.is_readable has.0.follows.0 step
-    brought fd c q (Sends b len taken more) expected r received access lives open_on has step = absurd (written fd c b has.bytes r open_on has.is_readable step)
-    brought fd c q (Cuts b from len taken more) expected r received access lives open_on has step = cuts b from len taken more q has.0.bytes r received has.0.is_readable step
-    brought fd c q (Offers b from len piece taken more) expected r received access lives open_on has step = absurd (written fd c piece (slice_range has.whole.bytes from (piece_end from len)) r open_on has.is_readable step)
-    brought fd c q (Swaps b from len piece taken more) expected r received access lives open_on has step = absurd (dropped piece r step)
-    brought fd c q (Sent b taken more) expected r received access lives open_on has step = absurd (dropped b r step)
-    brought fd c q (Breaks piece b more) expected r received access lives open_on has step = absurd (dropped piece r step)
-    brought fd c q (Drops b more) expected r received access lives open_on has step = absurd (dropped b r step)
-    brought fd c q Closes expected r received access lives open_on has step = absurd (closed fd r step)
-    brought fd c q Over expected r received access lives open_on has step = absurd has
+      heads : (fd : ℕ) (q : Answer) (k : Payload) (r : Reply) (received : List ℕ)
+          → StepsTo m (event.Call server (call.AggMake (text_of q k))) r n
+          → uses_agg (after_reply (at kept q (Heads k)) r received).phase a ≡ true
+      heads fd q k r received step =
+          made (call.AggMake (text_of q k)) (text_of q k)
+          (λ z. uses_agg (after_reply (at kept q (Heads k)) z received).phase a) r step
+          (own.make m n server (text_of q k) r order step) (λ x is. is) (λ x is. cc (is))
+          (λ x is. headed-first x (count_of received) (following k) a is)
+
+      joins : (b size body len : ℕ) (q : Answer) (xs ys : List ℕ) (r : Reply) (received : List ℕ)
+          → readable_at m server b ≡ Some xs
+          → readable_at m server body ≡ Some ys → StepsTo m (event.Call server (call.AggJoin b body)) r n
+          → uses_agg (after_reply (at kept q (Joins b size body len)) r received).phase a ≡ true
+      joins b size body len q xs ys r received is_readable more step =
+          made (call.AggJoin b body) (xs ++ ys)
+          (λ z. uses_agg (after_reply (at kept q (Joins b size body len)) z received).phase a) r step
+          (own.join m n server b body xs ys r order is_readable more step) (λ x is. is) (λ x is. cc (is))
+          (λ x is. former_of (x == a) false is)
+
+      cuts : (b from len taken : ℕ) (more : Following) (q : Answer) (whole : List ℕ) (r : Reply) (received : List ℕ)
+          → readable_at m server b ≡ Some whole
+          → StepsTo m (event.Call server (call.AggCut b from (piece_end from len))) r n
+          → uses_agg (after_reply (at kept q (Cuts b from len taken more)) r received).phase a ≡ true
+      cuts b from len taken more q whole r received is_readable step =
+          made (call.AggCut b from (piece_end from len)) (slice_range whole from (piece_end from len))
+          (λ z. uses_agg (after_reply (at kept q (Cuts b from len taken more)) z received).phase a) r step
+          (own.cut m n server b from (piece_end from len) whole r order is_readable step) (λ x is. is) (λ x is. cc (is))
+          (λ x is. former_of (x == a) ((b == a) || has_followed more a) is)
+
+      pub brought : (fd c : ℕ) (q : Answer) (d : Phase) (expected : List ℕ) (r : Reply) (received : List ℕ)
+          → HasAccess m
+          → is_live m server ≡ true
+          → descriptor m server fd ≡ Some (on.Connection c) → Has m q expected d
+          → StepsTo m (event.Call server (wants fd (at kept q d))) r n
+          → uses_agg (after_reply (at kept q d) r received).phase a ≡ true
+      brought fd c q Rests expected r received access lives open_on has step =
+          rests fd c (most_kept - length kept) q r received open_on step
+      brought fd c q (Got b) expected r received access lives open_on has step = absurd (dropped b r step)
+      brought fd c q Opens expected r received access lives open_on has step =
+          absurd (opened-nothing (name_of q) r lives step)
+      brought fd c q (Reading g) expected r received access lives open_on has step =
+          reads q g has.1.0 has.1.1 r received access lives has.1.2 (is_head_only q) step
+      brought fd c q (Shuts g k) expected r received access lives open_on has step = absurd (closed g r step)
+      brought fd c q (Picks b first last len) expected r received access lives open_on has step =
+          picks b first last len q has.bytes r received has.is_readable step
+      brought fd c q (Spares b k) expected r received access lives open_on has step = absurd (dropped b r step)
+      brought fd c q (Heads k) expected r received access lives open_on has step = heads fd q k r received step
+      brought fd c q (Joins b size body len) expected r received access lives open_on has step =
+          joins b size body len q has.0.bytes has.0.after r received has.0.is_readable has.0.follows.0 step
+      brought fd c q (Sends b len taken more) expected r received access lives open_on has step =
+          absurd (written fd c b has.bytes r open_on has.is_readable step)
+      brought fd c q (Cuts b from len taken more) expected r received access lives open_on has step =
+          cuts b from len taken more q has.0.bytes r received has.0.is_readable step
+      brought fd c q (Offers b from len piece taken more) expected r received access lives open_on has step =
+          absurd (written fd c piece (slice_range has.whole.bytes from (piece_end from len)) r open_on has.is_readable
+          step)
+      brought fd c q (Swaps b from len piece taken more) expected r received access lives open_on has step =
+          absurd (dropped piece r step)
+      brought fd c q (Sent b taken more) expected r received access lives open_on has step = absurd (dropped b r step)
+      brought fd c q (Breaks piece b more) expected r received access lives open_on has step =
+          absurd (dropped piece r step)
+      brought fd c q (Drops b more) expected r received access lives open_on has step = absurd (dropped b r step)
+      brought fd c q Closes expected r received access lives open_on has step = absurd (closed fd r step)
+      brought fd c q Over expected r received access lives open_on has step = absurd has
 
 pub keeps_nothing : AggregatesComeAndGo → CallsServeTheirDomain → FileCallsServeTheirDomain → KeepsNothing
 keeps_nothing come own files = record {
-  brought = λ m n fd c x o r received bytes a order access lives open_on has step before after. brought come own m n order a bytes before after files x.kept fd c x.q x.phase (response x.q o) r received access lives open_on has step;
+  brought = λ m n fd c x o r received bytes a order access lives open_on has step before after. brought come own m n
+      order a bytes before after files x.kept fd c x.q x.phase (response x.q o) r received access lives open_on has
+      step;
   opened = conn-opened;
   left = λ m n fd x r received a order step u unused.
       let gives = leaves-after_reply fd x.kept x.q x.phase r received a u unused in

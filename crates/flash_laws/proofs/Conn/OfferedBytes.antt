@@ -1,5 +1,6 @@
 -- The offered bytes are those of the response that are not yet taken, for every run.
-use Rattle.std.proofs.Common.{◌≡◌, ℕ, ◌+◌, ◌-◌, ◌≤◌, List, [], ◌∷◌, ◌++◌, length, take, drop, ap, ◌∙◌, refl, sym, subst, Some, None, true, false, Bool, append_assoc, if◌then◌else◌}
+use Rattle.std.proofs.Common.{◌≡◌, ℕ, ◌+◌, ◌-◌, ◌≤◌, List, [], ◌∷◌, ◌++◌, length, take, drop, ap, ◌∙◌, refl, sym, subst}
+use Rattle.std.proofs.Common.{Some, None, true, false, Bool, append_assoc, if◌then◌else◌}
 use Rattle.std.specs.Prelude.{slice_range}
 use Rattle.std.proofs.lemmas.List.{take-append-drop}
 use Rattle.iol_core.specs.Access.{HasAccess}
@@ -24,9 +25,12 @@ use Rattle.iol_laws.specs.RefusalsLeft.{RefusalsThatAreLeft}
 use Rattle.flash_http.specs.Range.{selected}
 use Rattle.flash_http.specs.Request.{Answer, serve, refuse, Wanted}
 use Rattle.flash_laws.specs.Answers.{Outcome, Found, Failed, body_unless, chosen, file_text, unsatisfiable, response}
-use Rattle.flash_laws.specs.Conn.{is_head_only, most_read, piece_end, name_of, wants, begins, status_of, after_receive, after_reply}
+use Rattle.flash_laws.specs.Conn.{is_head_only, most_read, piece_end, name_of, wants, begins, status_of, after_receive}
+use Rattle.flash_laws.specs.Conn.{after_reply}
 use Rattle.flash_laws.specs.declared.phase.Phase.{Phase}
-use Rattle.flash_laws.specs.declared.phase.Phase.TheVariants.{Rests, Got, Opens, Reads as Reading, Shuts, Picks, Spares, Heads, Joins, Sends, Cuts, Offers, Swaps, Sent, Breaks, Drops}
+use Rattle.flash_laws.specs.declared.phase.Phase.TheVariants.{Rests, Got, Opens, Reads as Reading, Shuts, Picks, Spares}
+use Rattle.flash_laws.specs.declared.phase.Phase.TheVariants.{Heads, Joins, Sends, Cuts, Offers, Swaps, Sent, Breaks}
+use Rattle.flash_laws.specs.declared.phase.Phase.TheVariants.{Drops}
 use Rattle.flash_laws.specs.Conn.Fits.{IsFile, Has, is_closing, Names}
 use Rattle.flash_laws.specs.Site.{server}
 use Rattle.flash_laws.specs.Conn.OfferedBytes.{HasAnswer, FirstCall, Learns, taken_of, IsNextOf, OffersTheResponse}
@@ -53,15 +57,24 @@ next-of : (m : State) (fd a : ℕ) (kept : List ℕ) (q : Answer) (d : Phase) (o
     → Has m q (response q o) d → wants fd (at kept q d) ≡ call.IolWrite fd a → IsNextOf m q o a (taken_of d)
 next-of m fd a kept q (Sends b len taken more) o has is =
     let same : b ≡ a = ap (λ k. written k b) is in
-    record { bytes = has.bytes; after = has.after; is_readable = ap (λ z. readable_at m server z) (sym same) ∙ has.is_readable; next = has.next }
+    record {
+      bytes = has.bytes;
+      after = has.after;
+      is_readable = ap (λ z. readable_at m server z) (sym same)
+          ∙ has.is_readable;
+      next = has.next;
+    }
 next-of m fd a kept q (Offers b from len piece taken more) o has is =
     let same : piece ≡ a = ap (λ k. written k piece) is in
     record {
       bytes = slice_range has.whole.bytes from (piece_end from len);
       after = drop (piece_end from len - from) (drop from has.whole.bytes) ++ has.whole.after;
       is_readable = ap (λ z. readable_at m server z) (sym same) ∙ has.is_readable;
-      next = sym (append_assoc (slice_range has.whole.bytes from (piece_end from len)) (drop (piece_end from len - from) (drop from has.whole.bytes)) has.whole.after)
-          ∙ (ap (λ (l : List ℕ). l ++ has.whole.after) (take-append-drop (piece_end from len - from) (drop from has.whole.bytes)) ∙ has.whole.next);
+      next =
+          sym (append_assoc (slice_range has.whole.bytes from (piece_end from len))
+          (drop (piece_end from len - from) (drop from has.whole.bytes)) has.whole.after)
+          ∙ (ap (λ (l : List ℕ). l ++ has.whole.after)
+          (take-append-drop (piece_end from len - from) (drop from has.whole.bytes)) ∙ has.whole.next);
     }
 next-of m fd a kept q (Reading f) o has is = absurd (by (is_head_only q) is)
   where
@@ -74,7 +87,8 @@ module _ (steps : EachStepLeavesTheRest) (own : CallsServeTheirDomain) (files : 
     (m n : State) (order : IsOrderly m) (lives : is_live m server ≡ true) (kept : List ℕ) where
   -- the outcome after a reply, with which the machine has what is needed
   abbrev AfterReply : Answer → Phase → Reply → (received : List ℕ) → Outcome → Type 0
-  AfterReply q d r received before = (after : Outcome) × Learns d r received before after × HasAnswer n (after_reply (at kept q d) r received) after
+  AfterReply q d r received before = (after : Outcome) × Learns d r received before after
+      × HasAnswer n (after_reply (at kept q d) r received) after
 
   opens : (q : Answer) (r : Reply) (received : List ℕ) (before : Outcome)
       → Has m q (response q before) Opens
@@ -93,11 +107,13 @@ module _ (steps : EachStepLeavesTheRest) (own : CallsServeTheirDomain) (files : 
 
   reads : (w : Wanted) (g i pos : ℕ) (r : Reply) (received : List ℕ) (before : Outcome)
       → descriptor m server g ≡ Some (on.File i pos modes.Read) → may_read m server (file m i).pool ≡ true
-      → StepsTo m (event.Call server (if w.head_only then call.Length g else call.IolRead g most_read)) r n → Names n r received → AfterReply (serve w) (Reading g) r received before
+      → StepsTo m (event.Call server (if w.head_only then call.Length g else call.IolRead g most_read)) r n
+      → Names n r received → AfterReply (serve w) (Reading g) r received before
   reads w g i pos r received before opened may step names = which w.head_only refl step
     where
       still : n ≡ m → IsFile n g
-      still same = (i, pos, subst (λ (s : State). descriptor s server g ≡ Some (on.File i pos modes.Read)) (sym same) opened)
+      still same =
+          (i, pos, subst (λ (s : State). descriptor s server g ≡ Some (on.File i pos modes.Read)) (sym same) opened)
 
       measured : (r : Reply) → w.head_only ≡ true → of.Reports m (length (content m i)) r n
           → AfterReply (serve w) (Reading g) r received before
@@ -106,8 +122,10 @@ module _ (steps : EachStepLeavesTheRest) (own : CallsServeTheirDomain) (files : 
         (content m i, did.0, refl),
         (
           still did.1,
-          (ap (λ b. file_text w (length (content m i)) ++ body_unless b (chosen (selected w.range (length (content m i))) (content m i))) is
-              ∙ (ap (λ z. file_text w z ++ []) (sym did.0) ∙ ap (λ b. file_text w k ++ body_unless b unsatisfiable) (sym is))),
+          (ap (λ b. file_text w (length (content m i))
+              ++ body_unless b (chosen (selected w.range (length (content m i))) (content m i))) is
+              ∙ (ap (λ z. file_text w z ++ []) (sym did.0)
+              ∙ ap (λ b. file_text w k ++ body_unless b unsatisfiable) (sym is))),
         ),
       )
       measured r is did = absurd did
@@ -121,7 +139,15 @@ module _ (steps : EachStepLeavesTheRest) (own : CallsServeTheirDomain) (files : 
             refl,
             (
               (i, pos + length (take most_read (drop pos (content m i))), did.moves),
-              record { bytes = received; is_readable = names; count = counted received (subst (λ (l : List ℕ). length l ≤ most_read) same (short-take most_read (drop pos (content m i)))); whole = is; expected_is = refl },
+              record {
+                bytes = received;
+                is_readable = names;
+                count =
+                    counted received
+                    (subst (λ (l : List ℕ). length l ≤ most_read) same (short-take most_read (drop pos (content m i))));
+                whole = is;
+                expected_is = refl;
+              },
             ),
           )
       whole (reply.Refused no.WouldBlock) is did names = (Failed 503, refl, (tt, still did.1))
@@ -132,7 +158,8 @@ module _ (steps : EachStepLeavesTheRest) (own : CallsServeTheirDomain) (files : 
           → StepsTo m (event.Call server (if b then call.Length g else call.IolRead g most_read)) r n
           → AfterReply (serve w) (Reading g) r received before
       which true is step = measured r is (files.measures m n server g i pos modes.Read r lives opened step)
-      which false is step = whole r is (files.reads_file m n server g i pos most_read modes.Read r order lives may refl opened step) names
+      which false is step =
+          whole r is (files.reads_file m n server g i pos most_read modes.Read r order lives may refl opened step) names
 
   -- what is read of the stream is there to be dropped
   rests : (q : Answer) (r : Reply) (received : List ℕ) (o : Outcome) → Names n r received
@@ -144,50 +171,83 @@ module _ (steps : EachStepLeavesTheRest) (own : CallsServeTheirDomain) (files : 
   -- any call of a connection but its last
   pub replied : (fd c : ℕ) (q : Answer) (d : Phase) (r : Reply) (received : List ℕ) (before : Outcome)
       → HasAccess m → descriptor m server fd ≡ Some (on.Connection c) → is_closing d ≡ false
-      → Has m q (response q before) d → StepsTo m (event.Call server (wants fd (at kept q d))) r n → Names n r received → AfterReply q d r received before
-  replied fd c q Rests r received before access open_on open_yet has step names = (before, refl, rests q r received before names)
-  replied fd c q (Got x) r received before access open_on open_yet has step names = (before, refl, got r (own.drops m n server x r order step))
+      → Has m q (response q before) d → StepsTo m (event.Call server (wants fd (at kept q d))) r n → Names n r received
+      → AfterReply q d r received before
+  replied fd c q Rests r received before access open_on open_yet has step names =
+      (before, refl, rests q r received before names)
+  replied fd c q (Got x) r received before access open_on open_yet has step names =
+      (before, refl, got r (own.drops m n server x r order step))
     where
       got : (r : Reply) → o.Drops m server x r n → HasAnswer n (after_reply (at kept q (Got x)) r received) before
       got reply.Done did = tt
       got (reply.Refused y) did = subst (λ (s : State). Has s q (response q before) (Got x)) (sym did) has
       got r did = absurd did
   replied fd c q Opens r received before access open_on open_yet has step names = opens q r received before has step
-  replied fd c (refuse status head_only close) (Reading g) r received before access open_on open_yet has step names = absurd has.0
-  replied fd c (serve w) (Reading g) r received before access open_on open_yet has step names = reads w g has.1.0 has.1.1 r received before has.1.2 (access.fds server g has.1.0 has.1.1 modes.Read has.1.2) step names
-  replied fd c q (Shuts g k) r received before access open_on open_yet has step names = (before, refl, having.shuts steps own m n order q g k (response q before) r has step)
-  replied fd c q (Picks x first last len) r received before access open_on open_yet has step names = (before, refl, having.picks steps own m n order q x first last len (response q before) r has step)
-  replied fd c q (Spares x k) r received before access open_on open_yet has step names = (before, refl, having.spares steps own m n order q x k (response q before) r has step)
-  replied fd c q (Heads k) r received before access open_on open_yet has step names = (before, refl, having.heads steps own m n order q k (response q before) r received has step names)
-  replied fd c q (Joins x size body len) r received before access open_on open_yet has step names = (before, refl, having.joins steps own m n order q x size body len (response q before) r has step)
-  replied fd c q (Sends x len taken more) r received before access open_on open_yet has step names = (before, refl, having.sends steps own m n order q fd c x len taken more (response q before) r open_on has step)
-  replied fd c q (Cuts x from len taken more) r received before access open_on open_yet has step names = (before, refl, having.cuts steps own m n order q x from len taken more (response q before) r has step)
-  replied fd c q (Offers x from len piece taken more) r received before access open_on open_yet has step names = (before, refl, having.offers_piece steps own m n order q fd c x from len piece taken more (response q before) r open_on has step)
-  replied fd c q (Swaps x from len piece taken more) r received before access open_on open_yet has step names = (before, refl, having.swaps steps own m n order q x from len piece taken more (response q before) r has step)
-  replied fd c q (Sent x taken more) r received before access open_on open_yet has step names = (before, refl, having.sent_all steps own m n order q x taken more (response q before) r has step)
-  replied fd c q (Breaks piece x more) r received before access open_on open_yet has step names = (before, refl, having.breaks steps own m n order q piece x more (response q before) r has step)
-  replied fd c q (Drops x more) r received before access open_on open_yet has step names = (before, refl, having.drops steps own m n order q x more (response q before) r has step)
+  replied fd c (refuse status head_only close) (Reading g) r received before access open_on open_yet has step names =
+      absurd has.0
+  replied fd c (serve w) (Reading g) r received before access open_on open_yet has step names =
+      reads w g has.1.0 has.1.1 r received before has.1.2 (access.fds server g has.1.0 has.1.1 modes.Read has.1.2) step
+      names
+  replied fd c q (Shuts g k) r received before access open_on open_yet has step names =
+      (before, refl, having.shuts steps own m n order q g k (response q before) r has step)
+  replied fd c q (Picks x first last len) r received before access open_on open_yet has step names =
+      (before, refl, having.picks steps own m n order q x first last len (response q before) r has step)
+  replied fd c q (Spares x k) r received before access open_on open_yet has step names =
+      (before, refl, having.spares steps own m n order q x k (response q before) r has step)
+  replied fd c q (Heads k) r received before access open_on open_yet has step names =
+      (before, refl, having.heads steps own m n order q k (response q before) r received has step names)
+  replied fd c q (Joins x size body len) r received before access open_on open_yet has step names =
+      (before, refl, having.joins steps own m n order q x size body len (response q before) r has step)
+  replied fd c q (Sends x len taken more) r received before access open_on open_yet has step names =
+      (before, refl, having.sends steps own m n order q fd c x len taken more (response q before) r open_on has step)
+  replied fd c q (Cuts x from len taken more) r received before access open_on open_yet has step names =
+      (before, refl, having.cuts steps own m n order q x from len taken more (response q before) r has step)
+  replied fd c q (Offers x from len piece taken more) r received before access open_on open_yet has step names = (
+    before,
+    refl,
+    having.offers_piece steps own m n order q fd c x from len piece taken more (response q before) r
+        open_on has step,
+  )
+  replied fd c q (Swaps x from len piece taken more) r received before access open_on open_yet has step names =
+      (before, refl, having.swaps steps own m n order q x from len piece taken more (response q before) r has step)
+  replied fd c q (Sent x taken more) r received before access open_on open_yet has step names =
+      (before, refl, having.sent_all steps own m n order q x taken more (response q before) r has step)
+  replied fd c q (Breaks piece x more) r received before access open_on open_yet has step names =
+      (before, refl, having.breaks steps own m n order q piece x more (response q before) r has step)
+  replied fd c q (Drops x more) r received before access open_on open_yet has step names =
+      (before, refl, having.drops steps own m n order q x more (response q before) r has step)
   replied fd c q other r received before access open_on open_yet has step names = absurd (cc (open_yet))
 
 -- where the response is sent all of it is taken
-whole : (m : State) (q : Answer) (expected : List ℕ) (d : Phase) (a taken : ℕ) → d ≡ Sent a taken None → Has m q expected d → drop taken expected ≡ []
+whole : (m : State) (q : Answer) (expected : List ℕ) (d : Phase) (a taken : ℕ) → d ≡ Sent a taken None
+    → Has m q expected d → drop taken expected ≡ []
 whole m q expected d a taken is has =
     let all : Has m q expected (Sent a taken None) = subst (λ (e : Phase). Has m q expected e) is has in
     sym all.next ∙ all.follows
 
-pub offers_the_response : EachStepLeavesTheRest → CallsServeTheirDomain → FileCallsServeTheirDomain → RefusalsTellWhy → RefusalsThatAreLeft → OffersTheResponse
+pub offers_the_response : EachStepLeavesTheRest → CallsServeTheirDomain → FileCallsServeTheirDomain → RefusalsTellWhy
+    → RefusalsThatAreLeft → OffersTheResponse
 offers_the_response steps own files why may = record {
   starts = starts;
-  replied = λ m n fd c x r received before order access lives open_on open_yet has step names. replied steps own files m n order lives x.kept fd c x.q x.phase r received before access open_on open_yet has step names;
-  stays = λ m n x e r o step aggs fds has. has-stays m n x.q (response x.q o) x.phase (λ a l u readable. readable-stays steps m n e r step a l readable (aggs a u)) (λ g y u opens. (steps.leaves m n e r step).fds server g y opens (fds g u)) has;
+  replied = λ m n fd c x r received before order access lives open_on open_yet has step names. replied steps own files m
+      n order lives x.kept fd c x.q x.phase r received before access open_on open_yet has step names;
+  stays =
+      λ m n x e r o step aggs fds has. has-stays m n x.q (response x.q o) x.phase
+      (λ a l u readable. readable-stays steps m n e r step a l readable (aggs a u))
+      (λ g y u opens. (steps.leaves m n e r step).fds server g y opens (fds g u)) has;
   offers = λ m fd a x o has is. next-of m fd a x.kept x.q x.phase o has is;
-  takes = λ m n fd c x r received o order open_on has step at_is on busy. takes own m n order fd c open_on x.q (response x.q o) x.kept x.phase r received has step at_is on busy;
+  takes = λ m n fd c x r received o order open_on has step at_is on busy. takes own m n order fd c open_on x.q
+      (response x.q o) x.kept x.phase r received has step at_is on busy;
   whole = λ m x o a taken is has. whole m x.q (response x.q o) x.phase a taken is has;
-  breaks = λ m n fd c x r received o open_on busy has step at_is off. breaks why m n fd c open_on x.kept x.q received x.phase r busy step at_is off;
-  closes = λ m n fd c x r received order lives open_on is step. closes own may m n fd c x.kept x.q x.phase r received order lives open_on is step;
+  breaks = λ m n fd c x r received o open_on busy has step at_is off. breaks why m n fd c open_on x.kept x.q received
+      x.phase r busy step at_is off;
+  closes = λ m n fd c x r received order lives open_on is step. closes own may m n fd c x.kept x.q x.phase r received
+      order lives open_on is step;
   rank = λ x. rank x.q x.phase;
   nears = λ m n fd c x r received o order lives open_on busy has can step names.
-      conn-nears own may m n fd c x.kept x.q x.phase (response x.q o) r received order lives open_on busy has can step names;
-  reads = λ m n fd c x r received lives open_on rests step same. conn-reads why may m n fd c x.kept x.q x.phase r received lives open_on rests step same;
+      conn-nears own may m n fd c x.kept x.q x.phase (response x.q o) r received order lives open_on busy has can step
+      names;
+  reads = λ m n fd c x r received lives open_on rests step same. conn-reads why may m n fd c x.kept x.q x.phase r
+      received lives open_on rests step same;
   moves = conn-moves;
 }

@@ -1,5 +1,7 @@
 -- A call for a file reduces the rank of its request, or is retried later.
-use Rattle.std.proofs.Common.{inl, inr, ◌≡◌, ◌≢◌, ℕ, ◌+◌, ◌*◌, ◌-◌, ◌==◌, ◌<◌, ◌≤◌, ◌⊎◌, List, [], ◌∷◌, ◌++◌, length, drop, ap, ◌∙◌, refl, sym, subst, arith, Option, Some, None, true, false, Bool, length-drop, if◌then◌else◌}
+use Rattle.std.proofs.Common.{inl, inr, ◌≡◌, ◌≢◌, ℕ, ◌+◌, ◌*◌, ◌-◌, ◌==◌, ◌<◌, ◌≤◌, ◌⊎◌, List, [], ◌∷◌, ◌++◌, length}
+use Rattle.std.proofs.Common.{drop, ap, ◌∙◌, refl, sym, subst, arith, Option, Some, None, true, false, Bool}
+use Rattle.std.proofs.Common.{length-drop, if◌then◌else◌}
 use Rattle.std.specs.Prelude.{min, nat_lt, nat_le, unwrap_or, option_map, slice_range, ◌&&◌}
 use Rattle.std.proofs.lemmas.Bool.Decides.{nat_tests}
 use Rattle.std.proofs.lemmas.List.{length-map, length-take-le}
@@ -22,13 +24,18 @@ use Rattle.iol_laws.specs.Caller as o
 use Rattle.iol_laws.specs.Caller.{CallsServeTheirDomain, readable_at}
 use Rattle.iol_laws.specs.Order.{IsOrderly}
 use Rattle.iol_laws.specs.Reasons.{IsHidden, RefusalsTellWhy}
-use Rattle.iol_laws.specs.RefusalsLeft.{RefusalsThatAreLeft, LacksNumbers, LacksNumbersOrRoom, LacksNumbersOrHasNothingToRead, CannotPut}
+use Rattle.iol_laws.specs.RefusalsLeft.{RefusalsThatAreLeft, LacksNumbers, LacksNumbersOrRoom}
+use Rattle.iol_laws.specs.RefusalsLeft.{LacksNumbersOrHasNothingToRead, CannotPut}
 use Rattle.flash_http.specs.declared.ranges.Selection.{Selection}
 use Rattle.flash_http.specs.declared.ranges.Selection.TheVariants.{Bytes}
 use Rattle.flash_http.specs.Range.{selected}
 use Rattle.flash_http.specs.Request.{Answer, serve, refuse}
 use Rattle.flash_laws.specs.Answers.{keeps}
-use Rattle.flash_laws.specs.Conn.{Following, Conn, is_head_only, most_kept, most_read, name_of, text_of, piece_end, count_of, wants, sends_of, resolved, following, headed, after_receive, after_open, after_read, after_close_file, after_slice, after_drop_whole, after_head, after_join, after_send, after_cut, moved_on, after_offer, after_swap, proceeds, after_taken, after_break, drops_next, after_drop, after_discard, after_reply}
+use Rattle.flash_laws.specs.Conn.{Following, Conn, is_head_only, most_kept, most_read, name_of, text_of, piece_end}
+use Rattle.flash_laws.specs.Conn.{count_of, wants, sends_of, resolved, following, headed, after_receive, after_open}
+use Rattle.flash_laws.specs.Conn.{after_read, after_close_file, after_slice, after_drop_whole, after_head, after_join}
+use Rattle.flash_laws.specs.Conn.{after_send, after_cut, moved_on, after_offer, after_swap, proceeds, after_taken}
+use Rattle.flash_laws.specs.Conn.{after_break, drops_next, after_drop, after_discard, after_reply}
 use Rattle.flash_laws.specs.Conn.Fits.{Has, Names}
 use Rattle.flash_laws.specs.Conn.Progress.{Rank, IsBelow, Nears, HasPlaceFor, CanMake, is_busy}
 use Rattle.flash_laws.specs.Conn.Policy.{is_later}
@@ -38,7 +45,9 @@ use Rattle.flash_laws.specs.declared.phase.FileResult.TheVariants.{File}
 use Rattle.flash_laws.specs.declared.phase.Payload.{Payload}
 use Rattle.flash_laws.specs.declared.phase.Payload.TheVariants.{Body}
 use Rattle.flash_laws.specs.declared.phase.Phase.{Phase}
-use Rattle.flash_laws.specs.declared.phase.Phase.TheVariants.{Rests, Got, Opens, Reads as Reading, Shuts, Picks, Spares, Heads, Joins, Sends, Cuts, Offers, Swaps, Sent, Breaks, Drops, Closes}
+use Rattle.flash_laws.specs.declared.phase.Phase.TheVariants.{Rests, Got, Opens, Reads as Reading, Shuts, Picks, Spares}
+use Rattle.flash_laws.specs.declared.phase.Phase.TheVariants.{Heads, Joins, Sends, Cuts, Offers, Swaps, Sent, Breaks}
+use Rattle.flash_laws.specs.declared.phase.Phase.TheVariants.{Drops, Closes}
 use Rattle.flash_laws.proofs.Forms.{at}
 use Rattle.flash_laws.proofs.Conn.Responses.{some-inj}
 use Rattle.flash_laws.proofs.Conn.ReadableBytes.{text-same}
@@ -106,12 +115,14 @@ lacks-room-later p z has = absurd has
 
 -- ---- each call that a request makes
 
-module _ (own : CallsServeTheirDomain) (may : RefusalsThatAreLeft) (m n : State) (order : IsOrderly m) (lives : is_live m server ≡ true)
+module _ (own : CallsServeTheirDomain) (may : RefusalsThatAreLeft) (m n : State) (order : IsOrderly m)
+    (lives : is_live m server ≡ true)
     {A : Type 0} (rank_of : A → Rank) (x : A) (y : Reply → A) where
   abbrev pub Near : Reply → Type 0
   Near r = Nears rank_of x r (y r)
 
-  pub drops : (a : ℕ) (bytes : List ℕ) (r : Reply) → readable_at m server a ≡ Some bytes → StepsTo m (event.Call server (call.AggDrop a)) r n
+  pub drops : (a : ℕ) (bytes : List ℕ) (r : Reply) → readable_at m server a ≡ Some bytes
+      → StepsTo m (event.Call server (call.AggDrop a)) r n
       → IsBelow (rank_of (y reply.Done)) (rank_of x) → Near r
   drops a bytes r readable step below = by r (own.drops m n server a r order step) step
     where
@@ -120,7 +131,8 @@ module _ (own : CallsServeTheirDomain) (may : RefusalsThatAreLeft) (m n : State)
       by (reply.Refused z) did step = absurd (may.drops m n server a bytes z lives readable step)
       by r did step = absurd did
 
-  pub closes : (g : ℕ) (d : Descriptor) (r : Reply) → descriptor m server g ≡ Some d → StepsTo m (event.Call server (call.Close g)) r n
+  pub closes : (g : ℕ) (d : Descriptor) (r : Reply) → descriptor m server g ≡ Some d
+      → StepsTo m (event.Call server (call.Close g)) r n
       → IsBelow (rank_of (y reply.Done)) (rank_of x) → Near r
   closes g d r opened step below = by r (own.closes m n server g r step) step
     where
@@ -129,42 +141,61 @@ module _ (own : CallsServeTheirDomain) (may : RefusalsThatAreLeft) (m n : State)
       by (reply.Refused z) did step = absurd (may.closes m n server g d z lives opened step)
       by r did step = absurd did
 
-  pub makes : (bytes received : List ℕ) (r : Reply) → HasPlaceFor m bytes → StepsTo m (event.Call server (call.AggMake bytes)) r n → Names n r received
-      → ((k : ℕ) → received ≡ bytes → IsBelow (rank_of (y (reply.Agg k))) (rank_of x)) → ((z : Refusal) → y (reply.Refused z) ≡ x) → Near r
+  pub makes : (bytes received : List ℕ) (r : Reply) → HasPlaceFor m bytes
+      → StepsTo m (event.Call server (call.AggMake bytes)) r n → Names n r received
+      → ((k : ℕ) → received ≡ bytes → IsBelow (rank_of (y (reply.Agg k))) (rank_of x))
+      → ((z : Refusal) → y (reply.Refused z) ≡ x) → Near r
   makes bytes received r placed step names below same = by r (own.make m n server bytes r order step) step names
     where
-      by : (r : Reply) → o.Makes m server bytes r n → StepsTo m (event.Call server (call.AggMake bytes)) r n → Names n r received → Near r
+      by : (r : Reply) → o.Makes m server bytes r n → StepsTo m (event.Call server (call.AggMake bytes)) r n
+          → Names n r received → Near r
       by (reply.Agg k) did step names = inl (below k (some-inj received bytes (sym names ∙ did.0)))
-      by (reply.Refused z) did step names = inr (same z, lacks-room-later placed.place z (may.make m n server placed.place bytes z lives placed.default placed.open_yet placed.fits step))
+      by (reply.Refused z) did step names =
+          inr (
+            same z,
+            lacks-room-later placed.place z
+                (may.make m n server placed.place bytes z lives placed.default placed.open_yet
+                placed.fits step),
+          )
       by r did step names = absurd did
 
-  pub cuts : (a from to : ℕ) (bytes : List ℕ) (r : Reply) → readable_at m server a ≡ Some bytes → from ≤ to → to ≤ length bytes
+  pub cuts : (a from to : ℕ) (bytes : List ℕ) (r : Reply) → readable_at m server a ≡ Some bytes → from ≤ to
+      → to ≤ length bytes
       → StepsTo m (event.Call server (call.AggCut a from to)) r n
       → ((k : ℕ) → IsBelow (rank_of (y (reply.Agg k))) (rank_of x)) → ((z : Refusal) → y (reply.Refused z) ≡ x) → Near r
-  cuts a from to bytes r readable order_is within step below same = by r (own.cut m n server a from to bytes r order readable step) step
+  cuts a from to bytes r readable order_is within step below same =
+      by r (own.cut m n server a from to bytes r order readable step) step
     where
-      by : (r : Reply) → o.Makes m server (slice_range bytes from to) r n → StepsTo m (event.Call server (call.AggCut a from to)) r n → Near r
+      by : (r : Reply) → o.Makes m server (slice_range bytes from to) r n
+          → StepsTo m (event.Call server (call.AggCut a from to)) r n → Near r
       by (reply.Agg k) did step = inl (below k)
-      by (reply.Refused z) did step = inr (same z, lacks-later z (may.cut m n server a from to bytes z lives readable order_is within step))
+      by (reply.Refused z) did step =
+          inr (same z, lacks-later z (may.cut m n server a from to bytes z lives readable order_is within step))
       by r did step = absurd did
 
-  pub joins : (a b : ℕ) (xs ys : List ℕ) (r : Reply) → readable_at m server a ≡ Some xs → readable_at m server b ≡ Some ys → a ≢ b
+  pub joins : (a b : ℕ) (xs ys : List ℕ) (r : Reply) → readable_at m server a ≡ Some xs
+      → readable_at m server b ≡ Some ys → a ≢ b
       → length xs + length ys ≤ MAX_AGGREGATE_BYTES → StepsTo m (event.Call server (call.AggJoin a b)) r n
       → ((k : ℕ) → IsBelow (rank_of (y (reply.Agg k))) (rank_of x)) → ((z : Refusal) → y (reply.Refused z) ≡ x) → Near r
-  joins a b xs ys r readable_a readable_b apart short step below same = by r (own.join m n server a b xs ys r order readable_a readable_b step) step
+  joins a b xs ys r readable_a readable_b apart short step below same =
+      by r (own.join m n server a b xs ys r order readable_a readable_b step) step
     where
       by : (r : Reply) → o.Makes m server (xs ++ ys) r n → StepsTo m (event.Call server (call.AggJoin a b)) r n → Near r
       by (reply.Agg k) did step = inl (below k)
-      by (reply.Refused z) did step = inr (same z, lacks-later z (may.join m n server a b xs ys z lives readable_a readable_b apart short step))
+      by (reply.Refused z) did step =
+          inr (same z, lacks-later z (may.join m n server a b xs ys z lives readable_a readable_b apart short step))
       by r did step = absurd did
 
   -- to a connection; what nobody takes is not offered again
-  pub writes : (fd c a : ℕ) (bytes : List ℕ) (r : Reply) → descriptor m server fd ≡ Some (on.Connection c) → readable_at m server a ≡ Some bytes
+  pub writes : (fd c a : ℕ) (bytes : List ℕ) (r : Reply) → descriptor m server fd ≡ Some (on.Connection c)
+      → readable_at m server a ≡ Some bytes
       → StepsTo m (event.Call server (call.IolWrite fd a)) r n
-      → ((k : ℕ) → StepsTo m (event.Call server (call.IolWrite fd a)) (reply.Count k) n → o.Puts m c bytes k n → IsBelow (rank_of (y (reply.Count k))) (rank_of x))
+      → ((k : ℕ) → StepsTo m (event.Call server (call.IolWrite fd a)) (reply.Count k) n → o.Puts m c bytes k n
+      → IsBelow (rank_of (y (reply.Count k))) (rank_of x))
       → IsBelow (rank_of (y (reply.Refused no.BrokenPipe))) (rank_of x)
       → y (reply.Refused no.WouldBlock) ≡ x → y (reply.Refused no.Memory) ≡ x → Near r
-  writes fd c a bytes r open_on readable step below broken blocked wanting = by r (own.write_conn m n server fd c a bytes r order open_on readable step) step
+  writes fd c a bytes r open_on readable step below broken blocked wanting =
+      by r (own.write_conn m n server fd c a bytes r order open_on readable step) step
     where
       refused : (z : Refusal) → CannotPut z → Near (reply.Refused z)
       refused no.BrokenPipe put = inl broken
@@ -174,12 +205,14 @@ module _ (own : CallsServeTheirDomain) (may : RefusalsThatAreLeft) (m n : State)
 
       by : (r : Reply) → o.WritesConn m c bytes r n → StepsTo m (event.Call server (call.IolWrite fd a)) r n → Near r
       by (reply.Count k) puts step = inl (below k step puts)
-      by (reply.Refused z) did step = refused z (may.writes_queue m n server fd a (on.Connection c) bytes z lives open_on refl refl readable step)
+      by (reply.Refused z) did step =
+          refused z (may.writes_queue m n server fd a (on.Connection c) bytes z lives open_on refl refl readable step)
       by r did step = absurd did
 
 -- ---- some bytes are taken of what has some
 
-text-long : (m : State) (a : ℕ) (bytes : List ℕ) → readable_at m server a ≡ Some bytes → length (text m server a) ≡ length bytes
+text-long : (m : State) (a : ℕ) (bytes : List ℕ) → readable_at m server a ≡ Some bytes
+    → length (text m server a) ≡ length bytes
 text-long m a bytes readable = by (aggregate m server a) readable
   where
     by : (t : Option Text) → option_map bytes_of t ≡ Some bytes → length (unwrap_or t []) ≡ length bytes
@@ -190,7 +223,8 @@ abbrev counted : Reply → ℕ
 counted (reply.Count j) = j
 counted r = 0
 
-some-of : (k f l : ℕ) (bytes : List ℕ) → k ≡ f → l ≡ length bytes → (nat_lt 0 l && (f == 0)) ≡ false → 0 < length bytes → 0 < k
+some-of : (k f l : ℕ) (bytes : List ℕ) → k ≡ f → l ≡ length bytes → (nat_lt 0 l && (f == 0)) ≡ false → 0 < length bytes
+    → 0 < k
 some-of k f l bytes after_reply long fits some =
     let big : nat_lt 0 l ≡ true = grind (arith, nat_tests, long, some) in
     let not_none : (f == 0) ≡ false = subst (λ b. (b && (f == 0)) ≡ false) big fits in
@@ -200,11 +234,14 @@ some-taken : (m n : State) (fd a k : ℕ) (bytes : List ℕ) → readable_at m s
     → StepsTo m (event.Call server (call.IolWrite fd a)) (reply.Count k) n → 0 < k
 some-taken m n fd a k bytes readable some step =
     let to : Option Descriptor = descriptor m server fd in
-    some-of k (fitting m to (length (text m server a))) (length (text m server a)) bytes (ap (λ (z : Reply). counted z) step.1) (text-long m a bytes readable)
-    (when-none no.WouldBlock (takes_none m to (length (text m server a))) (passed (meaning m (event.Call server (call.IolWrite fd a))).refusals 6 step.0)) some
+    some-of k (fitting m to (length (text m server a))) (length (text m server a)) bytes
+    (ap (λ (z : Reply). counted z) step.1) (text-long m a bytes readable)
+    (when-none no.WouldBlock (takes_none m to (length (text m server a)))
+    (passed (meaning m (event.Call server (call.IolWrite fd a))).refusals 6 step.0)) some
 
 -- a piece has some bytes, where some are left
-some-piece : (from len : ℕ) (bytes : List ℕ) → from < len → len ≡ length bytes → 0 < length (slice_range bytes from (piece_end from len))
+some-piece : (from len : ℕ) (bytes : List ℕ) → from < len → len ≡ length bytes
+    → 0 < length (slice_range bytes from (piece_end from len))
 some-piece from len bytes some size =
     let all = length-drop from bytes in
     let within : piece_end from len - from ≤ length (drop from bytes) = omega (arith, all, size) in
@@ -225,10 +262,13 @@ resolved-near (serve w) f (File a len) = by (selected w.range len)
 resolved-near (refuse status head_only close) f (File a len) = inr (refl, omega arith)
 resolved-near q f k = inr (refl, omega arith)
 
-headed-near : (q : Answer) (a size : ℕ) (k : Payload) → size ≤ length (text_of q k) → IsBelow (rank q (headed a size (following k))) (rank q (Heads k))
+headed-near : (q : Answer) (a size : ℕ) (k : Payload) → size ≤ length (text_of q k)
+    → IsBelow (rank q (headed a size (following k))) (rank q (Heads k))
 headed-near q a size (Body b s len) short = by (nat_le (size + s) MAX_AGGREGATE_BYTES)
   where
-    by : (fits : Bool) → IsBelow (rank q (if fits then Joins a size b s else Sends a size 0 (Some (b, s)))) (rank q (Heads (Body b s len)))
+    by : (fits : Bool)
+        → IsBelow (rank q (if fits then Joins a size b s else Sends a size 0 (Some (b, s))))
+        (rank q (Heads (Body b s len)))
     by true = falls q (Joins a size b s) (Heads (Body b s len)) refl (omega (arith, short))
     by false = falls q (Sends a size 0 (Some (b, s))) (Heads (Body b s len)) refl (omega (arith, short))
 headed-near q a size k short = falls q (Sends a size 0 None) (Heads k) refl (omega (arith, short))
@@ -237,7 +277,8 @@ some-after : (more : Following) → 1 ≤ sent_after more
 some-after None = omega arith
 some-after (Some x) = omega arith
 
-drops-near : (q : Answer) (a len taken : ℕ) (more : Following) → IsBelow (rank q (Drops a more)) (rank q (Sends a len taken more))
+drops-near : (q : Answer) (a len taken : ℕ) (more : Following)
+    → IsBelow (rank q (Drops a more)) (rank q (Sends a len taken more))
 drops-near q a len taken None = falls q (Drops a None) (Sends a len taken None) refl (omega arith)
 drops-near q a len taken (Some x) = falls q (Drops a (Some x)) (Sends a len taken (Some x)) refl (omega arith)
 
@@ -245,7 +286,8 @@ few-drops : (more : Following) → drops_left more < 3
 few-drops None = omega arith
 few-drops (Some x) = omega arith
 
-goes-near : (q : Answer) (a taken : ℕ) (more : Following) → IsBelow (rank q (proceeds q taken more)) (rank q (Sent a taken more))
+goes-near : (q : Answer) (a taken : ℕ) (more : Following)
+    → IsBelow (rank q (proceeds q taken more)) (rank q (Sent a taken more))
 goes-near q a taken (Some x) = falls q (Sends x.0 x.1 taken None) (Sent a taken (Some x)) refl (omega arith)
 goes-near q a taken None = by (keeps q)
   where
@@ -262,14 +304,17 @@ counts-short received bytes same = let e = ap (λ (l : List ℕ). length l) same
 
 -- ---- each phase
 
-module _ (own : CallsServeTheirDomain) (may : RefusalsThatAreLeft) (m n : State) (order : IsOrderly m) (lives : is_live m server ≡ true) where
-  opens : (q : Answer) (name : List ℕ) (r : Reply) → StepsTo m (event.Call server (call.OpenFile name modes.Read)) r n → Nears (rank q) Opens r (after_open r)
+module _ (own : CallsServeTheirDomain) (may : RefusalsThatAreLeft) (m n : State) (order : IsOrderly m)
+    (lives : is_live m server ≡ true) where
+  opens : (q : Answer) (name : List ℕ) (r : Reply) → StepsTo m (event.Call server (call.OpenFile name modes.Read)) r n
+      → Nears (rank q) Opens r (after_open r)
   opens q name (reply.Fd f) step = inl (inl (omega arith))
   opens q name (reply.Refused no.WouldBlock) step = inr (refl, refl)
   opens q name (reply.Refused z) step = inl (inl (omega arith))
   opens q name r step = let e = step.1 in absurd (cc (e))
 
-  reads : (q : Answer) (f : ℕ) (b : Bool) (r : Reply) (received : List ℕ) → StepsTo m (event.Call server (if b then call.Length f else call.IolRead f most_read)) r n
+  reads : (q : Answer) (f : ℕ) (b : Bool) (r : Reply) (received : List ℕ)
+      → StepsTo m (event.Call server (if b then call.Length f else call.IolRead f most_read)) r n
       → Nears (rank q) (Reading f) r (after_read f r received)
   reads q f b (reply.Agg k) received step = inl (inl (omega arith))
   reads q f b (reply.Count k) received step = inl (inl (omega arith))
@@ -278,116 +323,166 @@ module _ (own : CallsServeTheirDomain) (may : RefusalsThatAreLeft) (m n : State)
   reads q f true r received step = let e = step.1 in absurd (cc (e))
   reads q f false r received step = let e = step.1 in absurd (cc (e))
 
-  sends : (q : Answer) (fd c a len taken : ℕ) (more : Following) (bytes : List ℕ) (r : Reply) → descriptor m server fd ≡ Some (on.Connection c)
+  sends : (q : Answer) (fd c a len taken : ℕ) (more : Following) (bytes : List ℕ) (r : Reply)
+      → descriptor m server fd ≡ Some (on.Connection c)
       → readable_at m server a ≡ Some bytes → StepsTo m (event.Call server (call.IolWrite fd a)) r n
       → Nears (rank q) (Sends a len taken more) r (after_send a len taken more r)
   sends q fd c a len taken more bytes r open_on readable step =
-      writes own may m n order lives (rank q) (Sends a len taken more) (λ z. after_send a len taken more z) fd c a bytes r open_on readable step
+      writes own may m n order lives (rank q) (Sends a len taken more) (λ z. after_send a len taken more z) fd c a bytes
+      r open_on readable step
       (λ k did puts. by k (nat_lt k len)) (drops-near q a len taken more) refl refl
     where
-      by : (k : ℕ) (b : Bool) → IsBelow (rank q (if b then Cuts a k len (taken + k) more else Sent a (taken + len) more)) (rank q (Sends a len taken more))
+      by : (k : ℕ) (b : Bool)
+          → IsBelow (rank q (if b then Cuts a k len (taken + k) more else Sent a (taken + len) more))
+          (rank q (Sends a len taken more))
       by k true = falls q (Cuts a k len (taken + k) more) (Sends a len taken more) refl (omega arith)
       by k false = falls q (Sent a (taken + len) more) (Sends a len taken more) refl (omega arith)
 
-  offers : (q : Answer) (fd c a from len piece taken : ℕ) (more : Following) (bytes : List ℕ) (r : Reply) → descriptor m server fd ≡ Some (on.Connection c)
-      → readable_at m server piece ≡ Some (slice_range bytes from (piece_end from len)) → from < len → len ≡ length bytes
+  offers : (q : Answer) (fd c a from len piece taken : ℕ) (more : Following) (bytes : List ℕ) (r : Reply)
+      → descriptor m server fd ≡ Some (on.Connection c)
+      → readable_at m server piece ≡ Some (slice_range bytes from (piece_end from len)) → from < len
+      → len ≡ length bytes
       → StepsTo m (event.Call server (call.IolWrite fd piece)) r n
       → Nears (rank q) (Offers a from len piece taken more) r (after_offer a from len piece taken more r)
   offers q fd c a from len piece taken more bytes r open_on readable some size step =
-      writes own may m n order lives (rank q) (Offers a from len piece taken more) (λ z. after_offer a from len piece taken more z) fd c piece
+      writes own may m n order lives (rank q) (Offers a from len piece taken more)
+      (λ z. after_offer a from len piece taken more z) fd c piece
       (slice_range bytes from (piece_end from len)) r open_on readable step
-      (λ k did puts. taken-some k (some-taken m n fd piece k (slice_range bytes from (piece_end from len)) readable (some-piece from len bytes some size) did))
-      (falls q (Breaks piece a more) (Offers a from len piece taken more) refl (let one = some-after more in omega (arith, one, some))) refl refl
+      (λ k did puts. taken-some k (some-taken m n fd piece k (slice_range bytes from (piece_end from len)) readable
+      (some-piece from len bytes some size) did))
+      (falls q (Breaks piece a more) (Offers a from len piece taken more) refl (let one = some-after more in
+      omega (arith, one, some))) refl refl
     where
-      taken-some : (k : ℕ) → 0 < k → IsBelow (rank q (moved_on a from len piece taken more (min k (len - from)))) (rank q (Offers a from len piece taken more))
-      taken-some k one = falls q (moved_on a from len piece taken more (min k (len - from))) (Offers a from len piece taken more) refl (omega (arith, one, some))
+      taken-some : (k : ℕ) → 0 < k
+          → IsBelow (rank q (moved_on a from len piece taken more (min k (len - from))))
+          (rank q (Offers a from len piece taken more))
+      taken-some k one =
+          falls q (moved_on a from len piece taken more (min k (len - from))) (Offers a from len piece taken more) refl
+          (omega (arith, one, some))
 
-  swaps : (q : Answer) (a from len piece taken : ℕ) (more : Following) (bytes : List ℕ) (r : Reply) → readable_at m server piece ≡ Some bytes
-      → StepsTo m (event.Call server (call.AggDrop piece)) r n → Nears (rank q) (Swaps a from len piece taken more) r (after_swap a from len piece taken more r)
+  swaps : (q : Answer) (a from len piece taken : ℕ) (more : Following) (bytes : List ℕ) (r : Reply)
+      → readable_at m server piece ≡ Some bytes
+      → StepsTo m (event.Call server (call.AggDrop piece)) r n
+      → Nears (rank q) (Swaps a from len piece taken more) r (after_swap a from len piece taken more r)
   swaps q a from len piece taken more bytes r readable step =
-      drops own may m n order lives (rank q) (Swaps a from len piece taken more) (λ z. after_swap a from len piece taken more z) piece bytes r readable step (by (nat_lt from len))
+      drops own may m n order lives (rank q) (Swaps a from len piece taken more)
+      (λ z. after_swap a from len piece taken more z) piece bytes r readable step (by (nat_lt from len))
     where
-      by : (b : Bool) → IsBelow (rank q (if b then Cuts a from len taken more else Sent a taken more)) (rank q (Swaps a from len piece taken more))
+      by : (b : Bool)
+          → IsBelow (rank q (if b then Cuts a from len taken more else Sent a taken more))
+          (rank q (Swaps a from len piece taken more))
       by true = falls q (Cuts a from len taken more) (Swaps a from len piece taken more) refl (omega arith)
       by false = falls q (Sent a taken more) (Swaps a from len piece taken more) refl (omega arith)
 
-  pub near : (fd c : ℕ) (kept : List ℕ) (q : Answer) (d : Phase) (expected : List ℕ) (r : Reply) (received : List ℕ) → descriptor m server fd ≡ Some (on.Connection c)
-      → is_busy d ≡ true → Has m q expected d → CanMake m (wants fd (at kept q d)) → StepsTo m (event.Call server (wants fd (at kept q d))) r n → Names n r received
+  pub near : (fd c : ℕ) (kept : List ℕ) (q : Answer) (d : Phase) (expected : List ℕ) (r : Reply) (received : List ℕ)
+      → descriptor m server fd ≡ Some (on.Connection c)
+      → is_busy d ≡ true → Has m q expected d → CanMake m (wants fd (at kept q d))
+      → StepsTo m (event.Call server (wants fd (at kept q d))) r n → Names n r received
       → Nears (rank q) d r (after_reply (at kept q d) r received).phase
   near fd c kept q (Got a) expected r received open_on busy has can step names =
-      drops own may m n order lives (rank q) (Got a) (λ z. after_discard a z) a has.0 r has.1 step (falls q Rests (Got a) refl (omega arith))
+      drops own may m n order lives (rank q) (Got a) (λ z. after_discard a z) a has.0 r has.1 step
+      (falls q Rests (Got a) refl (omega arith))
   near fd c kept q Opens expected r received open_on busy has can step names = opens q (name_of q) r step
-  near fd c kept q (Reading f) expected r received open_on busy has can step names = reads q f (is_head_only q) r received step
+  near fd c kept q (Reading f) expected r received open_on busy has can step names =
+      reads q f (is_head_only q) r received step
   near fd c kept q (Shuts f k) expected r received open_on busy has can step names =
-      closes own may m n order lives (rank q) (Shuts f k) (λ z. after_close_file q f k z) f (on.File has.0.0 has.0.1 modes.Read) r has.0.2 step (resolved-near q f k)
+      closes own may m n order lives (rank q) (Shuts f k) (λ z. after_close_file q f k z) f
+      (on.File has.0.0 has.0.1 modes.Read) r has.0.2 step (resolved-near q f k)
   near fd c kept q (Picks a from to len) expected r received open_on busy has can step names =
-      cuts own may m n order lives (rank q) (Picks a from to len) (λ z. after_slice a from to len z) a from to has.bytes r has.is_readable
+      cuts own may m n order lives (rank q) (Picks a from to len) (λ z. after_slice a from to len z) a from to has.bytes
+      r has.is_readable
       (let some = has.some in omega (arith, some)) (within-part from to has.bytes has.some has.count) step
       (λ k. let same = ap (λ (l : List ℕ). length l) (text-same q a k (to - from) (to - from) len) in
       falls q (Spares a (Body k (to - from) len)) (Picks a from to len) refl (omega (arith, same))) (λ z. refl)
   near fd c kept q (Spares a k) expected r received open_on busy has can step names =
-      drops own may m n order lives (rank q) (Spares a k) (λ z. after_drop_whole a k z) a has.0.0 r has.0.1 step (falls q (Heads k) (Spares a k) refl (omega arith))
+      drops own may m n order lives (rank q) (Spares a k) (λ z. after_drop_whole a k z) a has.0.0 r has.0.1 step
+      (falls q (Heads k) (Spares a k) refl (omega arith))
   near fd c kept q (Heads k) expected r received open_on busy has can step names =
-      makes own may m n order lives (rank q) (Heads k) (λ z. after_head k z received) (text_of q k) received r can step names
+      makes own may m n order lives (rank q) (Heads k) (λ z. after_head k z received) (text_of q k) received r can step
+      names
       (λ a same. headed-near q a (count_of received) k (counts-short received (text_of q k) same)) (λ z. refl)
   near fd c kept q (Joins a size body len) expected r received open_on busy has can step names =
-      joins own may m n order lives (rank q) (Joins a size body len) (λ z. after_join a size body len z) a body has.0.bytes has.0.after r has.0.is_readable has.0.follows.0
+      joins own may m n order lives (rank q) (Joins a size body len) (λ z. after_join a size body len z) a body
+      has.0.bytes has.0.after r has.0.is_readable has.0.follows.0
       (differ a body (turned body a has.0.apart))
       (let one = has.0.size in let two = has.0.follows.1 in let fits = has.1 in omega (arith, one, two, fits)) step
       (λ k. falls q (Sends k (size + len) 0 None) (Joins a size body len) refl (omega arith)) (λ z. refl)
-  near fd c kept q (Sends a len taken more) expected r received open_on busy has can step names = sends q fd c a len taken more has.bytes r open_on has.is_readable step
+  near fd c kept q (Sends a len taken more) expected r received open_on busy has can step names =
+      sends q fd c a len taken more has.bytes r open_on has.is_readable step
   near fd c kept q (Cuts a from len taken more) expected r received open_on busy has can step names =
-      cuts own may m n order lives (rank q) (Cuts a from len taken more) (λ z. after_cut a from len taken more z) a from (piece_end from len) has.0.bytes r has.0.is_readable
+      cuts own may m n order lives (rank q) (Cuts a from len taken more) (λ z. after_cut a from len taken more z) a from
+      (piece_end from len) has.0.bytes r has.0.is_readable
       (let some = has.1 in omega (arith, some)) (let size = has.0.size in omega (arith, size)) step
       (λ k. falls q (Offers a from len k taken more) (Cuts a from len taken more) refl (omega arith)) (λ z. refl)
   near fd c kept q (Offers a from len piece taken more) expected r received open_on busy has can step names =
       offers q fd c a from len piece taken more has.whole.bytes r open_on has.is_readable has.some has.whole.size step
-  near fd c kept q (Swaps a from len piece taken more) expected r received open_on busy has can step names = swaps q a from len piece taken more has.0.0 r has.0.1 step
+  near fd c kept q (Swaps a from len piece taken more) expected r received open_on busy has can step names =
+      swaps q a from len piece taken more has.0.0 r has.0.1 step
   near fd c kept q (Sent a taken more) expected r received open_on busy has can step names =
-      drops own may m n order lives (rank q) (Sent a taken more) (λ z. after_taken q a taken more z) a has.bytes r has.is_readable step (goes-near q a taken more)
+      drops own may m n order lives (rank q) (Sent a taken more) (λ z. after_taken q a taken more z) a has.bytes r
+      has.is_readable step (goes-near q a taken more)
   near fd c kept q (Breaks piece a more) expected r received open_on busy has can step names =
-      drops own may m n order lives (rank q) (Breaks piece a more) (λ z. after_break piece a more z) piece has.0.0 r has.0.1 step
+      drops own may m n order lives (rank q) (Breaks piece a more) (λ z. after_break piece a more z) piece has.0.0 r
+      has.0.1 step
       (falls q (Drops a more) (Breaks piece a more) refl (few-drops more))
   near fd c kept q (Drops a more) expected r received open_on busy has can step names =
-      drops own may m n order lives (rank q) (Drops a more) (λ z. after_drop a more z) a has.readable.0 r has.readable.1 step (next-near q a more)
+      drops own may m n order lives (rank q) (Drops a more) (λ z. after_drop a more z) a has.readable.0 r has.readable.1
+      step (next-near q a more)
   near fd c kept q d expected r received open_on busy has can step names = absurd (cc (busy))
 
 -- ---- of a connection
 
-after_reply-at : (kept : List ℕ) (q : Answer) (d : Phase) (r : Reply) (received : List ℕ) → is_busy d ≡ true → after_reply (at kept q d) r received ≡ at kept q (after_reply (at kept q d) r received).phase
+after_reply-at : (kept : List ℕ) (q : Answer) (d : Phase) (r : Reply) (received : List ℕ) → is_busy d ≡ true
+    → after_reply (at kept q d) r received ≡ at kept q (after_reply (at kept q d) r received).phase
 after_reply-at kept q Rests r received busy = absurd (cc (busy))
 after_reply-at kept q d r received busy = refl
 
-lift : (kept : List ℕ) (q : Answer) (d e : Phase) (r : Reply) → Nears (rank q) d r e → Nears (λ (x : Conn). rank x.q x.phase) (at kept q d) r (at kept q e)
+lift : (kept : List ℕ) (q : Answer) (d e : Phase) (r : Reply) → Nears (rank q) d r e
+    → Nears (λ (x : Conn). rank x.q x.phase) (at kept q d) r (at kept q e)
 lift kept q d e r (inl below) = inl below
 lift kept q d e r (inr same) = inr (ap (λ z. at kept q z) same.0, same.1)
 
-pub conn-nears : CallsServeTheirDomain → RefusalsThatAreLeft → (m n : State) (fd c : ℕ) (kept : List ℕ) (q : Answer) (d : Phase) (expected : List ℕ) (r : Reply) (received : List ℕ)
-    → IsOrderly m → is_live m server ≡ true → descriptor m server fd ≡ Some (on.Connection c) → is_busy d ≡ true → Has m q expected d
-    → CanMake m (wants fd (at kept q d)) → StepsTo m (event.Call server (wants fd (at kept q d))) r n → Names n r received
+pub conn-nears : CallsServeTheirDomain → RefusalsThatAreLeft
+    → (m n : State) (fd c : ℕ) (kept : List ℕ) (q : Answer) (d : Phase) (expected : List ℕ) (r : Reply)
+    (received : List ℕ)
+    → IsOrderly m → is_live m server ≡ true → descriptor m server fd ≡ Some (on.Connection c) → is_busy d ≡ true
+    → Has m q expected d
+    → CanMake m (wants fd (at kept q d)) → StepsTo m (event.Call server (wants fd (at kept q d))) r n
+    → Names n r received
     → Nears (λ (x : Conn). rank x.q x.phase) (at kept q d) r (after_reply (at kept q d) r received)
 conn-nears own may m n fd c kept q d expected r received order lives open_on busy has can step names =
-    subst (λ (z : Conn). Nears (λ (x : Conn). rank x.q x.phase) (at kept q d) r z) (sym (after_reply-at kept q d r received busy))
-    (lift kept q d (after_reply (at kept q d) r received).phase r (near own may m n order lives fd c kept q d expected r received open_on busy has can step names))
+    subst (λ (z : Conn). Nears (λ (x : Conn). rank x.q x.phase) (at kept q d) r z)
+    (sym (after_reply-at kept q d r received busy))
+    (lift kept q d (after_reply (at kept q d) r received).phase r
+    (near own may m n order lives fd c kept q d expected r received open_on busy has can step names))
 
 -- what is read of the stream is read again only later, or where it is hidden
-pub conn-reads : RefusalsTellWhy → RefusalsThatAreLeft → (m n : State) (fd c : ℕ) (kept : List ℕ) (q : Answer) (d : Phase) (r : Reply) (received : List ℕ) → is_live m server ≡ true
-    → descriptor m server fd ≡ Some (on.Connection c) → d ≡ Rests → StepsTo m (event.Call server (wants fd (at kept q d))) r n → after_reply (at kept q d) r received ≡ at kept q d
+pub conn-reads : RefusalsTellWhy → RefusalsThatAreLeft
+    → (m n : State) (fd c : ℕ) (kept : List ℕ) (q : Answer) (d : Phase) (r : Reply) (received : List ℕ)
+    → is_live m server ≡ true
+    → descriptor m server fd ≡ Some (on.Connection c) → d ≡ Rests
+    → StepsTo m (event.Call server (wants fd (at kept q d))) r n
+    → after_reply (at kept q d) r received ≡ at kept q d
     → (is_later r ≡ true) ⊎ ((p : ℕ) × IsHidden m server p (conn_at m c).incoming)
 conn-reads why may m n fd c kept q Rests r received lives open_on rests step same = by r received step same
   where
-    refused : (z : Refusal) → LacksNumbersOrHasNothingToRead z → StepsTo m (event.Call server (call.IolRead fd (most_kept - length kept))) (reply.Refused z) n
+    refused : (z : Refusal) → LacksNumbersOrHasNothingToRead z
+        → StepsTo m (event.Call server (call.IolRead fd (most_kept - length kept))) (reply.Refused z) n
         → (is_later (reply.Refused z) ≡ true) ⊎ ((p : ℕ) × IsHidden m server p (conn_at m c).incoming)
     refused no.TooMany left step = inl refl
     refused no.WouldBlock left step = inl refl
     refused no.Memory left step = inl refl
-    refused (no.Denied p) left step = inr (p, why.conn_is_hidden m n server fd c (most_kept - length kept) p open_on step)
+    refused (no.Denied p) left step =
+        inr (p, why.conn_is_hidden m n server fd c (most_kept - length kept) p open_on step)
     refused z left step = absurd left
 
-    by : (r : Reply) (received : List ℕ) → StepsTo m (event.Call server (call.IolRead fd (most_kept - length kept))) r n → after_receive kept q r received ≡ at kept q Rests
+    by : (r : Reply) (received : List ℕ) → StepsTo m (event.Call server (call.IolRead fd (most_kept - length kept))) r n
+        → after_receive kept q r received ≡ at kept q Rests
         → (is_later r ≡ true) ⊎ ((p : ℕ) × IsHidden m server p (conn_at m c).incoming)
     by (reply.Agg k) [] step same = let e = ap (λ (x : Conn). x.phase) same in absurd (cc (e))
     by (reply.Agg k) (b ∷ received) step same = let e = ap (λ (x : Conn). x.phase) same in absurd (cc (e))
-    by (reply.Refused z) received step same = refused z (may.reads_queue m n server fd (most_kept - length kept) (on.Connection c) z lives open_on refl refl step) step
+    by (reply.Refused z) received step same =
+        refused z (may.reads_queue m n server fd (most_kept - length kept) (on.Connection c) z lives open_on refl refl
+        step) step
     by r received step same = let e = step.1 in absurd (cc (e))
 conn-reads why may m n fd c kept q d r received lives open_on rests step same = absurd (cc (rests))

@@ -15,14 +15,18 @@ use Rattle.iol_core.specs.declared.events.Reply.{Reply}
 use Rattle.iol_laws.specs.Caller.{readable_at}
 use Rattle.iol_laws.specs.Frame.{EachStepLeavesTheRest}
 use Rattle.flash_http.specs.Request.{Answer, serve, refuse}
-use Rattle.flash_laws.specs.Conn.{Following, has_followed, file_result_agg, content_agg, uses_agg, uses_fd, piece_end, text_of}
+use Rattle.flash_laws.specs.Conn.{Following, has_followed, file_result_agg, content_agg, uses_agg, uses_fd, piece_end}
+use Rattle.flash_laws.specs.Conn.{text_of}
 use Rattle.flash_laws.specs.declared.phase.FileResult.{FileResult}
 use Rattle.flash_laws.specs.declared.phase.FileResult.TheVariants.{File, Text as TextOf}
 use Rattle.flash_laws.specs.declared.phase.Payload.{Payload}
 use Rattle.flash_laws.specs.declared.phase.Payload.TheVariants.{Body}
 use Rattle.flash_laws.specs.declared.phase.Phase.{Phase}
-use Rattle.flash_laws.specs.declared.phase.Phase.TheVariants.{Got, Opens, Reads as Reading, Shuts, Picks, Spares, Heads, Joins, Sends, Cuts, Offers, Swaps, Sent, Breaks, Drops, Over}
-use Rattle.flash_laws.specs.Conn.Fits.{IsReadable, MoreIsReadable, HoldsRest, HoldsRestFrom, HoldsUnsent, HasFileResult, HasContent, Has}
+use Rattle.flash_laws.specs.declared.phase.Phase.TheVariants.{Got, Opens, Reads as Reading, Shuts, Picks, Spares, Heads}
+use Rattle.flash_laws.specs.declared.phase.Phase.TheVariants.{Joins, Sends, Cuts, Offers, Swaps, Sent, Breaks, Drops}
+use Rattle.flash_laws.specs.declared.phase.Phase.TheVariants.{Over}
+use Rattle.flash_laws.specs.Conn.Fits.{IsReadable, MoreIsReadable, HoldsRest, HoldsRestFrom, HoldsUnsent, HasFileResult}
+use Rattle.flash_laws.specs.Conn.Fits.{HasContent, Has}
 use Rattle.flash_laws.specs.Site.{server}
 use Rattle.flash_laws.proofs.Lists.{not-equal, self, first_of, later_of}
 
@@ -47,12 +51,15 @@ readable-stays steps m n e r step a bytes is un = by (aggregate m server a) refl
   where
     by : (x : Option Text) → aggregate m server a ≡ x → readable_at n server a ≡ Some bytes
     by None none = (let e = sym (ap (λ (t : Option Text). option_map bytes_of t) none) ∙ is in absurd (cc))
-    by (Some t) some = ap (λ (y : Option Text). option_map bytes_of y) ((steps.values m n e r step).each server a t some un) ∙ (sym (ap (λ (y : Option Text). option_map bytes_of y) some) ∙ is)
+    by (Some t) some =
+        ap (λ (y : Option Text). option_map bytes_of y) ((steps.values m n e r step).each server a t some un)
+        ∙ (sym (ap (λ (y : Option Text). option_map bytes_of y) some) ∙ is)
 
 -- one new number is none of those that were there
 pub new-other : (m : State) (a x : ℕ) (bytes : List ℕ) → readable_at m server a ≡ Some bytes
     → readable_at m server x ≡ None → (a == x) ≡ false
-new-other m a x bytes is none = not-equal a x (λ same. let e = ap (λ k. readable_at m server k) same in absurd (cc (e, is, none)))
+new-other m a x bytes is none =
+    not-equal a x (λ same. let e = ap (λ k. readable_at m server k) same in absurd (cc (e, is, none)))
 
 pub new-follows : (m : State) (more : Following) (bytes : List ℕ) (x : ℕ) → MoreIsReadable m more bytes
     → readable_at m server x ≡ None → has_followed more x ≡ false
@@ -66,13 +73,16 @@ follows-stay m n None bytes stays is = is
 follows-stay m n (Some x) bytes stays is = (stays x.0 bytes (grind (arith, nat_tests)) is.0, is.1)
 
 abbrev IsReadableOn : State → State → Phase → Type 0
-IsReadableOn m n d = (a : ℕ) (bytes : List ℕ) → uses_agg d a ≡ true → readable_at m server a ≡ Some bytes → readable_at n server a ≡ Some bytes
+IsReadableOn m n d = (a : ℕ) (bytes : List ℕ) → uses_agg d a ≡ true → readable_at m server a ≡ Some bytes
+    → readable_at n server a ≡ Some bytes
 
 abbrev OpensOn : State → State → Phase → Type 0
-OpensOn m n d = (g : ℕ) (x : Descriptor) → uses_fd d g ≡ true → descriptor m server g ≡ Some x → descriptor n server g ≡ Some x
+OpensOn m n d = (g : ℕ) (x : Descriptor) → uses_fd d g ≡ true → descriptor m server g ≡ Some x
+    → descriptor n server g ≡ Some x
 
 abbrev KeepsFollowing : State → State → Following → Type 0
-KeepsFollowing m n more = (a : ℕ) (bytes : List ℕ) → has_followed more a ≡ true → readable_at m server a ≡ Some bytes → readable_at n server a ≡ Some bytes
+KeepsFollowing m n more = (a : ℕ) (bytes : List ℕ) → has_followed more a ≡ true → readable_at m server a ≡ Some bytes
+    → readable_at n server a ≡ Some bytes
 
 pub readable-on : (m n : State) (a : ℕ) → ((bytes : List ℕ) → readable_at m server a ≡ Some bytes
     → readable_at n server a ≡ Some bytes) → IsReadable m a → IsReadable n a
@@ -81,63 +91,164 @@ readable-on m n a stays is = (is.0, stays is.0 is.1)
 file_result-on : (m n : State) (q : Answer) (expected : List ℕ) (k : FileResult) → ((a : ℕ) (bytes : List ℕ)
     → file_result_agg k a ≡ true → readable_at m server a ≡ Some bytes → readable_at n server a ≡ Some bytes)
     → HasFileResult m q expected k → HasFileResult n q expected k
-file_result-on m n (serve w) expected (File a len) is_readable h = record { bytes = h.bytes; is_readable = is_readable a h.bytes (self a) h.is_readable; count = h.count; whole = h.whole; expected_is = h.expected_is }
+file_result-on m n (serve w) expected (File a len) is_readable h =
+    record {
+      bytes = h.bytes;
+      is_readable = is_readable a h.bytes (self a) h.is_readable;
+      count = h.count;
+      whole =
+          h.whole;
+      expected_is = h.expected_is;
+    }
 file_result-on m n (refuse status head_only close) expected (File a len) is_readable h = h
-file_result-on m n q expected (TextOf a runs) is_readable h = (readable-on m n a (λ l is. is_readable a l (self a) is) h.0, h.1)
+file_result-on m n q expected (TextOf a runs) is_readable h =
+    (readable-on m n a (λ l is. is_readable a l (self a) is) h.0, h.1)
 file_result-on m n q expected x is_readable h = h
 
 pub content-on : (m n : State) (q : Answer) (expected : List ℕ) (k : Payload) → ((a : ℕ) (bytes : List ℕ)
     → content_agg k a ≡ true → readable_at m server a ≡ Some bytes → readable_at n server a ≡ Some bytes)
     → HasContent m q expected k → HasContent n q expected k
-content-on m n q expected (Body a size len) is_readable h = record { bytes = h.bytes; is_readable = is_readable a h.bytes (self a) h.is_readable; count = h.count; expected_is = h.expected_is }
+content-on m n q expected (Body a size len) is_readable h =
+    record {
+      bytes = h.bytes;
+      is_readable = is_readable a h.bytes (self a) h.is_readable;
+      count = h.count;
+      expected_is =
+          h.expected_is;
+    }
 content-on m n q expected k is_readable h = h
 
 -- what is kept of an answer that is being sent stays, if its aggregates do
 rest-on : (m n : State) (expected : List ℕ) (a len taken : ℕ) (more : Following) → ((bytes : List ℕ)
     → readable_at m server a ≡ Some bytes → readable_at n server a ≡ Some bytes) → KeepsFollowing m n more
     → HoldsRest m expected a len taken more → HoldsRest n expected a len taken more
-rest-on m n expected a len taken more is_readable follows h = record { bytes = h.bytes; after = h.after; is_readable = is_readable h.bytes h.is_readable; size = h.size; follows = follows-stay m n more h.after follows h.follows; next = h.next; apart = h.apart }
+rest-on m n expected a len taken more is_readable follows h =
+    record {
+      bytes = h.bytes;
+      after = h.after;
+      is_readable = is_readable h.bytes h.is_readable;
+      size = h.size;
+      follows =
+          follows-stay m n more h.after follows h.follows;
+      next = h.next;
+      apart = h.apart;
+    }
 
 abbrev rest-from-on : (m n : State) (expected : List ℕ) (a from len taken : ℕ) (more : Following)
     → ((bytes : List ℕ) → readable_at m server a ≡ Some bytes → readable_at n server a ≡ Some bytes)
     → KeepsFollowing m n more → HoldsRestFrom m expected a from len taken more
     → HoldsRestFrom n expected a from len taken more
-rest-from-on m n expected a from len taken more is_readable follows h = record { bytes = h.bytes; after = h.after; is_readable = is_readable h.bytes h.is_readable; size = h.size; follows = follows-stay m n more h.after follows h.follows; next = h.next; apart = h.apart }
+rest-from-on m n expected a from len taken more is_readable follows h =
+    record {
+      bytes = h.bytes;
+      after = h.after;
+      is_readable = is_readable h.bytes h.is_readable;
+      size = h.size;
+      follows =
+          follows-stay m n more h.after follows h.follows;
+      next = h.next;
+      apart = h.apart;
+    }
 
 unsent-on : (m n : State) (a : ℕ) (more : Following) → ((bytes : List ℕ)
     → readable_at m server a ≡ Some bytes → readable_at n server a ≡ Some bytes) → KeepsFollowing m n more
     → HoldsUnsent m a more → HoldsUnsent n a more
-unsent-on m n a more is_readable follows h = record { after = h.after; readable = readable-on m n a is_readable h.readable; follows = follows-stay m n more h.after follows h.follows; apart = h.apart }
+unsent-on m n a more is_readable follows h =
+    record {
+      after = h.after;
+      readable = readable-on m n a is_readable h.readable;
+      follows =
+          follows-stay m n more h.after follows h.follows;
+      apart = h.apart;
+    }
 
 pub has-stays : (m n : State) (q : Answer) (expected : List ℕ) (d : Phase) → IsReadableOn m n d → OpensOn m n d
     → Has m q expected d → Has n q expected d
 has-stays m n q expected (Got a) is_readable opens has = readable-on m n a (λ l is. is_readable a l (self a) is) has
 has-stays m n q expected Opens is_readable opens has = has
-has-stays m n q expected (Reading f) is_readable opens has = (has.0, (has.1.0, has.1.1, opens f (on.File has.1.0 has.1.1 modes.Read) (self f) has.1.2))
-has-stays m n q expected (Shuts f k) is_readable opens has = ((has.0.0, has.0.1, opens f (on.File has.0.0 has.0.1 modes.Read) (self f) has.0.2), file_result-on m n q expected k (λ a l u is. is_readable a l u is) has.1)
-has-stays m n q expected (Picks a first last len) is_readable opens has = record { bytes = has.bytes; is_readable = is_readable a has.bytes (self a) has.is_readable; some = has.some; count = has.count; expected_is = has.expected_is }
-has-stays m n q expected (Spares a k) is_readable opens has = (readable-on m n a (λ l is. is_readable a l (first_of a (content_agg k a)) is) has.0, has.1, content-on m n q expected k (λ b l u is. is_readable b l (later_of (a == b) (content_agg k b) u) is) has.2)
-has-stays m n q expected (Heads k) is_readable opens has = content-on m n q expected k (λ b l u is. is_readable b l u is) has
-has-stays m n q expected (Joins a size body len) is_readable opens has = (rest-on m n expected a size 0 (Some (body, len)) (λ l is. is_readable a l (first_of a (body == a)) is) (λ b l u is. is_readable b l (later_of (a == b) (body == b) u) is) has.0, has.1)
-has-stays m n q expected (Sends a len taken more) is_readable opens has = rest-on m n expected a len taken more (λ l is. is_readable a l (first_of a (has_followed more a)) is) (λ b l u is. is_readable b l (later_of (a == b) (has_followed more b) u) is) has
-has-stays m n q expected (Cuts a from len taken more) is_readable opens has = (rest-from-on m n expected a from len taken more (λ l is. is_readable a l (first_of a (has_followed more a)) is) (λ b l u is. is_readable b l (later_of (a == b) (has_followed more b) u) is) has.0, has.1)
+has-stays m n q expected (Reading f) is_readable opens has =
+    (has.0, (has.1.0, has.1.1, opens f (on.File has.1.0 has.1.1 modes.Read) (self f) has.1.2))
+has-stays m n q expected (Shuts f k) is_readable opens has = (
+  (has.0.0, has.0.1, opens f (on.File has.0.0 has.0.1 modes.Read) (self f) has.0.2),
+  file_result-on m n q expected k (λ a l u is. is_readable a l u is) has.1,
+)
+has-stays m n q expected (Picks a first last len) is_readable opens has =
+    record {
+      bytes = has.bytes;
+      is_readable = is_readable a has.bytes (self a) has.is_readable;
+      some = has.some;
+      count =
+          has.count;
+      expected_is = has.expected_is;
+    }
+has-stays m n q expected (Spares a k) is_readable opens has = (
+  readable-on m n a (λ l is. is_readable a l (first_of a (content_agg k a)) is) has.0,
+  has.1,
+  content-on m n q expected k (λ b l u is. is_readable b l (later_of (a == b) (content_agg k b) u) is) has.2,
+)
+has-stays m n q expected (Heads k) is_readable opens has =
+    content-on m n q expected k (λ b l u is. is_readable b l u is) has
+has-stays m n q expected (Joins a size body len) is_readable opens has = (
+  rest-on m n expected a size 0 (Some (body, len)) (λ l is. is_readable a l (first_of a (body == a)) is)
+      (λ b l u is. is_readable b l (later_of (a == b) (body == b) u) is) has.0,
+  has.1,
+)
+has-stays m n q expected (Sends a len taken more) is_readable opens has =
+    rest-on m n expected a len taken more (λ l is. is_readable a l (first_of a (has_followed more a)) is)
+    (λ b l u is. is_readable b l (later_of (a == b) (has_followed more b) u) is) has
+has-stays m n q expected (Cuts a from len taken more) is_readable opens has = (
+  rest-from-on m n expected a from len taken more (λ l is. is_readable a l (first_of a (has_followed more a)) is)
+      (λ b l u is. is_readable b l (later_of (a == b) (has_followed more b) u) is) has.0,
+  has.1,
+)
 has-stays m n q expected (Offers a from len piece taken more) is_readable opens has = record {
-  whole = rest-from-on m n expected a from len taken more (λ l is. is_readable a l (later_of (piece == a) ((a == a) || has_followed more a) (first_of a (has_followed more a))) is) (λ b l u is. is_readable b l (later_of (piece == b) ((a == b) || has_followed more b) (later_of (a == b) (has_followed more b) u)) is) has.whole;
+  whole =
+      rest-from-on m n expected a from len taken more
+      (λ l is. is_readable a l
+      (later_of (piece == a) ((a == a) || has_followed more a) (first_of a (has_followed more a))) is)
+      (λ b l u is. is_readable b l
+      (later_of (piece == b) ((a == b) || has_followed more b) (later_of (a == b) (has_followed more b) u)) is)
+      has.whole;
   some = has.some;
-  is_readable = is_readable piece (slice_range has.whole.bytes from (piece_end from len)) (first_of piece ((a == piece) || has_followed more piece)) has.is_readable;
+  is_readable =
+      is_readable piece (slice_range has.whole.bytes from (piece_end from len))
+      (first_of piece ((a == piece) || has_followed more piece)) has.is_readable;
   other = has.other;
 }
 has-stays m n q expected (Swaps a from len piece taken more) is_readable opens has = (
-  readable-on m n piece (λ l is. is_readable piece l (first_of piece ((a == piece) || has_followed more piece)) is) has.0,
+  readable-on m n piece (λ l is. is_readable piece l (first_of piece ((a == piece) || has_followed more piece)) is)
+      has.0,
   has.1,
-  rest-from-on m n expected a from len taken more (λ l is. is_readable a l (later_of (piece == a) ((a == a) || has_followed more a) (first_of a (has_followed more a))) is) (λ b l u is. is_readable b l (later_of (piece == b) ((a == b) || has_followed more b) (later_of (a == b) (has_followed more b) u)) is) has.2,
+  rest-from-on m n expected a from len taken more
+      (λ l is. is_readable a l
+      (later_of (piece == a) ((a == a) || has_followed more a) (first_of a (has_followed more a))) is)
+      (λ b l u is. is_readable b l
+      (later_of (piece == b) ((a == b) || has_followed more b) (later_of (a == b) (has_followed more b) u)) is) has.2,
 )
-has-stays m n q expected (Sent a taken more) is_readable opens has = record { bytes = has.bytes; after = has.after; is_readable = is_readable a has.bytes (first_of a (has_followed more a)) has.is_readable; follows = follows-stay m n more has.after (λ b l u is. is_readable b l (later_of (a == b) (has_followed more b) u) is) has.follows; next = has.next; apart = has.apart }
+has-stays m n q expected (Sent a taken more) is_readable opens has =
+    record {
+      bytes = has.bytes;
+      after = has.after;
+      is_readable =
+          is_readable a has.bytes (first_of a (has_followed more a)) has.is_readable;
+      follows =
+          follows-stay m n more has.after (λ b l u is. is_readable b l (later_of (a == b) (has_followed more b) u) is)
+          has.follows;
+      next = has.next;
+      apart = has.apart;
+    }
 has-stays m n q expected (Breaks piece a more) is_readable opens has = (
-  readable-on m n piece (λ l is. is_readable piece l (first_of piece ((a == piece) || has_followed more piece)) is) has.0,
+  readable-on m n piece (λ l is. is_readable piece l (first_of piece ((a == piece) || has_followed more piece)) is)
+      has.0,
   has.1,
-  unsent-on m n a more (λ l is. is_readable a l (later_of (piece == a) ((a == a) || has_followed more a) (first_of a (has_followed more a))) is) (λ b l u is. is_readable b l (later_of (piece == b) ((a == b) || has_followed more b) (later_of (a == b) (has_followed more b) u)) is) has.2,
+  unsent-on m n a more
+      (λ l is. is_readable a l
+      (later_of (piece == a) ((a == a) || has_followed more a) (first_of a (has_followed more a))) is)
+      (λ b l u is. is_readable b l
+      (later_of (piece == b) ((a == b) || has_followed more b) (later_of (a == b) (has_followed more b) u)) is) has.2,
 )
-has-stays m n q expected (Drops a more) is_readable opens has = unsent-on m n a more (λ l is. is_readable a l (first_of a (has_followed more a)) is) (λ b l u is. is_readable b l (later_of (a == b) (has_followed more b) u) is) has
+has-stays m n q expected (Drops a more) is_readable opens has =
+    unsent-on m n a more (λ l is. is_readable a l (first_of a (has_followed more a)) is)
+    (λ b l u is. is_readable b l (later_of (a == b) (has_followed more b) u) is) has
 has-stays m n q expected Over is_readable opens has = has
 has-stays m n q expected x is_readable opens has = tt

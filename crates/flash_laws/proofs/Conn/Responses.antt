@@ -1,5 +1,6 @@
 -- The answer to a stream, request by request.
-use Rattle.std.proofs.Common.{◌≡◌, ℕ, ◌+◌, ◌≤◌, List, [], ◌∷◌, ◌++◌, length, take, drop, ap, ◌∙◌, refl, sym, subst, arith, Some, true, false, length-drop}
+use Rattle.std.proofs.Common.{◌≡◌, ℕ, ◌+◌, ◌≤◌, List, [], ◌∷◌, ◌++◌, length, take, drop, ap, ◌∙◌, refl, sym, subst}
+use Rattle.std.proofs.Common.{arith, Some, true, false, length-drop}
 use Rattle.std.specs.Prelude.{unwrap_or, ◌&&◌, not}
 use Rattle.std.specs.List.{list_all}
 use Rattle.std.proofs.lemmas.Bool.{and_from, and_parts}
@@ -23,7 +24,8 @@ pub record WindowLaws : Type 0 where
 
 pub all-more : (qs : List Answer) (q : Answer) → list_all (λ p. keeps p) qs ≡ true → keeps q ≡ true
     → list_all (λ p. keeps p) (qs ++ q ∷ []) ≡ true
-all-more qs q is k = list_all-append (λ p. keeps p) qs (q ∷ []) ∙ and_from (list_all (λ p. keeps p) qs) (keeps q && true) is (and_from (keeps q) true k refl)
+all-more qs q is k = list_all-append (λ p. keeps p) qs (q ∷ [])
+    ∙ and_from (list_all (λ p. keeps p) qs) (keeps q && true) is (and_from (keeps q) true k refl)
 
 pub order-all : (qs : List Answer) → list_all (λ p. keeps p) qs ≡ true → last_may_close qs ≡ true
 order-all (q ∷ p ∷ qs) is =
@@ -55,14 +57,17 @@ module _ (laws : WindowLaws) where
           let fits : FitsIn (length s) (Head skip len) = subst (λ (w : Window). FitsIn (length s) w) is (laws.fit s) in
           let front : skip ≤ length s = omega (arith, fits.1) in
           let both : len ≤ length (drop skip s) = omega (arith, fits.1, length-drop skip s) in
-          let stays : window_in (s ++ t) ≡ Head skip len = laws.stay s t (λ w. let e = sym is ∙ w in absurd (cc)) ∙ is in
+          let stays : window_in (s ++ t) ≡ Head skip len = laws.stay s t (λ w. let e = sym is ∙ w in absurd (cc))
+          ∙ is in
           subst (λ (w : Window). NextIn w (s ++ t) q (rest ++ t)) (sym stays) (
-            subst (λ (l : List ℕ). IsAnswerTo l q) (sym (ap (λ (l : List ℕ). take len l) (drop-append-le skip s t front) ∙ take-append-le len (drop skip s) t both)) next.0,
+            subst (λ (l : List ℕ). IsAnswerTo l q) (sym (ap (λ (l : List ℕ). take len l) (drop-append-le skip s t front)
+                ∙ take-append-le len (drop skip s) t both)) next.0,
             ap (λ (l : List ℕ). l ++ t) next.1 ∙ sym (drop-append-le (skip + len) s t fits.1),
           )
       by TooLarge is next =
           let stays : window_in (s ++ t) ≡ TooLarge = laws.stay s t (λ w. let e = sym is ∙ w in absurd (cc)) ∙ is in
-          subst (λ (w : Window). NextIn w (s ++ t) q (rest ++ t)) (sym stays) (next.0, ap (λ (l : List ℕ). l ++ t) next.1)
+          subst (λ (w : Window). NextIn w (s ++ t) q (rest ++ t)) (sym stays)
+          (next.0, ap (λ (l : List ℕ). l ++ t) next.1)
 
   pub reads-append : (s t : List ℕ) (qs : List Answer) (rest : List ℕ) → Reads s qs rest → Reads (s ++ t) qs (rest ++ t)
   reads-append s t [] rest is = ap (λ (l : List ℕ). l ++ t) is

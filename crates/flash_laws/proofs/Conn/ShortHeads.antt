@@ -1,5 +1,6 @@
 -- The errors with which a head may be refused, and the bounds that each phase preserves.
-use Rattle.std.proofs.Common.{◌≡◌, ℕ, ◌+◌, ◌||◌, List, [], ◌∷◌, refl, sym, subst, Option, Some, None, true, false, Bool, if◌then◌else◌}
+use Rattle.std.proofs.Common.{◌≡◌, ℕ, ◌+◌, ◌||◌, List, [], ◌∷◌, refl, sym, subst, Option, Some, None, true, false, Bool}
+use Rattle.std.proofs.Common.{if◌then◌else◌}
 use Rattle.std.specs.Prelude.{nat_lt, nat_le, not, MatchOption}
 use Rattle.iol_core.specs.State.{State}
 use Rattle.iol_core.specs.declared.limits.TheConstants.{MAX_AGGREGATE_BYTES}
@@ -12,18 +13,22 @@ use Rattle.flash_http.specs.Range.{selected}
 use Rattle.flash_http.specs.Target.{TargetIs}
 use Rattle.flash_http.specs.declared.ranges.Selection.{Selection}
 use Rattle.flash_http.specs.declared.ranges.Selection.TheVariants.{Whole, Bytes, Unsatisfiable}
-use Rattle.flash_http.specs.Request.{Answer, serve, refuse, Reading, IsAnswerTo, Asks, bad_request, refusal, served, is_head_only, is_host_fine, closes}
+use Rattle.flash_http.specs.Request.{Answer, serve, refuse, Reading, IsAnswerTo, Asks, bad_request, refusal, served}
+use Rattle.flash_http.specs.Request.{is_head_only, is_host_fine, closes}
 use Rattle.flash_laws.specs.Answers.{keeps}
 use Rattle.flash_laws.specs.Client.Fits.{Finds}
 use Rattle.flash_laws.specs.Client.ResponseState.{is_read, is_opening}
-use Rattle.flash_laws.specs.Conn.{Following, following, headed, count_of, status_of, sends_of, resolved, proceeds, drops_next, after_reply}
+use Rattle.flash_laws.specs.Conn.{Following, following, headed, count_of, status_of, sends_of, resolved, proceeds}
+use Rattle.flash_laws.specs.Conn.{drops_next, after_reply}
 use Rattle.flash_laws.specs.Conn.ShortHeads.{is_error_status, FileResultIsShort}
 use Rattle.flash_laws.specs.SiteContents.{SiteContents}
 use Rattle.flash_laws.specs.declared.phase.FileResult.{FileResult}
 use Rattle.flash_laws.specs.declared.phase.FileResult.TheVariants.{File, Length, Fails, Text as TextOf}
 use Rattle.flash_laws.specs.declared.phase.Payload.TheVariants.{Script}
 use Rattle.flash_laws.specs.declared.phase.Phase.{Phase}
-use Rattle.flash_laws.specs.declared.phase.Phase.TheVariants.{Rests, Got, Opens, Reads as ReadsFile, Shuts, Picks, Spares, Heads, Joins, Sends, Cuts, Offers, Swaps, Sent, Breaks, Drops, Closes, Over}
+use Rattle.flash_laws.specs.declared.phase.Phase.TheVariants.{Rests, Got, Opens, Reads as ReadsFile, Shuts, Picks}
+use Rattle.flash_laws.specs.declared.phase.Phase.TheVariants.{Spares, Heads, Joins, Sends, Cuts, Offers, Swaps, Sent}
+use Rattle.flash_laws.specs.declared.phase.Phase.TheVariants.{Breaks, Drops, Closes, Over}
 use Rattle.flash_laws.proofs.Forms.{at}
 
 -- ---- statuses
@@ -45,7 +50,8 @@ served-listed r None = refl
 served-listed r (Some file) = tt
 
 refusal-listed : (r : Reading) (x : Answer) → refusal r ≡ Some x → IsListed x
-refusal-listed r x is = cases (not (is_host_fine r) || has_content r.fields) (is_served_method r.method) (is_known_method r.method) is
+refusal-listed r x is =
+    cases (not (is_host_fine r) || has_content r.fields) (is_served_method r.method) (is_known_method r.method) is
   where
     same : (y : Answer) → Some y ≡ Some x → IsListed y → IsListed x
     same y e listed = subst IsListed (the-same e) listed
@@ -53,7 +59,10 @@ refusal-listed r x is = cases (not (is_host_fine r) || has_content r.fields) (is
         the-same : Some y ≡ Some x → y ≡ x
         the-same e = cc (e)
 
-    cases : (a b k : Bool) → (if a then Some (bad_request r) else (if b then None else Some (refuse (if k then 405 else 501) (is_head_only r) (closes r)))) ≡ Some x → IsListed x
+    cases : (a b k : Bool)
+        → (if a then Some
+        (bad_request r) else (if b then None else Some (refuse (if k then 405 else 501) (is_head_only r) (closes r))))
+        ≡ Some x → IsListed x
     cases true b k e = same (bad_request r) e refl
     cases false true k e = absurd (cc (e))
     cases false false true e = same (refuse 405 (is_head_only r) (closes r)) e refl
@@ -64,17 +73,20 @@ asks-listed None a is = subst IsListed (sym is) refl
 asks-listed (Some r) a is = by (refusal r) refl is
   where
     by : (o : Option Answer) → refusal r ≡ o
-        → MatchOption o ((file : Option (List ℕ × List ℕ)) × TargetIs r.target file × (a ≡ served r file)) (λ refused. a ≡ refused) → IsListed a
+        → MatchOption o ((file : Option (List ℕ × List ℕ)) × TargetIs r.target file × (a ≡ served r file))
+        (λ refused. a ≡ refused) → IsListed a
     by None same is = subst IsListed (sym is.2) (served-listed r is.0)
     by (Some x) same is = subst IsListed (sym is) (refusal-listed r x same)
 
 -- Whatever the head, one that is refused has a status of this server.
-pub refused-status : (head : List ℕ) (status : ℕ) (head_only close : Bool) → IsAnswerTo head (refuse status head_only close) → is_error_status status ≡ true
+pub refused-status : (head : List ℕ) (status : ℕ) (head_only close : Bool)
+    → IsAnswerTo head (refuse status head_only close) → is_error_status status ≡ true
 refused-status head status head_only close is = asks-listed is.0 (refuse status head_only close) is.2
 
 -- ---- phases
 
-resolved-short : (site_contents : SiteContents) (n : State) (q : Answer) (script : List ℕ) (f : ℕ) (k : FileResult) → is_read (Shuts f k) ≡ false → FileResultIsShort k
+resolved-short : (site_contents : SiteContents) (n : State) (q : Answer) (script : List ℕ) (f : ℕ) (k : FileResult)
+    → is_read (Shuts f k) ≡ false → FileResultIsShort k
     → Finds site_contents n q script (resolved q k)
 resolved-short site_contents n (serve w) script f (File a len) unread short = by (selected w.range len)
   where
@@ -88,7 +100,8 @@ resolved-short site_contents n q script f (Fails status) unread short = short
 resolved-short site_contents n q script f (TextOf a true) unread short = absurd (cc (unread))
 resolved-short site_contents n q script f (TextOf a false) unread short = refl
 
-headed-finds : (site_contents : SiteContents) (n : State) (q : Answer) (script : List ℕ) (a size : ℕ) (more : Following) → Finds site_contents n q script (headed a size more)
+headed-finds : (site_contents : SiteContents) (n : State) (q : Answer) (script : List ℕ) (a size : ℕ) (more : Following)
+    → Finds site_contents n q script (headed a size more)
 headed-finds site_contents n q script a size None = tt
 headed-finds site_contents n q script a size (Some x) = by (nat_le (size + x.1) MAX_AGGREGATE_BYTES)
   where
@@ -96,7 +109,8 @@ headed-finds site_contents n q script a size (Some x) = by (nat_le (size + x.1) 
     by true = tt
     by false = tt
 
-goes-finds : (site_contents : SiteContents) (n : State) (q : Answer) (script : List ℕ) (taken : ℕ) (more : Following) → Finds site_contents n q script (proceeds q taken more)
+goes-finds : (site_contents : SiteContents) (n : State) (q : Answer) (script : List ℕ) (taken : ℕ) (more : Following)
+    → Finds site_contents n q script (proceeds q taken more)
 goes-finds site_contents n q script taken (Some x) = tt
 goes-finds site_contents n q script taken None = by (keeps q)
   where
@@ -104,13 +118,16 @@ goes-finds site_contents n q script taken None = by (keeps q)
     by true = tt
     by false = tt
 
-drops-finds : (site_contents : SiteContents) (n : State) (q : Answer) (script : List ℕ) (more : Following) → Finds site_contents n q script (drops_next more)
+drops-finds : (site_contents : SiteContents) (n : State) (q : Answer) (script : List ℕ) (more : Following)
+    → Finds site_contents n q script (drops_next more)
 drops-finds site_contents n q script None = tt
 drops-finds site_contents n q script (Some x) = tt
 
 -- After a call that opens and reads nothing what is still to be named is as short.
-pub finds-after_reply : (site_contents : SiteContents) (m n : State) (kept : List ℕ) (q : Answer) (script : List ℕ) (d : Phase) (r : Reply) (received : List ℕ)
-    → is_opening d ≡ false → is_read d ≡ false → Finds site_contents m q script d → Finds site_contents n q script (after_reply (at kept q d) r received).phase
+pub finds-after_reply : (site_contents : SiteContents) (m n : State) (kept : List ℕ) (q : Answer) (script : List ℕ)
+    (d : Phase) (r : Reply) (received : List ℕ)
+    → is_opening d ≡ false → is_read d ≡ false → Finds site_contents m q script d
+    → Finds site_contents n q script (after_reply (at kept q d) r received).phase
 finds-after_reply site_contents m n kept q script Rests (reply.Agg a) [] un unread h = tt
 finds-after_reply site_contents m n kept q script Rests (reply.Agg a) (b ∷ received) un unread h = tt
 finds-after_reply site_contents m n kept q script Rests r received un unread h = tt
@@ -118,41 +135,52 @@ finds-after_reply site_contents m n kept q script (Got a) reply.Done received un
 finds-after_reply site_contents m n kept q script (Got a) r received un unread h = tt
 finds-after_reply site_contents m n kept q script Opens r received un unread h = absurd (cc (un))
 finds-after_reply site_contents m n kept q script (ReadsFile f) r received un unread h = absurd (cc (un))
-finds-after_reply site_contents m n kept q script (Shuts f (TextOf a true)) r received un unread h = absurd (cc (unread))
-finds-after_reply site_contents m n kept q script (Shuts f k) reply.Done received un unread h = resolved-short site_contents n q script f k refl h
+finds-after_reply site_contents m n kept q script (Shuts f (TextOf a true)) r received un unread h =
+    absurd (cc (unread))
+finds-after_reply site_contents m n kept q script (Shuts f k) reply.Done received un unread h =
+    resolved-short site_contents n q script f k refl h
 finds-after_reply site_contents m n kept q script (Shuts f k) r received un unread h = h
 finds-after_reply site_contents m n kept q script (Picks a from to len) (reply.Agg x) received un unread h = h
 finds-after_reply site_contents m n kept q script (Picks a from to len) r received un unread h = h
 finds-after_reply site_contents m n kept q script (Spares a Script) r received un unread h = absurd (cc (unread))
 finds-after_reply site_contents m n kept q script (Spares a k) reply.Done received un unread h = h
 finds-after_reply site_contents m n kept q script (Spares a k) r received un unread h = h
-finds-after_reply site_contents m n kept q script (Heads k) (reply.Agg x) received un unread h = headed-finds site_contents n q script x (count_of received) (following k)
+finds-after_reply site_contents m n kept q script (Heads k) (reply.Agg x) received un unread h =
+    headed-finds site_contents n q script x (count_of received) (following k)
 finds-after_reply site_contents m n kept q script (Heads k) r received un unread h = h
 finds-after_reply site_contents m n kept q script (Joins a size body len) (reply.Agg x) received un unread h = tt
 finds-after_reply site_contents m n kept q script (Joins a size body len) r received un unread h = tt
-finds-after_reply site_contents m n kept q script (Sends a len taken more) (reply.Count k) received un unread h = by (nat_lt k len)
+finds-after_reply site_contents m n kept q script (Sends a len taken more) (reply.Count k) received un unread h =
+    by (nat_lt k len)
   where
-    by : (b : Bool) → Finds site_contents n q script (if b then Cuts a k len (taken + k) more else Sent a (taken + len) more)
+    by : (b : Bool)
+        → Finds site_contents n q script (if b then Cuts a k len (taken + k) more else Sent a (taken + len) more)
     by true = tt
     by false = tt
-finds-after_reply site_contents m n kept q script (Sends a len taken more) (reply.Refused no.BrokenPipe) received un unread h = tt
+finds-after_reply site_contents m n kept q script (Sends a len taken more) (reply.Refused no.BrokenPipe) received un
+    unread h = tt
 finds-after_reply site_contents m n kept q script (Sends a len taken more) r received un unread h = tt
 finds-after_reply site_contents m n kept q script (Cuts a from len taken more) (reply.Agg x) received un unread h = tt
 finds-after_reply site_contents m n kept q script (Cuts a from len taken more) r received un unread h = tt
-finds-after_reply site_contents m n kept q script (Offers a from len piece taken more) (reply.Count k) received un unread h = tt
-finds-after_reply site_contents m n kept q script (Offers a from len piece taken more) (reply.Refused no.BrokenPipe) received un unread h = tt
+finds-after_reply site_contents m n kept q script (Offers a from len piece taken more) (reply.Count k) received un
+    unread h = tt
+finds-after_reply site_contents m n kept q script (Offers a from len piece taken more) (reply.Refused no.BrokenPipe)
+    received un unread h = tt
 finds-after_reply site_contents m n kept q script (Offers a from len piece taken more) r received un unread h = tt
-finds-after_reply site_contents m n kept q script (Swaps a from len piece taken more) reply.Done received un unread h = by (nat_lt from len)
+finds-after_reply site_contents m n kept q script (Swaps a from len piece taken more) reply.Done received un unread h =
+    by (nat_lt from len)
   where
     by : (b : Bool) → Finds site_contents n q script (if b then Cuts a from len taken more else Sent a taken more)
     by true = tt
     by false = tt
 finds-after_reply site_contents m n kept q script (Swaps a from len piece taken more) r received un unread h = tt
-finds-after_reply site_contents m n kept q script (Sent a taken more) reply.Done received un unread h = goes-finds site_contents n q script taken more
+finds-after_reply site_contents m n kept q script (Sent a taken more) reply.Done received un unread h =
+    goes-finds site_contents n q script taken more
 finds-after_reply site_contents m n kept q script (Sent a taken more) r received un unread h = tt
 finds-after_reply site_contents m n kept q script (Breaks piece a more) reply.Done received un unread h = tt
 finds-after_reply site_contents m n kept q script (Breaks piece a more) r received un unread h = tt
-finds-after_reply site_contents m n kept q script (Drops a more) reply.Done received un unread h = drops-finds site_contents n q script more
+finds-after_reply site_contents m n kept q script (Drops a more) reply.Done received un unread h =
+    drops-finds site_contents n q script more
 finds-after_reply site_contents m n kept q script (Drops a more) r received un unread h = tt
 finds-after_reply site_contents m n kept q script Closes reply.Done received un unread h = tt
 finds-after_reply site_contents m n kept q script Closes r received un unread h = tt

@@ -1,6 +1,7 @@
 -- The part of a file's response that counts as taken, the time at which it is aborted, and the last call of a
 -- connection.
-use Rattle.std.proofs.Common.{◌≡◌, ℕ, ◌+◌, ◌-◌, ◌==◌, ◌≤◌, List, [], ◌∷◌, length, ap, ◌∙◌, refl, sym, arith, Some, None, true, false, Bool, if◌then◌else◌}
+use Rattle.std.proofs.Common.{◌≡◌, ℕ, ◌+◌, ◌-◌, ◌==◌, ◌≤◌, List, [], ◌∷◌, length, ap, ◌∙◌, refl, sym, arith, Some, None}
+use Rattle.std.proofs.Common.{true, false, Bool, if◌then◌else◌}
 use Rattle.std.specs.Prelude.{nat_lt, nat_le, slice_range}
 use Rattle.std.proofs.lemmas.Bool.Decides.{nat_tests}
 use Rattle.iol_core.specs.State.{State, descriptor, is_live, is_gone, conn_at}
@@ -23,7 +24,9 @@ use Rattle.flash_http.specs.declared.ranges.Selection.TheVariants.{Bytes}
 use Rattle.flash_http.specs.Range.{selected}
 use Rattle.flash_http.specs.Request.{Answer, serve, refuse}
 use Rattle.flash_laws.specs.Answers.{keeps}
-use Rattle.flash_laws.specs.Conn.{Following, is_head_only, most_kept, most_read, piece_end, count_of, wants, sends_of, resolved, following, headed, after_receive, after_send, after_cut, after_offer, after_swap, after_taken, after_reply}
+use Rattle.flash_laws.specs.Conn.{Following, is_head_only, most_kept, most_read, piece_end, count_of, wants, sends_of}
+use Rattle.flash_laws.specs.Conn.{resolved, following, headed, after_receive, after_send, after_cut, after_offer}
+use Rattle.flash_laws.specs.Conn.{after_swap, after_taken, after_reply}
 use Rattle.flash_laws.specs.Conn.Fits.{Has}
 use Rattle.flash_laws.specs.Conn.Progress.{is_busy}
 use Rattle.flash_laws.specs.Conn.OfferedBytes.{taken_of, newly_taken, is_dropping}
@@ -31,7 +34,9 @@ use Rattle.flash_laws.specs.Site.{server}
 use Rattle.flash_laws.specs.declared.phase.FileResult.{FileResult}
 use Rattle.flash_laws.specs.declared.phase.FileResult.TheVariants.{File}
 use Rattle.flash_laws.specs.declared.phase.Phase.{Phase}
-use Rattle.flash_laws.specs.declared.phase.Phase.TheVariants.{Rests, Got, Opens, Reads as Reading, Shuts, Picks, Spares, Heads, Joins, Sends, Cuts, Offers, Swaps, Sent, Breaks, Drops, Closes, Over}
+use Rattle.flash_laws.specs.declared.phase.Phase.TheVariants.{Rests, Got, Opens, Reads as Reading, Shuts, Picks, Spares}
+use Rattle.flash_laws.specs.declared.phase.Phase.TheVariants.{Heads, Joins, Sends, Cuts, Offers, Swaps, Sent, Breaks}
+use Rattle.flash_laws.specs.declared.phase.Phase.TheVariants.{Drops, Closes, Over}
 use Rattle.flash_laws.proofs.Forms.{at}
 use Rattle.flash_laws.proofs.Lists.{clash, self, few-taken}
 
@@ -71,7 +76,8 @@ headed-begun a size (Some x) = by (nat_le (size + x.1) MAX_AGGREGATE_BYTES)
     by true = (refl, refl)
     by false = (refl, refl)
 
-begun : (kept : List ℕ) (q : Answer) (d : Phase) (r : Reply) (received : List ℕ) → is_begun d ≡ true → IsBegun (after_reply (at kept q d) r received).phase
+begun : (kept : List ℕ) (q : Answer) (d : Phase) (r : Reply) (received : List ℕ) → is_begun d ≡ true
+    → IsBegun (after_reply (at kept q d) r received).phase
 begun kept q (Got a) reply.Done received is = (refl, refl)
 begun kept q (Got a) r received is = (refl, refl)
 begun kept q Opens (reply.Fd f) received is = (refl, refl)
@@ -106,7 +112,8 @@ none-taken (Swaps a from len piece taken more) is = absurd (cc (is))
 none-taken (Sent a taken more) is = absurd (cc (is))
 none-taken d is = refl
 
-none-newly : (fd : ℕ) (kept : List ℕ) (q : Answer) (d : Phase) (r : Reply) → is_begun d ≡ true → newly_taken fd (wants fd (at kept q d)) r ≡ 0
+none-newly : (fd : ℕ) (kept : List ℕ) (q : Answer) (d : Phase) (r : Reply) → is_begun d ≡ true
+    → newly_taken fd (wants fd (at kept q d)) r ≡ 0
 none-newly fd kept q (Sends a len taken more) r is = absurd (cc (is))
 none-newly fd kept q (Offers a from len piece taken more) r is = absurd (cc (is))
 none-newly fd kept q (Reading f) r is = by (is_head_only q)
@@ -121,47 +128,66 @@ none-newly fd kept q d r is = refl
 all-newly : (fd k : ℕ) → (if fd == fd then k else 0) ≡ k
 all-newly fd k = ap (λ b. if b then k else 0) (self fd)
 
-module _ (own : CallsServeTheirDomain) (m n : State) (order : IsOrderly m) (fd c : ℕ) (open_on : descriptor m server fd ≡ Some (on.Connection c)) (q : Answer) (expected : List ℕ) where
-  sends : (a len taken : ℕ) (more : Following) (r : Reply) → Has m q expected (Sends a len taken more) → StepsTo m (event.Call server (call.IolWrite fd a)) r n
-      → is_dropping (after_send a len taken more r) ≡ false → taken_of (after_send a len taken more r) ≡ taken + newly_taken fd (call.IolWrite fd a) r
-  sends a len taken more r has step on = by r (own.write_conn m n server fd c a has.bytes r order open_on has.is_readable step) on
+module _ (own : CallsServeTheirDomain) (m n : State) (order : IsOrderly m) (fd c : ℕ)
+    (open_on : descriptor m server fd ≡ Some (on.Connection c)) (q : Answer) (expected : List ℕ) where
+  sends : (a len taken : ℕ) (more : Following) (r : Reply) → Has m q expected (Sends a len taken more)
+      → StepsTo m (event.Call server (call.IolWrite fd a)) r n
+      → is_dropping (after_send a len taken more r) ≡ false
+      → taken_of (after_send a len taken more r) ≡ taken + newly_taken fd (call.IolWrite fd a) r
+  sends a len taken more r has step on =
+      by r (own.write_conn m n server fd c a has.bytes r order open_on has.is_readable step) on
     where
       by : (r : Reply) → caller.WritesConn m c has.bytes r n → is_dropping (after_send a len taken more r) ≡ false
           → taken_of (after_send a len taken more r) ≡ taken + newly_taken fd (call.IolWrite fd a) r
       by (reply.Count k) puts on = all (nat_lt k len) refl
         where
-          all : (b : Bool) → nat_lt k len ≡ b → taken_of (if b then Cuts a k len (taken + k) more else Sent a (taken + len) more) ≡ taken + (if fd == fd then k else 0)
+          all : (b : Bool) → nat_lt k len ≡ b
+              → taken_of (if b then Cuts a k len (taken + k) more else Sent a (taken + len) more)
+              ≡ taken + (if fd == fd then k else 0)
           all true is = ap (λ z. taken + z) (sym (all-newly fd k))
-          all false is = (let size = has.size in let within = puts.within in let new = all-newly fd k in let le : len ≤ k = grind (arith, nat_tests, is) in omega (arith, new, size, within, le))
+          all false is = (let size = has.size in let within = puts.within in let new = all-newly fd k in
+              let le : len ≤ k = grind (arith, nat_tests, is) in omega (arith, new, size, within, le))
       by (reply.Refused no.BrokenPipe) did on = absurd (cc (on))
       by (reply.Refused y) did on = omega arith
       by r did on = absurd did
 
-  offers : (a from len piece taken : ℕ) (more : Following) (r : Reply) → Has m q expected (Offers a from len piece taken more) → StepsTo m (event.Call server (call.IolWrite fd piece)) r n
-      → is_dropping (after_offer a from len piece taken more r) ≡ false → taken_of (after_offer a from len piece taken more r) ≡ taken + newly_taken fd (call.IolWrite fd piece) r
+  offers : (a from len piece taken : ℕ) (more : Following) (r : Reply)
+      → Has m q expected (Offers a from len piece taken more)
+      → StepsTo m (event.Call server (call.IolWrite fd piece)) r n
+      → is_dropping (after_offer a from len piece taken more r) ≡ false
+      → taken_of (after_offer a from len piece taken more r) ≡ taken + newly_taken fd (call.IolWrite fd piece) r
   offers a from len piece taken more r has step on =
-      by r (own.write_conn m n server fd c piece (slice_range has.whole.bytes from (piece_end from len)) r order open_on has.is_readable step) on
+      by r (own.write_conn m n server fd c piece (slice_range has.whole.bytes from (piece_end from len)) r order open_on
+      has.is_readable step) on
     where
-      by : (r : Reply) → caller.WritesConn m c (slice_range has.whole.bytes from (piece_end from len)) r n → is_dropping (after_offer a from len piece taken more r) ≡ false
+      by : (r : Reply) → caller.WritesConn m c (slice_range has.whole.bytes from (piece_end from len)) r n
+          → is_dropping (after_offer a from len piece taken more r) ≡ false
           → taken_of (after_offer a from len piece taken more r) ≡ taken + newly_taken fd (call.IolWrite fd piece) r
-      by (reply.Count k) puts on = ap (λ z. taken + z) ((few-taken k from len has.whole.bytes has.whole.size puts.within).1 ∙ sym (all-newly fd k))
+      by (reply.Count k) puts on =
+          ap (λ z. taken + z) ((few-taken k from len has.whole.bytes has.whole.size puts.within).1
+          ∙ sym (all-newly fd k))
       by (reply.Refused no.BrokenPipe) did on = absurd (cc (on))
       by (reply.Refused y) did on = omega arith
       by r did on = absurd did
 
-  swaps : (a from len piece taken : ℕ) (more : Following) (r : Reply) → taken_of (after_swap a from len piece taken more r) ≡ taken + newly_taken fd (call.AggDrop piece) r
+  swaps : (a from len piece taken : ℕ) (more : Following) (r : Reply)
+      → taken_of (after_swap a from len piece taken more r) ≡ taken + newly_taken fd (call.AggDrop piece) r
   swaps a from len piece taken more reply.Done = by (nat_lt from len)
     where
-      by : (b : Bool) → taken_of (if b then Cuts a from len taken more else Sent a taken more) ≡ taken + newly_taken fd (call.AggDrop piece) reply.Done
+      by : (b : Bool) → taken_of (if b then Cuts a from len taken more else Sent a taken more)
+          ≡ taken + newly_taken fd (call.AggDrop piece) reply.Done
       by true = omega arith
       by false = omega arith
   swaps a from len piece taken more r = omega arith
 
-  cuts : (a from len taken : ℕ) (more : Following) (r : Reply) → taken_of (after_cut a from len taken more r) ≡ taken + newly_taken fd (call.AggCut a from (piece_end from len)) r
+  cuts : (a from len taken : ℕ) (more : Following) (r : Reply)
+      → taken_of (after_cut a from len taken more r) ≡ taken + newly_taken fd (call.AggCut a from (piece_end from len))
+      r
   cuts a from len taken more (reply.Agg k) = omega arith
   cuts a from len taken more r = omega arith
 
-  sent : (a taken : ℕ) (more : Following) (r : Reply) → is_busy (after_taken q a taken more r) ≡ true → taken_of (after_taken q a taken more r) ≡ taken + newly_taken fd (call.AggDrop a) r
+  sent : (a taken : ℕ) (more : Following) (r : Reply) → is_busy (after_taken q a taken more r) ≡ true
+      → taken_of (after_taken q a taken more r) ≡ taken + newly_taken fd (call.AggDrop a) r
   sent a taken (Some x) reply.Done busy = omega arith
   sent a taken None reply.Done busy = absurd (by (keeps q) busy)
     where
@@ -170,18 +196,23 @@ module _ (own : CallsServeTheirDomain) (m n : State) (order : IsOrderly m) (fd c
       by false busy = cc (busy)
   sent a taken more r busy = omega arith
 
-  rests : (kept : List ℕ) (r : Reply) (received : List ℕ) → is_dropping (after_receive kept q r received).phase ≡ false → is_busy (after_receive kept q r received).phase ≡ true
+  rests : (kept : List ℕ) (r : Reply) (received : List ℕ) → is_dropping (after_receive kept q r received).phase ≡ false
+      → is_busy (after_receive kept q r received).phase ≡ true
       → taken_of (after_receive kept q r received).phase ≡ newly_taken fd (call.IolRead fd (most_kept - length kept)) r
   rests kept (reply.Agg k) [] on busy = absurd (cc (on))
   rests kept (reply.Agg k) (b ∷ received) on busy = refl
   rests kept r received on busy = absurd (cc (busy))
 
-  pub takes : (kept : List ℕ) (d : Phase) (r : Reply) (received : List ℕ) → Has m q expected d → StepsTo m (event.Call server (wants fd (at kept q d))) r n → is_dropping d ≡ false
-      → is_dropping (after_reply (at kept q d) r received).phase ≡ false → is_busy (after_reply (at kept q d) r received).phase ≡ true
+  pub takes : (kept : List ℕ) (d : Phase) (r : Reply) (received : List ℕ) → Has m q expected d
+      → StepsTo m (event.Call server (wants fd (at kept q d))) r n → is_dropping d ≡ false
+      → is_dropping (after_reply (at kept q d) r received).phase ≡ false
+      → is_busy (after_reply (at kept q d) r received).phase ≡ true
       → taken_of (after_reply (at kept q d) r received).phase ≡ taken_of d + newly_taken fd (wants fd (at kept q d)) r
   takes kept d r received has step at_is on busy = by (is_begun d) refl
     where
-      by : (b : Bool) → is_begun d ≡ b → taken_of (after_reply (at kept q d) r received).phase ≡ taken_of d + newly_taken fd (wants fd (at kept q d)) r
+      by : (b : Bool) → is_begun d ≡ b
+          → taken_of (after_reply (at kept q d) r received).phase ≡ taken_of d + newly_taken fd (wants fd (at kept q d))
+          r
       by true is =
           let new = (begun kept q d r received is).0 in
           let was = none-taken d is in
@@ -189,13 +220,17 @@ module _ (own : CallsServeTheirDomain) (m n : State) (order : IsOrderly m) (fd c
           omega (arith, new, was, none)
       by false is = sending d has step at_is on busy is
         where
-          sending : (d : Phase) → Has m q expected d → StepsTo m (event.Call server (wants fd (at kept q d))) r n → is_dropping d ≡ false
-              → is_dropping (after_reply (at kept q d) r received).phase ≡ false → is_busy (after_reply (at kept q d) r received).phase ≡ true → is_begun d ≡ false
-              → taken_of (after_reply (at kept q d) r received).phase ≡ taken_of d + newly_taken fd (wants fd (at kept q d)) r
+          sending : (d : Phase) → Has m q expected d → StepsTo m (event.Call server (wants fd (at kept q d))) r n
+              → is_dropping d ≡ false
+              → is_dropping (after_reply (at kept q d) r received).phase ≡ false
+              → is_busy (after_reply (at kept q d) r received).phase ≡ true → is_begun d ≡ false
+              → taken_of (after_reply (at kept q d) r received).phase ≡ taken_of d + newly_taken fd
+              (wants fd (at kept q d)) r
           sending Rests has step at_is on busy is = (let e = rests kept r received on busy in omega (arith, e))
           sending (Sends a len taken more) has step at_is on busy is = sends a len taken more r has step on
           sending (Cuts a from len taken more) has step at_is on busy is = cuts a from len taken more r
-          sending (Offers a from len piece taken more) has step at_is on busy is = offers a from len piece taken more r has step on
+          sending (Offers a from len piece taken more) has step at_is on busy is =
+              offers a from len piece taken more r has step on
           sending (Swaps a from len piece taken more) has step at_is on busy is = swaps a from len piece taken more r
           sending (Sent a taken more) has step at_is on busy is = sent a taken more r busy
           sending (Breaks piece a more) has step at_is on busy is = absurd (cc (at_is))
@@ -204,10 +239,13 @@ module _ (own : CallsServeTheirDomain) (m n : State) (order : IsOrderly m) (fd c
 
 -- ---- where it is broken off
 
-module _ (why : RefusalsTellWhy) (m n : State) (fd c : ℕ) (open_on : descriptor m server fd ≡ Some (on.Connection c)) (kept : List ℕ) (q : Answer) (received : List ℕ) where
-  pub breaks : (d : Phase) (r : Reply) → is_busy d ≡ true → StepsTo m (event.Call server (wants fd (at kept q d))) r n → is_dropping d ≡ false
+module _ (why : RefusalsTellWhy) (m n : State) (fd c : ℕ) (open_on : descriptor m server fd ≡ Some (on.Connection c))
+    (kept : List ℕ) (q : Answer) (received : List ℕ) where
+  pub breaks : (d : Phase) (r : Reply) → is_busy d ≡ true → StepsTo m (event.Call server (wants fd (at kept q d))) r n
+      → is_dropping d ≡ false
       → is_dropping (after_reply (at kept q d) r received).phase ≡ true → is_gone (conn_at m c).peer ≡ true
-  breaks (Sends a len taken more) (reply.Refused no.BrokenPipe) busy step at_is off = why.peer_is_gone m n server fd c a open_on step
+  breaks (Sends a len taken more) (reply.Refused no.BrokenPipe) busy step at_is off =
+      why.peer_is_gone m n server fd c a open_on step
   breaks (Sends a len taken more) (reply.Count k) busy step at_is off = absurd (by (nat_lt k len) off)
     where
       by : (b : Bool) → is_dropping (if b then Cuts a k len (taken + k) more else Sent a (taken + len) more) ≡ true → ⊥
@@ -216,7 +254,8 @@ module _ (why : RefusalsTellWhy) (m n : State) (fd c : ℕ) (open_on : descripto
   breaks (Sends a len taken more) r busy step at_is off = absurd (cc (off))
   breaks (Cuts a from len taken more) (reply.Agg k) busy step at_is off = absurd (cc (off))
   breaks (Cuts a from len taken more) r busy step at_is off = absurd (cc (off))
-  breaks (Offers a from len piece taken more) (reply.Refused no.BrokenPipe) busy step at_is off = why.peer_is_gone m n server fd c piece open_on step
+  breaks (Offers a from len piece taken more) (reply.Refused no.BrokenPipe) busy step at_is off =
+      why.peer_is_gone m n server fd c piece open_on step
   breaks (Offers a from len piece taken more) (reply.Count k) busy step at_is off = absurd (cc (off))
   breaks (Offers a from len piece taken more) r busy step at_is off = absurd (cc (off))
   breaks (Swaps a from len piece taken more) reply.Done busy step at_is off = absurd (by (nat_lt from len) off)
@@ -237,15 +276,20 @@ module _ (why : RefusalsTellWhy) (m n : State) (fd c : ℕ) (open_on : descripto
   breaks Rests r busy step at_is off = absurd (cc (busy))
   breaks d r busy step at_is off = absurd (begun-on d (begun kept q d r received refl) off)
     where
-      begun-on : (d : Phase) → IsBegun (after_reply (at kept q d) r received).phase → is_dropping (after_reply (at kept q d) r received).phase ≡ true → ⊥
+      begun-on : (d : Phase) → IsBegun (after_reply (at kept q d) r received).phase
+          → is_dropping (after_reply (at kept q d) r received).phase ≡ true → ⊥
       begun-on d is off = clash (is_dropping (after_reply (at kept q d) r received).phase) off is.1
 
 -- ---- the last call
 
-pub closes : CallsServeTheirDomain → RefusalsThatAreLeft → (m n : State) (fd c : ℕ) (kept : List ℕ) (q : Answer) (d : Phase) (r : Reply) (received : List ℕ) → IsOrderly m → is_live m server ≡ true
-    → descriptor m server fd ≡ Some (on.Connection c) → d ≡ Closes → StepsTo m (event.Call server (wants fd (at kept q d))) r n
+pub closes : CallsServeTheirDomain → RefusalsThatAreLeft
+    → (m n : State) (fd c : ℕ) (kept : List ℕ) (q : Answer) (d : Phase) (r : Reply) (received : List ℕ) → IsOrderly m
+    → is_live m server ≡ true
+    → descriptor m server fd ≡ Some (on.Connection c) → d ≡ Closes
+    → StepsTo m (event.Call server (wants fd (at kept q d))) r n
     → (r ≡ reply.Done) × ((after_reply (at kept q d) r received).phase ≡ Over) × ((conn_at n c).closed ≡ true)
-closes own may m n fd c kept q Closes r received order lives open_on is step = by r (own.closes_conn m n server fd c r order open_on step) step
+closes own may m n fd c kept q Closes r received order lives open_on is step =
+    by r (own.closes_conn m n server fd c r order open_on step) step
   where
     by : (r : Reply) → caller.ClosesConn m c r n → StepsTo m (event.Call server (call.Close fd)) r n
         → (r ≡ reply.Done) × ((after_reply (at kept q Closes) r received).phase ≡ Over) × ((conn_at n c).closed ≡ true)

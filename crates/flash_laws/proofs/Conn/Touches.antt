@@ -1,5 +1,6 @@
 -- The objects that the call of a phase touches.
-use Rattle.std.proofs.Common.{inl, inr, ◌≡◌, ℕ, ◌==◌, ◌⊎◌, List, [], ◌∷◌, ap, ◌∙◌, refl, sym, arith, Option, Some, true, false, Bool, if◌then◌else◌}
+use Rattle.std.proofs.Common.{inl, inr, ◌≡◌, ℕ, ◌==◌, ◌⊎◌, List, [], ◌∷◌, ap, ◌∙◌, refl, sym, arith, Option, Some, true}
+use Rattle.std.proofs.Common.{false, Bool, if◌then◌else◌}
 use Rattle.std.specs.Prelude.{◌||◌, ◌&&◌}
 use Rattle.std.specs.List.{list_any}
 use Rattle.std.proofs.lemmas.Bool.Decides.{nat_tests}
@@ -15,7 +16,8 @@ use Rattle.iol_core.specs.declared.events.Event.TheVariants as event
 use Rattle.flash_http.specs.Request.{Answer}
 use Rattle.flash_laws.specs.Conn.{uses_fd, is_head_only, most_read, wants}
 use Rattle.flash_laws.specs.declared.phase.Phase.{Phase}
-use Rattle.flash_laws.specs.declared.phase.Phase.TheVariants.{Rests, Reads as Reading, Shuts, Sends, Offers, Closes, Over}
+use Rattle.flash_laws.specs.declared.phase.Phase.TheVariants.{Rests, Reads as Reading, Shuts, Sends, Offers, Closes}
+use Rattle.flash_laws.specs.declared.phase.Phase.TheVariants.{Over}
 use Rattle.flash_laws.specs.Conn.Fits.{Has}
 use Rattle.flash_laws.specs.Site.{server}
 use Rattle.flash_laws.proofs.Forms.{at}
@@ -35,27 +37,34 @@ pub fds-wants : (m : State) (fd c : ℕ) (kept : List ℕ) (q : Answer) (d : Pha
     → descriptor m server fd ≡ Some (on.Connection c)
     → touches_fd m (event.Call server (wants fd (at kept q d))) server g ≡ true
     → (uses_fd d g ≡ true) ⊎ (fd ≡ g)
-fds-wants m fd c kept q Rests g is t = absurd (clash ((fd == g) && is_file (descriptor m server fd)) t (not-file m fd c g is))
+fds-wants m fd c kept q Rests g is t =
+    absurd (clash ((fd == g) && is_file (descriptor m server fd)) t (not-file m fd c g is))
 fds-wants m fd c kept q (Reading f) g is t = inl (by (is_head_only q) t)
   where
-    by : (b : Bool) → touches_fd m (event.Call server (if b then call.Length f else call.IolRead f most_read)) server g ≡ true
+    by : (b : Bool) → touches_fd m (event.Call server (if b then call.Length f else call.IolRead f most_read)) server g
+        ≡ true
         → (f == g) ≡ true
     by true t = absurd (cc)
     by false t = left-of (f == g) (is_file (descriptor m server f)) t
 fds-wants m fd c kept q (Shuts f k) g is t = inl t
-fds-wants m fd c kept q (Sends b len taken more) g is t = absurd (clash ((fd == g) && is_file (descriptor m server fd)) t (not-file m fd c g is))
-fds-wants m fd c kept q (Offers b from len piece taken more) g is t = absurd (clash ((fd == g) && is_file (descriptor m server fd)) t (not-file m fd c g is))
+fds-wants m fd c kept q (Sends b len taken more) g is t =
+    absurd (clash ((fd == g) && is_file (descriptor m server fd)) t (not-file m fd c g is))
+fds-wants m fd c kept q (Offers b from len piece taken more) g is t =
+    absurd (clash ((fd == g) && is_file (descriptor m server fd)) t (not-file m fd c g is))
 fds-wants m fd c kept q Closes g is t = inr (same-number fd g t)
 fds-wants m fd c kept q Over g is t = inr (same-number fd g t)
 fds-wants m fd c kept q d g is t = absurd (cc)
 
 uses-conn : (m : State) (fd c k : ℕ) → descriptor m server fd ≡ Some (on.Connection c)
     → (list_any (is_conn k) (descriptor m server fd ∷ []) || false) ≡ true → c ≡ k
-uses-conn m fd c k is t = (let e = sym (ap (λ (d : Option Descriptor). list_any (is_conn k) (d ∷ []) || false) is) ∙ t in grind (arith, nat_tests, common_steps, e))
+uses-conn m fd c k is t =
+    (let e = sym (ap (λ (d : Option Descriptor). list_any (is_conn k) (d ∷ []) || false) is) ∙ t in
+    grind (arith, nat_tests, common_steps, e))
 
 uses-no_conn : (m : State) (g f pos k : ℕ) → descriptor m server g ≡ Some (on.File f pos modes.Read)
     → (list_any (is_conn k) (descriptor m server g ∷ []) || false) ≡ true → ⊥
-uses-no_conn m g f pos k is t = (let e = sym (ap (λ (d : Option Descriptor). list_any (is_conn k) (d ∷ []) || false) is) ∙ t in cc)
+uses-no_conn m g f pos k is t =
+    (let e = sym (ap (λ (d : Option Descriptor). list_any (is_conn k) (d ∷ []) || false) is) ∙ t in cc)
 
 -- the only connection that it touches is its own
 pub conns-wants : (m : State) (fd c : ℕ) (kept : List ℕ) (q : Answer) (expected : List ℕ) (d : Phase) (k : ℕ)
@@ -64,7 +73,8 @@ pub conns-wants : (m : State) (fd c : ℕ) (kept : List ℕ) (q : Answer) (expec
 conns-wants m fd c kept q expected Rests k is has t = uses-conn m fd c k is t
 conns-wants m fd c kept q expected (Reading f) k is has t = absurd (by (is_head_only q) t)
   where
-    by : (b : Bool) → touches_conn m (event.Call server (if b then call.Length f else call.IolRead f most_read)) k ≡ true
+    by : (b : Bool) → touches_conn m (event.Call server (if b then call.Length f else call.IolRead f most_read)) k
+        ≡ true
         → ⊥
     by true t = cc
     by false t = uses-no_conn m f has.1.0 has.1.1 k has.1.2 t
@@ -76,18 +86,22 @@ conns-wants m fd c kept q expected Over k is has t = uses-conn m fd c k is t
 conns-wants m fd c kept q expected d k is has t = absurd (cc)
 
 -- and no pipe
-no-end : (m : State) (fd c p : ℕ) → descriptor m server fd ≡ Some (on.Connection c) → (list_any (is_end p) (descriptor m server fd ∷ []) || false) ≡ false
+no-end : (m : State) (fd c p : ℕ) → descriptor m server fd ≡ Some (on.Connection c)
+    → (list_any (is_end p) (descriptor m server fd ∷ []) || false) ≡ false
 no-end m fd c p is = ap (λ (d : Option Descriptor). list_any (is_end p) (d ∷ []) || false) is
 
-no-file-end : (m : State) (g f pos p : ℕ) → descriptor m server g ≡ Some (on.File f pos modes.Read) → (list_any (is_end p) (descriptor m server g ∷ []) || false) ≡ false
+no-file-end : (m : State) (g f pos p : ℕ) → descriptor m server g ≡ Some (on.File f pos modes.Read)
+    → (list_any (is_end p) (descriptor m server g ∷ []) || false) ≡ false
 no-file-end m g f pos p is = ap (λ (d : Option Descriptor). list_any (is_end p) (d ∷ []) || false) is
 
-pub pipes-wants : (m : State) (fd c : ℕ) (kept : List ℕ) (q : Answer) (expected : List ℕ) (d : Phase) (p : ℕ) → descriptor m server fd ≡ Some (on.Connection c) → Has m q expected d
+pub pipes-wants : (m : State) (fd c : ℕ) (kept : List ℕ) (q : Answer) (expected : List ℕ) (d : Phase) (p : ℕ)
+    → descriptor m server fd ≡ Some (on.Connection c) → Has m q expected d
     → touches_pipe m (event.Call server (wants fd (at kept q d))) p ≡ false
 pipes-wants m fd c kept q expected Rests p is has = no-end m fd c p is
 pipes-wants m fd c kept q expected (Reading f) p is has = by (is_head_only q)
   where
-    by : (b : Bool) → touches_pipe m (event.Call server (if b then call.Length f else call.IolRead f most_read)) p ≡ false
+    by : (b : Bool) → touches_pipe m (event.Call server (if b then call.Length f else call.IolRead f most_read)) p
+        ≡ false
     by true = refl
     by false = no-file-end m f has.1.0 has.1.1 p has.1.2
 pipes-wants m fd c kept q expected (Shuts f x) p is has = no-file-end m f has.0.0 has.0.1 p has.0.2
@@ -103,7 +117,8 @@ pub files-wants : (m : State) (fd c : ℕ) (kept : List ℕ) (q : Answer) (d : P
     → changes_files m (event.Call server (wants fd (at kept q d))) ≡ false
 files-wants m fd c kept q (Reading f) is = by (is_head_only q)
   where
-    by : (b : Bool) → changes_files m (event.Call server (if b then call.Length f else call.IolRead f most_read)) ≡ false
+    by : (b : Bool) → changes_files m (event.Call server (if b then call.Length f else call.IolRead f most_read))
+        ≡ false
     by true = refl
     by false = refl
 files-wants m fd c kept q (Sends b len taken more) is = ap is_file is

@@ -1,5 +1,6 @@
 -- The end of a run, and the time until which it keeps the text of its script.
-use Rattle.std.proofs.Common.{inl, inr, ◌≡◌, ℕ, ◌⊎◌, List, [], ◌∷◌, ap, refl, sym, subst, Option, Some, None, true, false, Bool, if◌then◌else◌}
+use Rattle.std.proofs.Common.{inl, inr, ◌≡◌, ℕ, ◌⊎◌, List, [], ◌∷◌, ap, refl, sym, subst, Option, Some, None, true}
+use Rattle.std.proofs.Common.{false, Bool, if◌then◌else◌}
 use Rattle.std.specs.Prelude.{nat_lt}
 use Rattle.iol_core.specs.declared.refusals.Refusal.TheVariants as no
 use Rattle.iol_core.specs.declared.events.Reply.{Reply}
@@ -10,13 +11,17 @@ use Rattle.flash_laws.specs.Conn.{Following, count_of}
 use Rattle.iol_core.specs.State.{State}
 use Rattle.flash_laws.specs.Client.ResponseState.{IsTaken, IsAfter}
 use Rattle.flash_laws.specs.Run.Fits.{Progress, Broken, IsLeft, HasNone, HasLeft, HasRun}
-use Rattle.flash_laws.specs.Run.{is_again, is_left, is_over, wants, after_reply, after_step, holding, hearing, filled, finishing, both}
+use Rattle.flash_laws.specs.Run.{is_again, is_left, is_over, wants, after_reply, after_step, holding, hearing, filled}
+use Rattle.flash_laws.specs.Run.{finishing, both}
 use Rattle.flash_laws.specs.declared.phase.Phase.{Phase}
 use Rattle.flash_laws.specs.declared.phase.Phase.TheVariants as phase
 use Rattle.flash_laws.specs.declared.script_run.TheConstants.{CHUNK_BYTES}
 use Rattle.flash_laws.specs.declared.script_run.Run.{Run}
 use Rattle.flash_laws.specs.declared.script_run.Step.{Step}
-use Rattle.flash_laws.specs.declared.script_run.Step.TheVariants.{Gives, Makes, Hands, Lets, Heads, Sending, Receives, Spills, Gathers, Frames, Wraps, Trims, Ended, Unholds, Stops, Unframes, Lasts, WrapsLast, TrimsLast, Unwraps, Returns, Lapses, Fails}
+use Rattle.flash_laws.specs.declared.script_run.Step.TheVariants.{Gives, Makes, Hands, Lets, Heads, Sending, Receives}
+use Rattle.flash_laws.specs.declared.script_run.Step.TheVariants.{Spills, Gathers, Frames, Wraps, Trims, Ended, Unholds}
+use Rattle.flash_laws.specs.declared.script_run.Step.TheVariants.{Stops, Unframes, Lasts, WrapsLast, TrimsLast, Unwraps}
+use Rattle.flash_laws.specs.declared.script_run.Step.TheVariants.{Returns, Lapses, Fails}
 use Rattle.flash_laws.specs.declared.script_run.Running.{Running}
 use Rattle.flash_laws.specs.declared.script_run.Running.TheVariants.{Awaits, Runs, Leaves, Closes}
 use Rattle.flash_laws.proofs.Lists.{clash, not-true}
@@ -40,7 +45,8 @@ left-ends m w o (phase.Breaks piece a more) has over = absurd (cc (over))
 left-ends m w o (phase.Drops a more) has over = absurd (cc (over))
 left-ends m w o d has over = absurd has.sends.0
 
-pub run-ends : (job : ℕ → List ℕ) (m : State) (w : Wanted) (o : Progress) (z : Running) → HasRun job m w o z → is_over z ≡ true → IsEnd (after_run z)
+pub run-ends : (job : ℕ → List ℕ) (m : State) (w : Wanted) (o : Progress) (z : Running) → HasRun job m w o z
+    → is_over z ≡ true → IsEnd (after_run z)
 run-ends job m w o (Leaves d) has over = left-ends m w o d has (not-true (is_left d) over)
 run-ends job m w o Closes has over = inr refl
 run-ends job m w o x has over = absurd (cc (over))
@@ -58,10 +64,13 @@ none-taken w x none = none.0
 left-after : (m : State) (w : Wanted) (o : Progress) (d : Phase) → HasLeft m w o d → IsEnd d → IsAfter w o d
 left-after m w o d has ends = elim ends [
   | inl rests ↦ subst (λ (e : Phase). IsAfter w o e) (sym rests) (subst (λ (e : Phase). HasLeft m w o e) rests has)
-  | inr closes ↦ subst (λ (e : Phase). IsAfter w o e) (sym closes) (none-taken w o (subst (λ (e : Phase). HasLeft m w o e) closes has))
+  | inr closes ↦
+      subst (λ (e : Phase). IsAfter w o e) (sym closes)
+      (none-taken w o (subst (λ (e : Phase). HasLeft m w o e) closes has))
 ]
 
-pub run-after : (job : ℕ → List ℕ) (m : State) (w : Wanted) (o : Progress) (z : Running) → HasRun job m w o z → is_over z ≡ true → IsAfter w o (after_run z)
+pub run-after : (job : ℕ → List ℕ) (m : State) (w : Wanted) (o : Progress) (z : Running) → HasRun job m w o z
+    → is_over z ≡ true → IsAfter w o (after_run z)
 run-after job m w o (Leaves d) has over = left-after m w o d has (left-ends m w o d has (not-true (is_left d) over))
 run-after job m w o Closes has over = none-taken w o has
 run-after job m w o x has over = absurd (cc (over))
@@ -74,12 +83,14 @@ Forgets z = keeps_text z ≡ false
 holding-forgets : (run : Run) (held size : ℕ) (frame : Option ℕ) → Forgets (Runs run (holding held size frame))
 holding-forgets run held size frame = by (nat_lt size CHUNK_BYTES) frame
   where
-    by : (t : Bool) (frame : Option ℕ) → Forgets (Runs run (if t then Receives (Some (held, size)) frame else filled held frame))
+    by : (t : Bool) (frame : Option ℕ)
+        → Forgets (Runs run (if t then Receives (Some (held, size)) frame else filled held frame))
     by true frame = refl
     by false None = refl
     by false (Some f) = refl
 
-hearing-forgets : (run : Run) (b c : Bool) (held : Following) (frame : Option ℕ) (a len : ℕ) → Forgets (Runs run (hearing b c held frame a len))
+hearing-forgets : (run : Run) (b c : Bool) (held : Following) (frame : Option ℕ) (a len : ℕ)
+    → Forgets (Runs run (hearing b c held frame a len))
 hearing-forgets run true c held frame a len = refl
 hearing-forgets run false false held frame a len = refl
 hearing-forgets run false true None frame a len = holding-forgets run a len frame
@@ -90,7 +101,8 @@ finishing-forgets false true run held = refl
 finishing-forgets false false run held = refl
 finishing-forgets true c run held = refl
 
-step-forgets : (w : Wanted) (run : Run) (s : Step) (r : Reply) (received : List ℕ) → keeps_text (Runs run s) ≡ false → Forgets (after_step w run s r received)
+step-forgets : (w : Wanted) (run : Run) (s : Step) (r : Reply) (received : List ℕ) → keeps_text (Runs run s) ≡ false
+    → Forgets (after_step w run s r received)
 step-forgets w run (Gives write) r received was = absurd (cc (was))
 step-forgets w run (Makes f) r received was = absurd (cc (was))
 step-forgets w run (Hands j f) (reply.Count n) received was = refl
@@ -104,11 +116,13 @@ step-forgets w run Heads (reply.Agg n) received was = refl
 step-forgets w run (Sending (phase.Sent a taken None) frame) reply.Done received was = refl
 step-forgets w run (Sending (phase.Drops a None) frame) reply.Done received was = refl
 step-forgets w run (Receives held frame) (reply.Agg n) [] was = refl
-step-forgets w run (Receives held frame) (reply.Agg n) (b ∷ received) was = hearing-forgets run run.broken w.chunked held frame n (count_of (b ∷ received))
+step-forgets w run (Receives held frame) (reply.Agg n) (b ∷ received) was =
+    hearing-forgets run run.broken w.chunked held frame n (count_of (b ∷ received))
 step-forgets w run (Receives None frame) (reply.Refused (no.Denied p)) received was = refl
 step-forgets w run (Receives (Some x) frame) (reply.Refused (no.Denied p)) received was = refl
 step-forgets w run (Spills a frame) reply.Done received was = refl
-step-forgets w run (Gathers held size piece len frame) (reply.Agg n) received was = holding-forgets run n (both size len) frame
+step-forgets w run (Gathers held size piece len frame) (reply.Agg n) received was =
+    holding-forgets run n (both size len) frame
 step-forgets w run (Frames held) (reply.Agg n) received was = refl
 step-forgets w run (Wraps held frame) (reply.Agg n) received was = refl
 step-forgets w run (Trims held chunk len frame) reply.Done received was = refl
@@ -128,7 +142,8 @@ step-forgets w run Fails reply.Done received was = refl
 step-forgets w run s r received was = refl
 
 -- what keeps it kept it before
-pub keeps-back : (worker : ℕ) (w : Wanted) (y : Running) (r : Reply) (received : List ℕ) → keeps_text (after_reply worker w y r received) ≡ true → keeps_text y ≡ true
+pub keeps-back : (worker : ℕ) (w : Wanted) (y : Running) (r : Reply) (received : List ℕ)
+    → keeps_text (after_reply worker w y r received) ≡ true → keeps_text y ≡ true
 keeps-back worker w Awaits r received kept = refl
 keeps-back worker w (Runs run s) r received kept = by (keeps_text (Runs run s)) refl
   where
@@ -140,5 +155,6 @@ keeps-back worker w x r received kept = absurd (cc (kept))
 -- no call but that for the job tells its text
 pub wants-text : (fd : ℕ) (w : Wanted) (y : Running) (script text : List ℕ) → (keeps_text y ≡ true → script ≡ text)
     → wants (job_of w script) fd w y ≡ wants (job_of w text) fd w y
-wants-text fd w (Runs run (Makes f)) script text kept = ap (λ (t : List ℕ). wants (job_of w t) fd w (Runs run (Makes f))) (kept refl)
+wants-text fd w (Runs run (Makes f)) script text kept =
+    ap (λ (t : List ℕ). wants (job_of w t) fd w (Runs run (Makes f))) (kept refl)
 wants-text fd w y script text kept = refl

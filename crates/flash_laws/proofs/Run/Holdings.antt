@@ -1,5 +1,6 @@
 -- Objects that a run no longer uses are given up.
-use Rattle.std.proofs.Common.{◌≡◌, ℕ, ◌==◌, List, [], ◌∷◌, ap, ◌∙◌, refl, sym, arith, Option, Some, None, true, false, Bool, if◌then◌else◌, length}
+use Rattle.std.proofs.Common.{◌≡◌, ℕ, ◌==◌, List, [], ◌∷◌, ap, ◌∙◌, refl, sym, arith, Option, Some, None, true, false}
+use Rattle.std.proofs.Common.{Bool, if◌then◌else◌, length}
 use Rattle.std.specs.Prelude.{◌||◌, nat_lt}
 use Rattle.iol_core.specs.State.{State, descriptor}
 use Rattle.iol_core.specs.Run.{StepsTo}
@@ -21,14 +22,19 @@ use Rattle.flash_laws.specs.Conn as conn
 use Rattle.flash_laws.specs.Conn.{Following, has_followed, count_of}
 use Rattle.flash_laws.specs.Run.Fits.{Progress, Goes, Ends, IsHeld, HasReceived, HasAll, HasPart, HasStep, HasRun}
 use Rattle.flash_laws.specs.Run.Holdings.{has_end}
-use Rattle.flash_laws.specs.Run.{both, worker_domain, has_frame, step_agg, ends_of, uses_agg, step_wants, wants, is_again, after_give, after_sending, after_output, filled, holding, hearing, unread, finishing, after_step, after_reply}
+use Rattle.flash_laws.specs.Run.{both, worker_domain, has_frame, step_agg, ends_of, uses_agg, step_wants, wants}
+use Rattle.flash_laws.specs.Run.{is_again, after_give, after_sending, after_output, filled, holding, hearing, unread}
+use Rattle.flash_laws.specs.Run.{finishing, after_step, after_reply}
 use Rattle.flash_laws.specs.Site.{server}
 use Rattle.flash_laws.specs.declared.phase.Phase.{Phase}
 use Rattle.flash_laws.specs.declared.phase.Phase.TheVariants as phase
 use Rattle.flash_laws.specs.declared.script_run.TheConstants.{CHUNK_BYTES}
 use Rattle.flash_laws.specs.declared.script_run.Run.{Run}
 use Rattle.flash_laws.specs.declared.script_run.Step.{Step}
-use Rattle.flash_laws.specs.declared.script_run.Step.TheVariants.{Gives, Makes, Hands, Lets, Heads, Sending, Receives, Spills, Gathers, Frames, Wraps, Trims, Ended, Unholds, Stops, Unframes, Lasts, WrapsLast, TrimsLast, Unwraps, Returns, Lapses, Fails}
+use Rattle.flash_laws.specs.declared.script_run.Step.TheVariants.{Gives, Makes, Hands, Lets, Heads, Sending, Receives}
+use Rattle.flash_laws.specs.declared.script_run.Step.TheVariants.{Spills, Gathers, Frames, Wraps, Trims, Ended, Unholds}
+use Rattle.flash_laws.specs.declared.script_run.Step.TheVariants.{Stops, Unframes, Lasts, WrapsLast, TrimsLast, Unwraps}
+use Rattle.flash_laws.specs.declared.script_run.Step.TheVariants.{Returns, Lapses, Fails}
 use Rattle.flash_laws.specs.declared.script_run.Running.{Running}
 use Rattle.flash_laws.specs.declared.script_run.Running.TheVariants.{Runs, Leaves}
 use Rattle.flash_laws.proofs.Conn.Holdings.{leaves-after_reply}
@@ -49,11 +55,14 @@ plain true b is = is
 plain false b is = is
 
 -- nothing is held where nobody takes it, or where chunks are not made
-held-none : (m : State) (w : Wanted) (held : Following) (bytes : List ℕ) → IsHeld m w held bytes → bytes ≡ [] → held ≡ None
+held-none : (m : State) (w : Wanted) (held : Following) (bytes : List ℕ) → IsHeld m w held bytes → bytes ≡ []
+    → held ≡ None
 held-none m w None bytes has none = refl
-held-none m w (Some x) bytes has none = let c = has.count in let s = has.some in let e = ap (λ (l : List ℕ). length l) none in absurd (omega (arith, c, s, e))
+held-none m w (Some x) bytes has none = let c = has.count in let s = has.some in let e =
+    ap (λ (l : List ℕ). length l) none in absurd (omega (arith, c, s, e))
 
-held-plain : (m : State) (w : Wanted) (held : Following) (bytes : List ℕ) → IsHeld m w held bytes → w.chunked ≡ false → held ≡ None
+held-plain : (m : State) (w : Wanted) (held : Following) (bytes : List ℕ) → IsHeld m w held bytes → w.chunked ≡ false
+    → held ≡ None
 held-plain m w None bytes has plain = refl
 held-plain m w (Some x) bytes has plain = let c = has.chunked in absurd (cc (c, plain))
 
@@ -65,7 +74,8 @@ unheld held a none = ap (λ (h : Following). has_followed h a) none
 abbrev Gone : Call → Reply → (a : ℕ) → Type 0
 Gone k r a = (gives_up (event.Call server k) server a ≡ true) × (is_refusal r ≡ false)
 
-holding-frame : (n size : ℕ) (frame : Option ℕ) (a : ℕ) → has_frame frame a ≡ true → step_agg (holding n size frame) a ≡ true
+holding-frame : (n size : ℕ) (frame : Option ℕ) (a : ℕ) → has_frame frame a ≡ true
+    → step_agg (holding n size frame) a ≡ true
 holding-frame n size frame a u = by (nat_lt size CHUNK_BYTES)
   where
     set : (frame : Option ℕ) → has_frame frame a ≡ true → step_agg (filled n frame) a ≡ true
@@ -88,13 +98,16 @@ holding-new n size frame a u = by (nat_lt size CHUNK_BYTES)
     by false = set frame
 
 -- what was used when output is read is used then
-hearing-uses : (m : State) (w : Wanted) (o : Progress) (c d : Bool) (held : Following) (frame : Option ℕ) (n len : ℕ) (bytes : List ℕ) (a : ℕ)
+hearing-uses : (m : State) (w : Wanted) (o : Progress) (c d : Bool) (held : Following) (frame : Option ℕ) (n len : ℕ)
+    (bytes : List ℕ) (a : ℕ)
     → IsHeld m w held bytes → Goes c w o bytes → w.chunked ≡ d → (has_followed held a || has_frame frame a) ≡ true
     → step_agg (hearing c d held frame n len) a ≡ true
 hearing-uses m w o true d held frame n len bytes a holds goes is u =
-    later_of (n == a) (has_frame frame a) (later_by (has_followed held a) (has_frame frame a) u (unheld held a (held-none m w held bytes holds goes.1)))
+    later_of (n == a) (has_frame frame a)
+    (later_by (has_followed held a) (has_frame frame a) u (unheld held a (held-none m w held bytes holds goes.1)))
 hearing-uses m w o false false held frame n len bytes a holds goes is u =
-    later_of ((n == a) || false) (has_frame frame a) (later_by (has_followed held a) (has_frame frame a) u (unheld held a (held-plain m w held bytes holds is)))
+    later_of ((n == a) || false) (has_frame frame a)
+    (later_by (has_followed held a) (has_frame frame a) u (unheld held a (held-plain m w held bytes holds is)))
 hearing-uses m w o false true None frame n len bytes a holds goes is u = holding-frame n len frame a u
 hearing-uses m w o false true (Some x) frame n len bytes a holds goes is u = by (x.0 == a) u
   where
@@ -103,22 +116,29 @@ hearing-uses m w o false true (Some x) frame n len bytes a holds goes is u = by 
     by false u = later_of (n == a) (has_frame frame a) u
 
 -- and so is what is read
-pub hearing-new : (c d : Bool) (held : Following) (frame : Option ℕ) (n len a : ℕ) → (n == a) ≡ true → step_agg (hearing c d held frame n len) a ≡ true
+pub hearing-new : (c d : Bool) (held : Following) (frame : Option ℕ) (n len a : ℕ) → (n == a) ≡ true
+    → step_agg (hearing c d held frame n len) a ≡ true
 hearing-new true d held frame n len a u = former_of (n == a) (has_frame frame a) u
-hearing-new false false held frame n len a u = former_of ((n == a) || false) (has_frame frame a) (former_of (n == a) false u)
+hearing-new false false held frame n len a u =
+    former_of ((n == a) || false) (has_frame frame a) (former_of (n == a) false u)
 hearing-new false true None frame n len a u = holding-new n len frame a u
-hearing-new false true (Some x) frame n len a u = later_of (x.0 == a) ((n == a) || has_frame frame a) (former_of (n == a) (has_frame frame a) u)
+hearing-new false true (Some x) frame n len a u =
+    later_of (x.0 == a) ((n == a) || has_frame frame a) (former_of (n == a) (has_frame frame a) u)
 
-unread-uses : (held : Following) (frame : Option ℕ) (a : ℕ) → (has_followed held a || has_frame frame a) ≡ true → step_agg (unread held frame) a ≡ true
+unread-uses : (held : Following) (frame : Option ℕ) (a : ℕ) → (has_followed held a || has_frame frame a) ≡ true
+    → step_agg (unread held frame) a ≡ true
 unread-uses None frame a u = u
 unread-uses (Some x) frame a u = u
 
 -- what is held is used to the end
-finishing-uses : (m : State) (w : Wanted) (o : Progress) (run : Run) (b c : Bool) (held : Following) (bytes : List ℕ) (a : ℕ) → IsHeld m w held bytes
+finishing-uses : (m : State) (w : Wanted) (o : Progress) (run : Run) (b c : Bool) (held : Following) (bytes : List ℕ)
+    (a : ℕ) → IsHeld m w held bytes
     → Ends b w o bytes → w.chunked ≡ c → uses_agg (finishing b c run held) a ≡ false → has_followed held a ≡ false
 finishing-uses m w o run false true held bytes a holds ends is unused = unused
-finishing-uses m w o run false false held bytes a holds ends is unused = unheld held a (held-plain m w held bytes holds is)
-finishing-uses m w o run true c held bytes a holds ends is unused = unheld held a (held-none m w held bytes holds ends.1)
+finishing-uses m w o run false false held bytes a holds ends is unused =
+    unheld held a (held-plain m w held bytes holds is)
+finishing-uses m w o run true c held bytes a holds ends is unused =
+    unheld held a (held-none m w held bytes holds ends.1)
 
 -- of two that are used, the frame stays
 apart : {A : Type 0} (x y f : Bool) → (x || f) ≡ true → (y || f) ≡ false → (x ≡ true → y ≡ false → A) → A
@@ -129,55 +149,90 @@ module _ (job : ℕ → List ℕ) (m : State) (fd : ℕ) (w : Wanted) (o : Progr
   abbrev LeavesAt : Step → Reply → Running → Type 0
   LeavesAt s r y = step_agg s a ≡ true → uses_agg y a ≡ false → Gone (step_wants job fd w run s) r a
 
-  sending : (d : Phase) (frame : Option ℕ) (r : Reply) → HasPart m w o run d frame → LeavesAt (Sending d frame) r (after_sending run d frame r)
-  sending (phase.Sent b taken None) frame reply.Done h u unused = apart ((b == a) || false) false (has_frame frame a) u unused (λ x y. (bare (b == a) x, refl))
-  sending (phase.Sent b taken None) frame r h u unused = absurd (clash (step_agg (Sending (phase.Sent b taken None) frame) a) u unused)
-  sending (phase.Drops b None) frame reply.Done h u unused = apart ((b == a) || false) false (has_frame frame a) u unused (λ x y. (bare (b == a) x, refl))
-  sending (phase.Drops b None) frame r h u unused = absurd (clash (step_agg (Sending (phase.Drops b None) frame) a) u unused)
-  sending (phase.Sends b len taken None) frame r h u unused = apart (conn.uses_agg (phase.Sends b len taken None) a) (conn.uses_agg (conn.after_send b len taken None r) a) (has_frame frame a) u unused
+  sending : (d : Phase) (frame : Option ℕ) (r : Reply) → HasPart m w o run d frame
+      → LeavesAt (Sending d frame) r (after_sending run d frame r)
+  sending (phase.Sent b taken None) frame reply.Done h u unused =
+      apart ((b == a) || false) false (has_frame frame a) u unused (λ x y. (bare (b == a) x, refl))
+  sending (phase.Sent b taken None) frame r h u unused =
+      absurd (clash (step_agg (Sending (phase.Sent b taken None) frame) a) u unused)
+  sending (phase.Drops b None) frame reply.Done h u unused =
+      apart ((b == a) || false) false (has_frame frame a) u unused (λ x y. (bare (b == a) x, refl))
+  sending (phase.Drops b None) frame r h u unused =
+      absurd (clash (step_agg (Sending (phase.Drops b None) frame) a) u unused)
+  sending (phase.Sends b len taken None) frame r h u unused =
+      apart (conn.uses_agg (phase.Sends b len taken None) a) (conn.uses_agg (conn.after_send b len taken None r) a)
+      (has_frame frame a) u unused
       (leaves-after_reply fd [] (serve w) (phase.Sends b len taken None) r [] a)
-  sending (phase.Cuts b from len taken None) frame r h u unused = apart (conn.uses_agg (phase.Cuts b from len taken None) a) (conn.uses_agg (conn.after_cut b from len taken None r) a) (has_frame frame a) u unused
+  sending (phase.Cuts b from len taken None) frame r h u unused =
+      apart (conn.uses_agg (phase.Cuts b from len taken None) a)
+      (conn.uses_agg (conn.after_cut b from len taken None r) a) (has_frame frame a) u unused
       (leaves-after_reply fd [] (serve w) (phase.Cuts b from len taken None) r [] a)
-  sending (phase.Offers b from len piece taken None) frame r h u unused = apart (conn.uses_agg (phase.Offers b from len piece taken None) a) (conn.uses_agg (conn.after_offer b from len piece taken None r) a) (has_frame frame a) u unused
+  sending (phase.Offers b from len piece taken None) frame r h u unused =
+      apart (conn.uses_agg (phase.Offers b from len piece taken None) a)
+      (conn.uses_agg (conn.after_offer b from len piece taken None r) a) (has_frame frame a) u unused
       (leaves-after_reply fd [] (serve w) (phase.Offers b from len piece taken None) r [] a)
-  sending (phase.Swaps b from len piece taken None) frame r h u unused = apart (conn.uses_agg (phase.Swaps b from len piece taken None) a) (conn.uses_agg (conn.after_swap b from len piece taken None r) a) (has_frame frame a) u unused
+  sending (phase.Swaps b from len piece taken None) frame r h u unused =
+      apart (conn.uses_agg (phase.Swaps b from len piece taken None) a)
+      (conn.uses_agg (conn.after_swap b from len piece taken None r) a) (has_frame frame a) u unused
       (leaves-after_reply fd [] (serve w) (phase.Swaps b from len piece taken None) r [] a)
-  sending (phase.Breaks piece b None) frame r h u unused = apart (conn.uses_agg (phase.Breaks piece b None) a) (conn.uses_agg (conn.after_break piece b None r) a) (has_frame frame a) u unused
+  sending (phase.Breaks piece b None) frame r h u unused =
+      apart (conn.uses_agg (phase.Breaks piece b None) a) (conn.uses_agg (conn.after_break piece b None r) a)
+      (has_frame frame a) u unused
       (leaves-after_reply fd [] (serve w) (phase.Breaks piece b None) r [] a)
   sending d frame r h u unused = absurd h.is_part
 
   receives : (held : Following) (frame : Option ℕ) (r : Reply) (received : List ℕ) → HasReceived m w o run held frame
       → LeavesAt (Receives held frame) r (after_output w run held frame r received)
-  receives held frame (reply.Agg n) [] h u unused = absurd (clash (step_agg (Ended n held frame) a) (later_of (n == a) (has_followed held a || has_frame frame a) u) unused)
-  receives held frame (reply.Agg n) (b ∷ received) h u unused = absurd (clash (step_agg (hearing run.broken w.chunked held frame n (count_of (b ∷ received))) a)
-      (hearing-uses m w o run.broken w.chunked held frame n (count_of (b ∷ received)) h.bytes a h.has.holds h.goes refl u) unused)
-  receives held frame (reply.Refused (no.Denied p)) received h u unused = absurd (clash (step_agg (unread held frame) a) (unread-uses held frame a u) unused)
+  receives held frame (reply.Agg n) [] h u unused =
+      absurd (clash (step_agg (Ended n held frame) a) (later_of (n == a) (has_followed held a || has_frame frame a) u)
+      unused)
+  receives held frame (reply.Agg n) (b ∷ received) h u unused =
+      absurd (clash (step_agg (hearing run.broken w.chunked held frame n (count_of (b ∷ received))) a)
+      (hearing-uses m w o run.broken w.chunked held frame n (count_of (b ∷ received)) h.bytes a h.has.holds h.goes refl
+      u) unused)
+  receives held frame (reply.Refused (no.Denied p)) received h u unused =
+      absurd (clash (step_agg (unread held frame) a) (unread-uses held frame a u) unused)
   receives held frame r received h u unused = absurd (clash (step_agg (Receives held frame) a) u unused)
 
   stops : (held : Following) (frame : Option ℕ) (r : Reply) (received : List ℕ) → HasAll m w o run held frame
       → LeavesAt (Stops held frame) r (after_step w run (Stops held frame) r received)
-  stops held None reply.Done received h u unused = absurd (clash (has_followed held a) (bare (has_followed held a) u) (finishing-uses m w o run run.broken w.chunked held h.bytes a h.has.holds h.ends refl unused))
-  stops held (Some f) reply.Done received h u unused = absurd (clash (step_agg (Unframes f held) a) (swapped (has_followed held a) (f == a) u) unused)
+  stops held None reply.Done received h u unused =
+      absurd
+      (clash (has_followed held a) (bare (has_followed held a) u)
+      (finishing-uses m w o run run.broken w.chunked held h.bytes a h.has.holds h.ends refl unused))
+  stops held (Some f) reply.Done received h u unused =
+      absurd (clash (step_agg (Unframes f held) a) (swapped (has_followed held a) (f == a) u) unused)
   stops held frame r received h u unused = absurd (clash (step_agg (Stops held frame) a) u unused)
 
   unframes : (f : ℕ) (held : Following) (r : Reply) (received : List ℕ) → HasAll m w o run held (Some f)
       → LeavesAt (Unframes f held) r (after_step w run (Unframes f held) r received)
-  unframes f held reply.Done received h u unused = (former_by (f == a) (has_followed held a) u (finishing-uses m w o run run.broken w.chunked held h.bytes a h.has.holds h.ends refl unused), refl)
+  unframes f held reply.Done received h u unused = (
+    former_by (f == a) (has_followed held a) u
+        (finishing-uses m w o run run.broken w.chunked held h.bytes a h.has.holds h.ends refl unused),
+    refl,
+  )
   unframes f held r received h u unused = absurd (clash (step_agg (Unframes f held) a) u unused)
 
-  lasts : (held : Following) (r : Reply) (received : List ℕ) → LeavesAt (Lasts held) r (after_step w run (Lasts held) r received)
+  lasts : (held : Following) (r : Reply) (received : List ℕ)
+      → LeavesAt (Lasts held) r (after_step w run (Lasts held) r received)
   lasts None r received u unused = absurd (cc (u))
-  lasts (Some x) (reply.Agg n) received u unused = absurd (clash (step_agg (WrapsLast x.0 x.1 n) a) (former_of (x.0 == a) (n == a) u) unused)
+  lasts (Some x) (reply.Agg n) received u unused =
+      absurd (clash (step_agg (WrapsLast x.0 x.1 n) a) (former_of (x.0 == a) (n == a) u) unused)
   lasts (Some x) r received u unused = absurd (clash (step_agg (Lasts (Some x)) a) u unused)
 
-  gathers : (held size piece len : ℕ) (frame : Option ℕ) (r : Reply) (received : List ℕ) → LeavesAt (Gathers held size piece len frame) r (after_step w run (Gathers held size piece len frame) r received)
-  gathers held size piece len frame (reply.Agg n) received u unused = (by (has_frame frame a) refl (held == a) (piece == a) u, refl)
+  gathers : (held size piece len : ℕ) (frame : Option ℕ) (r : Reply) (received : List ℕ)
+      → LeavesAt (Gathers held size piece len frame) r (after_step w run (Gathers held size piece len frame) r received)
+  gathers held size piece len frame (reply.Agg n) received u unused =
+      (by (has_frame frame a) refl (held == a) (piece == a) u, refl)
     where
       by : (f : Bool) → has_frame frame a ≡ f → (x y : Bool) → (x || (y || f)) ≡ true → (x || y) ≡ true
-      by true is x y u = absurd (clash (step_agg (holding n (both size len) frame) a) (holding-frame n (both size len) frame a is) unused)
+      by true is x y u =
+          absurd (clash (step_agg (holding n (both size len) frame) a) (holding-frame n (both size len) frame a is)
+          unused)
       by false is true y u = refl
       by false is false y u = bare y u
-  gathers held size piece len frame r received u unused = absurd (clash (step_agg (Gathers held size piece len frame) a) u unused)
+  gathers held size piece len frame r received u unused =
+      absurd (clash (step_agg (Gathers held size piece len frame) a) u unused)
 
   hands : (j f : ℕ) (r : Reply) (received : List ℕ) → LeavesAt (Hands j f) r (after_step w run (Hands j f) r received)
   hands j f (reply.Count n) received u unused = absurd (clash (j == a) u unused)
@@ -188,39 +243,57 @@ module _ (job : ℕ → List ℕ) (m : State) (fd : ℕ) (w : Wanted) (o : Progr
       by false unused = clash (j == a) u unused
   hands j f r received u unused = absurd (clash (j == a) u unused)
 
-  step-leaves : (s : Step) (r : Reply) (received : List ℕ) → HasStep job m w o run s → LeavesAt s r (after_step w run s r received)
+  step-leaves : (s : Step) (r : Reply) (received : List ℕ) → HasStep job m w o run s
+      → LeavesAt s r (after_step w run s r received)
   step-leaves (Hands j f) r received has u unused = hands j f r received u unused
   step-leaves (Lets j) reply.Done received has u unused = (u, refl)
   step-leaves (Lets j) r received has u unused = absurd (clash (j == a) u unused)
   step-leaves (Sending d frame) r received has u unused = sending d frame r has u unused
   step-leaves (Receives held frame) r received has u unused = receives held frame r received has u unused
-  step-leaves (Spills b frame) reply.Done received has u unused = (former_by (b == a) (has_frame frame a) u unused, refl)
+  step-leaves (Spills b frame) reply.Done received has u unused =
+      (former_by (b == a) (has_frame frame a) u unused, refl)
   step-leaves (Spills b frame) r received has u unused = absurd (clash (step_agg (Spills b frame) a) u unused)
-  step-leaves (Gathers held size piece len frame) r received has u unused = gathers held size piece len frame r received u unused
-  step-leaves (Frames held) (reply.Agg n) received has u unused = absurd (clash (step_agg (Wraps held n) a) (former_of (held == a) (n == a) u) unused)
+  step-leaves (Gathers held size piece len frame) r received has u unused =
+      gathers held size piece len frame r received u unused
+  step-leaves (Frames held) (reply.Agg n) received has u unused =
+      absurd (clash (step_agg (Wraps held n) a) (former_of (held == a) (n == a) u) unused)
   step-leaves (Frames held) r received has u unused = absurd (clash (held == a) u unused)
-  step-leaves (Wraps held frame) (reply.Agg n) received has u unused = absurd (clash (step_agg (Trims held n (count_of received) frame) a) (amid (held == a) (n == a) (frame == a) u) unused)
+  step-leaves (Wraps held frame) (reply.Agg n) received has u unused =
+      absurd (clash (step_agg (Trims held n (count_of received) frame) a) (amid (held == a) (n == a) (frame == a) u)
+      unused)
   step-leaves (Wraps held frame) r received has u unused = absurd (clash (step_agg (Wraps held frame) a) u unused)
-  step-leaves (Trims held chunk len frame) reply.Done received has u unused = (former_by (held == a) ((chunk == a) || (frame == a)) u (plain (chunk == a) (frame == a) unused), refl)
-  step-leaves (Trims held chunk len frame) r received has u unused = absurd (clash (step_agg (Trims held chunk len frame) a) u unused)
-  step-leaves (Ended b held frame) reply.Done received has u unused = (former_by (b == a) (has_followed held a || has_frame frame a) u unused, refl)
+  step-leaves (Trims held chunk len frame) reply.Done received has u unused =
+      (former_by (held == a) ((chunk == a) || (frame == a)) u (plain (chunk == a) (frame == a) unused), refl)
+  step-leaves (Trims held chunk len frame) r received has u unused =
+      absurd (clash (step_agg (Trims held chunk len frame) a) u unused)
+  step-leaves (Ended b held frame) reply.Done received has u unused =
+      (former_by (b == a) (has_followed held a || has_frame frame a) u unused, refl)
   step-leaves (Ended b held frame) r received has u unused = absurd (clash (step_agg (Ended b held frame) a) u unused)
-  step-leaves (Unholds held frame) reply.Done received has u unused = (former_by (held == a) (has_frame frame a) u unused, refl)
+  step-leaves (Unholds held frame) reply.Done received has u unused =
+      (former_by (held == a) (has_frame frame a) u unused, refl)
   step-leaves (Unholds held frame) r received has u unused = absurd (clash (step_agg (Unholds held frame) a) u unused)
   step-leaves (Stops held frame) r received has u unused = stops held frame r received has.1 u unused
   step-leaves (Unframes f held) r received has u unused = unframes f held r received has u unused
   step-leaves (Lasts held) r received has u unused = lasts held r received u unused
-  step-leaves (WrapsLast held size frame) (reply.Agg n) received has u unused = absurd (clash (step_agg (TrimsLast held n (count_of received) frame) a) (amid (held == a) (n == a) (frame == a) u) unused)
-  step-leaves (WrapsLast held size frame) r received has u unused = absurd (clash (step_agg (WrapsLast held size frame) a) u unused)
-  step-leaves (TrimsLast held chunk len frame) reply.Done received has u unused = (former_by (held == a) ((chunk == a) || (frame == a)) u (swapped-none (chunk == a) (frame == a) unused), refl)
-  step-leaves (TrimsLast held chunk len frame) r received has u unused = absurd (clash (step_agg (TrimsLast held chunk len frame) a) u unused)
-  step-leaves (Unwraps frame chunk len) reply.Done received has u unused = (former_by (frame == a) (chunk == a) u (bare-none (chunk == a) unused), refl)
-  step-leaves (Unwraps frame chunk len) r received has u unused = absurd (clash (step_agg (Unwraps frame chunk len) a) u unused)
+  step-leaves (WrapsLast held size frame) (reply.Agg n) received has u unused =
+      absurd (clash (step_agg (TrimsLast held n (count_of received) frame) a) (amid (held == a) (n == a) (frame == a) u)
+      unused)
+  step-leaves (WrapsLast held size frame) r received has u unused =
+      absurd (clash (step_agg (WrapsLast held size frame) a) u unused)
+  step-leaves (TrimsLast held chunk len frame) reply.Done received has u unused =
+      (former_by (held == a) ((chunk == a) || (frame == a)) u (swapped-none (chunk == a) (frame == a) unused), refl)
+  step-leaves (TrimsLast held chunk len frame) r received has u unused =
+      absurd (clash (step_agg (TrimsLast held chunk len frame) a) u unused)
+  step-leaves (Unwraps frame chunk len) reply.Done received has u unused =
+      (former_by (frame == a) (chunk == a) u (bare-none (chunk == a) unused), refl)
+  step-leaves (Unwraps frame chunk len) r received has u unused =
+      absurd (clash (step_agg (Unwraps frame chunk len) a) u unused)
   step-leaves (Lapses j) reply.Done received has u unused = (u, refl)
   step-leaves (Lapses j) r received has u unused = absurd (clash (j == a) u unused)
   step-leaves s r received has u unused = absurd (cc (u))
 
-pub left : (come : AggregatesComeAndGo) (job : ℕ → List ℕ) (m n : State) (fd worker : ℕ) (w : Wanted) (x : Running) (o : Progress) (r : Reply) (received : List ℕ) (a : ℕ)
+pub left : (come : AggregatesComeAndGo) (job : ℕ → List ℕ) (m n : State) (fd worker : ℕ) (w : Wanted) (x : Running)
+    (o : Progress) (r : Reply) (received : List ℕ) (a : ℕ)
     → IsOrderly m → HasRun job m w o x → StepsTo m (event.Call server (wants job fd w x)) r n
     → uses_agg x a ≡ true → uses_agg (after_reply worker w x r received) a ≡ false → readable_at n server a ≡ None
 left come job m n fd worker w (Runs run s) o r received a order has step u unused =
@@ -233,13 +306,16 @@ left come job m n fd worker w x o r received a order has step u unused = absurd 
 
 -- ---- an end of the pipe that it has no more is closed, or given away
 
-module _ (own : CallsServeTheirDomain) (job : ℕ → List ℕ) (m n : State) (fd : ℕ) (w : Wanted) (o : Progress) (run : Run) (g : ℕ) where
+module _ (own : CallsServeTheirDomain) (job : ℕ → List ℕ) (m n : State) (fd : ℕ) (w : Wanted) (o : Progress) (run : Run)
+    (g : ℕ) where
   abbrev ShutsAt : Step → Reply → Running → Type 0
-  ShutsAt s r y = StepsTo m (event.Call server (step_wants job fd w run s)) r n → ends_of run s g ≡ true → has_end y g ≡ false → descriptor n server g ≡ None
+  ShutsAt s r y = StepsTo m (event.Call server (step_wants job fd w run s)) r n → ends_of run s g ≡ true
+      → has_end y g ≡ false → descriptor n server g ≡ None
 
   -- one that is closed
   closed : (f : ℕ) (s : Step) (r : Reply) (y : Reply → Running) → StepsTo m (event.Call server (call.Close f)) r n
-      → ((x : Refusal) → has_end (y (reply.Refused x)) g ≡ ends_of run s g) → (has_end (y reply.Done) g ≡ false → (f == g) ≡ true)
+      → ((x : Refusal) → has_end (y (reply.Refused x)) g ≡ ends_of run s g)
+      → (has_end (y reply.Done) g ≡ false → (f == g) ≡ true)
       → ends_of run s g ≡ true → has_end (y r) g ≡ false → descriptor n server g ≡ None
   closed f s r y step same which u unused = by r (own.closes m n server f r step) unused
     where
@@ -248,8 +324,11 @@ module _ (own : CallsServeTheirDomain) (job : ℕ → List ℕ) (m n : State) (f
       by (reply.Refused x) did unused = absurd (clash (ends_of run s g) u (sym (same x) ∙ unused))
       by r did unused = absurd did
 
-  gives : (write : ℕ) (r : Reply) (received : List ℕ) → HasStep job m w o run (Gives write) → ShutsAt (Gives write) r (after_step w run (Gives write) r received)
-  gives write r received has step u unused = by r (own.gives_fd m n server write (worker_domain run.worker) (on.WriteEnd has.0.pipe) r has.0.write_end step) unused
+  gives : (write : ℕ) (r : Reply) (received : List ℕ) → HasStep job m w o run (Gives write)
+      → ShutsAt (Gives write) r (after_step w run (Gives write) r received)
+  gives write r received has step u unused =
+      by r (own.gives_fd m n server write (worker_domain run.worker) (on.WriteEnd has.0.pipe) r has.0.write_end step)
+      unused
     where
       again : (b : Bool) → has_end (Runs run (if b then Gives write else Returns write)) g ≡ false → ⊥
       again true unused = clash (ends_of run (Gives write) g) u unused
@@ -258,8 +337,12 @@ module _ (own : CallsServeTheirDomain) (job : ℕ → List ℕ) (m n : State) (f
       other : server ≡ worker_domain run.worker → ⊥
       other is = absurd (omega (arith, is))
 
-      by : (r : Reply) → caller.GivesFd m server write (worker_domain run.worker) (on.WriteEnd has.0.pipe) r n → has_end (Runs run (after_give write r)) g ≡ false → descriptor n server g ≡ None
-      by (reply.Fd f) did unused = ap (λ z. descriptor n server z) (sym (same-number write g (later_by (run.from == g) (write == g) u (none (run.from == g) unused)))) ∙ did.left other
+      by : (r : Reply) → caller.GivesFd m server write (worker_domain run.worker) (on.WriteEnd has.0.pipe) r n
+          → has_end (Runs run (after_give write r)) g ≡ false → descriptor n server g ≡ None
+      by (reply.Fd f) did unused =
+          ap (λ z. descriptor n server z)
+          (sym (same-number write g (later_by (run.from == g) (write == g) u (none (run.from == g) unused))))
+          ∙ did.left other
         where
           none : (b : Bool) → (b || false) ≡ false → b ≡ false
           none true is = is
@@ -267,33 +350,41 @@ module _ (own : CallsServeTheirDomain) (job : ℕ → List ℕ) (m n : State) (f
       by (reply.Refused y) did unused = absurd (again (is_again y) unused)
       by r did unused = absurd did
 
-  holding-ends : (held size : ℕ) (frame : Option ℕ) → has_end (Runs run (holding held size frame)) g ≡ ((run.from == g) || false)
+  holding-ends : (held size : ℕ) (frame : Option ℕ)
+      → has_end (Runs run (holding held size frame)) g ≡ ((run.from == g) || false)
   holding-ends held size frame = by (nat_lt size CHUNK_BYTES) frame
     where
-      by : (b : Bool) (frame : Option ℕ) → has_end (Runs run (if b then Receives (Some (held, size)) frame else filled held frame)) g ≡ ((run.from == g) || false)
+      by : (b : Bool) (frame : Option ℕ)
+          → has_end (Runs run (if b then Receives (Some (held, size)) frame else filled held frame)) g
+          ≡ ((run.from == g) || false)
       by true frame = refl
       by false None = refl
       by false (Some f) = refl
 
-  hearing-ends : (c d : Bool) (held : Following) (frame : Option ℕ) (k len : ℕ) → has_end (Runs run (hearing c d held frame k len)) g ≡ ((run.from == g) || false)
+  hearing-ends : (c d : Bool) (held : Following) (frame : Option ℕ) (k len : ℕ)
+      → has_end (Runs run (hearing c d held frame k len)) g ≡ ((run.from == g) || false)
   hearing-ends true d held frame k len = refl
   hearing-ends false false held frame k len = refl
   hearing-ends false true None frame k len = holding-ends k len frame
   hearing-ends false true (Some x) frame k len = refl
 
-  sending-ends : (d : Phase) (frame : Option ℕ) (r : Reply) → has_end (after_sending run d frame r) g ≡ ((run.from == g) || false)
+  sending-ends : (d : Phase) (frame : Option ℕ) (r : Reply)
+      → has_end (after_sending run d frame r) g ≡ ((run.from == g) || false)
   sending-ends (phase.Sent b taken None) frame reply.Done = refl
   sending-ends (phase.Drops b None) frame reply.Done = refl
   sending-ends d frame r = refl
 
-  receives-ends : (held : Following) (frame : Option ℕ) (r : Reply) (received : List ℕ) → has_end (after_output w run held frame r received) g ≡ ((run.from == g) || false)
+  receives-ends : (held : Following) (frame : Option ℕ) (r : Reply) (received : List ℕ)
+      → has_end (after_output w run held frame r received) g ≡ ((run.from == g) || false)
   receives-ends held frame (reply.Agg k) [] = refl
-  receives-ends held frame (reply.Agg k) (b ∷ received) = hearing-ends run.broken w.chunked held frame k (count_of (b ∷ received))
+  receives-ends held frame (reply.Agg k) (b ∷ received) =
+      hearing-ends run.broken w.chunked held frame k (count_of (b ∷ received))
   receives-ends None frame (reply.Refused (no.Denied p)) received = refl
   receives-ends (Some x) frame (reply.Refused (no.Denied p)) received = refl
   receives-ends held frame r received = refl
 
-  hands-ends : (j f : ℕ) (r : Reply) (received : List ℕ) → has_end (after_step w run (Hands j f) r received) g ≡ ((run.from == g) || false)
+  hands-ends : (j f : ℕ) (r : Reply) (received : List ℕ)
+      → has_end (after_step w run (Hands j f) r received) g ≡ ((run.from == g) || false)
   hands-ends j f (reply.Count k) received = refl
   hands-ends j f (reply.Refused x) received = by (is_again x)
     where
@@ -321,7 +412,8 @@ module _ (own : CallsServeTheirDomain) (job : ℕ → List ℕ) (m n : State) (f
   spills-ends b frame reply.Done received = refl
   spills-ends b frame r received = refl
 
-  gathers-ends : (held size piece len : ℕ) (frame : Option ℕ) (r : Reply) (received : List ℕ) → Stays (Gathers held size piece len frame) r received
+  gathers-ends : (held size piece len : ℕ) (frame : Option ℕ) (r : Reply) (received : List ℕ)
+      → Stays (Gathers held size piece len frame) r received
   gathers-ends held size piece len frame (reply.Agg k) received = holding-ends k (both size len) frame
   gathers-ends held size piece len frame r received = refl
 
@@ -333,11 +425,13 @@ module _ (own : CallsServeTheirDomain) (job : ℕ → List ℕ) (m n : State) (f
   wraps-ends held frame (reply.Agg k) received = refl
   wraps-ends held frame r received = refl
 
-  trims-ends : (held chunk len frame : ℕ) (r : Reply) (received : List ℕ) → Stays (Trims held chunk len frame) r received
+  trims-ends : (held chunk len frame : ℕ) (r : Reply) (received : List ℕ)
+      → Stays (Trims held chunk len frame) r received
   trims-ends held chunk len frame reply.Done received = refl
   trims-ends held chunk len frame r received = refl
 
-  ended-ends : (b : ℕ) (held : Following) (frame : Option ℕ) (r : Reply) (received : List ℕ) → Stays (Ended b held frame) r received
+  ended-ends : (b : ℕ) (held : Following) (frame : Option ℕ) (r : Reply) (received : List ℕ)
+      → Stays (Ended b held frame) r received
   ended-ends b held frame reply.Done received = refl
   ended-ends b held frame r received = refl
 
@@ -349,35 +443,52 @@ module _ (own : CallsServeTheirDomain) (job : ℕ → List ℕ) (m n : State) (f
   lapses-ends j reply.Done received = refl
   lapses-ends j r received = refl
 
-  kept : (s : Step) (r : Reply) (received : List ℕ) → ends_of run s g ≡ true → has_end (after_step w run s r received) g ≡ ends_of run s g
+  kept : (s : Step) (r : Reply) (received : List ℕ) → ends_of run s g ≡ true
+      → has_end (after_step w run s r received) g ≡ ends_of run s g
       → has_end (after_step w run s r received) g ≡ false → descriptor n server g ≡ None
   kept s r received u same unused = absurd (clash (ends_of run s g) u (sym same ∙ unused))
 
-  step-shuts : (s : Step) (r : Reply) (received : List ℕ) → HasStep job m w o run s → ShutsAt s r (after_step w run s r received)
+  step-shuts : (s : Step) (r : Reply) (received : List ℕ) → HasStep job m w o run s
+      → ShutsAt s r (after_step w run s r received)
   step-shuts (Gives write) r received has step u unused = gives write r received has step u unused
-  step-shuts (Returns write) r received has step u unused = closed write (Returns write) r (λ k. after_step w run (Returns write) k received) step (λ x. refl)
+  step-shuts (Returns write) r received has step u unused =
+      closed write (Returns write) r (λ k. after_step w run (Returns write) k received) step (λ x. refl)
       (λ none. later_by (run.from == g) (write == g) u (bare-none (run.from == g) none)) u unused
-  step-shuts (Stops held frame) r received has step u unused = closed run.from (Stops held frame) r (λ k. after_step w run (Stops held frame) k received) step (λ x. refl)
+  step-shuts (Stops held frame) r received has step u unused =
+      closed run.from (Stops held frame) r (λ k. after_step w run (Stops held frame) k received) step (λ x. refl)
       (λ none. bare (run.from == g) u) u unused
-  step-shuts Fails r received has step u unused = closed run.from Fails r (λ k. after_step w run Fails k received) step (λ x. refl) (λ none. bare (run.from == g) u) u unused
+  step-shuts Fails r received has step u unused =
+      closed run.from Fails r (λ k. after_step w run Fails k received) step (λ x. refl) (λ none. bare (run.from == g) u)
+      u unused
   step-shuts (Makes f) r received has step u unused = kept (Makes f) r received u (makes-ends f r received) unused
   step-shuts (Hands j f) r received has step u unused = kept (Hands j f) r received u (hands-ends j f r received) unused
   step-shuts (Lets j) r received has step u unused = kept (Lets j) r received u (lets-ends j r received) unused
   step-shuts Heads r received has step u unused = kept Heads r received u (heads-ends r received) unused
-  step-shuts (Sending d frame) r received has step u unused = kept (Sending d frame) r received u (sending-ends d frame r) unused
-  step-shuts (Receives held frame) r received has step u unused = kept (Receives held frame) r received u (receives-ends held frame r received) unused
-  step-shuts (Spills b frame) r received has step u unused = kept (Spills b frame) r received u (spills-ends b frame r received) unused
-  step-shuts (Gathers held size piece len frame) r received has step u unused = kept (Gathers held size piece len frame) r received u (gathers-ends held size piece len frame r received) unused
-  step-shuts (Frames held) r received has step u unused = kept (Frames held) r received u (frames-ends held r received) unused
-  step-shuts (Wraps held frame) r received has step u unused = kept (Wraps held frame) r received u (wraps-ends held frame r received) unused
-  step-shuts (Trims held chunk len frame) r received has step u unused = kept (Trims held chunk len frame) r received u (trims-ends held chunk len frame r received) unused
-  step-shuts (Ended b held frame) r received has step u unused = kept (Ended b held frame) r received u (ended-ends b held frame r received) unused
-  step-shuts (Unholds held frame) r received has step u unused = kept (Unholds held frame) r received u (unholds-ends held frame r received) unused
+  step-shuts (Sending d frame) r received has step u unused =
+      kept (Sending d frame) r received u (sending-ends d frame r) unused
+  step-shuts (Receives held frame) r received has step u unused =
+      kept (Receives held frame) r received u (receives-ends held frame r received) unused
+  step-shuts (Spills b frame) r received has step u unused =
+      kept (Spills b frame) r received u (spills-ends b frame r received) unused
+  step-shuts (Gathers held size piece len frame) r received has step u unused =
+      kept (Gathers held size piece len frame) r received u (gathers-ends held size piece len frame r received) unused
+  step-shuts (Frames held) r received has step u unused =
+      kept (Frames held) r received u (frames-ends held r received) unused
+  step-shuts (Wraps held frame) r received has step u unused =
+      kept (Wraps held frame) r received u (wraps-ends held frame r received) unused
+  step-shuts (Trims held chunk len frame) r received has step u unused =
+      kept (Trims held chunk len frame) r received u (trims-ends held chunk len frame r received) unused
+  step-shuts (Ended b held frame) r received has step u unused =
+      kept (Ended b held frame) r received u (ended-ends b held frame r received) unused
+  step-shuts (Unholds held frame) r received has step u unused =
+      kept (Unholds held frame) r received u (unholds-ends held frame r received) unused
   step-shuts (Lapses j) r received has step u unused = kept (Lapses j) r received u (lapses-ends j r received) unused
   step-shuts s r received has step u unused = absurd (cc (u))
 
-pub shut : (own : CallsServeTheirDomain) (job : ℕ → List ℕ) (m n : State) (fd worker : ℕ) (w : Wanted) (x : Running) (o : Progress) (r : Reply) (received : List ℕ) (g : ℕ)
+pub shut : (own : CallsServeTheirDomain) (job : ℕ → List ℕ) (m n : State) (fd worker : ℕ) (w : Wanted) (x : Running)
+    (o : Progress) (r : Reply) (received : List ℕ) (g : ℕ)
     → HasRun job m w o x → StepsTo m (event.Call server (wants job fd w x)) r n
     → has_end x g ≡ true → has_end (after_reply worker w x r received) g ≡ false → descriptor n server g ≡ None
-shut own job m n fd worker w (Runs run s) o r received g has step u unused = step-shuts own job m n fd w o run g s r received has.1 step u unused
+shut own job m n fd worker w (Runs run s) o r received g has step u unused =
+    step-shuts own job m n fd w o run g s r received has.1 step u unused
 shut own job m n fd worker w x o r received g has step u unused = absurd (cc (u))

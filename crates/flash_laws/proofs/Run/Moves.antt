@@ -1,5 +1,6 @@
 -- A successful call of a run is not repeated.
-use Rattle.std.proofs.Common.{◌≡◌, ℕ, ◌+◌, ◌-◌, ◌≤◌, List, [], ◌∷◌, length, ap, Option, Some, None, true, false, Bool, if◌then◌else◌}
+use Rattle.std.proofs.Common.{◌≡◌, ℕ, ◌+◌, ◌-◌, ◌≤◌, List, [], ◌∷◌, length, ap, Option, Some, None, true, false, Bool}
+use Rattle.std.proofs.Common.{if◌then◌else◌}
 use Rattle.std.specs.Prelude.{nat_lt}
 use Rattle.iol_core.specs.State.{State}
 use Rattle.iol_core.specs.Run.{StepsTo}
@@ -11,7 +12,12 @@ use Rattle.flash_laws.specs.Conn as conn
 use Rattle.flash_laws.specs.Conn.{Following, count_of, piece_end}
 use Rattle.flash_laws.specs.Run.Fits.{Progress, sent_agg, IsPart, IsSending, HasRun}
 use Rattle.flash_laws.specs.Conn.OfferedBytes.{taken_of, may_repeat}
-use Rattle.flash_laws.specs.Run.{both, worker_domain, job_pipe, held_size, in_phase, step_wants, wants, after_give, after_make, after_hand, after_release_job, after_head, after_sending, after_spill, after_gather, after_frame, after_wrap, after_trim, after_ended, after_release_held, after_wrap_last, after_trim_last, after_return, after_lapse, after_output, after_stop, after_release_frame, after_last, after_unwrap, after_fail, filled, holding, hearing, finishing, stopped, ending, after_step, after_reply, is_left, is_over}
+use Rattle.flash_laws.specs.Run.{both, worker_domain, job_pipe, held_size, in_phase, step_wants, wants, after_give}
+use Rattle.flash_laws.specs.Run.{after_make, after_hand, after_release_job, after_head, after_sending, after_spill}
+use Rattle.flash_laws.specs.Run.{after_gather, after_frame, after_wrap, after_trim, after_ended, after_release_held}
+use Rattle.flash_laws.specs.Run.{after_wrap_last, after_trim_last, after_return, after_lapse, after_output, after_stop}
+use Rattle.flash_laws.specs.Run.{after_release_frame, after_last, after_unwrap, after_fail, filled, holding, hearing}
+use Rattle.flash_laws.specs.Run.{finishing, stopped, ending, after_step, after_reply, is_left, is_over}
 use Rattle.flash_laws.specs.Answers.Scripts.{script_text, frame_of, place_in_frame, end_around}
 use Rattle.flash_laws.specs.Site.{server}
 use Rattle.flash_laws.specs.declared.phase.Payload.TheVariants.{Error}
@@ -20,10 +26,14 @@ use Rattle.flash_laws.specs.declared.phase.Phase.TheVariants as phase
 use Rattle.flash_laws.specs.declared.script_run.TheConstants.{CHUNK_BYTES}
 use Rattle.flash_laws.specs.declared.script_run.Run.{Run}
 use Rattle.flash_laws.specs.declared.script_run.Step.{Step}
-use Rattle.flash_laws.specs.declared.script_run.Step.TheVariants.{Gives, Makes, Hands, Lets, Heads, Sending, Receives, Spills, Gathers, Frames, Wraps, Trims, Ended, Unholds, Stops, Unframes, Lasts, WrapsLast, TrimsLast, Unwraps, Returns, Lapses, Fails}
+use Rattle.flash_laws.specs.declared.script_run.Step.TheVariants.{Gives, Makes, Hands, Lets, Heads, Sending, Receives}
+use Rattle.flash_laws.specs.declared.script_run.Step.TheVariants.{Spills, Gathers, Frames, Wraps, Trims, Ended, Unholds}
+use Rattle.flash_laws.specs.declared.script_run.Step.TheVariants.{Stops, Unframes, Lasts, WrapsLast, TrimsLast, Unwraps}
+use Rattle.flash_laws.specs.declared.script_run.Step.TheVariants.{Returns, Lapses, Fails}
 use Rattle.flash_laws.specs.declared.script_run.Running.{Running}
 use Rattle.flash_laws.specs.declared.script_run.Running.TheVariants.{Awaits, Runs, Leaves, Closes}
-use Rattle.flash_laws.proofs.Conn.Repeats.{either, drops, closes, makes, cuts, joins, replaces, reads, gives, writes, pipes}
+use Rattle.flash_laws.proofs.Conn.Repeats.{either, drops, closes, makes, cuts, joins, replaces, reads, gives, writes}
+use Rattle.flash_laws.proofs.Conn.Repeats.{pipes}
 use Rattle.flash_laws.proofs.Run.Rest.{is-rest}
 use Rattle.flash_laws.proofs.Lists.{not-false}
 
@@ -35,76 +45,108 @@ phase_of x = phase.Over
 
 -- ---- a part, or what is left
 
-sent_phase : (m n : State) (w : Wanted) (fd : ℕ) (expected : List ℕ) (d : Phase) (r : Reply) (received : List ℕ) → IsSending m expected d
-    → StepsTo m (event.Call server (conn.wants fd (in_phase w d))) r n → (conn.after_reply (in_phase w d) r received).phase ≡ d
+sent_phase : (m n : State) (w : Wanted) (fd : ℕ) (expected : List ℕ) (d : Phase) (r : Reply) (received : List ℕ)
+    → IsSending m expected d
+    → StepsTo m (event.Call server (conn.wants fd (in_phase w d))) r n
+    → (conn.after_reply (in_phase w d) r received).phase ≡ d
     → may_repeat (conn.wants fd (in_phase w d)) r ≡ true
 sent_phase m n w fd expected (phase.Heads (Error status)) r received is step same =
-    makes m n (phase.Heads (Error status)) (λ z. conn.after_head (Error status) z received) (conn.text_of (serve w) (Error status)) r step (λ k e. cc (e)) same
+    makes m n (phase.Heads (Error status)) (λ z. conn.after_head (Error status) z received)
+    (conn.text_of (serve w) (Error status)) r step (λ k e. cc (e)) same
 sent_phase m n w fd expected (phase.Sends a len taken None) r received is step same =
     writes m n (phase.Sends a len taken None) (λ z. conn.after_send a len taken None z) fd a r step
-    (λ k. either (nat_lt k len) (phase.Cuts a k len (taken + k) None) (phase.Sent a (taken + len) None) (phase.Sends a len taken None) (λ e. cc (e)) (λ e. cc (e)))
+    (λ k. either (nat_lt k len) (phase.Cuts a k len (taken + k) None) (phase.Sent a (taken + len) None)
+    (phase.Sends a len taken None) (λ e. cc (e)) (λ e. cc (e)))
     (λ e. cc (e)) same
 sent_phase m n w fd expected (phase.Cuts a from len taken None) r received is step same =
-    cuts m n (phase.Cuts a from len taken None) (λ z. conn.after_cut a from len taken None z) a from (piece_end from len) r step (λ k e. cc (e)) same
+    cuts m n (phase.Cuts a from len taken None) (λ z. conn.after_cut a from len taken None z) a from
+    (piece_end from len) r step (λ k e. cc (e)) same
 sent_phase m n w fd expected (phase.Offers a from len piece taken None) r received is step same =
-    writes m n (phase.Offers a from len piece taken None) (λ z. conn.after_offer a from len piece taken None z) fd piece r step (λ k e. cc (e)) (λ e. cc (e)) same
+    writes m n (phase.Offers a from len piece taken None) (λ z. conn.after_offer a from len piece taken None z) fd piece
+    r step (λ k e. cc (e)) (λ e. cc (e)) same
 sent_phase m n w fd expected (phase.Swaps a from len piece taken None) r received is step same =
-    drops m n (phase.Swaps a from len piece taken None) (λ z. conn.after_swap a from len piece taken None z) piece r step
-    (either (nat_lt from len) (phase.Cuts a from len taken None) (phase.Sent a taken None) (phase.Swaps a from len piece taken None) (λ e. cc (e)) (λ e. cc (e))) same
+    drops m n (phase.Swaps a from len piece taken None) (λ z. conn.after_swap a from len piece taken None z) piece r
+    step
+    (either (nat_lt from len) (phase.Cuts a from len taken None) (phase.Sent a taken None)
+    (phase.Swaps a from len piece taken None) (λ e. cc (e)) (λ e. cc (e))) same
 sent_phase m n w fd expected (phase.Sent a taken None) r received is step same =
     drops m n (phase.Sent a taken None) (λ z. conn.after_taken (serve w) a taken None z) a r step
     (either w.keep phase.Rests phase.Closes (phase.Sent a taken None) (λ e. cc (e)) (λ e. cc (e))) same
 sent_phase m n w fd expected (phase.Breaks piece a None) r received is step same =
     drops m n (phase.Breaks piece a None) (λ z. conn.after_break piece a None z) piece r step (λ e. cc (e)) same
-sent_phase m n w fd expected (phase.Drops a None) r received is step same = drops m n (phase.Drops a None) (λ z. conn.after_drop a None z) a r step (λ e. cc (e)) same
+sent_phase m n w fd expected (phase.Drops a None) r received is step same =
+    drops m n (phase.Drops a None) (λ z. conn.after_drop a None z) a r step (λ e. cc (e)) same
 sent_phase m n w fd expected d r received is step same = absurd is.0
 
-sending : (m n : State) (w : Wanted) (fd : ℕ) (expected : List ℕ) (run : Run) (d : Phase) (frame : Option ℕ) (r : Reply) → IsPart m (sent_agg d) expected → taken_of d ≤ length expected
-    → StepsTo m (event.Call server (conn.wants fd (in_phase w d))) r n → after_sending run d frame r ≡ Runs run (Sending d frame)
+sending : (m n : State) (w : Wanted) (fd : ℕ) (expected : List ℕ) (run : Run) (d : Phase) (frame : Option ℕ) (r : Reply)
+    → IsPart m (sent_agg d) expected → taken_of d ≤ length expected
+    → StepsTo m (event.Call server (conn.wants fd (in_phase w d))) r n
+    → after_sending run d frame r ≡ Runs run (Sending d frame)
     → may_repeat (conn.wants fd (in_phase w d)) r ≡ true
 sending m n w fd expected run (phase.Sent a taken None) frame r is within step same =
-    drops m n (Runs run (Sending (phase.Sent a taken None) frame)) (λ z. after_sending run (phase.Sent a taken None) frame z) a r step (λ e. cc (e)) same
+    drops m n (Runs run (Sending (phase.Sent a taken None) frame))
+    (λ z. after_sending run (phase.Sent a taken None) frame z) a r step (λ e. cc (e)) same
 sending m n w fd expected run (phase.Drops a None) frame r is within step same =
-    drops m n (Runs run (Sending (phase.Drops a None) frame)) (λ z. after_sending run (phase.Drops a None) frame z) a r step (λ e. cc (e)) same
-sending m n w fd expected run (phase.Sends a len taken None) frame r is within step same = sent_phase m n w fd expected (phase.Sends a len taken None) r [] (is, within) step (ap (λ (z : Running). phase_of z) same)
-sending m n w fd expected run (phase.Cuts a from len taken None) frame r is within step same = sent_phase m n w fd expected (phase.Cuts a from len taken None) r [] (is, within) step (ap (λ (z : Running). phase_of z) same)
-sending m n w fd expected run (phase.Offers a from len piece taken None) frame r is within step same = sent_phase m n w fd expected (phase.Offers a from len piece taken None) r [] (is, within) step (ap (λ (z : Running). phase_of z) same)
-sending m n w fd expected run (phase.Swaps a from len piece taken None) frame r is within step same = sent_phase m n w fd expected (phase.Swaps a from len piece taken None) r [] (is, within) step (ap (λ (z : Running). phase_of z) same)
-sending m n w fd expected run (phase.Breaks piece a None) frame r is within step same = sent_phase m n w fd expected (phase.Breaks piece a None) r [] (is, within) step (ap (λ (z : Running). phase_of z) same)
+    drops m n (Runs run (Sending (phase.Drops a None) frame)) (λ z. after_sending run (phase.Drops a None) frame z) a r
+    step (λ e. cc (e)) same
+sending m n w fd expected run (phase.Sends a len taken None) frame r is within step same =
+    sent_phase m n w fd expected (phase.Sends a len taken None) r [] (is, within) step
+    (ap (λ (z : Running). phase_of z) same)
+sending m n w fd expected run (phase.Cuts a from len taken None) frame r is within step same =
+    sent_phase m n w fd expected (phase.Cuts a from len taken None) r [] (is, within) step
+    (ap (λ (z : Running). phase_of z) same)
+sending m n w fd expected run (phase.Offers a from len piece taken None) frame r is within step same =
+    sent_phase m n w fd expected (phase.Offers a from len piece taken None) r [] (is, within) step
+    (ap (λ (z : Running). phase_of z) same)
+sending m n w fd expected run (phase.Swaps a from len piece taken None) frame r is within step same =
+    sent_phase m n w fd expected (phase.Swaps a from len piece taken None) r [] (is, within) step
+    (ap (λ (z : Running). phase_of z) same)
+sending m n w fd expected run (phase.Breaks piece a None) frame r is within step same =
+    sent_phase m n w fd expected (phase.Breaks piece a None) r [] (is, within) step
+    (ap (λ (z : Running). phase_of z) same)
 sending m n w fd expected run d frame r is within step same = absurd is
 
 -- ---- the steps of a run
 
 module _ (run : Run) where
-  holding-not : (held size : ℕ) (frame : Option ℕ) (a b c d : ℕ) (f : Option ℕ) → Runs run (holding held size frame) ≡ Runs run (Gathers a b c d f) → ⊥
+  holding-not : (held size : ℕ) (frame : Option ℕ) (a b c d : ℕ) (f : Option ℕ)
+      → Runs run (holding held size frame) ≡ Runs run (Gathers a b c d f) → ⊥
   holding-not held size frame a b c d f same = by (nat_lt size CHUNK_BYTES) frame same
     where
-      by : (t : Bool) (frame : Option ℕ) → Runs run (if t then Receives (Some (held, size)) frame else filled held frame) ≡ Runs run (Gathers a b c d f) → ⊥
+      by : (t : Bool) (frame : Option ℕ)
+          → Runs run (if t then Receives (Some (held, size)) frame else filled held frame)
+          ≡ Runs run (Gathers a b c d f) → ⊥
       by true frame same = cc (same)
       by false None same = cc (same)
       by false (Some g) same = cc (same)
 
-  hearing-not : (b c : Bool) (held : Following) (frame : Option ℕ) (a len : ℕ) → Runs run (hearing b c held frame a len) ≡ Runs run (Receives held frame) → ⊥
+  hearing-not : (b c : Bool) (held : Following) (frame : Option ℕ) (a len : ℕ)
+      → Runs run (hearing b c held frame a len) ≡ Runs run (Receives held frame) → ⊥
   hearing-not true c held frame a len same = cc (same)
   hearing-not false false held frame a len same = cc (same)
   hearing-not false true (Some x) frame a len same = cc (same)
   hearing-not false true None frame a len same = by (nat_lt len CHUNK_BYTES) frame same
     where
-      by : (t : Bool) (frame : Option ℕ) → Runs run (if t then Receives (Some (a, len)) frame else filled a frame) ≡ Runs run (Receives None frame) → ⊥
+      by : (t : Bool) (frame : Option ℕ) → Runs run (if t then Receives (Some (a, len)) frame else filled a frame)
+          ≡ Runs run (Receives None frame) → ⊥
       by true frame same = cc (same)
       by false None same = cc (same)
       by false (Some f) same = cc (same)
 
-  receives-not : (w : Wanted) (held : Following) (frame : Option ℕ) (received : List ℕ) (k : ℕ) → after_output w run held frame (reply.Agg k) received ≡ Runs run (Receives held frame) → ⊥
+  receives-not : (w : Wanted) (held : Following) (frame : Option ℕ) (received : List ℕ) (k : ℕ)
+      → after_output w run held frame (reply.Agg k) received ≡ Runs run (Receives held frame) → ⊥
   receives-not w held frame [] k same = cc (same)
-  receives-not w held frame (b ∷ received) k same = hearing-not run.broken w.chunked held frame k (count_of (b ∷ received)) same
+  receives-not w held frame (b ∷ received) k same =
+      hearing-not run.broken w.chunked held frame k (count_of (b ∷ received)) same
 
-  finishing-not : (b c : Bool) (held : Following) (s : Step) → ((x : Following) → Runs run (Lasts x) ≡ Runs run s → ⊥) → finishing b c run held ≡ Runs run s → ⊥
+  finishing-not : (b c : Bool) (held : Following) (s : Step) → ((x : Following) → Runs run (Lasts x) ≡ Runs run s → ⊥)
+      → finishing b c run held ≡ Runs run s → ⊥
   finishing-not false true held s differs same = differs held same
   finishing-not false false held s differs same = cc (same)
   finishing-not true c held s differs same = cc (same)
 
-  stopped-not : (w : Wanted) (held : Following) (frame : Option ℕ) → stopped w run held frame ≡ Runs run (Stops held frame) → ⊥
+  stopped-not : (w : Wanted) (held : Following) (frame : Option ℕ)
+      → stopped w run held frame ≡ Runs run (Stops held frame) → ⊥
   stopped-not w held None same = finishing-not run.broken w.chunked held (Stops held None) (λ x e. cc (e)) same
   stopped-not w held (Some f) same = cc (same)
 
@@ -113,38 +155,80 @@ module _ (run : Run) where
   ending-not (Some x) k len same = cc (same)
 
   module _ (job : ℕ → List ℕ) (m n : State) (fd : ℕ) (w : Wanted) (o : Progress) where
-    steps : (s : Step) (r : Reply) (received : List ℕ) → HasRun job m w o (Runs run s) → StepsTo m (event.Call server (step_wants job fd w run s)) r n
+    steps : (s : Step) (r : Reply) (received : List ℕ) → HasRun job m w o (Runs run s)
+        → StepsTo m (event.Call server (step_wants job fd w run s)) r n
         → after_step w run s r received ≡ Runs run s → may_repeat (step_wants job fd w run s) r ≡ true
-    steps (Gives write) r received has step same = gives m n (Runs run (Gives write)) (λ z. Runs run (after_give write z)) write (worker_domain run.worker) r step (λ k e. cc (e)) same
-    steps (Makes f) r received has step same = makes m n (Runs run (Makes f)) (λ z. Runs run (after_make f z)) (job f) r step (λ k e. cc (e)) same
-    steps (Hands j f) r received has step same = writes m n (Runs run (Hands j f)) (λ z. Runs run (after_hand j f z)) (job_pipe run.worker) j r step (λ k e. cc (e)) (λ e. cc (e)) same
-    steps (Lets j) r received has step same = drops m n (Runs run (Lets j)) (λ z. Runs run (after_release_job j z)) j r step (λ e. cc (e)) same
-    steps Heads r received has step same = makes m n (Runs run Heads) (λ z. Runs run (after_head z received)) (script_text w) r step (λ k e. cc (e)) same
-    steps (Sending d frame) r received has step same = sending m n w fd has.1.part run d frame r has.1.is_part has.1.within step same
-    steps (Receives held frame) r received has step same = reads m n (Runs run (Receives held frame)) (λ z. after_output w run held frame z received) run.from (CHUNK_BYTES - held_size held) r step (receives-not w held frame received) same
-    steps (Spills a frame) r received has step same = drops m n (Runs run (Spills a frame)) (λ z. Runs run (after_spill a frame z)) a r step (λ e. cc (e)) same
-    steps (Gathers held size piece len frame) r received has step same = joins m n (Runs run (Gathers held size piece len frame)) (λ z. Runs run (after_gather held size piece len frame z)) held piece r step
+    steps (Gives write) r received has step same =
+        gives m n (Runs run (Gives write)) (λ z. Runs run (after_give write z)) write (worker_domain run.worker) r step
+        (λ k e. cc (e)) same
+    steps (Makes f) r received has step same =
+        makes m n (Runs run (Makes f)) (λ z. Runs run (after_make f z)) (job f) r step (λ k e. cc (e)) same
+    steps (Hands j f) r received has step same =
+        writes m n (Runs run (Hands j f)) (λ z. Runs run (after_hand j f z)) (job_pipe run.worker) j r step
+        (λ k e. cc (e)) (λ e. cc (e)) same
+    steps (Lets j) r received has step same =
+        drops m n (Runs run (Lets j)) (λ z. Runs run (after_release_job j z)) j r step (λ e. cc (e)) same
+    steps Heads r received has step same =
+        makes m n (Runs run Heads) (λ z. Runs run (after_head z received)) (script_text w) r step (λ k e. cc (e)) same
+    steps (Sending d frame) r received has step same =
+        sending m n w fd has.1.part run d frame r has.1.is_part has.1.within step same
+    steps (Receives held frame) r received has step same =
+        reads m n (Runs run (Receives held frame)) (λ z. after_output w run held frame z received) run.from
+        (CHUNK_BYTES - held_size held) r step (receives-not w held frame received) same
+    steps (Spills a frame) r received has step same =
+        drops m n (Runs run (Spills a frame)) (λ z. Runs run (after_spill a frame z)) a r step (λ e. cc (e)) same
+    steps (Gathers held size piece len frame) r received has step same =
+        joins m n (Runs run (Gathers held size piece len frame))
+        (λ z. Runs run (after_gather held size piece len frame z)) held piece r step
         (λ k. holding-not k (both size len) frame held size piece len frame) same
-    steps (Frames held) r received has step same = makes m n (Runs run (Frames held)) (λ z. Runs run (after_frame held z)) (frame_of CHUNK_BYTES) r step (λ k e. cc (e)) same
-    steps (Wraps held frame) r received has step same = replaces m n (Runs run (Wraps held frame)) (λ z. Runs run (after_wrap held frame z received)) frame (place_in_frame CHUNK_BYTES) (place_in_frame CHUNK_BYTES) held r step (λ k e. cc (e)) same
-    steps (Trims held chunk len frame) r received has step same = drops m n (Runs run (Trims held chunk len frame)) (λ z. Runs run (after_trim held chunk len frame z)) held r step (λ e. cc (e)) same
-    steps (Ended a held frame) r received has step same = drops m n (Runs run (Ended a held frame)) (λ z. Runs run (after_ended a held frame z)) a r step (λ e. cc (e)) same
-    steps (Unholds held frame) r received has step same = drops m n (Runs run (Unholds held frame)) (λ z. Runs run (after_release_held held frame z)) held r step (λ e. cc (e)) same
-    steps (Stops held frame) r received has step same = closes m n (Runs run (Stops held frame)) (λ z. after_stop w run held frame z) run.from r step (stopped-not w held frame) same
-    steps (Unframes f held) r received has step same = drops m n (Runs run (Unframes f held)) (λ z. after_release_frame w run f held z) f r step (finishing-not run.broken w.chunked held (Unframes f held) (λ x e. cc (e))) same
-    steps (Lasts held) r received has step same = makes m n (Runs run (Lasts held)) (λ z. after_last run held z received) (end_around held) r step (λ k. ending-not held k (count_of received)) same
-    steps (WrapsLast held size frame) r received has step same = replaces m n (Runs run (WrapsLast held size frame)) (λ z. Runs run (after_wrap_last held size frame z received)) frame (place_in_frame size) (place_in_frame size) held r step (λ k e. cc (e)) same
-    steps (TrimsLast held chunk len frame) r received has step same = drops m n (Runs run (TrimsLast held chunk len frame)) (λ z. Runs run (after_trim_last held chunk len frame z)) held r step (λ e. cc (e)) same
-    steps (Unwraps frame chunk len) r received has step same = drops m n (Runs run (Unwraps frame chunk len)) (λ z. after_unwrap run frame chunk len z) frame r step (λ e. cc (e)) same
-    steps (Returns write) r received has step same = closes m n (Runs run (Returns write)) (λ z. Runs run (after_return write z)) write r step (λ e. cc (e)) same
-    steps (Lapses j) r received has step same = drops m n (Runs run (Lapses j)) (λ z. Runs run (after_lapse j z)) j r step (λ e. cc (e)) same
-    steps Fails r received has step same = closes m n (Runs run Fails) (λ z. after_fail run z) run.from r step (λ e. cc (e)) same
+    steps (Frames held) r received has step same =
+        makes m n (Runs run (Frames held)) (λ z. Runs run (after_frame held z)) (frame_of CHUNK_BYTES) r step
+        (λ k e. cc (e)) same
+    steps (Wraps held frame) r received has step same =
+        replaces m n (Runs run (Wraps held frame)) (λ z. Runs run (after_wrap held frame z received)) frame
+        (place_in_frame CHUNK_BYTES) (place_in_frame CHUNK_BYTES) held r step (λ k e. cc (e)) same
+    steps (Trims held chunk len frame) r received has step same =
+        drops m n (Runs run (Trims held chunk len frame)) (λ z. Runs run (after_trim held chunk len frame z)) held r
+        step (λ e. cc (e)) same
+    steps (Ended a held frame) r received has step same =
+        drops m n (Runs run (Ended a held frame)) (λ z. Runs run (after_ended a held frame z)) a r step (λ e. cc (e))
+        same
+    steps (Unholds held frame) r received has step same =
+        drops m n (Runs run (Unholds held frame)) (λ z. Runs run (after_release_held held frame z)) held r step
+        (λ e. cc (e)) same
+    steps (Stops held frame) r received has step same =
+        closes m n (Runs run (Stops held frame)) (λ z. after_stop w run held frame z) run.from r step
+        (stopped-not w held frame) same
+    steps (Unframes f held) r received has step same =
+        drops m n (Runs run (Unframes f held)) (λ z. after_release_frame w run f held z) f r step
+        (finishing-not run.broken w.chunked held (Unframes f held) (λ x e. cc (e))) same
+    steps (Lasts held) r received has step same =
+        makes m n (Runs run (Lasts held)) (λ z. after_last run held z received) (end_around held) r step
+        (λ k. ending-not held k (count_of received)) same
+    steps (WrapsLast held size frame) r received has step same =
+        replaces m n (Runs run (WrapsLast held size frame)) (λ z. Runs run (after_wrap_last held size frame z received))
+        frame (place_in_frame size) (place_in_frame size) held r step (λ k e. cc (e)) same
+    steps (TrimsLast held chunk len frame) r received has step same =
+        drops m n (Runs run (TrimsLast held chunk len frame)) (λ z. Runs run (after_trim_last held chunk len frame z))
+        held r step (λ e. cc (e)) same
+    steps (Unwraps frame chunk len) r received has step same =
+        drops m n (Runs run (Unwraps frame chunk len)) (λ z. after_unwrap run frame chunk len z) frame r step
+        (λ e. cc (e)) same
+    steps (Returns write) r received has step same =
+        closes m n (Runs run (Returns write)) (λ z. Runs run (after_return write z)) write r step (λ e. cc (e)) same
+    steps (Lapses j) r received has step same =
+        drops m n (Runs run (Lapses j)) (λ z. Runs run (after_lapse j z)) j r step (λ e. cc (e)) same
+    steps Fails r received has step same =
+        closes m n (Runs run Fails) (λ z. after_fail run z) run.from r step (λ e. cc (e)) same
 
-pub moves : (job : ℕ → List ℕ) (m n : State) (fd worker : ℕ) (w : Wanted) (x : Running) (r : Reply) (received : List ℕ) (o : Progress)
+pub moves : (job : ℕ → List ℕ) (m n : State) (fd worker : ℕ) (w : Wanted) (x : Running) (r : Reply) (received : List ℕ)
+    (o : Progress)
     → is_over x ≡ false → HasRun job m w o x → StepsTo m (event.Call server (wants job fd w x)) r n
     → after_reply worker w x r received ≡ x → may_repeat (wants job fd w x) r ≡ true
-moves job m n fd worker w Awaits r received o going has step same = pipes m n Awaits (λ z. after_reply worker w Awaits z received) r step (λ k l e. cc (e)) same
-moves job m n fd worker w (Runs run s) r received o going has step same = steps run job m n fd w o s r received has step same
+moves job m n fd worker w Awaits r received o going has step same =
+    pipes m n Awaits (λ z. after_reply worker w Awaits z received) r step (λ k l e. cc (e)) same
+moves job m n fd worker w (Runs run s) r received o going has step same =
+    steps run job m n fd w o s r received has step same
 moves job m n fd worker w (Leaves d) r received o going has step same =
     let h = is-rest m w o d (not-false (is_left d) going) has in
     sent_phase m n w fd h.expected d r received h.sends step (ap (λ (z : Running). phase_of z) same)

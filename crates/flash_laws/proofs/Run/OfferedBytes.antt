@@ -1,5 +1,7 @@
 -- The bytes offered for a script are the next bytes of the response, for every run.
-use Rattle.std.proofs.Common.{◌≡◌, ℕ, suc, ◌+◌, ◌-◌, ◌==◌, ◌<◌, ◌≤◌, List, [], ◌∷◌, ◌++◌, length, drop, ap, ◌∙◌, refl, sym, subst, arith, Option, Some, None, true, false, Bool, append_assoc, append-nil, zero-add}
+use Rattle.std.proofs.Common.{◌≡◌, ℕ, suc, ◌+◌, ◌-◌, ◌==◌, ◌<◌, ◌≤◌, List, [], ◌∷◌, ◌++◌, length, drop, ap, ◌∙◌, refl}
+use Rattle.std.proofs.Common.{sym, subst, arith, Option, Some, None, true, false, Bool, append_assoc, append-nil}
+use Rattle.std.proofs.Common.{zero-add}
 use Rattle.std.proofs.lemmas.Bool.{or_parts}
 use Rattle.std.proofs.lemmas.List.{drop-append-le}
 use Rattle.iol_core.specs.State.{State, descriptor, pipe_at, new_pipe}
@@ -22,9 +24,14 @@ use Rattle.flash_laws.specs.Conn as conn
 use Rattle.flash_laws.specs.Conn.{Following, piece_end}
 use Rattle.flash_laws.specs.Conn.Fits.{Has, Names}
 use Rattle.flash_laws.specs.Conn.OfferedBytes.{taken_of}
-use Rattle.flash_laws.specs.Run.Fits.{Progress, Ran, Broken, NotRun, Follows, MayAnswer, Continues, IsLeft, HasJobPipe, HasPart, HasRest, HasLeft, HasRun}
-use Rattle.flash_laws.specs.Run.OfferedBytes.{takes_on, Learns, taken_by, past_of, IsNextOf, HasWorker, RunsOfferTheResponse}
-use Rattle.flash_laws.specs.Run.{worker_domain, job_pipe, held_size, in_phase, wants, broken, after_release_job, after_sending, after_spill, after_trim, after_ended, after_release_held, after_trim_last, after_lapse, after_output, after_stop, after_release_frame, after_last, after_unwrap, after_fail, finishing, after_reply, is_left, is_over}
+use Rattle.flash_laws.specs.Run.Fits.{Progress, Ran, Broken, NotRun, Follows, MayAnswer, Continues, IsLeft, HasJobPipe}
+use Rattle.flash_laws.specs.Run.Fits.{HasPart, HasRest, HasLeft, HasRun}
+use Rattle.flash_laws.specs.Run.OfferedBytes.{takes_on, Learns, taken_by, past_of, IsNextOf, HasWorker}
+use Rattle.flash_laws.specs.Run.OfferedBytes.{RunsOfferTheResponse}
+use Rattle.flash_laws.specs.Run.{worker_domain, job_pipe, held_size, in_phase, wants, broken, after_release_job}
+use Rattle.flash_laws.specs.Run.{after_sending, after_spill, after_trim, after_ended, after_release_held}
+use Rattle.flash_laws.specs.Run.{after_trim_last, after_lapse, after_output, after_stop, after_release_frame}
+use Rattle.flash_laws.specs.Run.{after_last, after_unwrap, after_fail, finishing, after_reply, is_left, is_over}
 use Rattle.flash_laws.specs.Answers.Scripts.{script_body, script_response}
 use Rattle.flash_laws.specs.Site.{server}
 use Rattle.flash_laws.specs.declared.phase.Phase.{Phase}
@@ -32,7 +39,10 @@ use Rattle.flash_laws.specs.declared.phase.Phase.TheVariants as phase
 use Rattle.flash_laws.specs.declared.script_run.TheConstants.{CHUNK_BYTES}
 use Rattle.flash_laws.specs.declared.script_run.Run.{Run}
 use Rattle.flash_laws.specs.declared.script_run.Step.{Step}
-use Rattle.flash_laws.specs.declared.script_run.Step.TheVariants.{Gives, Makes, Hands, Lets, Heads, Sending, Receives, Spills, Gathers, Frames, Wraps, Trims, Ended, Unholds, Stops, Unframes, Lasts, WrapsLast, TrimsLast, Unwraps, Returns, Lapses, Fails}
+use Rattle.flash_laws.specs.declared.script_run.Step.TheVariants.{Gives, Makes, Hands, Lets, Heads, Sending, Receives}
+use Rattle.flash_laws.specs.declared.script_run.Step.TheVariants.{Spills, Gathers, Frames, Wraps, Trims, Ended, Unholds}
+use Rattle.flash_laws.specs.declared.script_run.Step.TheVariants.{Stops, Unframes, Lasts, WrapsLast, TrimsLast, Unwraps}
+use Rattle.flash_laws.specs.declared.script_run.Step.TheVariants.{Returns, Lapses, Fails}
 use Rattle.flash_laws.specs.declared.script_run.Running.{Running}
 use Rattle.flash_laws.specs.declared.script_run.Running.TheVariants.{Awaits, Runs, Leaves, Closes}
 use Rattle.flash_laws.proofs.Client.Phases.{Next, written_fd, next-expected}
@@ -49,108 +59,220 @@ use Rattle.flash_laws.proofs.Run.Steps as acts
 use Rattle.flash_laws.proofs.Run.Stops as stopping
 use Rattle.flash_laws.proofs.Lists.{not-false}
 
-module _ (steps : EachStepLeavesTheRest) (own : CallsServeTheirDomain) (m n : State) (order : IsOrderly m) (job : ℕ → List ℕ) (w : Wanted) where
+module _ (steps : EachStepLeavesTheRest) (own : CallsServeTheirDomain) (m n : State) (order : IsOrderly m) (job : ℕ
+    → List ℕ) (w : Wanted) where
   abbrev AfterReply : Running → Running → Reply → List ℕ → Progress → Type 0
   AfterReply x y r received before = (after : Progress) × Learns m x r received before after × HasRun job n w after y
 
-  module _ (run : Run) (hired : HasJobPipe m run.worker) (fd c : ℕ) (open_on : descriptor m server fd ≡ Some (on.Connection c)) (frame : Option ℕ) where
-    still-hired : (k : Call) (r : Reply) → StepsTo m (event.Call server k) r n → touches_fd m (event.Call server k) server (job_pipe run.worker) ≡ false → HasJobPipe n run.worker
-    still-hired k r step still = hired-on m n run.worker (λ x is. (steps.leaves m n (event.Call server k) r step).fds server (job_pipe run.worker) x is still) hired
+  module _ (run : Run) (hired : HasJobPipe m run.worker) (fd c : ℕ)
+      (open_on : descriptor m server fd ≡ Some (on.Connection c)) (frame : Option ℕ) where
+    still-hired : (k : Call) (r : Reply) → StepsTo m (event.Call server k) r n
+        → touches_fd m (event.Call server k) server (job_pipe run.worker) ≡ false → HasJobPipe n run.worker
+    still-hired k r step still =
+        hired-on m n run.worker
+        (λ x is. (steps.leaves m n (event.Call server k) r step).fds server (job_pipe run.worker) x is still) hired
 
     written : (a : ℕ) (r : Reply) → StepsTo m (event.Call server (call.IolWrite fd a)) r n → HasJobPipe n run.worker
-    written a r step = still-hired (call.IolWrite fd a) r step (no-position m fd (job_pipe run.worker) (on.Connection c) open_on refl)
+    written a r step =
+        still-hired (call.IolWrite fd a) r step (no-position m fd (job_pipe run.worker) (on.Connection c) open_on refl)
 
     -- the part is sent whole
-    sent : (a taken : ℕ) (r : Reply) (received : List ℕ) (o : Progress) → HasPart m w o run (phase.Sent a taken None) frame
+    sent : (a taken : ℕ) (r : Reply) (received : List ℕ) (o : Progress)
+        → HasPart m w o run (phase.Sent a taken None) frame
         → StepsTo m (event.Call server (call.AggDrop a)) r n
-        → AfterReply (Runs run (Sending (phase.Sent a taken None) frame)) (after_sending run (phase.Sent a taken None) frame r) r received o
+        → AfterReply (Runs run (Sending (phase.Sent a taken None) frame))
+        (after_sending run (phase.Sent a taken None) frame r) r received o
     sent a taken r received o h step = by r (own.drops m n server a r order step) step
       where
         by : (r : Reply) → caller.Drops m server a r n → StepsTo m (event.Call server (call.AggDrop a)) r n
-            → AfterReply (Runs run (Sending (phase.Sent a taken None) frame)) (after_sending run (phase.Sent a taken None) frame r) r received o
+            → AfterReply (Runs run (Sending (phase.Sent a taken None) frame))
+            (after_sending run (phase.Sent a taken None) frame r) r received o
         by reply.Done did step = (
           takes_on o h.part,
           (h.part, h.is_part, refl),
           (
             still-hired (call.AggDrop a) reply.Done step refl,
-            parts.receives-again steps own m n order w o run frame a (phase.Sent a taken None) (takes_on o h.part) run step (λ f is. (or_parts (a == f) false is).0) refl
+            parts.receives-again steps own m n order w o run frame a (phase.Sent a taken None) (takes_on o h.part) run
+                step (λ f is. (or_parts (a == f) false is).0) refl
                 (proceeds-on run.broken w (takes_on o h.part) [] h.whole (continued w o h.part [] h.continues)) h,
           ),
         )
-        by (reply.Refused y) did step = (o, refl, subst (λ (s : State). HasRun job s w o (Runs run (Sending (phase.Sent a taken None) frame))) (sym did) (hired, h))
+        by (reply.Refused y) did step = (
+          o,
+          refl,
+          subst (λ (s : State). HasRun job s w o (Runs run (Sending (phase.Sent a taken None) frame)))
+              (sym did) (hired, h),
+        )
         by r did step = absurd did
 
     -- nobody takes it
     unsent : (a : ℕ) (r : Reply) (received : List ℕ) (o : Progress) → HasPart m w o run (phase.Drops a None) frame
         → StepsTo m (event.Call server (call.AggDrop a)) r n
-        → AfterReply (Runs run (Sending (phase.Drops a None) frame)) (after_sending run (phase.Drops a None) frame r) r received o
+        → AfterReply (Runs run (Sending (phase.Drops a None) frame)) (after_sending run (phase.Drops a None) frame r) r
+        received o
     unsent a r received o h step = by r (own.drops m n server a r order step) step
       where
         by : (r : Reply) → caller.Drops m server a r n → StepsTo m (event.Call server (call.AggDrop a)) r n
-            → AfterReply (Runs run (Sending (phase.Drops a None) frame)) (after_sending run (phase.Drops a None) frame r) r received o
+            → AfterReply (Runs run (Sending (phase.Drops a None) frame))
+            (after_sending run (phase.Drops a None) frame r) r received o
         by reply.Done did step = (
           Broken,
           refl,
           (
             still-hired (call.AggDrop a) reply.Done step refl,
-            parts.receives-again steps own m n order w o run frame a (phase.Drops a None) Broken (broken run) step (λ f is. (or_parts (a == f) false is).0) refl (refl, refl) h,
+            parts.receives-again steps own m n order w o run frame a (phase.Drops a None) Broken (broken run) step
+                (λ f is. (or_parts (a == f) false is).0) refl (refl, refl) h,
           ),
         )
-        by (reply.Refused y) did step = (o, refl, subst (λ (s : State). HasRun job s w o (Runs run (Sending (phase.Drops a None) frame))) (sym did) (hired, h))
+        by (reply.Refused y) did step = (
+          o,
+          refl,
+          subst (λ (s : State). HasRun job s w o (Runs run (Sending (phase.Drops a None) frame))) (sym did)
+              (hired, h),
+        )
         by r did step = absurd did
 
     sending : (d : Phase) (r : Reply) (received : List ℕ) (o : Progress) → HasPart m w o run d frame
         → StepsTo m (event.Call server (conn.wants fd (in_phase w d))) r n
         → AfterReply (Runs run (Sending d frame)) (after_sending run d frame r) r received o
-    sending (phase.Sends a len taken None) r received o h step = (o, refl, (written a r step, parts.sends steps own m n order w o run frame fd c a len taken r open_on h step))
-    sending (phase.Cuts a from len taken None) r received o h step = (o, refl, (still-hired (call.AggCut a from (piece_end from len)) r step refl, parts.cuts steps own m n order w o run frame a from len taken r h step))
-    sending (phase.Offers a from len piece taken None) r received o h step = (o, refl, (written piece r step, parts.offers steps own m n order w o run frame fd c a from len piece taken r open_on h step))
-    sending (phase.Swaps a from len piece taken None) r received o h step = (o, refl, (still-hired (call.AggDrop piece) r step refl, parts.swaps steps own m n order w o run frame a from len piece taken r h step))
-    sending (phase.Breaks piece a None) r received o h step = (o, refl, (still-hired (call.AggDrop piece) r step refl, parts.breaks steps own m n order w o run frame piece a r h step))
+    sending (phase.Sends a len taken None) r received o h step =
+        (o, refl, (written a r step, parts.sends steps own m n order w o run frame fd c a len taken r open_on h step))
+    sending (phase.Cuts a from len taken None) r received o h step = (
+      o,
+      refl,
+      (
+        still-hired (call.AggCut a from (piece_end from len)) r step refl,
+        parts.cuts steps own m n order w o run frame a from len taken r h step,
+      ),
+    )
+    sending (phase.Offers a from len piece taken None) r received o h step = (
+      o,
+      refl,
+      (
+        written piece r step,
+        parts.offers steps own m n order w o run frame fd c a from len piece taken r open_on h
+            step,
+      ),
+    )
+    sending (phase.Swaps a from len piece taken None) r received o h step = (
+      o,
+      refl,
+      (
+        still-hired (call.AggDrop piece) r step refl,
+        parts.swaps steps own m n order w o run frame a from len piece
+            taken r h step,
+      ),
+    )
+    sending (phase.Breaks piece a None) r received o h step = (
+      o,
+      refl,
+      (still-hired (call.AggDrop piece) r step refl, parts.breaks steps own m n order w o run frame piece a r h step),
+    )
     sending (phase.Sent a taken None) r received o h step = sent a taken r received o h step
     sending (phase.Drops a None) r received o h step = unsent a r received o h step
     sending d r received o h step = absurd h.is_part
 
   -- what is left goes on as a file's response does
-  rest : (fd c : ℕ) (o : Progress) (d : Phase) (r : Reply) (received : List ℕ) → descriptor m server fd ≡ Some (on.Connection c)
+  rest : (fd c : ℕ) (o : Progress) (d : Phase) (r : Reply) (received : List ℕ)
+      → descriptor m server fd ≡ Some (on.Connection c)
       → HasRest m w o d → StepsTo m (event.Call server (conn.wants fd (in_phase w d))) r n → Names n r received
       → AfterReply (Leaves d) (Leaves (conn.after_reply (in_phase w d) r received).phase) r received o
-  rest fd c o d r received open_on h step names = left.leaving steps own m n order w h.expected fd c d r received o h.left h.has h.sends open_on step names
+  rest fd c o d r received open_on h step names =
+      left.leaving steps own m n order w h.expected fd c d r received o h.left h.has h.sends open_on step names
 
-  leaving : (fd c : ℕ) (o : Progress) (d : Phase) (r : Reply) (received : List ℕ) → descriptor m server fd ≡ Some (on.Connection c) → is_left d ≡ true
+  leaving : (fd c : ℕ) (o : Progress) (d : Phase) (r : Reply) (received : List ℕ)
+      → descriptor m server fd ≡ Some (on.Connection c) → is_left d ≡ true
       → HasLeft m w o d → StepsTo m (event.Call server (conn.wants fd (in_phase w d))) r n → Names n r received
       → AfterReply (Leaves d) (Leaves (conn.after_reply (in_phase w d) r received).phase) r received o
-  leaving fd c o d r received open_on is has step names = rest fd c o d r received open_on (is-rest m w o d is has) step names
+  leaving fd c o d r received open_on is has step names =
+      rest fd c o d r received open_on (is-rest m w o d is has) step names
 
-  pub replied : (fd c worker : ℕ) (x : Running) (r : Reply) (received : List ℕ) (o : Progress) → descriptor m server fd ≡ Some (on.Connection c)
+  pub replied : (fd c worker : ℕ) (x : Running) (r : Reply) (received : List ℕ) (o : Progress)
+      → descriptor m server fd ≡ Some (on.Connection c)
       → (x ≡ Awaits → HasJobPipe m worker) → is_over x ≡ false → HasRun job m w o x
-      → StepsTo m (event.Call server (wants job fd w x)) r n → Names n r received → AfterReply x (after_reply worker w x r received) r received o
-  replied fd c worker Awaits r received o open_on free going has step names = acts.awaits steps own m n order job w worker r received o (free refl) has step
+      → StepsTo m (event.Call server (wants job fd w x)) r n → Names n r received
+      → AfterReply x (after_reply worker w x r received) r received o
+  replied fd c worker Awaits r received o open_on free going has step names =
+      acts.awaits steps own m n order job w worker r received o (free refl) has step
   replied fd c worker Closes r received o open_on free going has step names = absurd (cc (going))
-  replied fd c worker (Leaves d) r received o open_on free going has step names = leaving fd c o d r received open_on (not-false (is_left d) going) has step names
-  replied fd c worker (Runs run (Gives write)) r received o open_on free going has step names = (o, refl, acts.gives steps own m n order job w run has.0 write r o has.1 step)
-  replied fd c worker (Runs run (Makes f)) r received o open_on free going has step names = (o, refl, acts.makes steps own m n order job w run has.0 f r o has.1 step)
-  replied fd c worker (Runs run (Hands j f)) r received o open_on free going has step names = (o, refl, acts.hands steps own m n order job w run has.0 j f r o has.1 step)
-  replied fd c worker (Runs run (Lets j)) r received o open_on free going has step names = (o, refl, acts.drops steps own m n order job w run has.0 j (Lets j) Heads r o has refl (has.1.0, has.1.2) step (λ z. Runs run (after_release_job j z)) refl (λ y. refl))
-  replied fd c worker (Runs run Heads) r received o open_on free going has step names = (o, refl, acts.heads steps own m n order job w run has.0 r received o has.1 step names)
-  replied fd c worker (Runs run (Sending d frame)) r received o open_on free going has step names = sending run has.0 fd c open_on frame d r received o has.1 step
-  replied fd c worker (Runs run (Receives held frame)) r received o open_on free going has step names = acts.receives steps own m n order job w run has.0 held frame r received o has.1 step names
-  replied fd c worker (Runs run (Spills a frame)) r received o open_on free going has step names = (o, refl, acts.drops steps own m n order job w run has.0 a (Spills a frame) (Receives None frame) r o has has.1.0.1 has.1.1 step (λ z. Runs run (after_spill a frame z)) refl (λ y. refl))
-  replied fd c worker (Runs run (Gathers held size piece len frame)) r received o open_on free going has step names = (o, refl, acts.gathers steps own m n order job w run has.0 held size piece len frame r o has.1 step)
-  replied fd c worker (Runs run (Frames held)) r received o open_on free going has step names = (o, refl, acts.frames steps own m n order job w run has.0 held r o has.1 step)
-  replied fd c worker (Runs run (Wraps held frame)) r received o open_on free going has step names = (o, refl, acts.wraps steps own m n order job w run has.0 held frame r received o has.1 step names)
-  replied fd c worker (Runs run (Trims held chunk len frame)) r received o open_on free going has step names = (o, refl, acts.drops steps own m n order job w run has.0 held (Trims held chunk len frame) (Sending (phase.Sends chunk len 0 None) (Some frame)) r o has has.1.0.1 has.1.1 step (λ z. Runs run (after_trim held chunk len frame z)) refl (λ y. refl))
-  replied fd c worker (Runs run (Ended a held frame)) r received o open_on free going has step names = (o, refl, acts.drops steps own m n order job w run has.0 a (Ended a held frame) (Stops held frame) r o has has.1.0.1 (has.1.1, has.1.2) step (λ z. Runs run (after_ended a held frame z)) refl (λ y. refl))
-  replied fd c worker (Runs run (Unholds held frame)) r received o open_on free going has step names = (o, refl, acts.drops steps own m n order job w run has.0 held (Unholds held frame) (Stops None frame) r o has has.1.0.1 (has.1.1, has.1.2) step (λ z. Runs run (after_release_held held frame z)) refl (λ y. refl))
-  replied fd c worker (Runs run (Stops held frame)) r received o open_on free going has step names = (o, refl, stopping.stops steps own m n order job w run has.0 held frame r o has.1 step)
-  replied fd c worker (Runs run (Unframes f held)) r received o open_on free going has step names = (o, refl, stopping.unframes steps own m n order job w run has.0 f held r o has.1 step)
-  replied fd c worker (Runs run (Lasts held)) r received o open_on free going has step names = (o, refl, stopping.lasts steps own m n order job w run has.0 held r received o has.1 step names)
-  replied fd c worker (Runs run (WrapsLast held size frame)) r received o open_on free going has step names = (o, refl, stopping.wraps_last steps own m n order job w run has.0 held size frame r received o has.1 step names)
-  replied fd c worker (Runs run (TrimsLast held chunk len frame)) r received o open_on free going has step names = (o, refl, acts.drops steps own m n order job w run has.0 held (TrimsLast held chunk len frame) (Unwraps frame chunk len) r o has has.1.0.1 (has.1.1, has.1.2) step (λ z. Runs run (after_trim_last held chunk len frame z)) refl (λ y. refl))
-  replied fd c worker (Runs run (Unwraps frame chunk len)) r received o open_on free going has step names = (o, refl, stopping.unwraps steps own m n order job w run has.0 frame chunk len r o has.1 step)
-  replied fd c worker (Runs run (Returns write)) r received o open_on free going has step names = (o, refl, stopping.returns steps own m n order job w run has.0 write r o has.1 step)
-  replied fd c worker (Runs run (Lapses j)) r received o open_on free going has step names = (o, refl, acts.drops steps own m n order job w run has.0 j (Lapses j) Fails r o has refl (has.1.0, has.1.2) step (λ z. Runs run (after_lapse j z)) refl (λ y. refl))
-  replied fd c worker (Runs run Fails) r received o open_on free going has step names = stopping.fails steps own m n order job w run has.0 r received o has.1 step
+  replied fd c worker (Leaves d) r received o open_on free going has step names =
+      leaving fd c o d r received open_on (not-false (is_left d) going) has step names
+  replied fd c worker (Runs run (Gives write)) r received o open_on free going has step names =
+      (o, refl, acts.gives steps own m n order job w run has.0 write r o has.1 step)
+  replied fd c worker (Runs run (Makes f)) r received o open_on free going has step names =
+      (o, refl, acts.makes steps own m n order job w run has.0 f r o has.1 step)
+  replied fd c worker (Runs run (Hands j f)) r received o open_on free going has step names =
+      (o, refl, acts.hands steps own m n order job w run has.0 j f r o has.1 step)
+  replied fd c worker (Runs run (Lets j)) r received o open_on free going has step names = (
+    o,
+    refl,
+    acts.drops steps own m n order job w run has.0 j (Lets j) Heads r o has refl (has.1.0, has.1.2) step
+        (λ z. Runs run (after_release_job j z)) refl (λ y. refl),
+  )
+  replied fd c worker (Runs run Heads) r received o open_on free going has step names =
+      (o, refl, acts.heads steps own m n order job w run has.0 r received o has.1 step names)
+  replied fd c worker (Runs run (Sending d frame)) r received o open_on free going has step names =
+      sending run has.0 fd c open_on frame d r received o has.1 step
+  replied fd c worker (Runs run (Receives held frame)) r received o open_on free going has step names =
+      acts.receives steps own m n order job w run has.0 held frame r received o has.1 step names
+  replied fd c worker (Runs run (Spills a frame)) r received o open_on free going has step names = (
+    o,
+    refl,
+    acts.drops steps own m n order job w run has.0 a (Spills a frame) (Receives None frame) r o has
+        has.1.0.1 has.1.1 step (λ z. Runs run (after_spill a frame z)) refl (λ y. refl),
+  )
+  replied fd c worker (Runs run (Gathers held size piece len frame)) r received o open_on free going has step names =
+      (o, refl, acts.gathers steps own m n order job w run has.0 held size piece len frame r o has.1 step)
+  replied fd c worker (Runs run (Frames held)) r received o open_on free going has step names =
+      (o, refl, acts.frames steps own m n order job w run has.0 held r o has.1 step)
+  replied fd c worker (Runs run (Wraps held frame)) r received o open_on free going has step names =
+      (o, refl, acts.wraps steps own m n order job w run has.0 held frame r received o has.1 step names)
+  replied fd c worker (Runs run (Trims held chunk len frame)) r received o open_on free going has step names = (
+    o,
+    refl,
+    acts.drops steps own m n order job w run has.0 held (Trims held chunk len frame)
+        (Sending (phase.Sends chunk len 0 None) (Some frame)) r o has has.1.0.1 has.1.1 step
+        (λ z. Runs run (after_trim held chunk len frame z)) refl (λ y. refl),
+  )
+  replied fd c worker (Runs run (Ended a held frame)) r received o open_on free going has step names = (
+    o,
+    refl,
+    acts.drops steps own m n order job w run has.0 a (Ended a held frame) (Stops held frame) r o has
+        has.1.0.1 (has.1.1, has.1.2) step (λ z. Runs run (after_ended a held frame z)) refl (λ y. refl),
+  )
+  replied fd c worker (Runs run (Unholds held frame)) r received o open_on free going has step names = (
+    o,
+    refl,
+    acts.drops steps own m n order job w run has.0 held (Unholds held frame) (Stops None frame) r o has
+        has.1.0.1 (has.1.1, has.1.2) step (λ z. Runs run (after_release_held held frame z)) refl (λ y. refl),
+  )
+  replied fd c worker (Runs run (Stops held frame)) r received o open_on free going has step names =
+      (o, refl, stopping.stops steps own m n order job w run has.0 held frame r o has.1 step)
+  replied fd c worker (Runs run (Unframes f held)) r received o open_on free going has step names =
+      (o, refl, stopping.unframes steps own m n order job w run has.0 f held r o has.1 step)
+  replied fd c worker (Runs run (Lasts held)) r received o open_on free going has step names =
+      (o, refl, stopping.lasts steps own m n order job w run has.0 held r received o has.1 step names)
+  replied fd c worker (Runs run (WrapsLast held size frame)) r received o open_on free going has step names =
+      (o, refl, stopping.wraps_last steps own m n order job w run has.0 held size frame r received o has.1 step names)
+  replied fd c worker (Runs run (TrimsLast held chunk len frame)) r received o open_on free going has step names = (
+    o,
+    refl,
+    acts.drops steps own m n order job w run has.0 held (TrimsLast held chunk len frame)
+        (Unwraps frame chunk len) r o has has.1.0.1 (has.1.1, has.1.2) step
+        (λ z. Runs run (after_trim_last held chunk len frame z)) refl (λ y. refl),
+  )
+  replied fd c worker (Runs run (Unwraps frame chunk len)) r received o open_on free going has step names =
+      (o, refl, stopping.unwraps steps own m n order job w run has.0 frame chunk len r o has.1 step)
+  replied fd c worker (Runs run (Returns write)) r received o open_on free going has step names =
+      (o, refl, stopping.returns steps own m n order job w run has.0 write r o has.1 step)
+  replied fd c worker (Runs run (Lapses j)) r received o open_on free going has step names = (
+    o,
+    refl,
+    acts.drops steps own m n order job w run has.0 j (Lapses j) Fails r o has refl (has.1.0, has.1.2) step
+        (λ z. Runs run (after_lapse j z)) refl (λ y. refl),
+  )
+  replied fd c worker (Runs run Fails) r received o open_on free going has step names =
+      stopping.fails steps own m n order job w run has.0 r received o has.1 step
 
 -- ---- what is offered
 
@@ -162,7 +284,8 @@ drop_past (p ∷ ps) xs t =
 
 -- of what begins with a part its next bytes are next
 next-in : (m : State) (w : Wanted) (o : Progress) (a taken : ℕ) (part bytes after : List ℕ) → Continues w o part []
-    → taken ≤ length part → bytes ++ after ≡ drop taken part → readable_at m server a ≡ Some bytes → IsNextOf m w o a taken
+    → taken ≤ length part → bytes ++ after ≡ drop taken part → readable_at m server a ≡ Some bytes
+    → IsNextOf m w o a taken
 next-in m w (Ran received ended past) a taken part bytes after goes within next is_readable = record {
   bytes = bytes;
   is_readable = is_readable;
@@ -172,7 +295,8 @@ next-in m w (Ran received ended past) a taken part bytes after goes within next 
         ∙ (ap (λ (l : List ℕ). l ++ script_body w.chunked may.0) next
         ∙ (sym (drop-append-le taken part (script_body w.chunked may.0) within)
         ∙ (sym (drop_past past (part ++ script_body w.chunked may.0) taken)
-        ∙ ap (λ (l : List ℕ). drop (length past + taken) l) (sym (may.2 ∙ (goes may.0 ∙ append_assoc past part (script_body w.chunked may.0)))))))),
+        ∙ ap (λ (l : List ℕ). drop (length past + taken) l)
+        (sym (may.2 ∙ (goes may.0 ∙ append_assoc past part (script_body w.chunked may.0)))))))),
   );
 }
 next-in m w x a taken part bytes after goes within next is_readable = absurd goes
@@ -182,26 +306,37 @@ offered : (m : State) (fd a : ℕ) (w : Wanted) (expected : List ℕ) (d : Phase
     → conn.wants fd (in_phase w d) ≡ call.IolWrite fd a → Next m expected a (taken_of d)
 offered m fd a w expected d has is = (next-expected m fd fd a [] (serve w) d expected has is).1
 
-pub part-next : (m : State) (fd a : ℕ) (w : Wanted) (o : Progress) (run : Run) (d : Phase) (frame : Option ℕ) → HasPart m w o run d frame
+pub part-next : (m : State) (fd a : ℕ) (w : Wanted) (o : Progress) (run : Run) (d : Phase) (frame : Option ℕ)
+    → HasPart m w o run d frame
     → conn.wants fd (in_phase w d) ≡ call.IolWrite fd a → IsNextOf m w o a (taken_of d)
 part-next m fd a w o run d frame h is =
     let p = offered m fd a w h.part d h.has is in
     next-in m w o a (taken_of d) h.part p.0 p.1 h.continues h.within p.3 p.2
 
 -- what may be the response, once all of it is known
-is-whole : (w : Wanted) (o : Progress) (expected r : List ℕ) → IsLeft w o expected → MayAnswer w o r → (taken : ℕ) → drop taken expected ≡ drop (past_of o + taken) r
+is-whole : (w : Wanted) (o : Progress) (expected r : List ℕ) → IsLeft w o expected → MayAnswer w o r → (taken : ℕ)
+    → drop taken expected ≡ drop (past_of o + taken) r
 is-whole w (Ran received ended past) expected r left may taken =
     let none : may.0 ≡ [] = subst (λ b. Follows b may.0) left.0 may.1 in
-    let all : r ≡ past ++ expected = may.2 ∙ (ap (λ (l : List ℕ). script_response w (received ++ l)) none ∙ (ap (λ (l : List ℕ). script_response w l) (append-nil received) ∙ left.1)) in
+    let all : r ≡ past ++ expected =
+    may.2
+    ∙ (ap (λ (l : List ℕ). script_response w (received ++ l)) none
+    ∙ (ap (λ (l : List ℕ). script_response w l) (append-nil received) ∙ left.1)) in
     sym (drop_past past expected taken) ∙ ap (λ (l : List ℕ). drop (length past + taken) l) (sym all)
 is-whole w Broken expected r left may taken = absurd left
-is-whole w (NotRun status past) expected r left may taken = sym (drop_past past expected taken) ∙ ap (λ (l : List ℕ). drop (length past + taken) l) (sym (may ∙ left))
+is-whole w (NotRun status past) expected r left may taken = sym (drop_past past expected taken)
+    ∙ ap (λ (l : List ℕ). drop (length past + taken) l) (sym (may ∙ left))
 
 rest-next : (m : State) (fd a : ℕ) (w : Wanted) (o : Progress) (d : Phase) → HasRest m w o d
     → conn.wants fd (in_phase w d) ≡ call.IolWrite fd a → IsNextOf m w o a (taken_of d)
 rest-next m fd a w o d h is =
     let p = offered m fd a w h.expected d h.has is in
-    record { bytes = p.0; is_readable = p.2; next = λ r may. (p.1, p.3 ∙ is-whole w o h.expected r h.left may (taken_of d)) }
+    record {
+      bytes = p.0;
+      is_readable = p.2;
+      next =
+          λ r may. (p.1, p.3 ∙ is-whole w o h.expected r h.left may (taken_of d));
+    }
 
 pub left-next : (m : State) (fd a : ℕ) (w : Wanted) (o : Progress) (d : Phase) → HasLeft m w o d
     → conn.wants fd (in_phase w d) ≡ call.IolWrite fd a → IsNextOf m w o a (taken_of d)
@@ -221,14 +356,16 @@ next-of job m fd c a w (Runs run (Hands j f)) o open_on has is =
 next-of job m fd c a w (Leaves d) o open_on has is = left-next m fd a w o d has is
 next-of job m fd c a w x o open_on has is = absurd (cc (is))
 
-few-held : (job : ℕ → List ℕ) (m : State) (w : Wanted) (o : Progress) (run : Run) (held : Option (ℕ × ℕ)) (frame : Option ℕ)
+few-held : (job : ℕ → List ℕ) (m : State) (w : Wanted) (o : Progress) (run : Run) (held : Option (ℕ × ℕ))
+    (frame : Option ℕ)
     → HasRun job m w o (Runs run (Receives held frame)) → held_size held < CHUNK_BYTES
 few-held job m w o run None frame has = omega arith
 few-held job m w o run (Some x) frame has = has.1.has.holds.few
 
 -- ---- once it is broken off
 
-none-of : (job : ℕ → List ℕ) (m : State) (fd a : ℕ) (w : Wanted) (x : Running) → HasRun job m w Broken x → wants job fd w x ≡ call.IolWrite fd a → ⊥
+none-of : (job : ℕ → List ℕ) (m : State) (fd a : ℕ) (w : Wanted) (x : Running) → HasRun job m w Broken x
+    → wants job fd w x ≡ call.IolWrite fd a → ⊥
 none-of job m fd a w (Runs run (Sending d frame)) has is = has.1.continues
 none-of job m fd a w (Runs run (Hands j f)) has is = let e = has.1.2.1 in cc (e)
 none-of job m fd a w (Leaves phase.Rests) has is = has.0
@@ -238,25 +375,33 @@ none-of job m fd a w x has is = cc (is)
 
 -- ---- the job
 
-opened : (own : CallsServeTheirDomain) (job : ℕ → List ℕ) (m n : State) (fd worker : ℕ) (w : Wanted) (from write : ℕ) (received : List ℕ)
+opened : (own : CallsServeTheirDomain) (job : ℕ → List ℕ) (m n : State) (fd worker : ℕ) (w : Wanted) (from write : ℕ)
+    (received : List ℕ)
     → StepsTo m (event.Call server (wants job fd w Awaits)) (reply.Fds from write) n
-    → (after_reply worker w Awaits (reply.Fds from write) received ≡ Runs (record { worker = worker; from = from; broken = false }) (Gives write))
-    × ((p : ℕ) × (pipe_at n p ≡ new_pipe) × (descriptor n server from ≡ Some (on.ReadEnd p)) × (descriptor n server write ≡ Some (on.WriteEnd p)))
+    → (after_reply worker w Awaits (reply.Fds from write) received
+    ≡ Runs (record { worker = worker; from = from; broken = false }) (Gives write))
+    × ((p : ℕ) × (pipe_at n p ≡ new_pipe) × (descriptor n server from ≡ Some (on.ReadEnd p))
+    × (descriptor n server write ≡ Some (on.WriteEnd p)))
 opened own job m n fd worker w from write received step =
     let did = own.makes_pipe m n server (reply.Fds from write) step in
     (refl, (did.pipe, did.empty, did.read_end, did.write_end))
 
-given : (steps : EachStepLeavesTheRest) (own : CallsServeTheirDomain) (job : ℕ → List ℕ) (m n : State) (fd worker : ℕ) (w : Wanted) (o : Progress) (run : Run) (write f : ℕ) (received : List ℕ)
-    → HasRun job m w o (Runs run (Gives write)) → StepsTo m (event.Call server (wants job fd w (Runs run (Gives write)))) (reply.Fd f) n
+given : (steps : EachStepLeavesTheRest) (own : CallsServeTheirDomain) (job : ℕ → List ℕ) (m n : State) (fd worker : ℕ)
+    (w : Wanted) (o : Progress) (run : Run) (write f : ℕ) (received : List ℕ)
+    → HasRun job m w o (Runs run (Gives write))
+    → StepsTo m (event.Call server (wants job fd w (Runs run (Gives write)))) (reply.Fd f) n
     → (after_reply worker w (Runs run (Gives write)) (reply.Fd f) received ≡ Runs run (Makes f))
-    × ((p : ℕ) × (descriptor n server run.from ≡ Some (on.ReadEnd p)) × (descriptor n (worker_domain run.worker) f ≡ Some (on.WriteEnd p)))
+    × ((p : ℕ) × (descriptor n server run.from ≡ Some (on.ReadEnd p))
+    × (descriptor n (worker_domain run.worker) f ≡ Some (on.WriteEnd p)))
 given steps own job m n fd worker w o run write f received has step = (
   refl,
   (
     has.1.0.pipe,
-    (steps.leaves m n (event.Call server (call.GiveFd write (worker_domain run.worker))) (reply.Fd f) step).fds server run.from (on.ReadEnd has.1.0.pipe) has.1.0.read_end
+    (steps.leaves m n (event.Call server (call.GiveFd write (worker_domain run.worker))) (reply.Fd f) step).fds server
+        run.from (on.ReadEnd has.1.0.pipe) has.1.0.read_end
         (write-elsewhere m run write has.1.0),
-    (own.gives_fd m n server write (worker_domain run.worker) (on.WriteEnd has.1.0.pipe) (reply.Fd f) has.1.0.write_end step).open_on,
+    (own.gives_fd m n server write (worker_domain run.worker) (on.WriteEnd has.1.0.pipe) (reply.Fd f) has.1.0.write_end
+        step).open_on,
   ),
 )
 
@@ -267,32 +412,38 @@ keeps-finishing false true run held = refl
 keeps-finishing false false run held = tt
 keeps-finishing true c run held = tt
 
-keeps-stops : (w : Wanted) (run : Run) (held : Following) (frame : Option ℕ) (r : Reply) → HasWorker run.worker (after_stop w run held frame r)
+keeps-stops : (w : Wanted) (run : Run) (held : Following) (frame : Option ℕ) (r : Reply)
+    → HasWorker run.worker (after_stop w run held frame r)
 keeps-stops w run held None reply.Done = keeps-finishing run.broken w.chunked run held
 keeps-stops w run held (Some f) reply.Done = refl
 keeps-stops w run held frame r = refl
 
-keeps-unframes : (w : Wanted) (run : Run) (f : ℕ) (held : Following) (r : Reply) → HasWorker run.worker (after_release_frame w run f held r)
+keeps-unframes : (w : Wanted) (run : Run) (f : ℕ) (held : Following) (r : Reply)
+    → HasWorker run.worker (after_release_frame w run f held r)
 keeps-unframes w run f held reply.Done = keeps-finishing run.broken w.chunked run held
 keeps-unframes w run f held r = refl
 
-keeps-sending : (run : Run) (d : Phase) (frame : Option ℕ) (r : Reply) → HasWorker run.worker (after_sending run d frame r)
+keeps-sending : (run : Run) (d : Phase) (frame : Option ℕ) (r : Reply)
+    → HasWorker run.worker (after_sending run d frame r)
 keeps-sending run (phase.Sent a taken None) frame reply.Done = refl
 keeps-sending run (phase.Drops a None) frame reply.Done = refl
 keeps-sending run d frame r = refl
 
-keeps-receives : (w : Wanted) (run : Run) (held : Following) (frame : Option ℕ) (r : Reply) (received : List ℕ) → HasWorker run.worker (after_output w run held frame r received)
+keeps-receives : (w : Wanted) (run : Run) (held : Following) (frame : Option ℕ) (r : Reply) (received : List ℕ)
+    → HasWorker run.worker (after_output w run held frame r received)
 keeps-receives w run held frame (reply.Agg n) [] = refl
 keeps-receives w run held frame (reply.Agg n) (b ∷ received) = refl
 keeps-receives w run held frame (reply.Refused (no.Denied p)) received = refl
 keeps-receives w run held frame r received = refl
 
-keeps-lasts : (run : Run) (held : Following) (r : Reply) (received : List ℕ) → HasWorker run.worker (after_last run held r received)
+keeps-lasts : (run : Run) (held : Following) (r : Reply) (received : List ℕ)
+    → HasWorker run.worker (after_last run held r received)
 keeps-lasts run None (reply.Agg n) received = tt
 keeps-lasts run (Some x) (reply.Agg n) received = refl
 keeps-lasts run held r received = refl
 
-keeps-unwraps : (run : Run) (frame chunk len : ℕ) (r : Reply) → HasWorker run.worker (after_unwrap run frame chunk len r)
+keeps-unwraps : (run : Run) (frame chunk len : ℕ) (r : Reply)
+    → HasWorker run.worker (after_unwrap run frame chunk len r)
 keeps-unwraps run frame chunk len reply.Done = tt
 keeps-unwraps run frame chunk len r = refl
 
@@ -300,7 +451,8 @@ keeps-fails : (run : Run) (r : Reply) → HasWorker run.worker (after_fail run r
 keeps-fails run reply.Done = tt
 keeps-fails run r = refl
 
-pub keeps : (worker : ℕ) (w : Wanted) (run : Run) (step : Step) (r : Reply) (received : List ℕ) → HasWorker run.worker (after_reply worker w (Runs run step) r received)
+pub keeps : (worker : ℕ) (w : Wanted) (run : Run) (step : Step) (r : Reply) (received : List ℕ)
+    → HasWorker run.worker (after_reply worker w (Runs run step) r received)
 keeps worker w run (Sending d frame) r received = keeps-sending run d frame r
 keeps worker w run (Receives held frame) r received = keeps-receives w run held frame r received
 keeps worker w run (Stops held frame) r received = keeps-stops w run held frame r
@@ -310,10 +462,12 @@ keeps worker w run (Unwraps frame chunk len) r received = keeps-unwraps run fram
 keeps worker w run Fails r received = keeps-fails run r
 keeps worker w run step r received = refl
 
-pub runs_offer : EachStepLeavesTheRest → CallsServeTheirDomain → RefusalsTellWhy → RefusalsThatAreLeft → RunsOfferTheResponse
+pub runs_offer : EachStepLeavesTheRest → CallsServeTheirDomain → RefusalsTellWhy → RefusalsThatAreLeft
+    → RunsOfferTheResponse
 runs_offer steps own why may = λ job. record {
   starts = λ m w. refl;
-  replied = λ m n fd c worker w x r received o order open_on free going has step names. replied steps own m n order job w fd c worker x r received o open_on free going has step names;
+  replied = λ m n fd c worker w x r received o order open_on free going has step names. replied steps own m n order job
+      w fd c worker x r received o open_on free going has step names;
   stays = λ m n w x e r o. run_stays steps job m n w x e r o;
   offers = next-of job;
   silent = none-of job;
@@ -324,13 +478,21 @@ runs_offer steps own why may = λ job. record {
   nears = nears own may job;
   moves = moves job;
   reads = few-held job;
-  receives = λ m n fd w o run held frame r order has step.
-      (has.1.reads.0, has.1.reads.1, own.read_pipe m n server run.from has.1.reads.0 (CHUNK_BYTES - held_size held) r order has.1.reads.1 step);
+  receives = λ m n fd w o run held frame r order has step. (
+    has.1.reads.0,
+    has.1.reads.1,
+    own.read_pipe m n server run.from has.1.reads.0 (CHUNK_BYTES - held_size held) r
+        order has.1.reads.1 step,
+  );
   reads_on = reads_on;
   opens = opened own job;
   gives = given steps own job;
-  hands = λ m n fd w o run j f r order has step.
-      (has.0.0, has.0.1, own.write_pipe m n server (job_pipe run.worker) has.0.0 j (job f) r order has.0.1 has.1.1 step);
+  hands = λ m n fd w o run j f r order has step. (
+    has.0.0,
+    has.0.1,
+    own.write_pipe m n server (job_pipe run.worker) has.0.0 j (job f) r order has.0.1 has.1.1
+        step,
+  );
   in_turn = in_turn;
   keeps = keeps;
 }

@@ -1,5 +1,7 @@
 -- The output that was read, and the part of the response that it makes.
-use Rattle.std.proofs.Common.{◌≡◌, ◌≤◌, ◌<◌, ◌/◌, ◌%◌, ◌==◌, ℕ, zero, suc, ◌+◌, Bool, true, false, cond, List, [], ◌∷◌, ◌++◌, length, take, ap, ◌∙◌, refl, sym, subst, arith, append_assoc, append-nil, length-append}
+use Rattle.std.proofs.Common.{◌≡◌, ◌≤◌, ◌<◌, ◌/◌, ◌%◌, ◌==◌, ℕ, zero, suc, ◌+◌, Bool, true, false, cond, List, [], ◌∷◌}
+use Rattle.std.proofs.Common.{◌++◌, length, take, ap, ◌∙◌, refl, sym, subst, arith, append_assoc, append-nil}
+use Rattle.std.proofs.Common.{length-append}
 use Rattle.std.specs.List.{prefix_len}
 use Rattle.std.specs.Fmt.{digits, digits_onto, digit_glyph}
 use Rattle.iol_core.specs.Text.{Text, bytes_of, admitted}
@@ -36,8 +38,11 @@ length-onto : (fuel n : ℕ) (acc : List ℕ) → length (digits_onto fuel 16 fa
 length-onto zero n acc = omega arith
 length-onto (suc fuel) n acc = both (n / 16 == 0) (length-onto fuel (n / 16) (digit_glyph false (n % 16) ∷ acc))
   where
-    both : (v : Bool) → length (digits_onto fuel 16 false (n / 16) (digit_glyph false (n % 16) ∷ acc)) ≤ fuel + length (digit_glyph false (n % 16) ∷ acc)
-        → length (cond v (digit_glyph false (n % 16) ∷ acc) (digits_onto fuel 16 false (n / 16) (digit_glyph false (n % 16) ∷ acc))) ≤ suc fuel + length acc
+    both : (v : Bool) → length (digits_onto fuel 16 false (n / 16) (digit_glyph false (n % 16) ∷ acc)) ≤ fuel
+        + length (digit_glyph false (n % 16) ∷ acc)
+        → length
+        (cond v (digit_glyph false (n % 16) ∷ acc)
+        (digits_onto fuel 16 false (n / 16) (digit_glyph false (n % 16) ∷ acc))) ≤ suc fuel + length acc
     both true rest = omega arith
     both false rest = omega (arith, rest)
 
@@ -66,33 +71,47 @@ receives-more w (Ran received ended past) held b new back = λ more.
 receives-more w x held b new back = absurd back
 
 -- the end was seen: only what is held is left
-pub receives-end : (b : Bool) (w : Wanted) (o : Progress) (held : List ℕ) → Goes b w o held → Ends b w (receives_on o []) held
+pub receives-end : (b : Bool) (w : Wanted) (o : Progress) (held : List ℕ) → Goes b w o held
+    → Ends b w (receives_on o []) held
 receives-end true w o held is = (subst (λ (z : Progress). receives_on z [] ≡ Broken) (sym is.0) refl, is.1)
 receives-end false w (Ran received ended past) held back = (
   refl,
-  (ap (λ (l : List ℕ). script_response w l) (sym (append-nil received)) ∙ (back [] ∙ ap (λ (l : List ℕ). past ++ script_body w.chunked l) (append-nil held))),
+  (ap (λ (l : List ℕ). script_response w l) (sym (append-nil received))
+      ∙ (back [] ∙ ap (λ (l : List ℕ). past ++ script_body w.chunked l) (append-nil held))),
 )
 receives-end false w x held back = absurd back
 
 -- what is held makes a part of the response
-part-of : (w : Wanted) (o : Progress) (part held : List ℕ) → ((more : List ℕ) → script_body w.chunked (held ++ more) ≡ part ++ script_body w.chunked more)
+part-of : (w : Wanted) (o : Progress) (part held : List ℕ)
+    → ((more : List ℕ) → script_body w.chunked (held ++ more) ≡ part ++ script_body w.chunked more)
     → HoldsBack w o held → Continues w o part []
-part-of w (Ran received ended past) part held makes back = λ more. (back more ∙ (ap (λ (l : List ℕ). past ++ l) (makes more) ∙ sym (append_assoc past part (script_body w.chunked more))))
+part-of w (Ran received ended past) part held makes back =
+    λ more.
+    (back more
+    ∙ (ap (λ (l : List ℕ). past ++ l) (makes more) ∙ sym (append_assoc past part (script_body w.chunked more))))
 part-of w x part held makes back = absurd back
 
 -- without chunks its own bytes
-pub plain-part : (w : Wanted) (o : Progress) (held : List ℕ) → w.chunked ≡ false → HoldsBack w o held → Continues w o held []
-plain-part w o held is back = part-of w o held held (λ more. subst (λ c. script_body c (held ++ more) ≡ held ++ script_body c more) (sym is) refl) back
+pub plain-part : (w : Wanted) (o : Progress) (held : List ℕ) → w.chunked ≡ false → HoldsBack w o held
+    → Continues w o held []
+plain-part w o held is back =
+    part-of w o held held (λ more. subst (λ c. script_body c (held ++ more) ≡ held ++ script_body c more) (sym is) refl)
+    back
 
 -- a whole chunk
-pub chunk-part : (w : Wanted) (o : Progress) (held : List ℕ) → w.chunked ≡ true → length held ≡ CHUNK_BYTES → HoldsBack w o held
+pub chunk-part : (w : Wanted) (o : Progress) (held : List ℕ) → w.chunked ≡ true → length held ≡ CHUNK_BYTES
+    → HoldsBack w o held
     → Continues w o (chunk held) []
-chunk-part w o held is count back = part-of w o (chunk held) held (λ more. subst (λ c. script_body c (held ++ more) ≡ chunk held ++ script_body c more) (sym is) (chunk_more held more count)) back
+chunk-part w o held is count back =
+    part-of w o (chunk held) held (λ more. subst (λ c. script_body c (held ++ more) ≡ chunk held ++ script_body c more)
+    (sym is) (chunk_more held more count)) back
 
 -- the last bytes, in a chunk, and the end
-pub last-left : (w : Wanted) (o : Progress) (held : List ℕ) (size : ℕ) → size ≡ length held → 0 < size → size < CHUNK_BYTES
+pub last-left : (w : Wanted) (o : Progress) (held : List ℕ) (size : ℕ) → size ≡ length held → 0 < size
+    → size < CHUNK_BYTES
     → IsLeft w o (script_body true held) → IsLeft w o (chunk_head size ++ (held ++ (chunk_end ++ last_chunk)))
 last-left w o held size is some few left =
     let s : 0 < length held = omega (arith, is, some) in
     let f : length held < CHUNK_BYTES = omega (arith, is, few) in
-    subst (λ (l : List ℕ). IsLeft w o l) (last_body held s f ∙ ap (λ k. chunk_head k ++ (held ++ (chunk_end ++ last_chunk))) (sym is)) left
+    subst (λ (l : List ℕ). IsLeft w o l) (last_body held s f
+    ∙ ap (λ k. chunk_head k ++ (held ++ (chunk_end ++ last_chunk))) (sym is)) left

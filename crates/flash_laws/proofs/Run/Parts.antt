@@ -1,5 +1,6 @@
 -- A part of a script's response is sent by the phases of a file's response.
-use Rattle.std.proofs.Common.{◌≡◌, ℕ, ◌+◌, ◌-◌, ◌==◌, List, [], ap, ◌∙◌, refl, sym, subst, arith, Option, Some, None, true, false, Bool, if◌then◌else◌}
+use Rattle.std.proofs.Common.{◌≡◌, ℕ, ◌+◌, ◌-◌, ◌==◌, List, [], ap, ◌∙◌, refl, sym, subst, arith, Option, Some, None}
+use Rattle.std.proofs.Common.{true, false, Bool, if◌then◌else◌}
 use Rattle.std.specs.Prelude.{◌||◌, ◌&&◌, min, nat_lt, slice_range}
 use Rattle.std.proofs.lemmas.Bool.{or_parts, or_from}
 use Rattle.std.proofs.lemmas.Bool.Decides.{nat_tests}
@@ -22,7 +23,8 @@ use Rattle.iol_laws.specs.Caller.{CallsServeTheirDomain, readable_at}
 use Rattle.flash_http.specs.Request.{Wanted}
 use Rattle.flash_laws.specs.Conn as conn
 use Rattle.flash_laws.specs.Conn.{piece_end}
-use Rattle.flash_laws.specs.Run.Fits.{Progress, Ran, HoldsBack, Continues, Goes, HasFrame, HasReceived, sends_frame, HasPart}
+use Rattle.flash_laws.specs.Run.Fits.{Progress, Ran, HoldsBack, Continues, Goes, HasFrame, HasReceived, sends_frame}
+use Rattle.flash_laws.specs.Run.Fits.{HasPart}
 use Rattle.flash_laws.specs.Run.OfferedBytes.{takes_on}
 use Rattle.flash_laws.specs.Run.{has_frame}
 use Rattle.flash_laws.specs.Answers.Scripts.{frame_of}
@@ -51,7 +53,8 @@ pub no-position : (m : State) (f g : ℕ) (x : Descriptor) → descriptor m serv
 no-position m f g x is no_file = and-false (f == g) (is_file (descriptor m server f)) (ap (λ d. is_file d) is ∙ no_file)
 
 -- a new aggregate is not the frame
-pub new-frame : (m : State) (frame : Option ℕ) (x : ℕ) → HasFrame m frame → readable_at m server x ≡ None → has_frame frame x ≡ false
+pub new-frame : (m : State) (frame : Option ℕ) (x : ℕ) → HasFrame m frame → readable_at m server x ≡ None
+    → has_frame frame x ≡ false
 new-frame m None x has new = refl
 new-frame m (Some f) x has new = new-other m f x (frame_of CHUNK_BYTES) has new
 
@@ -61,32 +64,38 @@ sends-none d e None fewer apart = refl
 sends-none d e (Some f) fewer apart = fewer f apart
 
 -- of the piece too
-with-piece : (m : State) (piece : ℕ) (d e : Phase) (frame : Option ℕ) → ((f : ℕ) → (piece == f) ≡ false → conn.uses_agg d f ≡ false → conn.uses_agg e f ≡ false)
+with-piece : (m : State) (piece : ℕ) (d e : Phase) (frame : Option ℕ)
+    → ((f : ℕ) → (piece == f) ≡ false → conn.uses_agg d f ≡ false → conn.uses_agg e f ≡ false)
     → has_frame frame piece ≡ false → sends_frame d frame ≡ false → sends_frame e frame ≡ false
 with-piece m piece d e None both new apart = refl
 with-piece m piece d e (Some f) both new apart = both f (turned f piece new) apart
 
-pub continued : (w : Wanted) (o : Progress) (part held : List ℕ) → Continues w o part held → HoldsBack w (takes_on o part) held
+pub continued : (w : Wanted) (o : Progress) (part held : List ℕ) → Continues w o part held
+    → HoldsBack w (takes_on o part) held
 continued w (Ran received ended past) part held is = is
 continued w x part held is = absurd is
 
-pub proceeds-on : (b : Bool) (w : Wanted) (o : Progress) (held : List ℕ) → b ≡ false → HoldsBack w o held → Goes b w o held
+pub proceeds-on : (b : Bool) (w : Wanted) (o : Progress) (held : List ℕ) → b ≡ false → HoldsBack w o held
+    → Goes b w o held
 proceeds-on true w o held is back = absurd (cc (is))
 proceeds-on false w o held is back = back
 
 module _ (steps : EachStepLeavesTheRest) (own : CallsServeTheirDomain) (m n : State) (order : IsOrderly m)
     (w : Wanted) (o : Progress) (run : Run) (frame : Option ℕ) where
   is_readable : (k : Call) (r : Reply) → StepsTo m (event.Call server k) r n → (a : ℕ) (bytes : List ℕ)
-      → gives_up (event.Call server k) server a ≡ false → readable_at m server a ≡ Some bytes → readable_at n server a ≡ Some bytes
+      → gives_up (event.Call server k) server a ≡ false → readable_at m server a ≡ Some bytes
+      → readable_at n server a ≡ Some bytes
   is_readable k r step a bytes un is = readable-stays steps m n (event.Call server k) r step a bytes is un
 
   -- the read end and the frame stay
   fits : (k : Call) (r : Reply) → StepsTo m (event.Call server k) r n
       → touches_fd m (event.Call server k) server run.from ≡ false
       → ((f : ℕ) → has_frame frame f ≡ true → gives_up (event.Call server k) server f ≡ false)
-      → (d e : Phase) (h : HasPart m w o run d frame) → SendsAll n w h.part e → sends_frame e frame ≡ false → HasPart n w o run e frame
+      → (d e : Phase) (h : HasPart m w o run d frame) → SendsAll n w h.part e → sends_frame e frame ≡ false
+      → HasPart n w o run e frame
   fits k r step still un d e h has apart = record {
-    reads = reading-on m n run (λ x is. (steps.leaves m n (event.Call server k) r step).fds server run.from x is still) h.reads;
+    reads = reading-on m n run (λ x is. (steps.leaves m n (event.Call server k) r step).fds server run.from x is still)
+        h.reads;
     frames = frame-on m n frame (λ a bytes u is. is_readable k r step a bytes (un a u) is) h.frames;
     part = h.part;
     is_part = has.1;
@@ -101,16 +110,20 @@ module _ (steps : EachStepLeavesTheRest) (own : CallsServeTheirDomain) (m n : St
       → HasPart m w o run (phase.Sends a len taken None) frame → StepsTo m (event.Call server (call.IolWrite fd a)) r n
       → HasPart n w o run (conn.after_send a len taken None r) frame
   sends fd c a len taken r open_on h step =
-      fits (call.IolWrite fd a) r step (no-position m fd run.from (on.Connection c) open_on refl) (λ f u. refl) (phase.Sends a len taken None) (conn.after_send a len taken None r) h
+      fits (call.IolWrite fd a) r step (no-position m fd run.from (on.Connection c) open_on refl) (λ f u. refl)
+      (phase.Sends a len taken None) (conn.after_send a len taken None r) h
       (left.sends steps own m n order w h.part fd c a len taken r open_on (h.has, h.is_part, h.within) step) (apart r)
     where
-      free : (e : Phase) → ((f : ℕ) → conn.uses_agg e f ≡ conn.uses_agg (phase.Sends a len taken None) f) → sends_frame e frame ≡ false
+      free : (e : Phase) → ((f : ℕ) → conn.uses_agg e f ≡ conn.uses_agg (phase.Sends a len taken None) f)
+          → sends_frame e frame ≡ false
       free e same = sends-none (phase.Sends a len taken None) e frame (λ f is. same f ∙ is) h.apart
 
       apart : (r : Reply) → sends_frame (conn.after_send a len taken None r) frame ≡ false
       apart (reply.Count k) = by (nat_lt k len)
         where
-          by : (b : Bool) → sends_frame (if b then phase.Cuts a k len (taken + k) None else phase.Sent a (taken + len) None) frame ≡ false
+          by : (b : Bool)
+              → sends_frame (if b then phase.Cuts a k len (taken + k) None else phase.Sent a (taken + len) None) frame
+              ≡ false
           by true = free (phase.Cuts a k len (taken + k) None) (λ f. refl)
           by false = free (phase.Sent a (taken + len) None) (λ f. refl)
       apart (reply.Refused no.BrokenPipe) = free (phase.Drops a None) (λ f. refl)
@@ -120,12 +133,15 @@ module _ (steps : EachStepLeavesTheRest) (own : CallsServeTheirDomain) (m n : St
       → StepsTo m (event.Call server (call.AggCut a from (piece_end from len))) r n
       → HasPart n w o run (conn.after_cut a from len taken None r) frame
   cuts a from len taken r h step =
-      fits (call.AggCut a from (piece_end from len)) r step refl (λ f u. refl) (phase.Cuts a from len taken None) (conn.after_cut a from len taken None r) h
+      fits (call.AggCut a from (piece_end from len)) r step refl (λ f u. refl) (phase.Cuts a from len taken None)
+      (conn.after_cut a from len taken None r) h
       (left.cuts steps own m n order w h.part a from len taken r (h.has, h.is_part, h.within) step)
       (apart r (own.cut m n server a from (piece_end from len) h.part r order h.is_part step))
     where
-      apart : (r : Reply) → caller.Makes m server (slice_range h.part from (piece_end from len)) r n → sends_frame (conn.after_cut a from len taken None r) frame ≡ false
-      apart (reply.Agg x) did = with-piece m x (phase.Cuts a from len taken None) (phase.Offers a from len x taken None) frame (λ f new is. or_from (x == f) ((a == f) || false) new is) (new-frame m frame x h.frames did.1) h.apart
+      apart : (r : Reply) → caller.Makes m server (slice_range h.part from (piece_end from len)) r n
+          → sends_frame (conn.after_cut a from len taken None r) frame ≡ false
+      apart (reply.Agg x) did = with-piece m x (phase.Cuts a from len taken None) (phase.Offers a from len x taken None)
+          frame (λ f new is. or_from (x == f) ((a == f) || false) new is) (new-frame m frame x h.frames did.1) h.apart
       apart r did = h.apart
 
   pub offers : (fd c a from len piece taken : ℕ) (r : Reply) → descriptor m server fd ≡ Some (on.Connection c)
@@ -133,39 +149,51 @@ module _ (steps : EachStepLeavesTheRest) (own : CallsServeTheirDomain) (m n : St
       → StepsTo m (event.Call server (call.IolWrite fd piece)) r n
       → HasPart n w o run (conn.after_offer a from len piece taken None r) frame
   offers fd c a from len piece taken r open_on h step =
-      fits (call.IolWrite fd piece) r step (no-position m fd run.from (on.Connection c) open_on refl) (λ f u. refl) (phase.Offers a from len piece taken None) (conn.after_offer a from len piece taken None r) h
-      (left.offers steps own m n order w h.part fd c a from len piece taken r open_on (h.has, h.is_part, h.within) step) (apart r)
+      fits (call.IolWrite fd piece) r step (no-position m fd run.from (on.Connection c) open_on refl) (λ f u. refl)
+      (phase.Offers a from len piece taken None) (conn.after_offer a from len piece taken None r) h
+      (left.offers steps own m n order w h.part fd c a from len piece taken r open_on (h.has, h.is_part, h.within) step)
+      (apart r)
     where
       apart : (r : Reply) → sends_frame (conn.after_offer a from len piece taken None r) frame ≡ false
-      apart (reply.Count k) = sends-none (phase.Offers a from len piece taken None) (conn.moved_on a from len piece taken None (min k (len - from))) frame (λ f is. is) h.apart
-      apart (reply.Refused no.BrokenPipe) = sends-none (phase.Offers a from len piece taken None) (phase.Breaks piece a None) frame (λ f is. is) h.apart
+      apart (reply.Count k) =
+          sends-none (phase.Offers a from len piece taken None)
+          (conn.moved_on a from len piece taken None (min k (len - from))) frame (λ f is. is) h.apart
+      apart (reply.Refused no.BrokenPipe) =
+          sends-none (phase.Offers a from len piece taken None) (phase.Breaks piece a None) frame (λ f is. is) h.apart
       apart r = h.apart
 
   -- what is dropped is not the frame
-  not-frame : (b : ℕ) (d : Phase) → ((f : ℕ) → conn.uses_agg d f ≡ false → (b == f) ≡ false) → sends_frame d frame ≡ false
+  not-frame : (b : ℕ) (d : Phase) → ((f : ℕ) → conn.uses_agg d f ≡ false → (b == f) ≡ false)
+      → sends_frame d frame ≡ false
       → (f : ℕ) → has_frame frame f ≡ true → (b == f) ≡ false
   not-frame b d parts apart f is = by frame apart is
     where
       by : (frame : Option ℕ) → sends_frame d frame ≡ false → has_frame frame f ≡ true → (b == f) ≡ false
       by None apart is = absurd (cc (is))
-      by (Some g) apart is = let e : g ≡ f = grind (arith, nat_tests, is) in subst (λ z. (b == z) ≡ false) e (parts g apart)
+      by (Some g) apart is = let e : g ≡ f = grind (arith, nat_tests, is) in
+          subst (λ z. (b == z) ≡ false) e (parts g apart)
 
   pub swaps : (a from len piece taken : ℕ) (r : Reply)
       → HasPart m w o run (phase.Swaps a from len piece taken None) frame
       → StepsTo m (event.Call server (call.AggDrop piece)) r n
       → HasPart n w o run (conn.after_swap a from len piece taken None r) frame
   swaps a from len piece taken r h step =
-      fits (call.AggDrop piece) r step refl (not-frame piece (phase.Swaps a from len piece taken None) (λ f is. (or_parts (piece == f) ((a == f) || false) is).0) h.apart)
+      fits (call.AggDrop piece) r step refl
+      (not-frame piece (phase.Swaps a from len piece taken None)
+      (λ f is. (or_parts (piece == f) ((a == f) || false) is).0) h.apart)
       (phase.Swaps a from len piece taken None) (conn.after_swap a from len piece taken None r) h
       (left.swaps steps own m n order w h.part a from len piece taken r (h.has, h.is_part, h.within) step) (apart r)
     where
       free : (e : Phase) → ((f : ℕ) → conn.uses_agg e f ≡ ((a == f) || false)) → sends_frame e frame ≡ false
-      free e same = sends-none (phase.Swaps a from len piece taken None) e frame (λ f is. same f ∙ (or_parts (piece == f) ((a == f) || false) is).1) h.apart
+      free e same =
+          sends-none (phase.Swaps a from len piece taken None) e frame (λ f is. same f
+          ∙ (or_parts (piece == f) ((a == f) || false) is).1) h.apart
 
       apart : (r : Reply) → sends_frame (conn.after_swap a from len piece taken None r) frame ≡ false
       apart reply.Done = by (nat_lt from len)
         where
-          by : (b : Bool) → sends_frame (if b then phase.Cuts a from len taken None else phase.Sent a taken None) frame ≡ false
+          by : (b : Bool) → sends_frame (if b then phase.Cuts a from len taken None else phase.Sent a taken None) frame
+              ≡ false
           by true = free (phase.Cuts a from len taken None) (λ f. refl)
           by false = free (phase.Sent a taken None) (λ f. refl)
       apart r = h.apart
@@ -174,22 +202,36 @@ module _ (steps : EachStepLeavesTheRest) (own : CallsServeTheirDomain) (m n : St
       → StepsTo m (event.Call server (call.AggDrop piece)) r n
       → HasPart n w o run (conn.after_break piece a None r) frame
   breaks piece a r h step =
-      fits (call.AggDrop piece) r step refl (not-frame piece (phase.Breaks piece a None) (λ f is. (or_parts (piece == f) ((a == f) || false) is).0) h.apart)
+      fits (call.AggDrop piece) r step refl
+      (not-frame piece (phase.Breaks piece a None) (λ f is. (or_parts (piece == f) ((a == f) || false) is).0)
+      h.apart)
       (phase.Breaks piece a None) (conn.after_break piece a None r) h
       (left.breaks steps own m n order w h.part piece a r (h.has, h.is_part, h.within) step) (apart r)
     where
       apart : (r : Reply) → sends_frame (conn.after_break piece a None r) frame ≡ false
-      apart reply.Done = sends-none (phase.Breaks piece a None) (phase.Drops a None) frame (λ f is. (or_parts (piece == f) ((a == f) || false) is).1) h.apart
+      apart reply.Done =
+          sends-none (phase.Breaks piece a None) (phase.Drops a None) frame
+          (λ f is. (or_parts (piece == f) ((a == f) || false) is).1) h.apart
       apart r = h.apart
 
   -- the frame stays where the part is dropped, and output is read
-  pub receives-again : (a : ℕ) (d : Phase) (after : Progress) (next : Run) → StepsTo m (event.Call server (call.AggDrop a)) reply.Done n
+  pub receives-again : (a : ℕ) (d : Phase) (after : Progress) (next : Run)
+      → StepsTo m (event.Call server (call.AggDrop a)) reply.Done n
       → ((f : ℕ) → conn.uses_agg d f ≡ false → (a == f) ≡ false) → next.from ≡ run.from → Goes next.broken w after []
       → HasPart m w o run d frame → HasReceived n w after next None frame
   receives-again a d after next step uses same goes h = record {
     reads = subst (λ f. (p : ℕ) × (descriptor n server f ≡ Some (on.ReadEnd p))) (sym same)
-        (reading-on m n run (λ x is. (steps.leaves m n (event.Call server (call.AggDrop a)) reply.Done step).fds server run.from x is refl) h.reads);
+        (reading-on m n run (λ x is. (steps.leaves m n (event.Call server (call.AggDrop a)) reply.Done step).fds server
+        run.from x is refl) h.reads);
     bytes = [];
-    has = record { holds = refl; frames = frame-on m n frame (λ b bytes u is. is_readable (call.AggDrop a) reply.Done step b bytes (not-frame a d uses h.apart b u) is) h.frames; apart = refl };
+    has =
+        record {
+          holds = refl;
+          frames =
+              frame-on m n frame
+              (λ b bytes u is. is_readable (call.AggDrop a) reply.Done step b bytes (not-frame a d uses h.apart b u) is)
+              h.frames;
+          apart = refl;
+        };
     goes = goes;
   }

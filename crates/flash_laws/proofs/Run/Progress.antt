@@ -1,5 +1,7 @@
 -- A call of a run reduces its rank, reads more output, or is retried later.
-use Rattle.std.proofs.Common.{inl, inr, ◌≡◌, ℕ, ◌+◌, ◌*◌, ◌-◌, ◌<◌, ◌≤◌, ◌⊎◌, List, [], ◌∷◌, ◌++◌, length, take, drop, ap, ◌∙◌, refl, sym, subst, arith, Option, Some, None, true, false, Bool, length-append, length-drop, if◌then◌else◌}
+use Rattle.std.proofs.Common.{inl, inr, ◌≡◌, ℕ, ◌+◌, ◌*◌, ◌-◌, ◌<◌, ◌≤◌, ◌⊎◌, List, [], ◌∷◌, ◌++◌, length, take, drop}
+use Rattle.std.proofs.Common.{ap, ◌∙◌, refl, sym, subst, arith, Option, Some, None, true, false, Bool, length-append}
+use Rattle.std.proofs.Common.{length-drop, if◌then◌else◌}
 use Rattle.std.specs.Prelude.{nat_lt}
 use Rattle.std.specs.Fmt.{digits}
 use Rattle.std.proofs.lemmas.List.{length-take}
@@ -26,7 +28,11 @@ use Rattle.flash_laws.specs.Conn.Progress.{Rank, IsBelow, Nears, CanMake, is_bus
 use Rattle.flash_laws.specs.Conn.Policy.{is_later}
 use Rattle.flash_laws.specs.Run.Fits.{Progress, HasPart, HasRun}
 use Rattle.flash_laws.specs.Run.OfferedBytes.{ReceivesMore}
-use Rattle.flash_laws.specs.Run.{both, worker_domain, job_pipe, held_size, in_phase, step_wants, wants, is_again, broken, after_wait, after_give, after_make, after_hand, after_head, after_sending, after_gather, after_frame, after_wrap, after_wrap_last, after_return, after_output, after_stop, after_release_frame, after_last, after_unwrap, after_fail, filled, holding, unread, finishing, stopped, ending, after_step, after_reply, is_left, is_over}
+use Rattle.flash_laws.specs.Run.{both, worker_domain, job_pipe, held_size, in_phase, step_wants, wants, is_again}
+use Rattle.flash_laws.specs.Run.{broken, after_wait, after_give, after_make, after_hand, after_head, after_sending}
+use Rattle.flash_laws.specs.Run.{after_gather, after_frame, after_wrap, after_wrap_last, after_return, after_output}
+use Rattle.flash_laws.specs.Run.{after_stop, after_release_frame, after_last, after_unwrap, after_fail, filled, holding}
+use Rattle.flash_laws.specs.Run.{unread, finishing, stopped, ending, after_step, after_reply, is_left, is_over}
 use Rattle.flash_laws.specs.Answers.Scripts.{script_text, frame_of, place_in_frame, end_around}
 use Rattle.flash_laws.specs.Site.{server}
 use Rattle.flash_laws.specs.declared.phase.Payload.TheVariants.{Error}
@@ -35,12 +41,16 @@ use Rattle.flash_laws.specs.declared.phase.Phase.TheVariants as phase
 use Rattle.flash_laws.specs.declared.script_run.TheConstants.{CHUNK_BYTES}
 use Rattle.flash_laws.specs.declared.script_run.Run.{Run}
 use Rattle.flash_laws.specs.declared.script_run.Step.{Step}
-use Rattle.flash_laws.specs.declared.script_run.Step.TheVariants.{Gives, Makes, Hands, Lets, Heads, Sending, Receives, Spills, Gathers, Frames, Wraps, Trims, Ended, Unholds, Stops, Unframes, Lasts, WrapsLast, TrimsLast, Unwraps, Returns, Lapses, Fails}
+use Rattle.flash_laws.specs.declared.script_run.Step.TheVariants.{Gives, Makes, Hands, Lets, Heads, Sending, Receives}
+use Rattle.flash_laws.specs.declared.script_run.Step.TheVariants.{Spills, Gathers, Frames, Wraps, Trims, Ended, Unholds}
+use Rattle.flash_laws.specs.declared.script_run.Step.TheVariants.{Stops, Unframes, Lasts, WrapsLast, TrimsLast, Unwraps}
+use Rattle.flash_laws.specs.declared.script_run.Step.TheVariants.{Returns, Lapses, Fails}
 use Rattle.flash_laws.specs.declared.script_run.Running.{Running}
 use Rattle.flash_laws.specs.declared.script_run.Running.TheVariants.{Awaits, Runs, Leaves, Closes}
 use Rattle.flash_laws.proofs.Conn.Responses.{some-inj}
 use Rattle.flash_laws.proofs.Lists.{differ, not-false}
-use Rattle.flash_laws.proofs.Conn.Progress.{stage, calls_left, head_calls, lacks-later, drops, closes, makes, joins, near}
+use Rattle.flash_laws.proofs.Conn.Progress.{stage, calls_left, head_calls, lacks-later, drops, closes, makes, joins}
+use Rattle.flash_laws.proofs.Conn.Progress.{near}
 use Rattle.flash_laws.proofs.Conn.Progress as file
 use Rattle.flash_laws.proofs.Run.Outputs.{short-digits}
 use Rattle.flash_laws.proofs.Run.Rest.{is-rest}
@@ -103,7 +113,8 @@ falls w y x fewer = inr (refl, fewer)
 -- ---- some lengths
 
 head-long : (size : ℕ) → length (chunk_head size) ≤ 66
-head-long size = let e = short-digits size in let f = length-append (digits 16 false size) chunk_end in omega (arith, e, f)
+head-long size = let e = short-digits size in let f = length-append (digits 16 false size) chunk_end in
+    omega (arith, e, f)
 
 around-more : (x : ℕ × ℕ) → length (end_around None) ≤ length (end_around (Some x))
 around-more x =
@@ -138,122 +149,176 @@ again-later z is = absurd (cc (is))
 
 -- ---- each step
 
-finishing-near : (w : Wanted) (run : Run) (held : Following) (x : Running) → end_calls held < run_calls w x → (b c : Bool) → IsBelow (rank w (finishing b c run held)) (rank w x)
+finishing-near : (w : Wanted) (run : Run) (held : Following) (x : Running) → end_calls held < run_calls w x
+    → (b c : Bool) → IsBelow (rank w (finishing b c run held)) (rank w x)
 finishing-near w run held x fewer false true = falls w (Runs run (Lasts held)) x fewer
 finishing-near w run held x fewer false false = falls w Closes x (omega (arith, fewer))
 finishing-near w run held x fewer true c = falls w Closes x (omega (arith, fewer))
 
-stopped-near : (w : Wanted) (run : Run) (held : Following) (frame : Option ℕ) → IsBelow (rank w (stopped w run held frame)) (rank w (Runs run (Stops held frame)))
+stopped-near : (w : Wanted) (run : Run) (held : Following) (frame : Option ℕ)
+    → IsBelow (rank w (stopped w run held frame)) (rank w (Runs run (Stops held frame)))
 stopped-near w run held (Some f) = falls w (Runs run (Unframes f held)) (Runs run (Stops held (Some f))) (omega arith)
 stopped-near w run held None = finishing-near w run held (Runs run (Stops held None)) (omega arith) run.broken w.chunked
 
-ending-near : (w : Wanted) (run : Run) (held : Following) (a : ℕ) (received : List ℕ) → received ≡ end_around held → IsBelow (rank w (ending run held a (count_of received))) (rank w (Runs run (Lasts held)))
+ending-near : (w : Wanted) (run : Run) (held : Following) (a : ℕ) (received : List ℕ) → received ≡ end_around held
+    → IsBelow (rank w (ending run held a (count_of received))) (rank w (Runs run (Lasts held)))
 ending-near w run None a received same =
     let long = ap (λ (l : List ℕ). length l) same in
     falls w (Leaves (phase.Sends a (count_of received) 0 None)) (Runs run (Lasts None)) (omega (arith, long))
-ending-near w run (Some x) a received same = falls w (Runs run (WrapsLast x.0 x.1 a)) (Runs run (Lasts (Some x))) (omega arith)
+ending-near w run (Some x) a received same =
+    falls w (Runs run (WrapsLast x.0 x.1 a)) (Runs run (Lasts (Some x))) (omega arith)
 
-unread-near : (w : Wanted) (run : Run) (held : Following) (frame : Option ℕ) → IsBelow (rank w (Runs (broken run) (unread held frame))) (rank w (Runs run (Receives held frame)))
-unread-near w run None frame = falls w (Runs (broken run) (Stops None frame)) (Runs run (Receives None frame)) (omega arith)
+unread-near : (w : Wanted) (run : Run) (held : Following) (frame : Option ℕ)
+    → IsBelow (rank w (Runs (broken run) (unread held frame))) (rank w (Runs run (Receives held frame)))
+unread-near w run None frame =
+    falls w (Runs (broken run) (Stops None frame)) (Runs run (Receives None frame)) (omega arith)
 unread-near w run (Some x) frame =
     let more = around-more x in
     falls w (Runs (broken run) (Unholds x.0 frame)) (Runs run (Receives (Some x) frame)) (omega (arith, more))
 
 -- so many bytes are held
 holding-near : (w : Wanted) (run : Run) (held size piece len a : ℕ) (frame : Option ℕ) → size + len ≤ CHUNK_BYTES
-    → IsBelow (rank w (Runs run (holding a (both size len) frame))) (rank w (Runs run (Gathers held size piece len frame)))
-holding-near w run held size piece len a frame few = subst (λ s. IsBelow (rank w (Runs run (holding a s frame))) (rank w (Runs run (Gathers held size piece len frame)))) (sym all) (by (nat_lt (size + len) CHUNK_BYTES) frame)
+    → IsBelow (rank w (Runs run (holding a (both size len) frame)))
+    (rank w (Runs run (Gathers held size piece len frame)))
+holding-near w run held size piece len a frame few =
+    subst (λ s. IsBelow (rank w (Runs run (holding a s frame))) (rank w (Runs run (Gathers held size piece len frame))))
+    (sym all) (by (nat_lt (size + len) CHUNK_BYTES) frame)
   where
     all : both size len ≡ size + len
     all = omega (arith, few)
 
-    by : (b : Bool) (f : Option ℕ) → IsBelow (rank w (Runs run (if b then Receives (Some (a, size + len)) f else filled a f))) (rank w (Runs run (Gathers held size piece len frame)))
-    by true f = falls w (Runs run (Receives (Some (a, size + len)) f)) (Runs run (Gathers held size piece len frame)) (omega arith)
+    by : (b : Bool) (f : Option ℕ)
+        → IsBelow (rank w (Runs run (if b then Receives (Some (a, size + len)) f else filled a f)))
+        (rank w (Runs run (Gathers held size piece len frame)))
+    by true f = falls w (Runs run (Receives (Some (a, size + len)) f)) (Runs run (Gathers held size piece len frame))
+        (omega arith)
     by false None = falls w (Runs run (Frames a)) (Runs run (Gathers held size piece len frame)) (omega arith)
     by false (Some f) = falls w (Runs run (Wraps a f)) (Runs run (Gathers held size piece len frame)) (omega arith)
 
-module _ (own : CallsServeTheirDomain) (may : RefusalsThatAreLeft) (m n : State) (order : IsOrderly m) (lives : is_live m server ≡ true)
+module _ (own : CallsServeTheirDomain) (may : RefusalsThatAreLeft) (m n : State) (order : IsOrderly m)
+    (lives : is_live m server ≡ true)
     (job : ℕ → List ℕ) (w : Wanted) where
   abbrev Near : Running → Reply → Running → Type 0
   Near x r y = Nears (rank w) x r y
 
   -- bytes are set into others
-  sets : (a at b : ℕ) (xs ys received : List ℕ) (x : Running) (y : Reply → Running) (r : Reply) → readable_at m server a ≡ Some xs → readable_at m server b ≡ Some ys
+  sets : (a at b : ℕ) (xs ys received : List ℕ) (x : Running) (y : Reply → Running) (r : Reply)
+      → readable_at m server a ≡ Some xs → readable_at m server b ≡ Some ys
       → at ≤ length xs → length xs + length ys ≤ MAX_AGGREGATE_BYTES
       → StepsTo m (event.Call server (call.AggReplace a at at b)) r n → Names n r received
-      → ((k : ℕ) → count_of received ≤ length xs + length ys → IsBelow (rank w (y (reply.Agg k))) (rank w x)) → ((z : Refusal) → y (reply.Refused z) ≡ x) → Near x r (y r)
-  sets a at b xs ys received x y r readable_a readable_b within fits step names below same = by r (own.replace m n server a at at b xs ys r order readable_a readable_b step) step names
+      → ((k : ℕ) → count_of received ≤ length xs + length ys → IsBelow (rank w (y (reply.Agg k))) (rank w x))
+      → ((z : Refusal) → y (reply.Refused z) ≡ x) → Near x r (y r)
+  sets a at b xs ys received x y r readable_a readable_b within fits step names below same =
+      by r (own.replace m n server a at at b xs ys r order readable_a readable_b step) step names
     where
       long : length (take at xs ++ ys ++ drop at xs) ≡ length xs + length ys
       long = set-long at xs ys within
 
-      by : (r : Reply) → caller.Makes m server (take at xs ++ ys ++ drop at xs) r n → StepsTo m (event.Call server (call.AggReplace a at at b)) r n → Names n r received → Near x r (y r)
+      by : (r : Reply) → caller.Makes m server (take at xs ++ ys ++ drop at xs) r n
+          → StepsTo m (event.Call server (call.AggReplace a at at b)) r n → Names n r received → Near x r (y r)
       by (reply.Agg k) did step names =
-          let same_long = ap (λ (l : List ℕ). length l) (some-inj received (take at xs ++ ys ++ drop at xs) (sym names ∙ did.0)) in
+          let same_long =
+          ap (λ (l : List ℕ). length l) (some-inj received (take at xs ++ ys ++ drop at xs) (sym names ∙ did.0)) in
           inl (below k (omega (arith, same_long, long)))
-      by (reply.Refused z) did step names = inr (same z, lacks-later z (may.replace m n server a at at b xs ys z lives readable_a readable_b (omega arith) within (omega (arith, long, fits)) step))
+      by (reply.Refused z) did step names =
+          inr (
+            same z,
+            lacks-later z (may.replace m n server a at at b xs ys z lives readable_a readable_b (omega arith) within
+                (omega (arith, long, fits)) step),
+          )
       by r did step names = absurd did
 
   pipes : (worker : ℕ) (r : Reply) → StepsTo m (event.Call server call.Pipe) r n → Near Awaits r (after_wait worker r)
-  pipes worker (reply.Fds from write) step = inl (falls w (after_wait worker (reply.Fds from write)) Awaits (omega arith))
+  pipes worker (reply.Fds from write) step =
+      inl (falls w (after_wait worker (reply.Fds from write)) Awaits (omega arith))
   pipes worker (reply.Refused z) step = inr (refl, lacks-later z (may.pipe m n server z lives step))
   pipes worker r step = let e = step.1 in absurd (cc (e))
 
   module _ (run : Run) where
-    gives : (write : ℕ) (r : Reply) → StepsTo m (event.Call server (call.GiveFd write (worker_domain run.worker))) r n → Near (Runs run (Gives write)) r (Runs run (after_give write r))
+    gives : (write : ℕ) (r : Reply) → StepsTo m (event.Call server (call.GiveFd write (worker_domain run.worker))) r n
+        → Near (Runs run (Gives write)) r (Runs run (after_give write r))
     gives write (reply.Fd f) step = inl (falls w (Runs run (Makes f)) (Runs run (Gives write)) (omega arith))
     gives write (reply.Refused z) step = by (is_again z) refl
       where
-        by : (b : Bool) → is_again z ≡ b → Near (Runs run (Gives write)) (reply.Refused z) (Runs run (if b then Gives write else Returns write))
+        by : (b : Bool) → is_again z ≡ b
+            → Near (Runs run (Gives write)) (reply.Refused z) (Runs run (if b then Gives write else Returns write))
         by true is = inr (refl, again-later z is)
         by false is = inl (falls w (Runs run (Returns write)) (Runs run (Gives write)) (omega arith))
     gives write r step = let e = step.1 in absurd (cc (e))
 
-    hands : (j f : ℕ) (r : Reply) → StepsTo m (event.Call server (call.IolWrite (job_pipe run.worker) j)) r n → Near (Runs run (Hands j f)) r (Runs run (after_hand j f r))
+    hands : (j f : ℕ) (r : Reply) → StepsTo m (event.Call server (call.IolWrite (job_pipe run.worker) j)) r n
+        → Near (Runs run (Hands j f)) r (Runs run (after_hand j f r))
     hands j f (reply.Count k) step = inl (falls w (Runs run (Lets j)) (Runs run (Hands j f)) (omega arith))
     hands j f (reply.Refused z) step = by (is_again z) refl
       where
-        by : (b : Bool) → is_again z ≡ b → Near (Runs run (Hands j f)) (reply.Refused z) (Runs run (if b then Hands j f else Lapses j))
+        by : (b : Bool) → is_again z ≡ b
+            → Near (Runs run (Hands j f)) (reply.Refused z) (Runs run (if b then Hands j f else Lapses j))
         by true is = inr (refl, again-later z is)
         by false is = inl (falls w (Runs run (Lapses j)) (Runs run (Hands j f)) (omega arith))
     hands j f r step = let e = step.1 in absurd (cc (e))
 
     -- a part goes on as a file's response does
-    part : (d e : Phase) (frame : Option ℕ) (r : Reply) → stage d ≡ 0 → Nears (file.rank (serve w)) d r e → Near (Runs run (Sending d frame)) r (Runs run (Sending e frame))
+    part : (d e : Phase) (frame : Option ℕ) (r : Reply) → stage d ≡ 0 → Nears (file.rank (serve w)) d r e
+        → Near (Runs run (Sending d frame)) r (Runs run (Sending e frame))
     part d e frame r one (inl (inl falls_first)) = absurd (omega (arith, one, falls_first))
-    part d e frame r one (inl (inr fewer)) = (let less = fewer.1 in inl (falls w (Runs run (Sending e frame)) (Runs run (Sending d frame)) (omega (arith, less))))
+    part d e frame r one (inl (inr fewer)) =
+        (let less = fewer.1 in
+        inl (falls w (Runs run (Sending e frame)) (Runs run (Sending d frame)) (omega (arith, less))))
     part d e frame r one (inr same) = inr (ap (λ z. Runs run (Sending z frame)) same.0, same.1)
 
-    sending : (fd c : ℕ) (o : Progress) (d : Phase) (frame : Option ℕ) (r : Reply) (received : List ℕ) → descriptor m server fd ≡ Some (on.Connection c) → HasPart m w o run d frame
-        → StepsTo m (event.Call server (conn.wants fd (in_phase w d))) r n → Names n r received → Near (Runs run (Sending d frame)) r (after_sending run d frame r)
+    sending : (fd c : ℕ) (o : Progress) (d : Phase) (frame : Option ℕ) (r : Reply) (received : List ℕ)
+        → descriptor m server fd ≡ Some (on.Connection c) → HasPart m w o run d frame
+        → StepsTo m (event.Call server (conn.wants fd (in_phase w d))) r n → Names n r received
+        → Near (Runs run (Sending d frame)) r (after_sending run d frame r)
     sending fd c o (phase.Sent a taken None) frame r received open_on h step names =
-        drops own may m n order lives (rank w) (Runs run (Sending (phase.Sent a taken None) frame)) (λ z. after_sending run (phase.Sent a taken None) frame z) a h.part r h.is_part step
+        drops own may m n order lives (rank w) (Runs run (Sending (phase.Sent a taken None) frame))
+        (λ z. after_sending run (phase.Sent a taken None) frame z) a h.part r h.is_part step
         (falls w (Runs run (Receives None frame)) (Runs run (Sending (phase.Sent a taken None) frame)) (omega arith))
     sending fd c o (phase.Drops a None) frame r received open_on h step names =
-        drops own may m n order lives (rank w) (Runs run (Sending (phase.Drops a None) frame)) (λ z. after_sending run (phase.Drops a None) frame z) a h.part r h.is_part step
-        (falls w (Runs (broken run) (Receives None frame)) (Runs run (Sending (phase.Drops a None) frame)) (omega arith))
+        drops own may m n order lives (rank w) (Runs run (Sending (phase.Drops a None) frame))
+        (λ z. after_sending run (phase.Drops a None) frame z) a h.part r h.is_part step
+        (falls w (Runs (broken run) (Receives None frame)) (Runs run (Sending (phase.Drops a None) frame))
+        (omega arith))
     sending fd c o (phase.Sends a len taken None) frame r received open_on h step names =
-        part (phase.Sends a len taken None) (conn.after_send a len taken None r) frame r refl (near own may m n order lives fd c [] (serve w) (phase.Sends a len taken None) h.part r received open_on refl h.has tt step names)
+        part (phase.Sends a len taken None) (conn.after_send a len taken None r) frame r refl
+        (near own may m n order lives fd c [] (serve w) (phase.Sends a len taken None) h.part r received open_on
+        refl h.has tt step names)
     sending fd c o (phase.Cuts a from len taken None) frame r received open_on h step names =
-        part (phase.Cuts a from len taken None) (conn.after_cut a from len taken None r) frame r refl (near own may m n order lives fd c [] (serve w) (phase.Cuts a from len taken None) h.part r received open_on refl h.has tt step names)
+        part (phase.Cuts a from len taken None) (conn.after_cut a from len taken None r) frame r refl
+        (near own may m n order lives fd c [] (serve w) (phase.Cuts a from len taken None) h.part r received open_on
+        refl h.has tt step names)
     sending fd c o (phase.Offers a from len piece taken None) frame r received open_on h step names =
-        part (phase.Offers a from len piece taken None) (conn.after_offer a from len piece taken None r) frame r refl (near own may m n order lives fd c [] (serve w) (phase.Offers a from len piece taken None) h.part r received open_on refl h.has tt step names)
+        part (phase.Offers a from len piece taken None) (conn.after_offer a from len piece taken None r) frame r refl
+        (near own may m n order lives fd c [] (serve w) (phase.Offers a from len piece taken None) h.part r received
+        open_on refl h.has tt step names)
     sending fd c o (phase.Swaps a from len piece taken None) frame r received open_on h step names =
-        part (phase.Swaps a from len piece taken None) (conn.after_swap a from len piece taken None r) frame r refl (near own may m n order lives fd c [] (serve w) (phase.Swaps a from len piece taken None) h.part r received open_on refl h.has tt step names)
+        part (phase.Swaps a from len piece taken None) (conn.after_swap a from len piece taken None r) frame r refl
+        (near own may m n order lives fd c [] (serve w) (phase.Swaps a from len piece taken None) h.part r received
+        open_on refl h.has tt step names)
     sending fd c o (phase.Breaks piece a None) frame r received open_on h step names =
-        part (phase.Breaks piece a None) (conn.after_break piece a None r) frame r refl (near own may m n order lives fd c [] (serve w) (phase.Breaks piece a None) h.part r received open_on refl h.has tt step names)
+        part (phase.Breaks piece a None) (conn.after_break piece a None r) frame r refl
+        (near own may m n order lives fd c [] (serve w) (phase.Breaks piece a None) h.part r received open_on refl
+        h.has tt step names)
     sending fd c o d frame r received open_on h step names = absurd h.is_part
 
     abbrev Nearer : Step → Reply → List ℕ → Type 0
     Nearer s r received = Near (Runs run s) r (after_step w run s r received) ⊎ ReceivesMore (Runs run s) r received
 
-    receives : (held : Following) (frame : Option ℕ) (p : ℕ) (r : Reply) (received : List ℕ) → descriptor m server run.from ≡ Some (on.ReadEnd p)
-        → StepsTo m (event.Call server (call.IolRead run.from (CHUNK_BYTES - held_size held))) r n → Nearer (Receives held frame) r received
-    receives held frame p (reply.Agg k) [] opened step = inl (inl (falls w (Runs run (Ended k held frame)) (Runs run (Receives held frame)) (omega arith)))
+    receives : (held : Following) (frame : Option ℕ) (p : ℕ) (r : Reply) (received : List ℕ)
+        → descriptor m server run.from ≡ Some (on.ReadEnd p)
+        → StepsTo m (event.Call server (call.IolRead run.from (CHUNK_BYTES - held_size held))) r n
+        → Nearer (Receives held frame) r received
+    receives held frame p (reply.Agg k) [] opened step =
+        inl (inl (falls w (Runs run (Ended k held frame)) (Runs run (Receives held frame)) (omega arith)))
     receives held frame p (reply.Agg k) (b ∷ received) opened step = inr tt
-    receives held frame p (reply.Refused z) received opened step = inl (refused z (may.reads_queue m n server run.from (CHUNK_BYTES - held_size held) (on.ReadEnd p) z lives opened refl refl step))
+    receives held frame p (reply.Refused z) received opened step =
+        inl
+        (refused z (may.reads_queue m n server run.from (CHUNK_BYTES - held_size held) (on.ReadEnd p) z lives opened
+        refl refl step))
       where
-        refused : (z : Refusal) → LacksNumbersOrHasNothingToRead z → Near (Runs run (Receives held frame)) (reply.Refused z) (after_output w run held frame (reply.Refused z) received)
+        refused : (z : Refusal) → LacksNumbersOrHasNothingToRead z
+            → Near (Runs run (Receives held frame)) (reply.Refused z)
+            (after_output w run held frame (reply.Refused z) received)
         refused no.TooMany lacks = inr (refl, refl)
         refused no.WouldBlock lacks = inr (refl, refl)
         refused no.Memory lacks = inr (refl, refl)
@@ -262,71 +327,104 @@ module _ (own : CallsServeTheirDomain) (may : RefusalsThatAreLeft) (m n : State)
     receives held frame p r received opened step = let e = step.1 in absurd (cc (e))
 
     -- an aggregate is dropped, and this step is next
-    dropping : (s t : Step) (a : ℕ) (bytes : List ℕ) (r : Reply) (received : List ℕ) → readable_at m server a ≡ Some bytes → StepsTo m (event.Call server (call.AggDrop a)) r n
+    dropping : (s t : Step) (a : ℕ) (bytes : List ℕ) (r : Reply) (received : List ℕ)
+        → readable_at m server a ≡ Some bytes → StepsTo m (event.Call server (call.AggDrop a)) r n
         → after_step w run s reply.Done received ≡ Runs run t → step_calls w t < step_calls w s → Nearer s r received
     dropping s t a bytes r received readable step next fewer =
-        inl (drops own may m n order lives (rank w) (Runs run s) (λ z. after_step w run s z received) a bytes r readable step
-        (subst (λ (y : Running). IsBelow (rank w y) (rank w (Runs run s))) (sym next) (falls w (Runs run t) (Runs run s) fewer)))
+        inl (drops own may m n order lives (rank w) (Runs run s) (λ z. after_step w run s z received) a bytes r readable
+        step
+        (subst (λ (y : Running). IsBelow (rank w y) (rank w (Runs run s))) (sym next)
+        (falls w (Runs run t) (Runs run s) fewer)))
 
-    steps : (fd c : ℕ) (o : Progress) (s : Step) (r : Reply) (received : List ℕ) → descriptor m server fd ≡ Some (on.Connection c) → HasRun job m w o (Runs run s)
-        → CanMake m (step_wants job fd w run s) → StepsTo m (event.Call server (step_wants job fd w run s)) r n → Names n r received → Nearer s r received
+    steps : (fd c : ℕ) (o : Progress) (s : Step) (r : Reply) (received : List ℕ)
+        → descriptor m server fd ≡ Some (on.Connection c) → HasRun job m w o (Runs run s)
+        → CanMake m (step_wants job fd w run s) → StepsTo m (event.Call server (step_wants job fd w run s)) r n
+        → Names n r received → Nearer s r received
     steps fd c o (Gives write) r received open_on has can step names = inl (gives write r step)
     steps fd c o (Makes f) r received open_on has can step names =
-        inl (makes own may m n order lives (rank w) (Runs run (Makes f)) (λ z. Runs run (after_make f z)) (job f) received r can step names
+        inl (makes own may m n order lives (rank w) (Runs run (Makes f)) (λ z. Runs run (after_make f z)) (job f)
+        received r can step names
         (λ k same. falls w (Runs run (Hands k f)) (Runs run (Makes f)) (omega arith)) (λ z. refl))
     steps fd c o (Hands j f) r received open_on has can step names = inl (hands j f r step)
-    steps fd c o (Lets j) r received open_on has can step names = dropping (Lets j) Heads j has.1.1.0 r received has.1.1.1 step refl (omega arith)
+    steps fd c o (Lets j) r received open_on has can step names =
+        dropping (Lets j) Heads j has.1.1.0 r received has.1.1.1 step refl (omega arith)
     steps fd c o Heads r received open_on has can step names =
-        inl (makes own may m n order lives (rank w) (Runs run Heads) (λ z. Runs run (after_head z received)) (script_text w) received r can step names
+        inl (makes own may m n order lives (rank w) (Runs run Heads) (λ z. Runs run (after_head z received))
+        (script_text w) received r can step names
         (λ k same. let long = ap (λ (l : List ℕ). length l) same in let short = counts-short received in
-        falls w (Runs run (Sending (phase.Sends k (count_of received) 0 None) None)) (Runs run Heads) (omega (arith, long, short))) (λ z. refl))
-    steps fd c o (Sending d frame) r received open_on has can step names = inl (sending fd c o d frame r received open_on has.1 step names)
-    steps fd c o (Receives held frame) r received open_on has can step names = receives held frame has.1.reads.0 r received has.1.reads.1 step
-    steps fd c o (Spills a frame) r received open_on has can step names = dropping (Spills a frame) (Receives None frame) a has.1.0.0.0 r received has.1.0.0.1 step refl (omega arith)
+        falls w (Runs run (Sending (phase.Sends k (count_of received) 0 None) None)) (Runs run Heads)
+        (omega (arith, long, short))) (λ z. refl))
+    steps fd c o (Sending d frame) r received open_on has can step names =
+        inl (sending fd c o d frame r received open_on has.1 step names)
+    steps fd c o (Receives held frame) r received open_on has can step names =
+        receives held frame has.1.reads.0 r received has.1.reads.1 step
+    steps fd c o (Spills a frame) r received open_on has can step names =
+        dropping (Spills a frame) (Receives None frame) a has.1.0.0.0 r received has.1.0.0.1 step refl (omega arith)
     steps fd c o (Gathers held size piece len frame) r received open_on has can step names =
-        inl (joins own may m n order lives (rank w) (Runs run (Gathers held size piece len frame)) (λ z. Runs run (after_gather held size piece len frame z)) held piece has.1.bytes has.1.more r
+        inl (joins own may m n order lives (rank w) (Runs run (Gathers held size piece len frame))
+        (λ z. Runs run (after_gather held size piece len frame z)) held piece has.1.bytes has.1.more r
         has.1.has.holds.is_readable has.1.is_readable (differ held piece has.1.other)
-        (let one = has.1.has.holds.count in let two = has.1.count in let few = has.1.within in omega (arith, one, two, few)) step
+        (let one = has.1.has.holds.count in let two = has.1.count in let few = has.1.within in
+        omega (arith, one, two, few)) step
         (λ k. holding-near w run held size piece len k frame has.1.within) (λ z. refl))
     steps fd c o (Frames held) r received open_on has can step names =
-        inl (makes own may m n order lives (rank w) (Runs run (Frames held)) (λ z. Runs run (after_frame held z)) (frame_of CHUNK_BYTES) received r can step names
+        inl (makes own may m n order lives (rank w) (Runs run (Frames held)) (λ z. Runs run (after_frame held z))
+        (frame_of CHUNK_BYTES) received r can step names
         (λ k same. falls w (Runs run (Wraps held k)) (Runs run (Frames held)) (omega arith)) (λ z. refl))
     steps fd c o (Wraps held frame) r received open_on has can step names =
         let long = has.1.0.count in
-        inl (sets frame (place_in_frame CHUNK_BYTES) held (frame_of CHUNK_BYTES) has.1.0.bytes received (Runs run (Wraps held frame)) (λ z. Runs run (after_wrap held frame z received)) r
+        inl (sets frame (place_in_frame CHUNK_BYTES) held (frame_of CHUNK_BYTES) has.1.0.bytes received
+        (Runs run (Wraps held frame)) (λ z. Runs run (after_wrap held frame z received)) r
         has.1.1 has.1.0.is_readable (frame-place CHUNK_BYTES chunk_end)
-        (let short = head-long CHUNK_BYTES in let all = length-append (chunk_head CHUNK_BYTES) chunk_end in omega (arith, long, short, all)) step names
-        (λ k most. falls w (Runs run (Trims held k (count_of received) frame)) (Runs run (Wraps held frame)) (omega (arith, most, long))) (λ z. refl))
+        (let short = head-long CHUNK_BYTES in let all = length-append (chunk_head CHUNK_BYTES) chunk_end in
+        omega (arith, long, short, all)) step names
+        (λ k most. falls w (Runs run (Trims held k (count_of received) frame)) (Runs run (Wraps held frame))
+        (omega (arith, most, long))) (λ z. refl))
     steps fd c o (Trims held chunk len frame) r received open_on has can step names =
-        dropping (Trims held chunk len frame) (Sending (phase.Sends chunk len 0 None) (Some frame)) held has.1.0.0.0 r received has.1.0.0.1 step refl (omega arith)
-    steps fd c o (Ended a held frame) r received open_on has can step names = dropping (Ended a held frame) (Stops held frame) a has.1.0.0.0 r received has.1.0.0.1 step refl (omega arith)
-    steps fd c o (Unholds held frame) r received open_on has can step names = dropping (Unholds held frame) (Stops None frame) held has.1.0.0.0 r received has.1.0.0.1 step refl (omega arith)
+        dropping (Trims held chunk len frame) (Sending (phase.Sends chunk len 0 None) (Some frame)) held has.1.0.0.0 r
+        received has.1.0.0.1 step refl (omega arith)
+    steps fd c o (Ended a held frame) r received open_on has can step names =
+        dropping (Ended a held frame) (Stops held frame) a has.1.0.0.0 r received has.1.0.0.1 step refl (omega arith)
+    steps fd c o (Unholds held frame) r received open_on has can step names =
+        dropping (Unholds held frame) (Stops None frame) held has.1.0.0.0 r received has.1.0.0.1 step refl (omega arith)
     steps fd c o (Stops held frame) r received open_on has can step names =
-        inl (closes own may m n order lives (rank w) (Runs run (Stops held frame)) (λ z. after_stop w run held frame z) run.from (on.ReadEnd has.1.0.0) r has.1.0.1 step (stopped-near w run held frame))
+        inl (closes own may m n order lives (rank w) (Runs run (Stops held frame)) (λ z. after_stop w run held frame z)
+        run.from (on.ReadEnd has.1.0.0) r has.1.0.1 step (stopped-near w run held frame))
     steps fd c o (Unframes f held) r received open_on has can step names =
-        inl (drops own may m n order lives (rank w) (Runs run (Unframes f held)) (λ z. after_release_frame w run f held z) f (frame_of CHUNK_BYTES) r has.1.has.frames step
+        inl
+        (drops own may m n order lives (rank w) (Runs run (Unframes f held))
+        (λ z. after_release_frame w run f held z) f (frame_of CHUNK_BYTES) r has.1.has.frames step
         (finishing-near w run held (Runs run (Unframes f held)) (omega arith) run.broken w.chunked))
     steps fd c o (Lasts held) r received open_on has can step names =
-        inl (makes own may m n order lives (rank w) (Runs run (Lasts held)) (λ z. after_last run held z received) (end_around held) received r can step names
+        inl (makes own may m n order lives (rank w) (Runs run (Lasts held)) (λ z. after_last run held z received)
+        (end_around held) received r can step names
         (λ k same. ending-near w run held k received same) (λ z. refl))
     steps fd c o (WrapsLast held size frame) r received open_on has can step names =
         let long = has.1.holds.count in
         let few = has.1.holds.few in
-        inl (sets frame (place_in_frame size) held (end_around (Some (held, size))) has.1.bytes received (Runs run (WrapsLast held size frame)) (λ z. Runs run (after_wrap_last held size frame z received)) r
+        inl (sets frame (place_in_frame size) held (end_around (Some (held, size))) has.1.bytes received
+        (Runs run (WrapsLast held size frame)) (λ z. Runs run (after_wrap_last held size frame z received)) r
         has.1.frames has.1.holds.is_readable (frame-place size (chunk_end ++ last_chunk))
-        (let short = head-long size in let all = length-append (chunk_head size) (chunk_end ++ last_chunk) in let rest = length-append chunk_end last_chunk in omega (arith, long, few, short, all, rest)) step names
-        (λ k most. falls w (Runs run (TrimsLast held k (count_of received) frame)) (Runs run (WrapsLast held size frame)) (omega (arith, most, long))) (λ z. refl))
+        (let short = head-long size in let all = length-append (chunk_head size) (chunk_end ++ last_chunk) in let rest =
+        length-append chunk_end last_chunk in omega (arith, long, few, short, all, rest)) step names
+        (λ k most. falls w (Runs run (TrimsLast held k (count_of received) frame))
+        (Runs run (WrapsLast held size frame)) (omega (arith, most, long))) (λ z. refl))
     steps fd c o (TrimsLast held chunk len frame) r received open_on has can step names =
-        dropping (TrimsLast held chunk len frame) (Unwraps frame chunk len) held has.1.0.0.0 r received has.1.0.0.1 step refl (omega arith)
+        dropping (TrimsLast held chunk len frame) (Unwraps frame chunk len) held has.1.0.0.0 r received has.1.0.0.1 step
+        refl (omega arith)
     steps fd c o (Unwraps frame chunk len) r received open_on has can step names =
-        inl (drops own may m n order lives (rank w) (Runs run (Unwraps frame chunk len)) (λ z. after_unwrap run frame chunk len z) frame has.1.0.0.0 r has.1.0.0.1 step
+        inl (drops own may m n order lives (rank w) (Runs run (Unwraps frame chunk len))
+        (λ z. after_unwrap run frame chunk len z) frame has.1.0.0.0 r has.1.0.0.1 step
         (falls w (Leaves (phase.Sends chunk len 0 None)) (Runs run (Unwraps frame chunk len)) (omega arith)))
     steps fd c o (Returns write) r received open_on has can step names =
-        inl (closes own may m n order lives (rank w) (Runs run (Returns write)) (λ z. Runs run (after_return write z)) write (on.WriteEnd has.1.0.pipe) r has.1.0.write_end step
+        inl (closes own may m n order lives (rank w) (Runs run (Returns write)) (λ z. Runs run (after_return write z))
+        write (on.WriteEnd has.1.0.pipe) r has.1.0.write_end step
         (falls w (Runs run Fails) (Runs run (Returns write)) (omega arith)))
-    steps fd c o (Lapses j) r received open_on has can step names = dropping (Lapses j) Fails j has.1.1.0 r received has.1.1.1 step refl (omega arith)
+    steps fd c o (Lapses j) r received open_on has can step names =
+        dropping (Lapses j) Fails j has.1.1.0 r received has.1.1.1 step refl (omega arith)
     steps fd c o Fails r received open_on has can step names =
-        inl (closes own may m n order lives (rank w) (Runs run Fails) (λ z. after_fail run z) run.from (on.ReadEnd has.1.0.0) r has.1.0.1 step
+        inl (closes own may m n order lives (rank w) (Runs run Fails) (λ z. after_fail run z) run.from
+        (on.ReadEnd has.1.0.0) r has.1.0.1 step
         (falls w (Leaves (phase.Heads (Error 503))) (Runs run Fails) (omega arith)))
 
   -- ---- what is left goes on as a file's response does
@@ -347,14 +445,22 @@ left-busy phase.Closes is = absurd (cc (is))
 left-busy phase.Over is = absurd (cc (is))
 left-busy d is = refl
 
-pub nears : CallsServeTheirDomain → RefusalsThatAreLeft → (job : ℕ → List ℕ) (m n : State) (fd c worker : ℕ) (w : Wanted) (x : Running) (r : Reply) (received : List ℕ) (o : Progress)
-    → IsOrderly m → is_live m server ≡ true → descriptor m server fd ≡ Some (on.Connection c) → is_over x ≡ false → HasRun job m w o x → CanMake m (wants job fd w x)
-    → StepsTo m (event.Call server (wants job fd w x)) r n → Names n r received → Nears (rank w) x r (after_reply worker w x r received) ⊎ ReceivesMore x r received
-nears own may job m n fd c worker w Awaits r received o order lives open_on going has can step names = inl (pipes own may m n order lives job w worker r step)
-nears own may job m n fd c worker w (Runs run s) r received o order lives open_on going has can step names = steps own may m n order lives job w run fd c o s r received open_on has can step names
+pub nears : CallsServeTheirDomain → RefusalsThatAreLeft
+    → (job : ℕ → List ℕ) (m n : State) (fd c worker : ℕ) (w : Wanted) (x : Running) (r : Reply) (received : List ℕ)
+    (o : Progress)
+    → IsOrderly m → is_live m server ≡ true → descriptor m server fd ≡ Some (on.Connection c) → is_over x ≡ false
+    → HasRun job m w o x → CanMake m (wants job fd w x)
+    → StepsTo m (event.Call server (wants job fd w x)) r n → Names n r received
+    → Nears (rank w) x r (after_reply worker w x r received) ⊎ ReceivesMore x r received
+nears own may job m n fd c worker w Awaits r received o order lives open_on going has can step names =
+    inl (pipes own may m n order lives job w worker r step)
+nears own may job m n fd c worker w (Runs run s) r received o order lives open_on going has can step names =
+    steps own may m n order lives job w run fd c o s r received open_on has can step names
 nears own may job m n fd c worker w (Leaves d) r received o order lives open_on going has can step names =
     let left : is_left d ≡ true = not-false (is_left d) going in
     let h = is-rest m w o d left has in
     inl (rest own may m n order lives job w d (conn.after_reply (in_phase w d) r received).phase r (left-stage d left)
-    (near own may m n order lives fd c [] (serve w) d h.expected r received open_on (left-busy d left) h.has can step names))
-nears own may job m n fd c worker w Closes r received o order lives open_on going has can step names = absurd (cc (going))
+    (near own may m n order lives fd c [] (serve w) d h.expected r received open_on (left-busy d left) h.has can step
+    names))
+nears own may job m n fd c worker w Closes r received o order lives open_on going has can step names =
+    absurd (cc (going))

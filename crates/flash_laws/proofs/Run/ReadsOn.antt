@@ -7,13 +7,18 @@ use Rattle.iol_core.specs.declared.events.Reply.TheVariants as reply
 use Rattle.flash_http.specs.Request.{Wanted}
 use Rattle.flash_laws.specs.Conn.{Following, count_of}
 use Rattle.flash_laws.specs.Run.OfferedBytes.{is_stopping, StopsBy}
-use Rattle.flash_laws.specs.Run.{both, is_again, after_give, after_make, after_hand, after_release_job, after_head, after_sending, after_spill, after_gather, after_frame, after_wrap, after_trim, after_return, after_lapse, after_output, after_fail, filled, holding, hearing, after_reply}
+use Rattle.flash_laws.specs.Run.{both, is_again, after_give, after_make, after_hand, after_release_job, after_head}
+use Rattle.flash_laws.specs.Run.{after_sending, after_spill, after_gather, after_frame, after_wrap, after_trim}
+use Rattle.flash_laws.specs.Run.{after_return, after_lapse, after_output, after_fail, filled, holding, hearing}
+use Rattle.flash_laws.specs.Run.{after_reply}
 use Rattle.flash_laws.specs.declared.phase.Phase.{Phase}
 use Rattle.flash_laws.specs.declared.phase.Phase.TheVariants as phase
 use Rattle.flash_laws.specs.declared.script_run.TheConstants.{CHUNK_BYTES}
 use Rattle.flash_laws.specs.declared.script_run.Run.{Run}
 use Rattle.flash_laws.specs.declared.script_run.Step.{Step}
-use Rattle.flash_laws.specs.declared.script_run.Step.TheVariants.{Gives, Makes, Hands, Lets, Heads, Sending, Receives, Spills, Gathers, Frames, Wraps, Trims, Returns, Lapses, Fails}
+use Rattle.flash_laws.specs.declared.script_run.Step.TheVariants.{Gives, Makes, Hands, Lets, Heads, Sending, Receives}
+use Rattle.flash_laws.specs.declared.script_run.Step.TheVariants.{Spills, Gathers, Frames, Wraps, Trims, Returns}
+use Rattle.flash_laws.specs.declared.script_run.Step.TheVariants.{Lapses, Fails}
 use Rattle.flash_laws.specs.declared.script_run.Running.{Running}
 use Rattle.flash_laws.specs.declared.script_run.Running.TheVariants.{Awaits, Runs}
 
@@ -60,12 +65,14 @@ module _ (run : Run) where
   holds : (held size : ℕ) (frame : Option ℕ) → is_stopping (Runs run (holding held size frame)) ≡ true → ⊥
   holds held size frame z = by (nat_lt size CHUNK_BYTES) frame z
     where
-      by : (b : Bool) (frame : Option ℕ) → is_stopping (Runs run (if b then Receives (Some (held, size)) frame else filled held frame)) ≡ true → ⊥
+      by : (b : Bool) (frame : Option ℕ)
+          → is_stopping (Runs run (if b then Receives (Some (held, size)) frame else filled held frame)) ≡ true → ⊥
       by true frame z = cc (z)
       by false None z = cc (z)
       by false (Some f) z = cc (z)
 
-  gathers : (held size piece len : ℕ) (frame : Option ℕ) (r : Reply) → is_stopping (Runs run (after_gather held size piece len frame r)) ≡ true → ⊥
+  gathers : (held size piece len : ℕ) (frame : Option ℕ) (r : Reply)
+      → is_stopping (Runs run (after_gather held size piece len frame r)) ≡ true → ⊥
   gathers held size piece len frame (reply.Agg n) z = holds n (both size len) frame z
   gathers held size piece len frame r z = cc (z)
 
@@ -73,7 +80,8 @@ module _ (run : Run) where
   frames held (reply.Agg n) z = cc (z)
   frames held r z = cc (z)
 
-  wraps : (held frame : ℕ) (r : Reply) (received : List ℕ) → is_stopping (Runs run (after_wrap held frame r received)) ≡ true → ⊥
+  wraps : (held frame : ℕ) (r : Reply) (received : List ℕ) → is_stopping (Runs run (after_wrap held frame r received))
+      ≡ true → ⊥
   wraps held frame (reply.Agg n) received z = cc (z)
   wraps held frame r received z = cc (z)
 
@@ -93,16 +101,19 @@ module _ (run : Run) where
   fails reply.Done z = cc (z)
   fails r z = cc (z)
 
-  hearing-on : (b c : Bool) (held : Following) (frame : Option ℕ) (a len : ℕ) → is_stopping (Runs run (hearing b c held frame a len)) ≡ true → ⊥
+  hearing-on : (b c : Bool) (held : Following) (frame : Option ℕ) (a len : ℕ)
+      → is_stopping (Runs run (hearing b c held frame a len)) ≡ true → ⊥
   hearing-on true c held frame a len z = cc (z)
   hearing-on false false held frame a len z = cc (z)
   hearing-on false true None frame a len z = holds a len frame z
   hearing-on false true (Some x) frame a len z = cc (z)
 
-  receives : (w : Wanted) (held : Following) (frame : Option ℕ) (r : Reply) (received : List ℕ) → is_stopping (after_output w run held frame r received) ≡ true
+  receives : (w : Wanted) (held : Following) (frame : Option ℕ) (r : Reply) (received : List ℕ)
+      → is_stopping (after_output w run held frame r received) ≡ true
       → StopsBy (Runs run (Receives held frame)) r received
   receives w held frame (reply.Agg n) [] z = refl
-  receives w held frame (reply.Agg n) (b ∷ received) z = absurd (hearing-on run.broken w.chunked held frame n (count_of (b ∷ received)) z)
+  receives w held frame (reply.Agg n) (b ∷ received) z =
+      absurd (hearing-on run.broken w.chunked held frame n (count_of (b ∷ received)) z)
   receives w held frame (reply.Refused (no.Denied p)) received z = tt
   receives w held frame r received z = absurd (cc (z))
 

@@ -1,6 +1,8 @@
 -- The rest of a response is sent by the phases of a file's response, and the bytes that the connection took count as
 -- taken.
-use Rattle.std.proofs.Common.{inl, ◌≡◌, ℕ, ◌+◌, ◌==◌, ◌≤◌, List, [], ◌++◌, length, drop, ap, ◌∙◌, refl, sym, subst, arith, Some, None, true, false, Bool, append-nil, length-append, length-drop, if◌then◌else◌}
+use Rattle.std.proofs.Common.{inl, ◌≡◌, ℕ, ◌+◌, ◌==◌, ◌≤◌, List, [], ◌++◌, length, drop, ap, ◌∙◌, refl, sym, subst}
+use Rattle.std.proofs.Common.{arith, Some, None, true, false, Bool, append-nil, length-append, length-drop}
+use Rattle.std.proofs.Common.{if◌then◌else◌}
 use Rattle.std.specs.Prelude.{not, nat_lt, slice_range}
 use Rattle.std.proofs.lemmas.Bool.{or_parts}
 use Rattle.std.proofs.lemmas.Bool.Decides.{nat_tests}
@@ -23,7 +25,8 @@ use Rattle.flash_laws.specs.Answers.{error_text}
 use Rattle.flash_laws.specs.Conn as conn
 use Rattle.flash_laws.specs.Conn.{piece_end}
 use Rattle.flash_laws.specs.Conn.Fits.{Has, Names}
-use Rattle.flash_laws.specs.Run.Fits.{Progress, Ran, Broken, NotRun, IsLeft, HasNone, sent_agg, IsPart, IsSending, HasRest, HasLeft}
+use Rattle.flash_laws.specs.Run.Fits.{Progress, Ran, Broken, NotRun, IsLeft, HasNone, sent_agg, IsPart, IsSending}
+use Rattle.flash_laws.specs.Run.Fits.{HasRest, HasLeft}
 use Rattle.flash_laws.specs.Conn.OfferedBytes.{taken_of, newly_taken, is_dropping}
 use Rattle.flash_laws.specs.Run.OfferedBytes.{takes_on, PartLearns}
 use Rattle.flash_laws.specs.Run.{in_phase, is_left}
@@ -44,7 +47,8 @@ is_sent (phase.Sent a taken more) = true
 is_sent d = false
 
 -- no more of a part is taken than there is
-most-left : (xs after part : List ℕ) (taken : ℕ) → xs ++ after ≡ drop taken part → taken ≤ length part → taken + length xs ≤ length part
+most-left : (xs after part : List ℕ) (taken : ℕ) → xs ++ after ≡ drop taken part → taken ≤ length part
+    → taken + length xs ≤ length part
 most-left xs after part taken next within =
     let e = length-append xs after in
     let f = length-drop taken part in
@@ -69,7 +73,8 @@ none-left w Broken closes left = absurd left
 none-left w x closes left = (left, inl closes)
 
 -- a part is sent as what is left is
-pub part-sends : (m : State) (expected : List ℕ) (d : Phase) → IsPart m (sent_agg d) expected → taken_of d ≤ length expected → IsSending m expected d
+pub part-sends : (m : State) (expected : List ℕ) (d : Phase) → IsPart m (sent_agg d) expected
+    → taken_of d ≤ length expected → IsSending m expected d
 part-sends m expected (phase.Heads (Error status)) is within = tt
 part-sends m expected d is within = (is, within)
 
@@ -79,22 +84,28 @@ is-rest m w o phase.Rests is has = absurd (cc (is))
 is-rest m w o phase.Closes is has = absurd (cc (is))
 is-rest m w o d is has = has
 
-module _ (steps : EachStepLeavesTheRest) (own : CallsServeTheirDomain) (m n : State) (order : IsOrderly m) (w : Wanted) (expected : List ℕ) where
+module _ (steps : EachStepLeavesTheRest) (own : CallsServeTheirDomain) (m n : State) (order : IsOrderly m) (w : Wanted)
+    (expected : List ℕ) where
   abbrev Sends : State → Phase → Type 0
   Sends s d = SendsAll s w expected d
 
   is_readable : (k : Call) (r : Reply) → StepsTo m (event.Call server k) r n → (a : ℕ)
-      → gives_up (event.Call server k) server a ≡ false → readable_at m server a ≡ Some expected → readable_at n server a ≡ Some expected
+      → gives_up (event.Call server k) server a ≡ false → readable_at m server a ≡ Some expected
+      → readable_at n server a ≡ Some expected
   is_readable k r step a un is = readable-stays steps m n (event.Call server k) r step a expected is un
 
   -- ---- how much is taken
 
-  counts-sends : (fd c a len taken : ℕ) (r : Reply) → descriptor m server fd ≡ Some (on.Connection c) → Sends m (phase.Sends a len taken None)
-      → StepsTo m (event.Call server (call.IolWrite fd a)) r n → is_dropping (conn.after_send a len taken None r) ≡ false
+  counts-sends : (fd c a len taken : ℕ) (r : Reply) → descriptor m server fd ≡ Some (on.Connection c)
+      → Sends m (phase.Sends a len taken None)
+      → StepsTo m (event.Call server (call.IolWrite fd a)) r n
+      → is_dropping (conn.after_send a len taken None r) ≡ false
       → taken_of (conn.after_send a len taken None r) ≡ taken + newly_taken fd (call.IolWrite fd a) r
-  counts-sends fd c a len taken r open_on has step on = by r (own.write_conn m n server fd c a has.0.bytes r order open_on has.0.is_readable step) on
+  counts-sends fd c a len taken r open_on has step on =
+      by r (own.write_conn m n server fd c a has.0.bytes r order open_on has.0.is_readable step) on
     where
-      by : (r : Reply) → caller.WritesConn m c has.0.bytes r n → is_dropping (conn.after_send a len taken None r) ≡ false
+      by : (r : Reply) → caller.WritesConn m c has.0.bytes r n
+          → is_dropping (conn.after_send a len taken None r) ≡ false
           → taken_of (conn.after_send a len taken None r) ≡ taken + newly_taken fd (call.IolWrite fd a) r
       by (reply.Count k) puts on = all (nat_lt k len) refl
         where
@@ -102,21 +113,28 @@ module _ (steps : EachStepLeavesTheRest) (own : CallsServeTheirDomain) (m n : St
           new = ap (λ b. if b then k else 0) (self fd)
 
           all : (b : Bool) → nat_lt k len ≡ b
-              → taken_of (if b then phase.Cuts a k len (taken + k) None else phase.Sent a (taken + len) None) ≡ taken + (if fd == fd then k else 0)
+              → taken_of (if b then phase.Cuts a k len (taken + k) None else phase.Sent a (taken + len) None)
+              ≡ taken + (if fd == fd then k else 0)
           all true is = ap (λ z. taken + z) (sym new)
-          all false is = (let size = has.0.size in let within = puts.within in let le : len ≤ k = grind (arith, nat_tests, is) in omega (arith, new, size, within, le))
+          all false is = (let size = has.0.size in let within = puts.within in let le : len ≤ k =
+              grind (arith, nat_tests, is) in omega (arith, new, size, within, le))
       by (reply.Refused no.BrokenPipe) did on = absurd (cc (on))
       by (reply.Refused y) did on = omega arith
       by r did on = absurd did
 
-  counts-offers : (fd c a from len piece taken : ℕ) (r : Reply) → descriptor m server fd ≡ Some (on.Connection c) → Sends m (phase.Offers a from len piece taken None)
-      → StepsTo m (event.Call server (call.IolWrite fd piece)) r n → is_dropping (conn.after_offer a from len piece taken None r) ≡ false
+  counts-offers : (fd c a from len piece taken : ℕ) (r : Reply) → descriptor m server fd ≡ Some (on.Connection c)
+      → Sends m (phase.Offers a from len piece taken None)
+      → StepsTo m (event.Call server (call.IolWrite fd piece)) r n
+      → is_dropping (conn.after_offer a from len piece taken None r) ≡ false
       → taken_of (conn.after_offer a from len piece taken None r) ≡ taken + newly_taken fd (call.IolWrite fd piece) r
   counts-offers fd c a from len piece taken r open_on has step on =
-      by r (own.write_conn m n server fd c piece (slice_range has.0.whole.bytes from (piece_end from len)) r order open_on has.0.is_readable step) on
+      by r (own.write_conn m n server fd c piece (slice_range has.0.whole.bytes from (piece_end from len)) r order
+      open_on has.0.is_readable step) on
     where
-      by : (r : Reply) → caller.WritesConn m c (slice_range has.0.whole.bytes from (piece_end from len)) r n → is_dropping (conn.after_offer a from len piece taken None r) ≡ false
-          → taken_of (conn.after_offer a from len piece taken None r) ≡ taken + newly_taken fd (call.IolWrite fd piece) r
+      by : (r : Reply) → caller.WritesConn m c (slice_range has.0.whole.bytes from (piece_end from len)) r n
+          → is_dropping (conn.after_offer a from len piece taken None r) ≡ false
+          → taken_of (conn.after_offer a from len piece taken None r) ≡ taken + newly_taken fd (call.IolWrite fd piece)
+          r
       by (reply.Count k) puts on =
           let new : (if fd == fd then k else 0) ≡ k = ap (λ b. if b then k else 0) (self fd) in
           let few = (few-taken k from len has.0.whole.bytes has.0.whole.size puts.within).1 in
@@ -125,27 +143,37 @@ module _ (steps : EachStepLeavesTheRest) (own : CallsServeTheirDomain) (m n : St
       by (reply.Refused y) did on = omega arith
       by r did on = absurd did
 
-  counts-cuts : (fd a from len taken : ℕ) (r : Reply) → taken_of (conn.after_cut a from len taken None r) ≡ taken + newly_taken fd (call.AggCut a from (piece_end from len)) r
+  counts-cuts : (fd a from len taken : ℕ) (r : Reply)
+      → taken_of (conn.after_cut a from len taken None r)
+      ≡ taken + newly_taken fd (call.AggCut a from (piece_end from len)) r
   counts-cuts fd a from len taken (reply.Agg x) = omega arith
   counts-cuts fd a from len taken r = omega arith
 
-  counts-swaps : (fd a from len piece taken : ℕ) (r : Reply) → taken_of (conn.after_swap a from len piece taken None r) ≡ taken + newly_taken fd (call.AggDrop piece) r
+  counts-swaps : (fd a from len piece taken : ℕ) (r : Reply)
+      → taken_of (conn.after_swap a from len piece taken None r) ≡ taken + newly_taken fd (call.AggDrop piece) r
   counts-swaps fd a from len piece taken reply.Done = by (nat_lt from len)
     where
-      by : (b : Bool) → taken_of (if b then phase.Cuts a from len taken None else phase.Sent a taken None) ≡ taken + newly_taken fd (call.AggDrop piece) reply.Done
+      by : (b : Bool) → taken_of (if b then phase.Cuts a from len taken None else phase.Sent a taken None)
+          ≡ taken + newly_taken fd (call.AggDrop piece) reply.Done
       by true = omega arith
       by false = omega arith
   counts-swaps fd a from len piece taken r = omega arith
 
   -- a part that is sent, of which nothing is dropped
-  pub counts : (fd c : ℕ) (d : Phase) (r : Reply) (received : List ℕ) → descriptor m server fd ≡ Some (on.Connection c) → Sends m d
+  pub counts : (fd c : ℕ) (d : Phase) (r : Reply) (received : List ℕ) → descriptor m server fd ≡ Some (on.Connection c)
+      → Sends m d
       → StepsTo m (event.Call server (conn.wants fd (in_phase w d))) r n → is_sent d ≡ false → is_dropping d ≡ false
       → is_dropping (conn.after_reply (in_phase w d) r received).phase ≡ false
-      → taken_of (conn.after_reply (in_phase w d) r received).phase ≡ taken_of d + newly_taken fd (conn.wants fd (in_phase w d)) r
-  counts fd c (phase.Sends a len taken None) r received open_on has step unsent at on = counts-sends fd c a len taken r open_on has step on
-  counts fd c (phase.Cuts a from len taken None) r received open_on has step unsent at on = counts-cuts fd a from len taken r
-  counts fd c (phase.Offers a from len piece taken None) r received open_on has step unsent at on = counts-offers fd c a from len piece taken r open_on has step on
-  counts fd c (phase.Swaps a from len piece taken None) r received open_on has step unsent at on = counts-swaps fd a from len piece taken r
+      → taken_of (conn.after_reply (in_phase w d) r received).phase ≡ taken_of d + newly_taken fd
+      (conn.wants fd (in_phase w d)) r
+  counts fd c (phase.Sends a len taken None) r received open_on has step unsent at on =
+      counts-sends fd c a len taken r open_on has step on
+  counts fd c (phase.Cuts a from len taken None) r received open_on has step unsent at on =
+      counts-cuts fd a from len taken r
+  counts fd c (phase.Offers a from len piece taken None) r received open_on has step unsent at on =
+      counts-offers fd c a from len piece taken r open_on has step on
+  counts fd c (phase.Swaps a from len piece taken None) r received open_on has step unsent at on =
+      counts-swaps fd a from len piece taken r
   counts fd c (phase.Sent a taken None) r received open_on has step unsent at on = absurd (cc (unsent))
   counts fd c (phase.Breaks piece a None) r received open_on has step unsent at on = absurd (cc (at))
   counts fd c (phase.Drops a None) r received open_on has step unsent at on = absurd (cc (at))
@@ -153,44 +181,64 @@ module _ (steps : EachStepLeavesTheRest) (own : CallsServeTheirDomain) (m n : St
 
   -- ---- what a phase has after the reply to its call
 
-  pub sends : (fd c a len taken : ℕ) (r : Reply) → descriptor m server fd ≡ Some (on.Connection c) → Sends m (phase.Sends a len taken None)
+  pub sends : (fd c a len taken : ℕ) (r : Reply) → descriptor m server fd ≡ Some (on.Connection c)
+      → Sends m (phase.Sends a len taken None)
       → StepsTo m (event.Call server (call.IolWrite fd a)) r n → Sends n (conn.after_send a len taken None r)
-  sends fd c a len taken r open_on has step = by r (own.write_conn m n server fd c a has.0.bytes r order open_on has.0.is_readable step)
-      (having.sends steps own m n order (serve w) fd c a len taken None expected r open_on has.0 step) (is_readable (call.IolWrite fd a) r step a refl has.1)
+  sends fd c a len taken r open_on has step =
+      by r (own.write_conn m n server fd c a has.0.bytes r order open_on has.0.is_readable step)
+      (having.sends steps own m n order (serve w) fd c a len taken None expected r open_on has.0 step)
+      (is_readable (call.IolWrite fd a) r step a refl has.1)
     where
       most : taken + length has.0.bytes ≤ length expected
       most = most-left has.0.bytes has.0.after expected taken has.0.next has.2
 
-      by : (r : Reply) → caller.WritesConn m c has.0.bytes r n → Has n (serve w) expected (conn.after_send a len taken None r) → readable_at n server a ≡ Some expected
+      by : (r : Reply) → caller.WritesConn m c has.0.bytes r n
+          → Has n (serve w) expected (conn.after_send a len taken None r) → readable_at n server a ≡ Some expected
           → Sends n (conn.after_send a len taken None r)
       by (reply.Count k) puts next here = all (nat_lt k len) refl next
         where
-          all : (b : Bool) → nat_lt k len ≡ b → Has n (serve w) expected (if b then phase.Cuts a k len (taken + k) None else phase.Sent a (taken + len) None)
+          all : (b : Bool) → nat_lt k len ≡ b
+              → Has n (serve w) expected (if b then phase.Cuts a k len (taken + k) None else phase.Sent a (taken + len)
+              None)
               → Sends n (if b then phase.Cuts a k len (taken + k) None else phase.Sent a (taken + len) None)
-          all true is next = (next, here, (let size = has.0.size in let le = most in let lt : k ≤ len = grind (arith, nat_tests, is) in omega (arith, size, le, lt)))
+          all true is next = (
+            next,
+            here,
+            (let size = has.0.size in let le = most in let lt : k ≤ len = grind (arith, nat_tests, is) in
+                omega (arith, size, le, lt)),
+          )
           all false is next = (next, here, (let size = has.0.size in let le = most in omega (arith, size, le)))
       by (reply.Refused no.BrokenPipe) did next here = (next, here, omega arith)
       by (reply.Refused y) did next here = (next, here, has.2)
       by r did next here = absurd did
 
   pub cuts : (a from len taken : ℕ) (r : Reply) → Sends m (phase.Cuts a from len taken None)
-      → StepsTo m (event.Call server (call.AggCut a from (piece_end from len))) r n → Sends n (conn.after_cut a from len taken None r)
+      → StepsTo m (event.Call server (call.AggCut a from (piece_end from len))) r n
+      → Sends n (conn.after_cut a from len taken None r)
   cuts a from len taken r has step = by r (own.cut m n server a from (piece_end from len) expected r order has.1 step)
-      (having.cuts steps own m n order (serve w) a from len taken None expected r has.0 step) (is_readable (call.AggCut a from (piece_end from len)) r step a refl has.1)
+      (having.cuts steps own m n order (serve w) a from len taken None expected r has.0 step)
+      (is_readable (call.AggCut a from (piece_end from len)) r step a refl has.1)
     where
-      by : (r : Reply) → caller.Makes m server (slice_range expected from (piece_end from len)) r n → Has n (serve w) expected (conn.after_cut a from len taken None r) → readable_at n server a ≡ Some expected
+      by : (r : Reply) → caller.Makes m server (slice_range expected from (piece_end from len)) r n
+          → Has n (serve w) expected (conn.after_cut a from len taken None r) → readable_at n server a ≡ Some expected
           → Sends n (conn.after_cut a from len taken None r)
       by (reply.Agg x) did next here = (next, here, has.2)
       by (reply.Refused y) did next here = (next, here, has.2)
       by r did next here = absurd did
 
-  pub offers : (fd c a from len piece taken : ℕ) (r : Reply) → descriptor m server fd ≡ Some (on.Connection c) → Sends m (phase.Offers a from len piece taken None)
-      → StepsTo m (event.Call server (call.IolWrite fd piece)) r n → Sends n (conn.after_offer a from len piece taken None r)
+  pub offers : (fd c a from len piece taken : ℕ) (r : Reply) → descriptor m server fd ≡ Some (on.Connection c)
+      → Sends m (phase.Offers a from len piece taken None)
+      → StepsTo m (event.Call server (call.IolWrite fd piece)) r n
+      → Sends n (conn.after_offer a from len piece taken None r)
   offers fd c a from len piece taken r open_on has step =
-      by r (own.write_conn m n server fd c piece (slice_range has.0.whole.bytes from (piece_end from len)) r order open_on has.0.is_readable step)
-      (having.offers_piece steps own m n order (serve w) fd c a from len piece taken None expected r open_on has.0 step) (is_readable (call.IolWrite fd piece) r step a refl has.1)
+      by r (own.write_conn m n server fd c piece (slice_range has.0.whole.bytes from (piece_end from len)) r order
+      open_on has.0.is_readable step)
+      (having.offers_piece steps own m n order (serve w) fd c a from len piece taken None expected r open_on has.0 step)
+      (is_readable (call.IolWrite fd piece) r step a refl has.1)
     where
-      by : (r : Reply) → caller.WritesConn m c (slice_range has.0.whole.bytes from (piece_end from len)) r n → Has n (serve w) expected (conn.after_offer a from len piece taken None r) → readable_at n server a ≡ Some expected
+      by : (r : Reply) → caller.WritesConn m c (slice_range has.0.whole.bytes from (piece_end from len)) r n
+          → Has n (serve w) expected (conn.after_offer a from len piece taken None r)
+          → readable_at n server a ≡ Some expected
           → Sends n (conn.after_offer a from len piece taken None r)
       by (reply.Count k) puts next here =
           let few = few-taken k from len has.0.whole.bytes has.0.whole.size puts.within in
@@ -208,11 +256,14 @@ module _ (steps : EachStepLeavesTheRest) (own : CallsServeTheirDomain) (m n : St
       (having.swaps steps own m n order (serve w) a from len piece taken None expected r has.0 step)
       (is_readable (call.AggDrop piece) r step a (turned a piece (or_parts (a == piece) false has.0.1).0) has.1)
     where
-      by : (r : Reply) → caller.Drops m server piece r n → Has n (serve w) expected (conn.after_swap a from len piece taken None r) → readable_at n server a ≡ Some expected
+      by : (r : Reply) → caller.Drops m server piece r n
+          → Has n (serve w) expected (conn.after_swap a from len piece taken None r)
+          → readable_at n server a ≡ Some expected
           → Sends n (conn.after_swap a from len piece taken None r)
       by reply.Done did next here = all (nat_lt from len) next
         where
-          all : (b : Bool) → Has n (serve w) expected (if b then phase.Cuts a from len taken None else phase.Sent a taken None)
+          all : (b : Bool)
+              → Has n (serve w) expected (if b then phase.Cuts a from len taken None else phase.Sent a taken None)
               → Sends n (if b then phase.Cuts a from len taken None else phase.Sent a taken None)
           all true next = (next, here, has.2)
           all false next = (next, here, has.2)
@@ -225,7 +276,8 @@ module _ (steps : EachStepLeavesTheRest) (own : CallsServeTheirDomain) (m n : St
       (having.breaks steps own m n order (serve w) piece a None expected r has.0 step)
       (is_readable (call.AggDrop piece) r step a (turned a piece (or_parts (a == piece) false has.0.1).0) has.1)
     where
-      by : (r : Reply) → caller.Drops m server piece r n → Has n (serve w) expected (conn.after_break piece a None r) → readable_at n server a ≡ Some expected
+      by : (r : Reply) → caller.Drops m server piece r n → Has n (serve w) expected (conn.after_break piece a None r)
+          → readable_at n server a ≡ Some expected
           → Sends n (conn.after_break piece a None r)
       by reply.Done did next here = (next, here, omega arith)
       by (reply.Refused y) did next here = (next, here, has.2)
@@ -237,40 +289,64 @@ module _ (steps : EachStepLeavesTheRest) (own : CallsServeTheirDomain) (m n : St
   abbrev AfterReply : Phase → Phase → Reply → Progress → Type 0
   AfterReply d e r before = (after : Progress) × PartLearns m d r before after × HasLeft n w after e
 
-  heads : (status : ℕ) (r : Reply) (received : List ℕ) (o : Progress) → IsLeft w o expected → Has m (serve w) expected (phase.Heads (Error status))
-      → StepsTo m (event.Call server (call.AggMake (error_text status w.head_only (not w.keep)))) r n → Names n r received
+  heads : (status : ℕ) (r : Reply) (received : List ℕ) (o : Progress) → IsLeft w o expected
+      → Has m (serve w) expected (phase.Heads (Error status))
+      → StepsTo m (event.Call server (call.AggMake (error_text status w.head_only (not w.keep)))) r n
+      → Names n r received
       → HasRest n w o (conn.after_head (Error status) r received)
-  heads status r received o left has step names = by r (own.make m n server (error_text status w.head_only (not w.keep)) r order step)
+  heads status r received o left has step names =
+      by r (own.make m n server (error_text status w.head_only (not w.keep)) r order step)
       (having.heads steps own m n order (serve w) (Error status) expected r received has step names)
     where
-      by : (r : Reply) → caller.Makes m server (error_text status w.head_only (not w.keep)) r n → Has n (serve w) expected (conn.after_head (Error status) r received)
+      by : (r : Reply) → caller.Makes m server (error_text status w.head_only (not w.keep)) r n
+          → Has n (serve w) expected (conn.after_head (Error status) r received)
           → HasRest n w o (conn.after_head (Error status) r received)
-      by (reply.Agg x) did next = record { expected = expected; left = left; has = next; sends = (did.0 ∙ ap (λ (l : List ℕ). Some l) (sym has), omega arith) }
+      by (reply.Agg x) did next =
+          record {
+            expected = expected;
+            left = left;
+            has = next;
+            sends =
+                (did.0 ∙ ap (λ (l : List ℕ). Some l) (sym has), omega arith);
+          }
       by (reply.Refused y) did next = record { expected = expected; left = left; has = next; sends = tt }
       by r did next = absurd did
 
   -- all of it is sent
   sent : (a taken : ℕ) (r : Reply) (o : Progress) → IsLeft w o expected → Sends m (phase.Sent a taken None)
-      → StepsTo m (event.Call server (call.AggDrop a)) r n → AfterReply (phase.Sent a taken None) (conn.after_taken (serve w) a taken None r) r o
+      → StepsTo m (event.Call server (call.AggDrop a)) r n
+      → AfterReply (phase.Sent a taken None) (conn.after_taken (serve w) a taken None r) r o
   sent a taken r o left has step = by r (own.drops m n server a r order step)
     where
       over : (b : Bool) → w.keep ≡ b → HasLeft n w (takes_on o expected) (if b then phase.Rests else phase.Closes)
       over true is = (left-none w o expected left, is)
       over false is = none-left w (takes_on o expected) is (left-none w o expected left)
 
-      by : (r : Reply) → caller.Drops m server a r n → AfterReply (phase.Sent a taken None) (conn.after_taken (serve w) a taken None r) r o
+      by : (r : Reply) → caller.Drops m server a r n
+          → AfterReply (phase.Sent a taken None) (conn.after_taken (serve w) a taken None r) r o
       by reply.Done did = (takes_on o expected, (expected, has.1, refl), over w.keep refl)
-      by (reply.Refused y) did = (o, refl, subst (λ (s : State). HasRest s w o (phase.Sent a taken None)) (sym did) (record { expected = expected; left = left; has = has.0; sends = (has.1, has.2) }))
+      by (reply.Refused y) did = (
+        o,
+        refl,
+        subst (λ (s : State). HasRest s w o (phase.Sent a taken None)) (sym did)
+            (record { expected = expected; left = left; has = has.0; sends = (has.1, has.2) }),
+      )
       by r did = absurd did
 
   -- nobody takes it
   drops : (a : ℕ) (r : Reply) (o : Progress) → IsLeft w o expected → Sends m (phase.Drops a None)
-      → StepsTo m (event.Call server (call.AggDrop a)) r n → AfterReply (phase.Drops a None) (conn.after_drop a None r) r o
+      → StepsTo m (event.Call server (call.AggDrop a)) r n
+      → AfterReply (phase.Drops a None) (conn.after_drop a None r) r o
   drops a r o left has step = by r (own.drops m n server a r order step)
     where
       by : (r : Reply) → caller.Drops m server a r n → AfterReply (phase.Drops a None) (conn.after_drop a None r) r o
       by reply.Done did = (Broken, refl, tt)
-      by (reply.Refused y) did = (o, refl, subst (λ (s : State). HasRest s w o (phase.Drops a None)) (sym did) (record { expected = expected; left = left; has = has.0; sends = (has.1, has.2) }))
+      by (reply.Refused y) did = (
+        o,
+        refl,
+        subst (λ (s : State). HasRest s w o (phase.Drops a None)) (sym did)
+            (record { expected = expected; left = left; has = has.0; sends = (has.1, has.2) }),
+      )
       by r did = absurd did
 
   -- a phase that goes on sending
@@ -280,19 +356,45 @@ module _ (steps : EachStepLeavesTheRest) (own : CallsServeTheirDomain) (m n : St
   proceeds-on o left (phase.Heads (Error status)) has = absurd has.1
   proceeds-on o left e has = record { expected = expected; left = left; has = has.0; sends = (has.1, has.2) }
 
-  pub leaving : (fd c : ℕ) (d : Phase) (r : Reply) (received : List ℕ) (o : Progress) → IsLeft w o expected → Has m (serve w) expected d → IsSending m expected d
+  pub leaving : (fd c : ℕ) (d : Phase) (r : Reply) (received : List ℕ) (o : Progress) → IsLeft w o expected
+      → Has m (serve w) expected d → IsSending m expected d
       → descriptor m server fd ≡ Some (on.Connection c)
-      → StepsTo m (event.Call server (conn.wants fd (in_phase w d))) r n → Names n r received → AfterReply d (conn.after_reply (in_phase w d) r received).phase r o
-  leaving fd c (phase.Heads (Error status)) r received o left has is open_on step names = (o, refl, by r (heads status r received o left has step names))
+      → StepsTo m (event.Call server (conn.wants fd (in_phase w d))) r n → Names n r received
+      → AfterReply d (conn.after_reply (in_phase w d) r received).phase r o
+  leaving fd c (phase.Heads (Error status)) r received o left has is open_on step names =
+      (o, refl, by r (heads status r received o left has step names))
     where
-      by : (r : Reply) → HasRest n w o (conn.after_head (Error status) r received) → HasLeft n w o (conn.after_head (Error status) r received)
+      by : (r : Reply) → HasRest n w o (conn.after_head (Error status) r received)
+          → HasLeft n w o (conn.after_head (Error status) r received)
       by (reply.Agg x) h = h
       by r h = h
-  leaving fd c (phase.Sends a len taken None) r received o left has is open_on step names = (o, refl, proceeds-on o left (conn.after_send a len taken None r) (sends fd c a len taken r open_on (has, is.0, is.1) step))
-  leaving fd c (phase.Cuts a from len taken None) r received o left has is open_on step names = (o, refl, proceeds-on o left (conn.after_cut a from len taken None r) (cuts a from len taken r (has, is.0, is.1) step))
-  leaving fd c (phase.Offers a from len piece taken None) r received o left has is open_on step names = (o, refl, proceeds-on o left (conn.after_offer a from len piece taken None r) (offers fd c a from len piece taken r open_on (has, is.0, is.1) step))
-  leaving fd c (phase.Swaps a from len piece taken None) r received o left has is open_on step names = (o, refl, proceeds-on o left (conn.after_swap a from len piece taken None r) (swaps a from len piece taken r (has, is.0, is.1) step))
-  leaving fd c (phase.Breaks piece a None) r received o left has is open_on step names = (o, refl, proceeds-on o left (conn.after_break piece a None r) (breaks piece a r (has, is.0, is.1) step))
-  leaving fd c (phase.Sent a taken None) r received o left has is open_on step names = sent a taken r o left (has, is.0, is.1) step
-  leaving fd c (phase.Drops a None) r received o left has is open_on step names = drops a r o left (has, is.0, is.1) step
+  leaving fd c (phase.Sends a len taken None) r received o left has is open_on step names = (
+    o,
+    refl,
+    proceeds-on o left (conn.after_send a len taken None r) (sends fd c a len taken r open_on (has, is.0, is.1) step),
+  )
+  leaving fd c (phase.Cuts a from len taken None) r received o left has is open_on step names = (
+    o,
+    refl,
+    proceeds-on o left (conn.after_cut a from len taken None r)
+        (cuts a from len taken r (has, is.0, is.1) step),
+  )
+  leaving fd c (phase.Offers a from len piece taken None) r received o left has is open_on step names = (
+    o,
+    refl,
+    proceeds-on o left (conn.after_offer a from len piece taken None r)
+        (offers fd c a from len piece taken r open_on (has, is.0, is.1) step),
+  )
+  leaving fd c (phase.Swaps a from len piece taken None) r received o left has is open_on step names = (
+    o,
+    refl,
+    proceeds-on o left (conn.after_swap a from len piece taken None r)
+        (swaps a from len piece taken r (has, is.0, is.1) step),
+  )
+  leaving fd c (phase.Breaks piece a None) r received o left has is open_on step names =
+      (o, refl, proceeds-on o left (conn.after_break piece a None r) (breaks piece a r (has, is.0, is.1) step))
+  leaving fd c (phase.Sent a taken None) r received o left has is open_on step names =
+      sent a taken r o left (has, is.0, is.1) step
+  leaving fd c (phase.Drops a None) r received o left has is open_on step names =
+      drops a r o left (has, is.0, is.1) step
   leaving fd c d r received o left has is open_on step names = absurd is.0

@@ -15,7 +15,8 @@ one_chunk : script_body true (some 4096) ≡ codes "1000\r\n" ++ (some 4096 ++ c
 unfolding digits
 one_chunk = refl
 
-a_chunk_and_more : script_body true (some 5000) ≡ codes "1000\r\n" ++ (some 4096 ++ (codes "\r\n388\r\n" ++ (some 904 ++ codes "\r\n0\r\n\r\n")))
+a_chunk_and_more : script_body true (some 5000) ≡ codes "1000\r\n"
+    ++ (some 4096 ++ (codes "\r\n388\r\n" ++ (some 904 ++ codes "\r\n0\r\n\r\n")))
 unfolding digits
 a_chunk_and_more = refl
 

@@ -1,6 +1,7 @@
 -- After the reply to its own call a run has the data for its next step: at the end of its output, and if its script
 -- cannot be run.
-use Rattle.std.proofs.Common.{inr, ◌≡◌, ℕ, ◌==◌, ◌≤◌, List, [], ◌++◌, length, take, drop, ap, ◌∙◌, refl, sym, subst, arith, Option, Some, None, true, false, Bool}
+use Rattle.std.proofs.Common.{inr, ◌≡◌, ℕ, ◌==◌, ◌≤◌, List, [], ◌++◌, length, take, drop, ap, ◌∙◌, refl, sym, subst}
+use Rattle.std.proofs.Common.{arith, Option, Some, None, true, false, Bool}
 use Rattle.std.specs.Prelude.{not}
 use Rattle.std.proofs.lemmas.Bool.{or_from}
 use Rattle.std.proofs.lemmas.Bool.Decides.{nat_tests}
@@ -21,16 +22,19 @@ use Rattle.flash_http.specs.Request.{Wanted}
 use Rattle.flash_laws.specs.Answers.{error_text}
 use Rattle.flash_laws.specs.Conn.{Following, has_followed, count_of}
 use Rattle.flash_laws.specs.Conn.Fits.{Names}
-use Rattle.flash_laws.specs.Run.Fits.{Progress, Ran, Broken, NotRun, IsLeft, Ends, HasJobPipe, IsReading, IsHeld, meets, HasAll, HasStep, HasNone, HasRun}
+use Rattle.flash_laws.specs.Run.Fits.{Progress, Ran, Broken, NotRun, IsLeft, Ends, HasJobPipe, IsReading, IsHeld, meets}
+use Rattle.flash_laws.specs.Run.Fits.{HasAll, HasStep, HasNone, HasRun}
 use Rattle.flash_laws.specs.Run.OfferedBytes.{Learns}
-use Rattle.flash_laws.specs.Run.{job_pipe, step_agg, uses_fd, finishing, stopped, after_stop, after_release_frame, ending, after_last, after_wrap_last, after_unwrap, after_return, after_fail}
+use Rattle.flash_laws.specs.Run.{job_pipe, step_agg, uses_fd, finishing, stopped, after_stop, after_release_frame}
+use Rattle.flash_laws.specs.Run.{ending, after_last, after_wrap_last, after_unwrap, after_return, after_fail}
 use Rattle.flash_laws.specs.Answers.Scripts.{script_body, place_in_frame, end_around}
 use Rattle.flash_laws.specs.Site.{server}
 use Rattle.flash_laws.specs.declared.phase.Phase.TheVariants as phase
 use Rattle.flash_laws.specs.declared.script_run.TheConstants.{CHUNK_BYTES}
 use Rattle.flash_laws.specs.declared.script_run.Run.{Run}
 use Rattle.flash_laws.specs.declared.script_run.Step.{Step}
-use Rattle.flash_laws.specs.declared.script_run.Step.TheVariants.{Stops, Unframes, Lasts, WrapsLast, Unwraps, Returns, Fails}
+use Rattle.flash_laws.specs.declared.script_run.Step.TheVariants.{Stops, Unframes, Lasts, WrapsLast, Unwraps, Returns}
+use Rattle.flash_laws.specs.declared.script_run.Step.TheVariants.{Fails}
 use Rattle.flash_laws.specs.declared.script_run.Running.{Running}
 use Rattle.flash_laws.specs.declared.script_run.Running.TheVariants.{Runs, Leaves, Closes}
 use Rattle.flash_laws.proofs.Conn.Responses.{some-inj}
@@ -43,14 +47,16 @@ use Rattle.flash_laws.proofs.Run.Stays.{held-on, has-all-on, ends-differ, write-
 use Rattle.flash_laws.proofs.Run.Steps as acts
 use Rattle.flash_laws.proofs.Run.Steps.{begun}
 
-module _ (steps : EachStepLeavesTheRest) (own : CallsServeTheirDomain) (m n : State) (order : IsOrderly m) (job : ℕ → List ℕ) (w : Wanted) where
+module _ (steps : EachStepLeavesTheRest) (own : CallsServeTheirDomain) (m n : State) (order : IsOrderly m) (job : ℕ
+    → List ℕ) (w : Wanted) where
   abbrev AfterReply : Running → Running → Reply → List ℕ → Progress → Type 0
   AfterReply x y r received before = (after : Progress) × Learns m x r received before after × HasRun job n w after y
 
   -- ---- what the steps rest on, of these states
 
   is_readable : (k : Call) (r : Reply) → StepsTo m (event.Call server k) r n → (a : ℕ) (bytes : List ℕ)
-      → gives_up (event.Call server k) server a ≡ false → readable_at m server a ≡ Some bytes → readable_at n server a ≡ Some bytes
+      → gives_up (event.Call server k) server a ≡ false → readable_at m server a ≡ Some bytes
+      → readable_at n server a ≡ Some bytes
   is_readable = acts.is_readable steps own m n order job w
 
   same : (o : Progress) (x : Running) → n ≡ m → HasRun job m w o x → HasRun job n w o x
@@ -63,13 +69,16 @@ module _ (steps : EachStepLeavesTheRest) (own : CallsServeTheirDomain) (m n : St
         → HasStep job m w o run s → HasRun job n w o (Runs run s)
     stay = acts.stay steps own m n order job w run hired
 
-    still-hired : (k : Call) (r : Reply) → StepsTo m (event.Call server k) r n → touches_fd m (event.Call server k) server (job_pipe run.worker) ≡ false → HasJobPipe n run.worker
+    still-hired : (k : Call) (r : Reply) → StepsTo m (event.Call server k) r n
+        → touches_fd m (event.Call server k) server (job_pipe run.worker) ≡ false → HasJobPipe n run.worker
     still-hired = acts.still-hired steps own m n order job w run hired
 
-    still-reading : (k : Call) (r : Reply) → StepsTo m (event.Call server k) r n → touches_fd m (event.Call server k) server run.from ≡ false → IsReading m run → IsReading n run
+    still-reading : (k : Call) (r : Reply) → StepsTo m (event.Call server k) r n
+        → touches_fd m (event.Call server k) server run.from ≡ false → IsReading m run → IsReading n run
     still-reading = acts.still-reading steps own m n order job w run hired
 
-    new-held : (held : Following) (bytes : List ℕ) (x : ℕ) → IsHeld m w held bytes → readable_at m server x ≡ None → has_followed held x ≡ false
+    new-held : (held : Following) (bytes : List ℕ) (x : ℕ) → IsHeld m w held bytes → readable_at m server x ≡ None
+        → has_followed held x ≡ false
     new-held = acts.new-held steps own m n order job w run hired
 
     none-held : (s : State) (held : Following) (bytes : List ℕ) → IsHeld s w held bytes → w.chunked ≡ false → bytes ≡ []
@@ -78,9 +87,22 @@ module _ (steps : EachStepLeavesTheRest) (own : CallsServeTheirDomain) (m n : St
     -- ---- the end
 
     -- without chunks nothing is left; with them the end of the body is
-    finishes : (b c : Bool) (held : Following) (bytes : List ℕ) (o : Progress) → HasJobPipe n run.worker → run.broken ≡ b → w.chunked ≡ c
+    finishes : (b c : Bool) (held : Following) (bytes : List ℕ) (o : Progress) → HasJobPipe n run.worker
+        → run.broken ≡ b → w.chunked ≡ c
         → IsHeld n w held bytes → Ends run.broken w o bytes → HasRun job n w o (finishing b c run held)
-    finishes false true held bytes o hired whole chunked holds ends = (hired, (chunked, whole, record { bytes = bytes; has = record { holds = holds; frames = tt; apart = none held }; ends = ends }))
+    finishes false true held bytes o hired whole chunked holds ends = (
+      hired,
+      (
+        chunked,
+        whole,
+        record {
+          bytes = bytes;
+          has = record { holds = holds; frames = tt; apart = none held };
+          ends =
+              ends;
+        },
+      ),
+    )
       where
         none : (held : Following) → meets held None ≡ false
         none None = refl
@@ -92,23 +114,30 @@ module _ (steps : EachStepLeavesTheRest) (own : CallsServeTheirDomain) (m n : St
         none = ap (λ c. script_body c bytes) plain ∙ none-held n held bytes holds plain
 
         over : (o : Progress) → IsLeft w o (script_body w.chunked bytes) → HasNone w o
-        over (Ran received ended past) left = (subst (λ (l : List ℕ). IsLeft w (Ran received ended past) l) none left, inr plain)
+        over (Ran received ended past) left =
+            (subst (λ (l : List ℕ). IsLeft w (Ran received ended past) l) none left, inr plain)
         over Broken left = absurd left
         over (NotRun status past) left = (subst (λ (l : List ℕ). IsLeft w (NotRun status past) l) none left, inr plain)
-    finishes true c held bytes o hired gone chunked holds ends = subst (λ (z : Progress). HasRun job n w z Closes) (sym (subst (λ b. Ends b w o bytes) gone ends).0) tt
+    finishes true c held bytes o hired gone chunked holds ends =
+        subst (λ (z : Progress). HasRun job n w z Closes) (sym (subst (λ b. Ends b w o bytes) gone ends).0) tt
 
-    pub stops : (held : Following) (frame : Option ℕ) (r : Reply) (o : Progress) → HasStep job m w o run (Stops held frame)
+    pub stops : (held : Following) (frame : Option ℕ) (r : Reply) (o : Progress)
+        → HasStep job m w o run (Stops held frame)
         → StepsTo m (event.Call server (call.Close run.from)) r n → HasRun job n w o (after_stop w run held frame r)
     stops held frame r o has step = by r (own.closes m n server run.from r step) step
       where
-        next : (frame : Option ℕ) → HasJobPipe n run.worker → HasAll n w o run held frame → HasRun job n w o (stopped w run held frame)
+        next : (frame : Option ℕ) → HasJobPipe n run.worker → HasAll n w o run held frame
+            → HasRun job n w o (stopped w run held frame)
         next None hired all = finishes run.broken w.chunked held all.bytes o hired refl refl all.has.holds all.ends
         next (Some f) hired all = (hired, all)
 
-        by : (r : Reply) → caller.Closes m server run.from r n → StepsTo m (event.Call server (call.Close run.from)) r n → HasRun job n w o (after_stop w run held frame r)
+        by : (r : Reply) → caller.Closes m server run.from r n → StepsTo m (event.Call server (call.Close run.from)) r n
+            → HasRun job n w o (after_stop w run held frame r)
         by reply.Done did step = next frame
-            (still-hired (call.Close run.from) reply.Done step (ends-differ m run.from (job_pipe run.worker) has.0.0 hired.0 has.0.1 hired.1))
-            (has-all-on m n w o run held frame (λ a bytes u is. is_readable (call.Close run.from) reply.Done step a bytes refl is) has.1)
+            (still-hired (call.Close run.from) reply.Done step
+            (ends-differ m run.from (job_pipe run.worker) has.0.0 hired.0 has.0.1 hired.1))
+            (has-all-on m n w o run held frame (λ a bytes u is. is_readable (call.Close run.from) reply.Done step a
+            bytes refl is) has.1)
         by (reply.Refused y) did step = same o (Runs run (Stops held frame)) did (hired, has)
         by r did step = absurd did
 
@@ -120,67 +149,108 @@ module _ (steps : EachStepLeavesTheRest) (own : CallsServeTheirDomain) (m n : St
         off None is a u = absurd (cc (u))
         off (Some x) is a u = let e : x.0 ≡ a = grind (arith, nat_tests, u) in subst (λ z. (f == z) ≡ false) e is
 
-        by : (r : Reply) → caller.Drops m server f r n → StepsTo m (event.Call server (call.AggDrop f)) r n → HasRun job n w o (after_release_frame w run f held r)
-        by reply.Done did step = finishes run.broken w.chunked held has.bytes o (still-hired (call.AggDrop f) reply.Done step refl) refl refl
-            (held-on m n w held has.bytes (λ a bytes u is. is_readable (call.AggDrop f) reply.Done step a bytes (off held has.has.apart a u) is) has.has.holds) has.ends
+        by : (r : Reply) → caller.Drops m server f r n → StepsTo m (event.Call server (call.AggDrop f)) r n
+            → HasRun job n w o (after_release_frame w run f held r)
+        by reply.Done did step =
+            finishes run.broken w.chunked held has.bytes o (still-hired (call.AggDrop f) reply.Done step refl) refl refl
+            (held-on m n w held has.bytes (λ a bytes u is. is_readable (call.AggDrop f) reply.Done step a bytes
+            (off held has.has.apart a u) is) has.has.holds) has.ends
         by (reply.Refused y) did step = same o (Runs run (Unframes f held)) did (hired, has)
         by r did step = absurd did
 
     -- of a run that is not broken the end is left
     pub lasts : (held : Following) (r : Reply) (received : List ℕ) (o : Progress) → HasStep job m w o run (Lasts held)
-        → StepsTo m (event.Call server (call.AggMake (end_around held))) r n → Names n r received → HasRun job n w o (after_last run held r received)
+        → StepsTo m (event.Call server (call.AggMake (end_around held))) r n → Names n r received
+        → HasRun job n w o (after_last run held r received)
     lasts held r received o has step names = by r (own.make m n server (end_around held) r order step) step names
       where
         is_left : IsLeft w o (script_body true has.2.bytes)
-        is_left = subst (λ c. IsLeft w o (script_body c has.2.bytes)) has.0 (subst (λ b. Ends b w o has.2.bytes) has.1 has.2.ends)
+        is_left =
+            subst (λ c. IsLeft w o (script_body c has.2.bytes)) has.0
+            (subst (λ b. Ends b w o has.2.bytes) has.1 has.2.ends)
 
-        last : (o : Progress) (held : Following) (x len : ℕ) → HasJobPipe n run.worker → IsHeld n w held has.2.bytes → has_followed held x ≡ false → readable_at n server x ≡ Some (end_around held)
-            → len ≡ length (end_around held) → IsLeft w o (script_body true has.2.bytes) → HasRun job n w o (ending run held x len)
+        last : (o : Progress) (held : Following) (x len : ℕ) → HasJobPipe n run.worker → IsHeld n w held has.2.bytes
+            → has_followed held x ≡ false → readable_at n server x ≡ Some (end_around held)
+            → len ≡ length (end_around held) → IsLeft w o (script_body true has.2.bytes)
+            → HasRun job n w o (ending run held x len)
         last o None x len hired holds off readable count left = record {
           expected = last_chunk;
           left = subst (λ (l : List ℕ). IsLeft w o (script_body true l)) holds left;
           has = begun n x len last_chunk readable count;
           sends = (readable, omega arith);
         }
-        last o (Some y) x len hired holds off readable count left = (hired, record { bytes = has.2.bytes; holds = holds; frames = readable; apart = turned y.0 x off; left = left })
+        last o (Some y) x len hired holds off readable count left = (
+          hired,
+          record {
+            bytes = has.2.bytes;
+            holds = holds;
+            frames = readable;
+            apart = turned y.0 x off;
+            left =
+                left;
+          },
+        )
 
-        by : (r : Reply) → caller.Makes m server (end_around held) r n → StepsTo m (event.Call server (call.AggMake (end_around held))) r n → Names n r received
+        by : (r : Reply) → caller.Makes m server (end_around held) r n
+            → StepsTo m (event.Call server (call.AggMake (end_around held))) r n → Names n r received
             → HasRun job n w o (after_last run held r received)
         by (reply.Agg x) did step names =
-            let here = stay (call.AggMake (end_around held)) (reply.Agg x) o (Lasts held) step (λ a u. refl) (λ g u. refl) has in
+            let here = stay (call.AggMake (end_around held)) (reply.Agg x) o (Lasts held) step (λ a u. refl)
+            (λ g u. refl) has in
             let receives : received ≡ end_around held = some-inj received (end_around held) (sym names ∙ did.0) in
-            last o held x (count_of received) here.0 (held-on m n w held has.2.bytes (λ a bytes u is. is_readable (call.AggMake (end_around held)) (reply.Agg x) step a bytes refl is) has.2.has.holds) (new-held held has.2.bytes x has.2.has.holds did.1) did.0
-            (ap (λ (l : List ℕ). count_of l) receives ∙ counted (end_around held) (made-short m n server x (end_around held) step)) is_left
+            last o held x (count_of received) here.0
+            (held-on m n w held has.2.bytes
+            (λ a bytes u is. is_readable (call.AggMake (end_around held)) (reply.Agg x) step a bytes refl is)
+            has.2.has.holds) (new-held held has.2.bytes x has.2.has.holds did.1) did.0
+            (ap (λ (l : List ℕ). count_of l) receives
+            ∙ counted (end_around held) (made-short m n server x (end_around held) step)) is_left
         by (reply.Refused y) did step names = same o (Runs run (Lasts held)) did (hired, has)
         by r did step names = absurd did
 
-    pub wraps_last : (held size frame : ℕ) (r : Reply) (received : List ℕ) (o : Progress) → HasStep job m w o run (WrapsLast held size frame)
-        → StepsTo m (event.Call server (call.AggReplace frame (place_in_frame size) (place_in_frame size) held)) r n → Names n r received
+    pub wraps_last : (held size frame : ℕ) (r : Reply) (received : List ℕ) (o : Progress)
+        → HasStep job m w o run (WrapsLast held size frame)
+        → StepsTo m (event.Call server (call.AggReplace frame (place_in_frame size) (place_in_frame size) held)) r n
+        → Names n r received
         → HasRun job n w o (Runs run (after_wrap_last held size frame r received))
     wraps_last held size frame r received o has step names =
-        by r (own.replace m n server frame (place_in_frame size) (place_in_frame size) held (end_around (Some (held, size))) has.bytes r order has.frames has.holds.is_readable step) step names
+        by r (own.replace m n server frame (place_in_frame size) (place_in_frame size) held
+        (end_around (Some (held, size))) has.bytes r order has.frames has.holds.is_readable step) step names
       where
         made : List ℕ
         made = chunk_head size ++ (has.bytes ++ (chunk_end ++ last_chunk))
 
-        by : (r : Reply) → caller.Makes m server (take (place_in_frame size) (end_around (Some (held, size))) ++ has.bytes ++ drop (place_in_frame size) (end_around (Some (held, size)))) r n
-            → StepsTo m (event.Call server (call.AggReplace frame (place_in_frame size) (place_in_frame size) held)) r n → Names n r received
+        by : (r : Reply)
+            → caller.Makes m server (take (place_in_frame size) (end_around (Some (held, size))) ++ has.bytes
+            ++ drop (place_in_frame size) (end_around (Some (held, size)))) r n
+            → StepsTo m (event.Call server (call.AggReplace frame (place_in_frame size) (place_in_frame size) held)) r n
+            → Names n r received
             → HasRun job n w o (Runs run (after_wrap_last held size frame r received))
         by (reply.Agg x) did step names =
-            let here = stay (call.AggReplace frame (place_in_frame size) (place_in_frame size) held) (reply.Agg x) o (WrapsLast held size frame) step (λ a u. refl) (λ g u. refl) has in
-            let readable : readable_at n server x ≡ Some made = did.0 ∙ ap (λ (l : List ℕ). Some l) (set_between (chunk_head size) (chunk_end ++ last_chunk) has.bytes) in
+            let here = stay (call.AggReplace frame (place_in_frame size) (place_in_frame size) held) (reply.Agg x) o
+            (WrapsLast held size frame) step (λ a u. refl) (λ g u. refl) has in
+            let readable : readable_at n server x ≡ Some made =
+            did.0
+            ∙ ap (λ (l : List ℕ). Some l) (set_between (chunk_head size) (chunk_end ++ last_chunk) has.bytes) in
             let receives : received ≡ made = some-inj received made (sym names ∙ readable) in
             let c = has.holds.count in
             let f = has.holds.few in
             let few : length has.bytes ≤ CHUNK_BYTES = omega (arith, c, f) in (
               here.0,
               (
-                ((here.1.bytes, here.1.holds.is_readable), or_from (frame == held) (x == held) has.apart (turned held x (new-other m held x has.bytes has.holds.is_readable did.1))),
-                ((end_around (Some (held, size)), here.1.frames), turned frame x (new-other m frame x (end_around (Some (held, size))) has.frames did.1)),
+                (
+                  (here.1.bytes, here.1.holds.is_readable),
+                  or_from (frame == held) (x == held) has.apart
+                      (turned held x (new-other m held x has.bytes has.holds.is_readable did.1)),
+                ),
+                (
+                  (end_around (Some (held, size)), here.1.frames),
+                  turned frame x (new-other m frame x (end_around (Some (held, size))) has.frames did.1),
+                ),
                 record {
                   bytes = made;
                   is_readable = readable;
-                  count = ap (λ (l : List ℕ). count_of l) receives ∙ counted made (short-chunk size has.bytes (chunk_end ++ last_chunk) few (omega arith));
+                  count = ap (λ (l : List ℕ). count_of l) receives
+                      ∙ counted made (short-chunk size has.bytes (chunk_end ++ last_chunk) few (omega arith));
                   left = last-left w o has.bytes size has.holds.count has.holds.some has.holds.few has.left;
                 },
               ),
@@ -192,11 +262,23 @@ module _ (steps : EachStepLeavesTheRest) (own : CallsServeTheirDomain) (m n : St
         → StepsTo m (event.Call server (call.AggDrop frame)) r n → HasRun job n w o (after_unwrap run frame a len r)
     unwraps frame a len r o has step = by r (own.drops m n server frame r order step) step
       where
-        over : (o : Progress) (bytes : List ℕ) → IsLeft w o bytes → readable_at n server a ≡ Some bytes → len ≡ length bytes → HasRun job n w o (Leaves (phase.Sends a len 0 None))
-        over o bytes left readable count = record { expected = bytes; left = left; has = begun n a len bytes readable count; sends = (readable, omega arith) }
+        over : (o : Progress) (bytes : List ℕ) → IsLeft w o bytes → readable_at n server a ≡ Some bytes
+            → len ≡ length bytes → HasRun job n w o (Leaves (phase.Sends a len 0 None))
+        over o bytes left readable count =
+            record {
+              expected = bytes;
+              left = left;
+              has = begun n a len bytes readable count;
+              sends =
+                  (readable, omega arith);
+            }
 
-        by : (r : Reply) → caller.Drops m server frame r n → StepsTo m (event.Call server (call.AggDrop frame)) r n → HasRun job n w o (after_unwrap run frame a len r)
-        by reply.Done did step = over o has.1.bytes has.1.left (is_readable (call.AggDrop frame) reply.Done step a has.1.bytes (turned a frame has.0.1) has.1.is_readable) has.1.count
+        by : (r : Reply) → caller.Drops m server frame r n → StepsTo m (event.Call server (call.AggDrop frame)) r n
+            → HasRun job n w o (after_unwrap run frame a len r)
+        by reply.Done did step =
+            over o has.1.bytes has.1.left
+            (is_readable (call.AggDrop frame) reply.Done step a has.1.bytes (turned a frame has.0.1) has.1.is_readable)
+            has.1.count
         by (reply.Refused y) did step = same o (Runs run (Unwraps frame a len)) did (hired, has)
         by r did step = absurd did
 
@@ -206,19 +288,26 @@ module _ (steps : EachStepLeavesTheRest) (own : CallsServeTheirDomain) (m n : St
         → StepsTo m (event.Call server (call.Close write)) r n → HasRun job n w o (Runs run (after_return write r))
     returns write r o has step = by r (own.closes m n server write r step) step
       where
-        by : (r : Reply) → caller.Closes m server write r n → StepsTo m (event.Call server (call.Close write)) r n → HasRun job n w o (Runs run (after_return write r))
+        by : (r : Reply) → caller.Closes m server write r n → StepsTo m (event.Call server (call.Close write)) r n
+            → HasRun job n w o (Runs run (after_return write r))
         by reply.Done did step = (
           still-hired (call.Close write) reply.Done step has.0.apart,
-          (still-reading (call.Close write) reply.Done step (write-elsewhere m run write has.0) (has.0.pipe, has.0.read_end), has.1),
+          (
+            still-reading (call.Close write) reply.Done step (write-elsewhere m run write has.0)
+                (has.0.pipe, has.0.read_end),
+            has.1,
+          ),
         )
         by (reply.Refused y) did step = same o (Runs run (Returns write)) did (hired, has)
         by r did step = absurd did
 
     pub fails : (r : Reply) (received : List ℕ) (o : Progress) → HasStep job m w o run Fails
-        → StepsTo m (event.Call server (call.Close run.from)) r n → AfterReply (Runs run Fails) (after_fail run r) r received o
+        → StepsTo m (event.Call server (call.Close run.from)) r n
+        → AfterReply (Runs run Fails) (after_fail run r) r received o
     fails r received o has step = by r (own.closes m n server run.from r step)
       where
-        by : (r : Reply) → caller.Closes m server run.from r n → AfterReply (Runs run Fails) (after_fail run r) r received o
+        by : (r : Reply) → caller.Closes m server run.from r n
+            → AfterReply (Runs run Fails) (after_fail run r) r received o
         by reply.Done did = (
           NotRun 503 [],
           refl,

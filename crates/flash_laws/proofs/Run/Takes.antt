@@ -1,5 +1,6 @@
 -- The bytes that the connection took count as taken; the reasons for which a response is aborted, or a script given up.
-use Rattle.std.proofs.Common.{inl, inr, ◌≡◌, ℕ, ◌+◌, ◌==◌, ◌⊎◌, List, [], ◌∷◌, length, ap, ◌-◌, ◌∙◌, refl, sym, subst, arith, Option, Some, None, true, false, Bool, length-append, if◌then◌else◌}
+use Rattle.std.proofs.Common.{inl, inr, ◌≡◌, ℕ, ◌+◌, ◌==◌, ◌⊎◌, List, [], ◌∷◌, length, ap, ◌-◌, ◌∙◌, refl, sym, subst}
+use Rattle.std.proofs.Common.{arith, Option, Some, None, true, false, Bool, length-append, if◌then◌else◌}
 use Rattle.std.specs.Prelude.{◌||◌, ◌&&◌, not, nat_lt, is_none, MatchOption}
 use Rattle.iol_core.specs.State.{State, descriptor, is_live, pipe_at, conn_at, is_gone}
 use Rattle.iol_core.specs.Calls.Descriptors.{too_many_open, denied_by, needed_pool}
@@ -22,10 +23,13 @@ use Rattle.iol_laws.specs.RefusalsLeft.{RefusalsThatAreLeft, CannotPut}
 use Rattle.flash_http.specs.Request.{serve, Wanted}
 use Rattle.flash_laws.specs.Conn as conn
 use Rattle.flash_laws.specs.Conn.{Following}
-use Rattle.flash_laws.specs.Run.Fits.{Progress, Ran, Broken, NotRun, IsLeft, Continues, HasPart, HasRest, HasStep, HasRun}
+use Rattle.flash_laws.specs.Run.Fits.{Progress, Ran, Broken, NotRun, IsLeft, Continues, HasPart, HasRest, HasStep}
+use Rattle.flash_laws.specs.Run.Fits.{HasRun}
 use Rattle.flash_laws.specs.Conn.OfferedBytes.{taken_of, newly_taken, is_dropping}
-use Rattle.flash_laws.specs.Run.OfferedBytes.{receives_on, takes_on, PartLearns, StepLearns, Learns, taken_by, past_of, breaks_off, IsCutOff, is_failing, IsLost, ComesAfter}
-use Rattle.flash_laws.specs.Run.{worker_domain, job_pipe, held_size, in_phase, step_wants, wants, is_again, after_give, after_hand, after_sending, after_step, after_reply, is_left, is_over}
+use Rattle.flash_laws.specs.Run.OfferedBytes.{receives_on, takes_on, PartLearns, StepLearns, Learns, taken_by, past_of}
+use Rattle.flash_laws.specs.Run.OfferedBytes.{breaks_off, IsCutOff, is_failing, IsLost, ComesAfter}
+use Rattle.flash_laws.specs.Run.{worker_domain, job_pipe, held_size, in_phase, step_wants, wants, is_again, after_give}
+use Rattle.flash_laws.specs.Run.{after_hand, after_sending, after_step, after_reply, is_left, is_over}
 use Rattle.flash_laws.specs.Site.{server}
 use Rattle.flash_laws.specs.declared.phase.Payload.TheVariants.{Error}
 use Rattle.flash_laws.specs.declared.phase.Phase.{Phase}
@@ -33,7 +37,8 @@ use Rattle.flash_laws.specs.declared.phase.Phase.TheVariants as phase
 use Rattle.flash_laws.specs.declared.script_run.TheConstants.{CHUNK_BYTES}
 use Rattle.flash_laws.specs.declared.script_run.Run.{Run}
 use Rattle.flash_laws.specs.declared.script_run.Step.{Step}
-use Rattle.flash_laws.specs.declared.script_run.Step.TheVariants.{Gives, Hands, Sending, Receives, Returns, Lapses, Fails}
+use Rattle.flash_laws.specs.declared.script_run.Step.TheVariants.{Gives, Hands, Sending, Receives, Returns, Lapses}
+use Rattle.flash_laws.specs.declared.script_run.Step.TheVariants.{Fails}
 use Rattle.flash_laws.specs.declared.script_run.Running.{Running}
 use Rattle.flash_laws.specs.declared.script_run.Running.TheVariants.{Awaits, Runs, Leaves, Closes}
 use Rattle.flash_laws.proofs.Conn.Responses.{some-inj}
@@ -72,28 +77,38 @@ left-whole w Broken expected left is = left
 left-whole w x expected left is = cc (is)
 
 -- the output may not be read: it is broken off
-bars-breaks : (w : Wanted) (run : Run) (s : Step) (r : Reply) (received : List ℕ) → Bars s r → breaks_off (after_step w run s r received) ≡ true
+bars-breaks : (w : Wanted) (run : Run) (s : Step) (r : Reply) (received : List ℕ) → Bars s r
+    → breaks_off (after_step w run s r received) ≡ true
 bars-breaks w run (Receives None frame) (reply.Refused (no.Denied p)) received bars = refl
 bars-breaks w run (Receives (Some x) frame) (reply.Refused (no.Denied p)) received bars = refl
 bars-breaks w run s r received bars = absurd bars
 
 module _ (job : ℕ → List ℕ) (m : State) (w : Wanted) (run : Run) where
-  past-step : (s : Step) (r : Reply) (received : List ℕ) (before after : Progress) → is_part s ≡ false → HasStep job m w before run s → (Bars s r → ⊥)
+  past-step : (s : Step) (r : Reply) (received : List ℕ) (before after : Progress) → is_part s ≡ false
+      → HasStep job m w before run s → (Bars s r → ⊥)
       → StepLearns m s r received before after → past_of after ≡ past_of before
   past-step (Sending d frame) r received before after plain has open_yet learns = absurd (cc (plain))
-  past-step (Receives held frame) (reply.Agg n) received before after plain has open_yet learns = ap (λ (o : Progress). past_of o) learns ∙ past-receives before received
-  past-step (Receives held frame) (reply.Refused (no.Denied p)) received before after plain has open_yet learns = absurd (open_yet tt)
-  past-step Fails reply.Done received before after plain has open_yet learns = ap (λ (o : Progress). past_of o) learns ∙ sym (ap (λ (o : Progress). past_of o) has.1.1)
+  past-step (Receives held frame) (reply.Agg n) received before after plain has open_yet learns =
+      ap (λ (o : Progress). past_of o) learns ∙ past-receives before received
+  past-step (Receives held frame) (reply.Refused (no.Denied p)) received before after plain has open_yet learns =
+      absurd (open_yet tt)
+  past-step Fails reply.Done received before after plain has open_yet learns = ap (λ (o : Progress). past_of o) learns
+      ∙ sym (ap (λ (o : Progress). past_of o) has.1.1)
   past-step s r received before after plain has open_yet learns = ap (λ (o : Progress). past_of o) learns
 
 -- the descriptor of the job pipe is not the connection's
-job-elsewhere : (m : State) (fd c p worker : ℕ) → descriptor m server fd ≡ Some (on.Connection c) → descriptor m server (job_pipe worker) ≡ Some (on.WriteEnd p) → (job_pipe worker == fd) ≡ false
-job-elsewhere m fd c p worker open_on hired = not-equal (job_pipe worker) fd (λ e. let f = ap (λ k. descriptor m server k) e in absurd (cc (f, open_on, hired)))
+job-elsewhere : (m : State) (fd c p worker : ℕ) → descriptor m server fd ≡ Some (on.Connection c)
+    → descriptor m server (job_pipe worker) ≡ Some (on.WriteEnd p) → (job_pipe worker == fd) ≡ false
+job-elsewhere m fd c p worker open_on hired =
+    not-equal (job_pipe worker) fd (λ e. let f = ap (λ k. descriptor m server k) e in absurd (cc (f, open_on, hired)))
 
-takes-nothing : (job : ℕ → List ℕ) (m : State) (w : Wanted) (run : Run) (fd c p : ℕ) (s : Step) (r : Reply) → is_part s ≡ false → descriptor m server fd ≡ Some (on.Connection c)
-    → descriptor m server (job_pipe run.worker) ≡ Some (on.WriteEnd p) → newly_taken fd (step_wants job fd w run s) r ≡ 0
+takes-nothing : (job : ℕ → List ℕ) (m : State) (w : Wanted) (run : Run) (fd c p : ℕ) (s : Step) (r : Reply)
+    → is_part s ≡ false → descriptor m server fd ≡ Some (on.Connection c)
+    → descriptor m server (job_pipe run.worker) ≡ Some (on.WriteEnd p)
+    → newly_taken fd (step_wants job fd w run s) r ≡ 0
 takes-nothing job m w run fd c p (Sending d frame) r plain open_on hired = absurd (cc (plain))
-takes-nothing job m w run fd c p (Hands j f) (reply.Count k) plain open_on hired = ap (λ b. if b then k else 0) (job-elsewhere m fd c p run.worker open_on hired)
+takes-nothing job m w run fd c p (Hands j f) (reply.Count k) plain open_on hired =
+    ap (λ b. if b then k else 0) (job-elsewhere m fd c p run.worker open_on hired)
 takes-nothing job m w run fd c p (Hands j f) r plain open_on hired = refl
 takes-nothing job m w run fd c p s r plain open_on hired = refl
 
@@ -106,9 +121,11 @@ taken-over true = refl
 taken-over false = refl
 
 -- how much counts as taken once a reply came
-module _ (steps : EachStepLeavesTheRest) (own : CallsServeTheirDomain) (m n : State) (order : IsOrderly m) (w : Wanted) (fd c : ℕ) (open_on : descriptor m server fd ≡ Some (on.Connection c)) where
+module _ (steps : EachStepLeavesTheRest) (own : CallsServeTheirDomain) (m n : State) (order : IsOrderly m) (w : Wanted)
+    (fd c : ℕ) (open_on : descriptor m server fd ≡ Some (on.Connection c)) where
   -- all of a part
-  whole : (expected : List ℕ) (a taken : ℕ) (before after : Progress) → SendsAll m w expected (phase.Sent a taken None) → (before ≡ Broken → ⊥)
+  whole : (expected : List ℕ) (a taken : ℕ) (before after : Progress) → SendsAll m w expected (phase.Sent a taken None)
+      → (before ≡ Broken → ⊥)
       → PartLearns m (phase.Sent a taken None) reply.Done before after → past_of after ≡ past_of before + taken
   whole expected a taken before after has open_yet learns =
       let part = some-inj learns.0 expected (sym learns.1 ∙ has.1) in
@@ -118,10 +135,12 @@ module _ (steps : EachStepLeavesTheRest) (own : CallsServeTheirDomain) (m n : St
       omega (arith, grows, all, is)
 
   -- a part that is sent on
-  part : (expected : List ℕ) (d : Phase) (r : Reply) (received : List ℕ) (before after : Progress) → SendsAll m w expected d
+  part : (expected : List ℕ) (d : Phase) (r : Reply) (received : List ℕ) (before after : Progress)
+      → SendsAll m w expected d
       → StepsTo m (event.Call server (conn.wants fd (in_phase w d))) r n → is_sent d ≡ false → is_dropping d ≡ false
       → is_dropping (conn.after_reply (in_phase w d) r received).phase ≡ false → after ≡ before
-      → past_of after + taken_of (conn.after_reply (in_phase w d) r received).phase ≡ past_of before + taken_of d + newly_taken fd (conn.wants fd (in_phase w d)) r
+      → past_of after + taken_of (conn.after_reply (in_phase w d) r received).phase ≡ past_of before + taken_of d
+      + newly_taken fd (conn.wants fd (in_phase w d)) r
   part expected d r received before after has step unsent at on learns =
       let counts = left.counts steps own m n order w expected fd c d r received open_on has step unsent at on in
       let is = ap (λ (o : Progress). past_of o) learns in
@@ -129,23 +148,37 @@ module _ (steps : EachStepLeavesTheRest) (own : CallsServeTheirDomain) (m n : St
 
   -- what is left
   rest : (d : Phase) (r : Reply) (received : List ℕ) (before after : Progress) (h : HasRest m w before d)
-      → StepsTo m (event.Call server (conn.wants fd (in_phase w d))) r n → PartLearns m d r before after → is_dropping d ≡ false
+      → StepsTo m (event.Call server (conn.wants fd (in_phase w d))) r n → PartLearns m d r before after
+      → is_dropping d ≡ false
       → is_dropping (conn.after_reply (in_phase w d) r received).phase ≡ false
-      → past_of after + taken_of (conn.after_reply (in_phase w d) r received).phase ≡ past_of before + taken_of d + newly_taken fd (conn.wants fd (in_phase w d)) r
+      → past_of after + taken_of (conn.after_reply (in_phase w d) r received).phase ≡ past_of before + taken_of d
+      + newly_taken fd (conn.wants fd (in_phase w d)) r
   rest (phase.Heads (Error status)) r received before after h step learns at on =
       let is = ap (λ (o : Progress). past_of o) learns in
       let none = taken-headed status r received in
       omega (arith, is, none)
-  rest (phase.Sends a len taken None) r received before after h step learns at on = part h.expected (phase.Sends a len taken None) r received before after (h.has, h.sends.0, h.sends.1) step refl refl on learns
-  rest (phase.Cuts a from len taken None) r received before after h step learns at on = part h.expected (phase.Cuts a from len taken None) r received before after (h.has, h.sends.0, h.sends.1) step refl refl on learns
-  rest (phase.Offers a from len piece taken None) r received before after h step learns at on = part h.expected (phase.Offers a from len piece taken None) r received before after (h.has, h.sends.0, h.sends.1) step refl refl on learns
-  rest (phase.Swaps a from len piece taken None) r received before after h step learns at on = part h.expected (phase.Swaps a from len piece taken None) r received before after (h.has, h.sends.0, h.sends.1) step refl refl on learns
-  rest (phase.Sent a taken None) r received before after h step learns at on = by r (own.drops m n server a r order step) learns
+  rest (phase.Sends a len taken None) r received before after h step learns at on =
+      part h.expected (phase.Sends a len taken None) r received before after (h.has, h.sends.0, h.sends.1) step refl
+      refl on learns
+  rest (phase.Cuts a from len taken None) r received before after h step learns at on =
+      part h.expected (phase.Cuts a from len taken None) r received before after (h.has, h.sends.0, h.sends.1) step refl
+      refl on learns
+  rest (phase.Offers a from len piece taken None) r received before after h step learns at on =
+      part h.expected (phase.Offers a from len piece taken None) r received before after (h.has, h.sends.0, h.sends.1)
+      step refl refl on learns
+  rest (phase.Swaps a from len piece taken None) r received before after h step learns at on =
+      part h.expected (phase.Swaps a from len piece taken None) r received before after (h.has, h.sends.0, h.sends.1)
+      step refl refl on learns
+  rest (phase.Sent a taken None) r received before after h step learns at on =
+      by r (own.drops m n server a r order step) learns
     where
       by : (r : Reply) → caller.Drops m server a r n → PartLearns m (phase.Sent a taken None) r before after
-          → past_of after + taken_of (conn.after_taken (serve w) a taken None r) ≡ past_of before + taken + newly_taken fd (call.AggDrop a) r
+          → past_of after + taken_of (conn.after_taken (serve w) a taken None r) ≡ past_of before + taken + newly_taken
+          fd (call.AggDrop a) r
       by reply.Done did learns =
-          let all = whole h.expected a taken before after (h.has, h.sends.0, h.sends.1) (left-whole w before h.expected h.left) learns in
+          let all =
+          whole h.expected a taken before after (h.has, h.sends.0, h.sends.1)
+          (left-whole w before h.expected h.left) learns in
           let none = taken-over w.keep in
           omega (arith, all, none)
       by (reply.Refused y) did learns = let is = ap (λ (o : Progress). past_of o) learns in omega (arith, is)
@@ -155,19 +188,33 @@ module _ (steps : EachStepLeavesTheRest) (own : CallsServeTheirDomain) (m n : St
   rest d r received before after h step learns at on = absurd h.sends.0
 
   -- a part
-  sending : (run : Run) (d : Phase) (frame : Option ℕ) (r : Reply) (before after : Progress) (h : HasPart m w before run d frame)
-      → StepsTo m (event.Call server (conn.wants fd (in_phase w d))) r n → PartLearns m d r before after → is_dropping d ≡ false
+  sending : (run : Run) (d : Phase) (frame : Option ℕ) (r : Reply) (before after : Progress)
+      (h : HasPart m w before run d frame)
+      → StepsTo m (event.Call server (conn.wants fd (in_phase w d))) r n → PartLearns m d r before after
+      → is_dropping d ≡ false
       → breaks_off (after_sending run d frame r) ≡ false
-      → past_of after + taken_by (after_sending run d frame r) ≡ past_of before + taken_of d + newly_taken fd (conn.wants fd (in_phase w d)) r
-  sending run (phase.Sends a len taken None) frame r before after h step learns at on = part h.part (phase.Sends a len taken None) r [] before after (h.has, h.is_part, h.within) step refl refl on learns
-  sending run (phase.Cuts a from len taken None) frame r before after h step learns at on = part h.part (phase.Cuts a from len taken None) r [] before after (h.has, h.is_part, h.within) step refl refl on learns
-  sending run (phase.Offers a from len piece taken None) frame r before after h step learns at on = part h.part (phase.Offers a from len piece taken None) r [] before after (h.has, h.is_part, h.within) step refl refl on learns
-  sending run (phase.Swaps a from len piece taken None) frame r before after h step learns at on = part h.part (phase.Swaps a from len piece taken None) r [] before after (h.has, h.is_part, h.within) step refl refl on learns
-  sending run (phase.Sent a taken None) frame r before after h step learns at on = by r (own.drops m n server a r order step) learns
+      → past_of after + taken_by (after_sending run d frame r) ≡ past_of before + taken_of d + newly_taken fd
+      (conn.wants fd (in_phase w d)) r
+  sending run (phase.Sends a len taken None) frame r before after h step learns at on =
+      part h.part (phase.Sends a len taken None) r [] before after (h.has, h.is_part, h.within) step refl refl on learns
+  sending run (phase.Cuts a from len taken None) frame r before after h step learns at on =
+      part h.part (phase.Cuts a from len taken None) r [] before after (h.has, h.is_part, h.within) step refl refl on
+      learns
+  sending run (phase.Offers a from len piece taken None) frame r before after h step learns at on =
+      part h.part (phase.Offers a from len piece taken None) r [] before after (h.has, h.is_part, h.within) step refl
+      refl on learns
+  sending run (phase.Swaps a from len piece taken None) frame r before after h step learns at on =
+      part h.part (phase.Swaps a from len piece taken None) r [] before after (h.has, h.is_part, h.within) step refl
+      refl on learns
+  sending run (phase.Sent a taken None) frame r before after h step learns at on =
+      by r (own.drops m n server a r order step) learns
     where
       by : (r : Reply) → caller.Drops m server a r n → PartLearns m (phase.Sent a taken None) r before after
-          → past_of after + taken_by (after_sending run (phase.Sent a taken None) frame r) ≡ past_of before + taken + newly_taken fd (call.AggDrop a) r
-      by reply.Done did learns = let all = whole h.part a taken before after (h.has, h.is_part, h.within) (goes-whole w before h.part h.continues) learns in omega (arith, all)
+          → past_of after + taken_by (after_sending run (phase.Sent a taken None) frame r) ≡ past_of before + taken
+          + newly_taken fd (call.AggDrop a) r
+      by reply.Done did learns = let all =
+          whole h.part a taken before after (h.has, h.is_part, h.within) (goes-whole w before h.part h.continues)
+          learns in omega (arith, all)
       by (reply.Refused y) did learns = let is = ap (λ (o : Progress). past_of o) learns in omega (arith, is)
       by r did learns = absurd did
   sending run (phase.Breaks piece a None) frame r before after h step learns at on = absurd (cc (at))
@@ -175,111 +222,153 @@ module _ (steps : EachStepLeavesTheRest) (own : CallsServeTheirDomain) (m n : St
   sending run d frame r before after h step learns at on = absurd h.is_part
 
 -- any other step
-plain-takes : (job : ℕ → List ℕ) (m : State) (w : Wanted) (run : Run) (fd c : ℕ) (s : Step) (r : Reply) (received : List ℕ) (before after : Progress) → is_part s ≡ false
-    → descriptor m server fd ≡ Some (on.Connection c) → HasRun job m w before (Runs run s) → StepLearns m s r received before after
+plain-takes : (job : ℕ → List ℕ) (m : State) (w : Wanted) (run : Run) (fd c : ℕ) (s : Step) (r : Reply)
+    (received : List ℕ) (before after : Progress) → is_part s ≡ false
+    → descriptor m server fd ≡ Some (on.Connection c) → HasRun job m w before (Runs run s)
+    → StepLearns m s r received before after
     → breaks_off (after_step w run s r received) ≡ false
-    → past_of after + taken_by (after_step w run s r received) ≡ past_of before + taken_by (Runs run s) + newly_taken fd (step_wants job fd w run s) r
+    → past_of after + taken_by (after_step w run s r received) ≡ past_of before + taken_by (Runs run s) + newly_taken fd
+    (step_wants job fd w run s) r
 plain-takes job m w run fd c s r received before after plain open_on has learns on =
-    let past = past-step job m w run s r received before after plain has.1 (λ bars. clash (breaks_off (after_step w run s r received)) (bars-breaks w run s r received bars) on) learns in
+    let past =
+    past-step job m w run s r received before after plain has.1
+    (λ bars. clash (breaks_off (after_step w run s r received)) (bars-breaks w run s r received bars) on) learns in
     let new = (quiet w run s r received plain).0 in
     let was = taken-plain run s plain in
     let none = takes-nothing job m w run fd c has.0.0 s r plain open_on has.0.1 in
     omega (arith, past, new, was, none)
 
-pub takes : (steps : EachStepLeavesTheRest) (own : CallsServeTheirDomain) (job : ℕ → List ℕ) (m n : State) (fd c worker : ℕ) (w : Wanted) (x : Running) (r : Reply) (received : List ℕ) (before after : Progress)
+pub takes : (steps : EachStepLeavesTheRest) (own : CallsServeTheirDomain) (job : ℕ → List ℕ) (m n : State)
+    (fd c worker : ℕ) (w : Wanted) (x : Running) (r : Reply) (received : List ℕ) (before after : Progress)
     → IsOrderly m → descriptor m server fd ≡ Some (on.Connection c) → is_over x ≡ false → HasRun job m w before x
     → StepsTo m (event.Call server (wants job fd w x)) r n → Learns m x r received before after
     → breaks_off x ≡ false → breaks_off (after_reply worker w x r received) ≡ false
-    → past_of after + taken_by (after_reply worker w x r received) ≡ past_of before + taken_by x + newly_taken fd (wants job fd w x) r
+    → past_of after + taken_by (after_reply worker w x r received) ≡ past_of before + taken_by x + newly_taken fd
+    (wants job fd w x) r
 takes steps own job m n fd c worker w Awaits r received before after order open_on going has step learns at on = by r
   where
-    by : (r : Reply) → past_of after + taken_by (after_reply worker w Awaits r received) ≡ past_of before + 0 + newly_taken fd call.Pipe r
+    by : (r : Reply) → past_of after + taken_by (after_reply worker w Awaits r received) ≡ past_of before + 0
+        + newly_taken fd call.Pipe r
     by (reply.Fds from write) = let is = ap (λ (o : Progress). past_of o) learns in omega (arith, is)
     by r = let is = ap (λ (o : Progress). past_of o) learns in omega (arith, is)
 takes steps own job m n fd c worker w (Leaves d) r received before after order open_on going has step learns at on =
-    rest steps own m n order w fd c open_on d r received before after (is-rest m w before d (not-false (is_left d) going) has) step learns at on
-takes steps own job m n fd c worker w Closes r received before after order open_on going has step learns at on = absurd (cc (going))
-takes steps own job m n fd c worker w (Runs run (Sending d frame)) r received before after order open_on going has step learns at on =
+    rest steps own m n order w fd c open_on d r received before after
+    (is-rest m w before d (not-false (is_left d) going) has) step learns at on
+takes steps own job m n fd c worker w Closes r received before after order open_on going has step learns at on =
+    absurd (cc (going))
+takes steps own job m n fd c worker w (Runs run (Sending d frame)) r received before after order open_on going has step
+    learns at on =
     sending steps own m n order w fd c open_on run d frame r before after has.1 step learns at on
 takes steps own job m n fd c worker w (Runs run s) r received before after order open_on going has step learns at on =
     plain-takes job m w run fd c s r received before after refl open_on has learns on
 
 -- ---- why it is broken off
 
-barred : (why : RefusalsTellWhy) (job : ℕ → List ℕ) (m n : State) (fd c : ℕ) (w : Wanted) (o : Progress) (run : Run) (s : Step) (r : Reply) → Bars s r
-    → HasStep job m w o run s → StepsTo m (event.Call server (step_wants job fd w run s)) r n → IsCutOff m c (Runs run s)
+barred : (why : RefusalsTellWhy) (job : ℕ → List ℕ) (m n : State) (fd c : ℕ) (w : Wanted) (o : Progress) (run : Run)
+    (s : Step) (r : Reply) → Bars s r
+    → HasStep job m w o run s → StepsTo m (event.Call server (step_wants job fd w run s)) r n
+    → IsCutOff m c (Runs run s)
 barred why job m n fd c w o run (Receives held frame) (reply.Refused (no.Denied q)) bars has step =
-    inr (has.reads.0, q, has.reads.1, why.pipe_is_hidden m n server run.from has.reads.0 (CHUNK_BYTES - held_size held) q has.reads.1 step)
+    inr (
+      has.reads.0,
+      q,
+      has.reads.1,
+      why.pipe_is_hidden m n server run.from has.reads.0 (CHUNK_BYTES - held_size held)
+          q has.reads.1 step,
+    )
 barred why job m n fd c w o run s r bars has step = absurd bars
 
 -- a part is dropped only where nobody takes it
-module _ (why : RefusalsTellWhy) (m n : State) (fd c : ℕ) (open_on : descriptor m server fd ≡ Some (on.Connection c)) where
-  sends-drops : (a len taken : ℕ) (more : Following) (r : Reply) → StepsTo m (event.Call server (call.IolWrite fd a)) r n
-      → is_dropping (conn.after_send a len taken more r) ≡ true → is_gone (conn_at m c).peer ≡ true
-  sends-drops a len taken more (reply.Count k) step off = absurd (by (nat_lt k len) off)
-    where
-      by : (b : Bool) → is_dropping (if b then phase.Cuts a k len (taken + k) more else phase.Sent a (taken + len) more) ≡ true → ⊥
-      by true off = cc (off)
-      by false off = cc (off)
-  sends-drops a len taken more (reply.Refused no.BrokenPipe) step off = why.peer_is_gone m n server fd c a open_on step
-  sends-drops a len taken more r step off = absurd (cc (off))
+module _ (why : RefusalsTellWhy) (m n : State) (fd c : ℕ) (open_on : descriptor m server fd ≡ Some (on.Connection c))
+  where
+    sends-drops : (a len taken : ℕ) (more : Following) (r : Reply)
+        → StepsTo m (event.Call server (call.IolWrite fd a)) r n
+        → is_dropping (conn.after_send a len taken more r) ≡ true → is_gone (conn_at m c).peer ≡ true
+    sends-drops a len taken more (reply.Count k) step off = absurd (by (nat_lt k len) off)
+      where
+        by : (b : Bool)
+            → is_dropping (if b then phase.Cuts a k len (taken + k) more else phase.Sent a (taken + len) more)
+            ≡ true → ⊥
+        by true off = cc (off)
+        by false off = cc (off)
+    sends-drops a len taken more (reply.Refused no.BrokenPipe) step off =
+        why.peer_is_gone m n server fd c a open_on step
+    sends-drops a len taken more r step off = absurd (cc (off))
 
-  offers-drops : (a from len piece taken : ℕ) (more : Following) (r : Reply) → StepsTo m (event.Call server (call.IolWrite fd piece)) r n
-      → is_dropping (conn.after_offer a from len piece taken more r) ≡ true → is_gone (conn_at m c).peer ≡ true
-  offers-drops a from len piece taken more (reply.Count k) step off = absurd (cc (off))
-  offers-drops a from len piece taken more (reply.Refused no.BrokenPipe) step off = why.peer_is_gone m n server fd c piece open_on step
-  offers-drops a from len piece taken more r step off = absurd (cc (off))
+    offers-drops : (a from len piece taken : ℕ) (more : Following) (r : Reply)
+        → StepsTo m (event.Call server (call.IolWrite fd piece)) r n
+        → is_dropping (conn.after_offer a from len piece taken more r) ≡ true → is_gone (conn_at m c).peer ≡ true
+    offers-drops a from len piece taken more (reply.Count k) step off = absurd (cc (off))
+    offers-drops a from len piece taken more (reply.Refused no.BrokenPipe) step off =
+        why.peer_is_gone m n server fd c piece open_on step
+    offers-drops a from len piece taken more r step off = absurd (cc (off))
 
-  cuts-drops : (a from len taken : ℕ) (more : Following) (r : Reply) → is_dropping (conn.after_cut a from len taken more r) ≡ true → ⊥
-  cuts-drops a from len taken more (reply.Agg x) off = cc (off)
-  cuts-drops a from len taken more r off = cc (off)
+    cuts-drops : (a from len taken : ℕ) (more : Following) (r : Reply)
+        → is_dropping (conn.after_cut a from len taken more r) ≡ true → ⊥
+    cuts-drops a from len taken more (reply.Agg x) off = cc (off)
+    cuts-drops a from len taken more r off = cc (off)
 
-  swaps-drops : (a from len piece taken : ℕ) (more : Following) (r : Reply) → is_dropping (conn.after_swap a from len piece taken more r) ≡ true → ⊥
-  swaps-drops a from len piece taken more reply.Done off = by (nat_lt from len) off
-    where
-      by : (b : Bool) → is_dropping (if b then phase.Cuts a from len taken more else phase.Sent a taken more) ≡ true → ⊥
-      by true off = cc (off)
-      by false off = cc (off)
-  swaps-drops a from len piece taken more r off = cc (off)
+    swaps-drops : (a from len piece taken : ℕ) (more : Following) (r : Reply)
+        → is_dropping (conn.after_swap a from len piece taken more r) ≡ true → ⊥
+    swaps-drops a from len piece taken more reply.Done off = by (nat_lt from len) off
+      where
+        by : (b : Bool) → is_dropping (if b then phase.Cuts a from len taken more else phase.Sent a taken more) ≡ true
+            → ⊥
+        by true off = cc (off)
+        by false off = cc (off)
+    swaps-drops a from len piece taken more r off = cc (off)
 
-  heads-drops : (status : ℕ) (r : Reply) (received : List ℕ) → is_dropping (conn.after_head (Error status) r received) ≡ true → ⊥
-  heads-drops status (reply.Agg x) received off = cc (off)
-  heads-drops status r received off = cc (off)
+    heads-drops : (status : ℕ) (r : Reply) (received : List ℕ)
+        → is_dropping (conn.after_head (Error status) r received) ≡ true → ⊥
+    heads-drops status (reply.Agg x) received off = cc (off)
+    heads-drops status r received off = cc (off)
 
-  sent-drops : (w : Wanted) (a taken : ℕ) (r : Reply) → is_dropping (conn.after_taken (serve w) a taken None r) ≡ true → ⊥
-  sent-drops w a taken reply.Done off = by w.keep off
-    where
-      by : (b : Bool) → is_dropping (if b then phase.Rests else phase.Closes) ≡ true → ⊥
-      by true off = cc (off)
-      by false off = cc (off)
-  sent-drops w a taken r off = cc (off)
+    sent-drops : (w : Wanted) (a taken : ℕ) (r : Reply) → is_dropping (conn.after_taken (serve w) a taken None r) ≡ true
+        → ⊥
+    sent-drops w a taken reply.Done off = by w.keep off
+      where
+        by : (b : Bool) → is_dropping (if b then phase.Rests else phase.Closes) ≡ true → ⊥
+        by true off = cc (off)
+        by false off = cc (off)
+    sent-drops w a taken r off = cc (off)
 
-  rest-drops : (w : Wanted) (o : Progress) (d : Phase) (r : Reply) (received : List ℕ) → HasRest m w o d → StepsTo m (event.Call server (conn.wants fd (in_phase w d))) r n
-      → is_dropping d ≡ false → is_dropping (conn.after_reply (in_phase w d) r received).phase ≡ true → is_gone (conn_at m c).peer ≡ true
-  rest-drops w o (phase.Heads (Error status)) r received h step at off = absurd (heads-drops status r received off)
-  rest-drops w o (phase.Sends a len taken None) r received h step at off = sends-drops a len taken None r step off
-  rest-drops w o (phase.Cuts a from len taken None) r received h step at off = absurd (cuts-drops a from len taken None r off)
-  rest-drops w o (phase.Offers a from len piece taken None) r received h step at off = offers-drops a from len piece taken None r step off
-  rest-drops w o (phase.Swaps a from len piece taken None) r received h step at off = absurd (swaps-drops a from len piece taken None r off)
-  rest-drops w o (phase.Sent a taken None) r received h step at off = absurd (sent-drops w a taken r off)
-  rest-drops w o (phase.Breaks piece a None) r received h step at off = absurd (cc (at))
-  rest-drops w o (phase.Drops a None) r received h step at off = absurd (cc (at))
-  rest-drops w o d r received h step at off = absurd h.sends.0
+    rest-drops : (w : Wanted) (o : Progress) (d : Phase) (r : Reply) (received : List ℕ) → HasRest m w o d
+        → StepsTo m (event.Call server (conn.wants fd (in_phase w d))) r n
+        → is_dropping d ≡ false → is_dropping (conn.after_reply (in_phase w d) r received).phase ≡ true
+        → is_gone (conn_at m c).peer ≡ true
+    rest-drops w o (phase.Heads (Error status)) r received h step at off = absurd (heads-drops status r received off)
+    rest-drops w o (phase.Sends a len taken None) r received h step at off = sends-drops a len taken None r step off
+    rest-drops w o (phase.Cuts a from len taken None) r received h step at off =
+        absurd (cuts-drops a from len taken None r off)
+    rest-drops w o (phase.Offers a from len piece taken None) r received h step at off =
+        offers-drops a from len piece taken None r step off
+    rest-drops w o (phase.Swaps a from len piece taken None) r received h step at off =
+        absurd (swaps-drops a from len piece taken None r off)
+    rest-drops w o (phase.Sent a taken None) r received h step at off = absurd (sent-drops w a taken r off)
+    rest-drops w o (phase.Breaks piece a None) r received h step at off = absurd (cc (at))
+    rest-drops w o (phase.Drops a None) r received h step at off = absurd (cc (at))
+    rest-drops w o d r received h step at off = absurd h.sends.0
 
-  sending-drops : (w : Wanted) (o : Progress) (run : Run) (d : Phase) (frame : Option ℕ) (r : Reply) → HasPart m w o run d frame
-      → StepsTo m (event.Call server (conn.wants fd (in_phase w d))) r n → is_dropping d ≡ false
-      → breaks_off (after_sending run d frame r) ≡ true → is_gone (conn_at m c).peer ≡ true
-  sending-drops w o run (phase.Sends a len taken None) frame r h step at off = sends-drops a len taken None r step off
-  sending-drops w o run (phase.Cuts a from len taken None) frame r h step at off = absurd (cuts-drops a from len taken None r off)
-  sending-drops w o run (phase.Offers a from len piece taken None) frame r h step at off = offers-drops a from len piece taken None r step off
-  sending-drops w o run (phase.Swaps a from len piece taken None) frame r h step at off = absurd (swaps-drops a from len piece taken None r off)
-  sending-drops w o run (phase.Sent a taken None) frame reply.Done h step at off = absurd (clash run.broken off h.whole)
-  sending-drops w o run (phase.Sent a taken None) frame r h step at off = absurd (cc (off))
-  sending-drops w o run (phase.Breaks piece a None) frame r h step at off = absurd (cc (at))
-  sending-drops w o run (phase.Drops a None) frame r h step at off = absurd (cc (at))
-  sending-drops w o run d frame r h step at off = absurd h.is_part
+    sending-drops : (w : Wanted) (o : Progress) (run : Run) (d : Phase) (frame : Option ℕ) (r : Reply)
+        → HasPart m w o run d frame
+        → StepsTo m (event.Call server (conn.wants fd (in_phase w d))) r n → is_dropping d ≡ false
+        → breaks_off (after_sending run d frame r) ≡ true → is_gone (conn_at m c).peer ≡ true
+    sending-drops w o run (phase.Sends a len taken None) frame r h step at off = sends-drops a len taken None r step off
+    sending-drops w o run (phase.Cuts a from len taken None) frame r h step at off =
+        absurd (cuts-drops a from len taken None r off)
+    sending-drops w o run (phase.Offers a from len piece taken None) frame r h step at off =
+        offers-drops a from len piece taken None r step off
+    sending-drops w o run (phase.Swaps a from len piece taken None) frame r h step at off =
+        absurd (swaps-drops a from len piece taken None r off)
+    sending-drops w o run (phase.Sent a taken None) frame reply.Done h step at off =
+        absurd (clash run.broken off h.whole)
+    sending-drops w o run (phase.Sent a taken None) frame r h step at off = absurd (cc (off))
+    sending-drops w o run (phase.Breaks piece a None) frame r h step at off = absurd (cc (at))
+    sending-drops w o run (phase.Drops a None) frame r h step at off = absurd (cc (at))
+    sending-drops w o run d frame r h step at off = absurd h.is_part
 
-plain-breaks : (why : RefusalsTellWhy) (job : ℕ → List ℕ) (m n : State) (fd c : ℕ) (w : Wanted) (o : Progress) (run : Run) (s : Step) (r : Reply) (received : List ℕ) → is_part s ≡ false
+plain-breaks : (why : RefusalsTellWhy) (job : ℕ → List ℕ) (m n : State) (fd c : ℕ) (w : Wanted) (o : Progress)
+    (run : Run) (s : Step) (r : Reply) (received : List ℕ) → is_part s ≡ false
     → HasStep job m w o run s → StepsTo m (event.Call server (step_wants job fd w run s)) r n
     → breaks_off (Runs run s) ≡ false → breaks_off (after_step w run s r received) ≡ true → IsCutOff m c (Runs run s)
 plain-breaks why job m n fd c w o run s r received plain has step at off = by ((quiet w run s r received plain).1 off)
@@ -288,7 +377,8 @@ plain-breaks why job m n fd c w o run s r received plain has step at off = by ((
     by (inl is) = absurd (clash run.broken is (sym (broken-plain run s plain) ∙ at))
     by (inr bars) = barred why job m n fd c w o run s r bars has step
 
-pub breaks : (why : RefusalsTellWhy) (job : ℕ → List ℕ) (m n : State) (fd c worker : ℕ) (w : Wanted) (x : Running) (r : Reply) (received : List ℕ) (o : Progress)
+pub breaks : (why : RefusalsTellWhy) (job : ℕ → List ℕ) (m n : State) (fd c worker : ℕ) (w : Wanted) (x : Running)
+    (r : Reply) (received : List ℕ) (o : Progress)
     → descriptor m server fd ≡ Some (on.Connection c) → is_over x ≡ false → HasRun job m w o x
     → StepsTo m (event.Call server (wants job fd w x)) r n
     → breaks_off x ≡ false → breaks_off (after_reply worker w x r received) ≡ true → IsCutOff m c x
@@ -297,78 +387,119 @@ breaks why job m n fd c worker w Awaits r received o open_on going has step at o
     by : (r : Reply) → breaks_off (after_reply worker w Awaits r received) ≡ true → ⊥
     by (reply.Fds from write) off = cc (off)
     by r off = cc (off)
-breaks why job m n fd c worker w (Leaves d) r received o open_on going has step at off = rest-drops why m n fd c open_on w o d r received (is-rest m w o d (not-false (is_left d) going) has) step at off
+breaks why job m n fd c worker w (Leaves d) r received o open_on going has step at off =
+    rest-drops why m n fd c open_on w o d r received (is-rest m w o d (not-false (is_left d) going) has) step at off
 breaks why job m n fd c worker w Closes r received o open_on going has step at off = absurd (cc (going))
-breaks why job m n fd c worker w (Runs run (Sending d frame)) r received o open_on going has step at off = inl (sending-drops why m n fd c open_on w o run d frame r has.1 step at off)
-breaks why job m n fd c worker w (Runs run s) r received o open_on going has step at off = plain-breaks why job m n fd c w o run s r received refl has.1 step at off
+breaks why job m n fd c worker w (Runs run (Sending d frame)) r received o open_on going has step at off =
+    inl (sending-drops why m n fd c open_on w o run d frame r has.1 step at off)
+breaks why job m n fd c worker w (Runs run s) r received o open_on going has step at off =
+    plain-breaks why job m n fd c w o run s r received refl has.1 step at off
 
 -- ---- why a script is given up
 
 -- an end of a pipe is given to a domain that lives, but for want of numbers or of memory
-not-given : (m n : State) (write to p : ℕ) (y : Refusal) → is_live m server ≡ true → descriptor m server write ≡ Some (on.WriteEnd p)
-    → StepsTo m (event.Call server (call.GiveFd write to)) (reply.Refused y) n → is_again y ≡ false → is_live m to ≡ false
+not-given : (m n : State) (write to p : ℕ) (y : Refusal) → is_live m server ≡ true
+    → descriptor m server write ≡ Some (on.WriteEnd p)
+    → StepsTo m (event.Call server (call.GiveFd write to)) (reply.Refused y) n → is_again y ≡ false
+    → is_live m to ≡ false
 not-given m n write to p y lives open_on step is =
     by (is_live m to) (server == to) (too_many_open m to 1) refl
-    (subst (λ (g : Option Descriptor). MatchOption (first ((no.NoDomain when (not (is_live m server) || not (is_live m to))) ∷ (no.BadFd when is_none g) ∷ (no.TooMany when (not (server == to) && too_many_open m to 1)) ∷ denied_by m to (needed_pool m g) ∷ [])) (WantOfMemory y) (λ z. y ≡ z)) open_on step.0)
+    (subst
+    (λ (g : Option Descriptor).
+    MatchOption
+    (first ((no.NoDomain when (not (is_live m server) || not (is_live m to))) ∷ (no.BadFd when is_none g)
+    ∷ (no.TooMany when (not (server == to) && too_many_open m to 1)) ∷ denied_by m to (needed_pool m g) ∷ []))
+    (WantOfMemory y) (λ z. y ≡ z)) open_on step.0)
   where
     late : (y : Refusal) → WantOfMemory y → is_again y ≡ false → ⊥
     late no.Memory want is = cc (is)
     late y want is = want
 
     by : (live same many : Bool) → is_live m to ≡ live
-        → MatchOption (first ((no.NoDomain when (not (is_live m server) || not (is_live m to))) ∷ None ∷ (no.TooMany when (not same && many)) ∷ None ∷ [])) (WantOfMemory y) (λ z. y ≡ z)
+        → MatchOption
+        (first ((no.NoDomain when (not (is_live m server) || not (is_live m to))) ∷ None
+        ∷ (no.TooMany when (not same && many)) ∷ None ∷ [])) (WantOfMemory y) (λ z. y ≡ z)
         → is_live m to ≡ false
     by false same many here why = here
-    by true same many here why = absurd (rest same many (subst (λ a. MatchOption (first ((no.NoDomain when (not a || not (is_live m to))) ∷ None ∷ (no.TooMany when (not same && many)) ∷ None ∷ [])) (WantOfMemory y) (λ z. y ≡ z)) lives why))
+    by true same many here why =
+        absurd
+        (rest same many
+        (subst
+        (λ a.
+        MatchOption
+        (first ((no.NoDomain when (not a || not (is_live m to))) ∷ None ∷ (no.TooMany when (not same && many)) ∷ None
+        ∷ [])) (WantOfMemory y) (λ z. y ≡ z)) lives why))
       where
-        rest : (same many : Bool) → MatchOption (first ((no.NoDomain when (false || not (is_live m to))) ∷ None ∷ (no.TooMany when (not same && many)) ∷ None ∷ [])) (WantOfMemory y) (λ z. y ≡ z) → ⊥
-        rest same many why = last same many (subst (λ a. MatchOption (first ((no.NoDomain when (false || not a)) ∷ None ∷ (no.TooMany when (not same && many)) ∷ None ∷ [])) (WantOfMemory y) (λ z. y ≡ z)) here why)
+        rest : (same many : Bool)
+            → MatchOption
+            (first ((no.NoDomain when (false || not (is_live m to))) ∷ None ∷ (no.TooMany when (not same && many))
+            ∷ None ∷ [])) (WantOfMemory y) (λ z. y ≡ z) → ⊥
+        rest same many why =
+            last same many
+            (subst
+            (λ a.
+            MatchOption (first ((no.NoDomain when (false || not a)) ∷ None ∷ (no.TooMany when (not same && many)) ∷ None
+            ∷ [])) (WantOfMemory y) (λ z. y ≡ z)) here why)
           where
-            last : (same many : Bool) → MatchOption (first (None ∷ None ∷ (no.TooMany when (not same && many)) ∷ None ∷ [])) (WantOfMemory y) (λ z. y ≡ z) → ⊥
+            last : (same many : Bool)
+                → MatchOption (first (None ∷ None ∷ (no.TooMany when (not same && many)) ∷ None ∷ [])) (WantOfMemory y)
+                (λ z. y ≡ z) → ⊥
             last true many why = late y why is
             last false true why = let e = ap (λ z. is_again z) why in absurd (cc (e, is))
             last false false why = late y why is
 
-gives-up : (write : ℕ) (run : Run) (r : Reply) → is_failing (Runs run (after_give write r)) ≡ true → (y : Refusal) × (r ≡ reply.Refused y) × (is_again y ≡ false)
+gives-up : (write : ℕ) (run : Run) (r : Reply) → is_failing (Runs run (after_give write r)) ≡ true
+    → (y : Refusal) × (r ≡ reply.Refused y) × (is_again y ≡ false)
 gives-up write run (reply.Refused y) off = by (is_again y) refl off
   where
-    by : (b : Bool) → is_again y ≡ b → is_failing (Runs run (if b then Gives write else Returns write)) ≡ true → (z : Refusal) × (reply.Refused y ≡ reply.Refused z) × (is_again z ≡ false)
+    by : (b : Bool) → is_again y ≡ b → is_failing (Runs run (if b then Gives write else Returns write)) ≡ true
+        → (z : Refusal) × (reply.Refused y ≡ reply.Refused z) × (is_again z ≡ false)
     by true is off = absurd (cc (off))
     by false is off = (y, refl, is)
 gives-up write run (reply.Fd f) off = absurd (cc (off))
 gives-up write run r off = absurd (cc (off))
 
-hands-up : (j f : ℕ) (run : Run) (r : Reply) → is_failing (Runs run (after_hand j f r)) ≡ true → (y : Refusal) × (r ≡ reply.Refused y) × (is_again y ≡ false)
+hands-up : (j f : ℕ) (run : Run) (r : Reply) → is_failing (Runs run (after_hand j f r)) ≡ true
+    → (y : Refusal) × (r ≡ reply.Refused y) × (is_again y ≡ false)
 hands-up j f run (reply.Refused y) off = by (is_again y) refl off
   where
-    by : (b : Bool) → is_again y ≡ b → is_failing (Runs run (if b then Hands j f else Lapses j)) ≡ true → (z : Refusal) × (reply.Refused y ≡ reply.Refused z) × (is_again z ≡ false)
+    by : (b : Bool) → is_again y ≡ b → is_failing (Runs run (if b then Hands j f else Lapses j)) ≡ true
+        → (z : Refusal) × (reply.Refused y ≡ reply.Refused z) × (is_again z ≡ false)
     by true is off = absurd (cc (off))
     by false is off = (y, refl, is)
 hands-up j f run (reply.Count k) off = absurd (cc (off))
 hands-up j f run r off = absurd (cc (off))
 
 -- a job that is not written though it is no want of memory, and need not wait, is one that nobody reads
-not-written : (why : RefusalsTellWhy) (m n : State) (fd p a : ℕ) (y : Refusal) → descriptor m server fd ≡ Some (on.WriteEnd p)
-    → StepsTo m (event.Call server (call.IolWrite fd a)) (reply.Refused y) n → CannotPut y → is_again y ≡ false → (pipe_at m p).reading ≡ false
+not-written : (why : RefusalsTellWhy) (m n : State) (fd p a : ℕ) (y : Refusal)
+    → descriptor m server fd ≡ Some (on.WriteEnd p)
+    → StepsTo m (event.Call server (call.IolWrite fd a)) (reply.Refused y) n → CannotPut y → is_again y ≡ false
+    → (pipe_at m p).reading ≡ false
 not-written why m n fd p a no.BrokenPipe open_on step put is = why.nobody_reads m n server fd p a open_on step
 not-written why m n fd p a no.WouldBlock open_on step put is = absurd (cc (is))
 not-written why m n fd p a no.Memory open_on step put is = absurd (cc (is))
 not-written why m n fd p a y open_on step put is = absurd put
 
-plain-fails : (may : RefusalsThatAreLeft) (why : RefusalsTellWhy) (job : ℕ → List ℕ) (m n : State) (fd : ℕ) (w : Wanted) (o : Progress) (run : Run) (s : Step) (r : Reply) (received : List ℕ)
-    → is_live m server ≡ true → HasRun job m w o (Runs run s) → StepsTo m (event.Call server (step_wants job fd w run s)) r n
+plain-fails : (may : RefusalsThatAreLeft) (why : RefusalsTellWhy) (job : ℕ → List ℕ) (m n : State) (fd : ℕ) (w : Wanted)
+    (o : Progress) (run : Run) (s : Step) (r : Reply) (received : List ℕ)
+    → is_live m server ≡ true → HasRun job m w o (Runs run s)
+    → StepsTo m (event.Call server (step_wants job fd w run s)) r n
     → is_failing (Runs run s) ≡ false → is_failing (after_step w run s r received) ≡ true → IsLost m (Runs run s)
 plain-fails may why job m n fd w o run (Gives write) r received lives has step at off =
     let up = gives-up write run r off in
-    inl (not-given m n write (worker_domain run.worker) has.1.0.pipe up.0 lives has.1.0.write_end (subst (λ (z : Reply). StepsTo m (event.Call server (call.GiveFd write (worker_domain run.worker))) z n) up.1 step) up.2)
+    inl (not-given m n write (worker_domain run.worker) has.1.0.pipe up.0 lives has.1.0.write_end
+    (subst (λ (z : Reply). StepsTo m (event.Call server (call.GiveFd write (worker_domain run.worker))) z n) up.1
+    step) up.2)
 plain-fails may why job m n fd w o run (Hands j f) r received lives has step at off =
     let up = hands-up j f run r off in
-    let after_reply = subst (λ (z : Reply). StepsTo m (event.Call server (call.IolWrite (job_pipe run.worker) j)) z n) up.1 step in
+    let after_reply = subst (λ (z : Reply). StepsTo m (event.Call server (call.IolWrite (job_pipe run.worker) j)) z n)
+    up.1 step in
     inr (
       has.0.0,
       has.0.1,
       not-written why m n (job_pipe run.worker) has.0.0 j up.0 has.0.1 after_reply
-          (may.writes_queue m n server (job_pipe run.worker) j (on.WriteEnd has.0.0) (job f) up.0 lives has.0.1 refl refl has.1.1 after_reply) up.2,
+          (may.writes_queue m n server (job_pipe run.worker) j (on.WriteEnd has.0.0) (job f) up.0 lives has.0.1 refl
+          refl has.1.1 after_reply) up.2,
     )
 plain-fails may why job m n fd w o run (Returns write) r received lives has step at off = absurd (cc (at))
 plain-fails may why job m n fd w o run (Lapses j) r received lives has step at off = absurd (cc (at))
@@ -379,12 +510,15 @@ plain-fails may why job m n fd w o run (Sending d frame) r received lives has st
     by (phase.Sent a taken None) reply.Done off = cc (off)
     by (phase.Drops a None) reply.Done off = cc (off)
     by d r off = cc (off)
-plain-fails may why job m n fd w o run s r received lives has step at off = let e = (quiet w run s r received refl).2 off in absurd (cc (e))
+plain-fails may why job m n fd w o run s r received lives has step at off = let e =
+    (quiet w run s r received refl).2 off in absurd (cc (e))
 
-pub fails : (may : RefusalsThatAreLeft) (why : RefusalsTellWhy) (job : ℕ → List ℕ) (m n : State) (fd worker : ℕ) (w : Wanted) (x : Running) (r : Reply) (received : List ℕ) (o : Progress)
+pub fails : (may : RefusalsThatAreLeft) (why : RefusalsTellWhy) (job : ℕ → List ℕ) (m n : State) (fd worker : ℕ)
+    (w : Wanted) (x : Running) (r : Reply) (received : List ℕ) (o : Progress)
     → is_live m server ≡ true → HasRun job m w o x → StepsTo m (event.Call server (wants job fd w x)) r n
     → is_failing x ≡ false → is_failing (after_reply worker w x r received) ≡ true → IsLost m x
-fails may why job m n fd worker w (Runs run s) r received o lives has step at off = plain-fails may why job m n fd w o run s r received lives has step at off
+fails may why job m n fd worker w (Runs run s) r received o lives has step at off =
+    plain-fails may why job m n fd w o run s r received lives has step at off
 fails may why job m n fd worker w Awaits r received o lives has step at off = absurd (by r off)
   where
     by : (r : Reply) → is_failing (after_reply worker w Awaits r received) ≡ true → ⊥

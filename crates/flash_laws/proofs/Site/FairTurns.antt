@@ -1,5 +1,6 @@
 -- Fairness of turns: between two responses to one client each other client that may take a turn takes one.
-use Rattle.std.proofs.Common.{inl, inr, ◌≡◌, ◌≢◌, ℕ, ◌+◌, ◌==◌, ◌<◌, ◌≤◌, ◌⊎◌, List, [], ◌∷◌, ◌++◌, length, ap, ◌∙◌, refl, sym, subst, arith, Option, Some, None, true, false, Bool, if◌then◌else◌}
+use Rattle.std.proofs.Common.{inl, inr, ◌≡◌, ◌≢◌, ℕ, ◌+◌, ◌==◌, ◌<◌, ◌≤◌, ◌⊎◌, List, [], ◌∷◌, ◌++◌, length, ap, ◌∙◌}
+use Rattle.std.proofs.Common.{refl, sym, subst, arith, Option, Some, None, true, false, Bool, if◌then◌else◌}
 use Rattle.std.specs.Prelude.{nat_lt, not, ◌||◌}
 use Rattle.std.proofs.lemmas.Bool.{cases_lt, cases_order}
 use Rattle.std.proofs.lemmas.Bool.Decides.{nat_tests}
@@ -9,12 +10,14 @@ use Rattle.iol_core.specs.declared.events.Reply.TheVariants as reply
 use Rattle.iol_proc.specs.declared.process.Turn.{Turn}
 use Rattle.flash_http.specs.Request.{Answer, serve, refuse}
 use Rattle.flash_laws.specs.Answers.{keeps}
-use Rattle.flash_laws.specs.Client.{Client, Readies, file_after_reply, proceeds, is_for_script, left_over, run_after_reply, after_reply}
+use Rattle.flash_laws.specs.Client.{Client, Readies, file_after_reply, proceeds, is_for_script, left_over}
+use Rattle.flash_laws.specs.Client.{run_after_reply, after_reply}
 use Rattle.flash_laws.specs.Conn.{begins, after_disconnect, after_taken}
 use Rattle.flash_laws.specs.Conn.Policy.{most_conns, is_later, accept_step, pending_call_past, pending_call_to}
 use Rattle.flash_laws.specs.Run.{is_over}
 use Rattle.flash_laws.specs.Serves.{Server, Picks, PicksAt, received_of, server_turns}
-use Rattle.flash_laws.specs.Serves.FairTurns.{OneTurn, BeginsAt, Follow, GoesThroughout, HasATurn, TurnsAreFair, clients_in, is_answered}
+use Rattle.flash_laws.specs.Serves.FairTurns.{OneTurn, BeginsAt, Follow, GoesThroughout, HasATurn, TurnsAreFair}
+use Rattle.flash_laws.specs.Serves.FairTurns.{clients_in, is_answered}
 use Rattle.flash_laws.specs.Serves.Rounds.{leaves_off, place_after, goes_in, next_place, pending_call_from, in_rounds}
 use Rattle.flash_laws.specs.Site.OtherConns.{left_by}
 use Rattle.flash_laws.specs.Site.Places.{filed, first_free, has_free, may_go, runs_scripts, after_reply_at}
@@ -33,7 +36,8 @@ use Rattle.flash_laws.proofs.Site.Rounds.{from-there, no-earlier, no-later}
 
 -- ---- a place that has a client who may go is not passed
 
-module _ (workers : ℕ) (clients : List (Option Client)) (gd : ℕ) (goes : goes_in (has_free workers clients) (in_place clients gd) ≡ true) where
+module _ (workers : ℕ) (clients : List (Option Client)) (gd : ℕ)
+    (goes : goes_in (has_free workers clients) (in_place clients gd) ≡ true) where
   -- who is picked from there on is no later than it
   record Reaches (from : ℕ) : Type 0 where
     place : ℕ
@@ -46,12 +50,16 @@ module _ (workers : ℕ) (clients : List (Option Client)) (gd : ℕ) (goes : goe
     where
       no-more : (k : ℕ) → next_place workers clients from ≡ Some k → k ≤ gd
       no-more k is = elim (cases_lt gd k) [
-        | inl lt ↦ absurd (clash (goes_in (has_free workers clients) (in_place clients gd)) goes ((found workers clients from).before k is gd le lt))
+        | inl lt ↦
+            absurd (clash (goes_in (has_free workers clients) (in_place clients gd)) goes
+            ((found workers clients from).before k is gd le lt))
         | inr high ↦ high
       ]
 
       by : (o : Option ℕ) → next_place workers clients from ≡ o → Reaches from
-      by None is = absurd (clash (goes_in (has_free workers clients) (in_place clients gd)) goes ((found workers clients from).none is gd le))
+      by None is =
+          absurd (clash (goes_in (has_free workers clients) (in_place clients gd)) goes
+          ((found workers clients from).none is gd le))
       by (Some k) is = record {
         place = k;
         is = ap (λ (o : Option ℕ). pending_call_to clients o) is;
@@ -92,16 +100,21 @@ not-home fd gd (inl up) = let lt = up.1 in omega (arith, lt)
 not-home fd gd (inr (lt, inl after)) = omega (arith, after)
 not-home fd gd (inr (lt, inr before)) = omega (arith, lt, before)
 
-module _ (workers : ℕ) (clients : List (Option Client)) (fd gd : ℕ) (goes : goes_in (has_free workers clients) (in_place clients gd) ≡ true) where
+module _ (workers : ℕ) (clients : List (Option Client)) (fd gd : ℕ)
+    (goes : goes_in (has_free workers clients) (in_place clients gd) ≡ true) where
   -- past its place, and no further than the other, where that comes behind it
-  climbs : (from : ℕ) (f : PendingCall) → f ≡ pending_call_from workers clients from → fd < gd → fd < from → from ≤ gd → (f ≡ At gd) ⊎ Away fd gd f
+  climbs : (from : ℕ) (f : PendingCall) → f ≡ pending_call_from workers clients from → fd < gd → fd < from → from ≤ gd
+      → (f ≡ At gd) ⊎ Away fd gd f
   climbs from f is before past le = elim (lands workers clients gd goes from f is le) [
     | inl there ↦ inl there
-    | inr r ↦ inr (subst (λ (w : PendingCall). Away fd gd w) (sym r.1) (let low = r.2 in inl (before, (omega (arith, low, past), r.3))))
+    | inr r ↦
+        inr (subst (λ (w : PendingCall). Away fd gd w) (sym r.1) (let low = r.2 in
+        inl (before, (omega (arith, low, past), r.3))))
   ]
 
   -- in the next round, before its place
-  returns : (from : ℕ) (f : PendingCall) → f ≡ pending_call_from workers clients from → gd < fd → from ≤ gd → (f ≡ At gd) ⊎ Away fd gd f
+  returns : (from : ℕ) (f : PendingCall) → f ≡ pending_call_from workers clients from → gd < fd → from ≤ gd
+      → (f ≡ At gd) ⊎ Away fd gd f
   returns from f is behind le = elim (lands workers clients gd goes from f is le) [
     | inl there ↦ inl there
     | inr r ↦ inr (subst (λ (w : PendingCall). Away fd gd w) (sym r.1) (inr (behind, inr r.3)))
@@ -115,8 +128,11 @@ module _ (workers : ℕ) (clients : List (Option Client)) (fd gd : ℕ) (goes : 
       by false = inr (behind, tt)
 
   -- past its place, where the other comes before it
-  passes-on : (from : ℕ) (f : PendingCall) → f ≡ pending_call_from workers clients from → gd < fd → fd < from → Away fd gd f
-  passes-on from f is behind past = subst (λ (w : PendingCall). Away fd gd w) (sym is) (by (next_place workers clients from) (λ k at. from-there (has_free workers clients) clients from k at))
+  passes-on : (from : ℕ) (f : PendingCall) → f ≡ pending_call_from workers clients from → gd < fd → fd < from
+      → Away fd gd f
+  passes-on from f is behind past =
+      subst (λ (w : PendingCall). Away fd gd w) (sym is)
+      (by (next_place workers clients from) (λ k at. from-there (has_free workers clients) clients from k at))
     where
       by : (o : Option ℕ) → ((k : ℕ) → o ≡ Some k → from ≤ k) → Away fd gd (pending_call_to clients o)
       by (Some k) later = let low = later k refl in inr (behind, inl (omega (arith, low, past)))
@@ -136,11 +152,13 @@ module _ (workers : ℕ) (clients : List (Option Client)) (fd gd : ℕ) (goes : 
   walks : (w f : PendingCall) (r : Reply) → in_rounds workers clients w r f → Away fd gd w → (f ≡ At gd) ⊎ Away fd gd f
   walks (At k) f r is (inl (lt, (low, high))) =
       let from = no-earlier k (in_place clients k) r in
-      climbs (place_after k (in_place clients k) r) f is lt (omega (arith, from, low)) (no-later gd k (in_place clients k) r high)
+      climbs (place_after k (in_place clients k) r) f is lt (omega (arith, from, low))
+      (no-later gd k (in_place clients k) r high)
   walks (At k) f r is (inr (gt, inl low)) =
       let from = no-earlier k (in_place clients k) r in
       inr (passes-on (place_after k (in_place clients k) r) f is gt (omega (arith, from, low)))
-  walks (At k) f r is (inr (gt, inr high)) = returns (place_after k (in_place clients k) r) f is gt (no-later gd k (in_place clients k) r high)
+  walks (At k) f r is (inr (gt, inr high)) =
+      returns (place_after k (in_place clients k) r) f is gt (no-later gd k (in_place clients k) r high)
   walks Accepting f r is (inl (lt, up)) = absurd up
   walks Accepting f r is (inr (gt, down)) = inr (subst (λ (w : PendingCall). Away fd gd w) (sym is) (by r))
     where
@@ -151,16 +169,19 @@ module _ (workers : ℕ) (clients : List (Option Client)) (fd gd : ℕ) (goes : 
   walks Nothing f r is (inr (gt, down)) = returns 0 f is gt (omega arith)
 
 -- before it comes again the other has had its turn
-comes : (s : Server) (xs : List OneTurn) (y : OneTurn) (fd gd : ℕ) → Follow s (xs ++ y ∷ []) → y.after.pending_call ≡ At fd
+comes : (s : Server) (xs : List OneTurn) (y : OneTurn) (fd gd : ℕ) → Follow s (xs ++ y ∷ [])
+    → y.after.pending_call ≡ At fd
     → GoesThroughout gd s (xs ++ y ∷ []) → fd ≢ gd → Away fd gd s.pending_call → HasATurn gd xs
-comes s [] y fd gd turns home goes other away = elim (walks s.workers (clients_in s y) fd gd goes.0 s.pending_call y.after.pending_call y.last turns.0.0 away) [
-  | inl there ↦ absurd (let same : At fd ≡ At gd = sym home ∙ there in let e : fd ≡ gd = cc (same) in other e)
-  | inr still ↦ absurd (not-home fd gd (subst (λ (w : PendingCall). Away fd gd w) home still))
-]
-comes s (x ∷ xs) y fd gd turns home goes other away = elim (walks s.workers (clients_in s x) fd gd goes.0 s.pending_call x.after.pending_call x.last turns.0.0 away) [
-  | inl there ↦ inl there
-  | inr still ↦ inr (comes x.after xs y fd gd turns.1 home goes.1 other still)
-]
+comes s [] y fd gd turns home goes other away =
+    elim (walks s.workers (clients_in s y) fd gd goes.0 s.pending_call y.after.pending_call y.last turns.0.0 away) [
+      | inl there ↦ absurd (let same : At fd ≡ At gd = sym home ∙ there in let e : fd ≡ gd = cc (same) in other e)
+      | inr still ↦ absurd (not-home fd gd (subst (λ (w : PendingCall). Away fd gd w) home still))
+    ]
+comes s (x ∷ xs) y fd gd turns home goes other away =
+    elim (walks s.workers (clients_in s x) fd gd goes.0 s.pending_call x.after.pending_call x.last turns.0.0 away) [
+      | inl there ↦ inl there
+      | inr still ↦ inr (comes x.after xs y fd gd turns.1 home goes.1 other still)
+    ]
 
 -- ---- from the end of a response its turn passes before the next begins
 
@@ -185,7 +206,8 @@ Busy kept d None = ⊥
 Busy kept d (Some (Leaves (Sent a taken None))) = kept ≡ []
 Busy kept d (Some y) = ⊥
 
-answered-still : (kept : List ℕ) (q : Answer) (d : Phase) (run : Option Running) (script : List ℕ) → is_answered (of (at kept q d) run script) ≡ true → Still kept d run
+answered-still : (kept : List ℕ) (q : Answer) (d : Phase) (run : Option Running) (script : List ℕ)
+    → is_answered (of (at kept q d) run script) ≡ true → Still kept d run
 answered-still kept q (Sent a taken None) None script is = tt
 answered-still kept q (Sent a taken (Some x)) None script is = absurd (cc (is))
 answered-still kept q d None script is = absurd (cc (is))
@@ -201,15 +223,20 @@ none-kept (b ∷ kept) is = let e : length (b ∷ kept) ≡ 0 = grind (arith, na
 -- where nothing is kept its turn does not pass yet
 on-sent : (kept : List ℕ) (later : Bool) → (later || (not (length kept == 0) || false)) ≡ false → kept ≡ []
 on-sent kept later on =
-    none-kept kept (not-false (length kept == 0) (bare-none (not (length kept == 0)) (neither later (not (length kept == 0) || false) on).1))
+    none-kept kept
+    (not-false (length kept == 0)
+    (bare-none (not (length kept == 0)) (neither later (not (length kept == 0) || false) on).1))
 
-on-busy : (kept : List ℕ) (q : Answer) (d : Phase) (run : Option Running) (script : List ℕ) (r : Reply) → leaves_off (Some (of (at kept q d) run script)) r ≡ false
+on-busy : (kept : List ℕ) (q : Answer) (d : Phase) (run : Option Running) (script : List ℕ) (r : Reply)
+    → leaves_off (Some (of (at kept q d) run script)) r ≡ false
     → Still kept d run → Busy kept d run
 on-busy kept q (Sent a taken None) None script r on still = on-sent kept (is_later r) on
 on-busy kept q (Sent a taken (Some x)) None script r on still = absurd still
 on-busy kept q Closes None script r on still = tt
 on-busy kept q Rests None script r on still =
-    absurd (clash (length kept == 0) (ap (λ (l : List ℕ). length l == 0) still) (neither (is_later r) (length kept == 0) on).1)
+    absurd
+    (clash (length kept == 0) (ap (λ (l : List ℕ). length l == 0) still)
+    (neither (is_later r) (length kept == 0) on).1)
 on-busy kept q d None script r on still = absurd still
 on-busy kept q d (Some (Leaves (Sent a taken None))) script r on still = on-sent kept (is_later r) on
 on-busy kept q d (Some (Leaves (Sent a taken (Some x)))) script r on still = absurd still
@@ -221,13 +248,15 @@ or-true : (b : Bool) → (b || true) ≡ true
 or-true true = refl
 or-true false = refl
 
-busy-goes : (free : Bool) (kept : List ℕ) (q : Answer) (d : Phase) (run : Option Running) (script : List ℕ) → Busy kept d run → may_go free (of (at kept q d) run script) ≡ true
+busy-goes : (free : Bool) (kept : List ℕ) (q : Answer) (d : Phase) (run : Option Running) (script : List ℕ)
+    → Busy kept d run → may_go free (of (at kept q d) run script) ≡ true
 busy-goes free kept q d None script busy = or-true free
 busy-goes free kept q d (Some (Leaves e)) script busy = or-true free
 busy-goes free kept q d (Some y) script busy = absurd busy
 
 -- and is as it was
-busy-ready : (kept : List ℕ) (q : Answer) (d : Phase) (run : Option Running) (script : List ℕ) (y : Client) → Busy kept d run → Readies (of (at kept q d) run script) y
+busy-ready : (kept : List ℕ) (q : Answer) (d : Phase) (run : Option Running) (script : List ℕ) (y : Client)
+    → Busy kept d run → Readies (of (at kept q d) run script) y
     → y ≡ of (at kept q d) run script
 busy-ready kept q (Sent a taken None) None script y busy ready = ready.2 ∙ ap (λ c. of c None script) ready.1
 busy-ready kept q (Sent a taken (Some x)) None script y busy ready = absurd busy
@@ -236,7 +265,8 @@ busy-ready kept q d None script y busy ready = absurd busy
 busy-ready kept q d (Some z) script y busy ready = ready
 
 -- it begins nothing
-busy-begins : (kept : List ℕ) (q : Answer) (d : Phase) (run : Option Running) → Busy kept d run → d ≡ begins q → run ≡ None → ⊥
+busy-begins : (kept : List ℕ) (q : Answer) (d : Phase) (run : Option Running) → Busy kept d run → d ≡ begins q
+    → run ≡ None → ⊥
 busy-begins kept (serve w) (Sent a taken None) None busy is none = cc (is)
 busy-begins kept (refuse status head_only close) (Sent a taken None) None busy is none = cc (is)
 busy-begins kept q (Sent a taken (Some x)) None busy is none = busy
@@ -256,22 +286,32 @@ sent-still : (kept : List ℕ) (q : Answer) (a taken : ℕ) (script : List ℕ) 
 sent-still kept q a taken script reply.Done none = ends-still (keeps q) kept q script none
 sent-still kept q a taken script r none = tt
 
-closes-still : (kept : List ℕ) (q : Answer) (script : List ℕ) (r : Reply) → IsStill (left_by (after_disconnect r) (of (at kept q (after_disconnect r)) None script))
+closes-still : (kept : List ℕ) (q : Answer) (script : List ℕ) (r : Reply)
+    → IsStill (left_by (after_disconnect r) (of (at kept q (after_disconnect r)) None script))
 closes-still kept q script reply.Done = tt
 closes-still kept q script r = tt
 
 run-ends : (b : Bool) (kept : List ℕ) (q : Answer) (d : Phase) (a taken : ℕ) (script : List ℕ) → kept ≡ []
-    → IsStill (left_over (proceeds false (is_over (Leaves (if b then Rests else Closes))) (of (at kept q d) (Some (Leaves (Sent a taken None))) script) (Leaves (Sent a taken None)) (Leaves (if b then Rests else Closes))))
+    → IsStill
+    (left_over
+    (proceeds false (is_over (Leaves (if b then Rests else Closes)))
+    (of (at kept q d) (Some (Leaves (Sent a taken None))) script) (Leaves (Sent a taken None))
+    (Leaves (if b then Rests else Closes))))
 run-ends true kept q d a taken script none = none
 run-ends false kept q d a taken script none = tt
 
-run-still : (worker : ℕ) (kept : List ℕ) (q : Answer) (d : Phase) (a taken : ℕ) (script : List ℕ) (r : Reply) (received : List ℕ) → kept ≡ []
-    → IsStill (left_over (run_after_reply worker q (of (at kept q d) (Some (Leaves (Sent a taken None))) script) (Leaves (Sent a taken None)) r received))
-run-still worker kept (serve w) d a taken script reply.Done received none = run-ends (keeps (serve w)) kept (serve w) d a taken script none
+run-still : (worker : ℕ) (kept : List ℕ) (q : Answer) (d : Phase) (a taken : ℕ) (script : List ℕ) (r : Reply)
+    (received : List ℕ) → kept ≡ []
+    → IsStill
+    (left_over (run_after_reply worker q (of (at kept q d) (Some (Leaves (Sent a taken None))) script)
+    (Leaves (Sent a taken None)) r received))
+run-still worker kept (serve w) d a taken script reply.Done received none =
+    run-ends (keeps (serve w)) kept (serve w) d a taken script none
 run-still worker kept (serve w) d a taken script r received none = tt
 run-still worker kept (refuse status head_only close) d a taken script r received none = tt
 
-after_reply-sent : (b : Bool) (kept : List ℕ) (q : Answer) (a taken : ℕ) (script : List ℕ) (r : Reply) (received : List ℕ) → kept ≡ []
+after_reply-sent : (b : Bool) (kept : List ℕ) (q : Answer) (a taken : ℕ) (script : List ℕ) (r : Reply)
+    (received : List ℕ) → kept ≡ []
     → IsStill (left_over (file_after_reply b (of (at kept q (Sent a taken None)) None script) r received))
 after_reply-sent true kept q a taken script r received none = sent-still kept q a taken script r none
 after_reply-sent false kept q a taken script r received none = sent-still kept q a taken script r none
@@ -281,13 +321,17 @@ after_reply-closed : (b : Bool) (kept : List ℕ) (q : Answer) (script : List �
 after_reply-closed true kept q script r received = closes-still kept q script r
 after_reply-closed false kept q script r received = closes-still kept q script r
 
-busy-after_reply : (scripts : Bool) (worker : ℕ) (kept : List ℕ) (q : Answer) (d : Phase) (run : Option Running) (script : List ℕ) (r : Reply) (received : List ℕ) → Busy kept d run
+busy-after_reply : (scripts : Bool) (worker : ℕ) (kept : List ℕ) (q : Answer) (d : Phase) (run : Option Running)
+    (script : List ℕ) (r : Reply) (received : List ℕ) → Busy kept d run
     → IsStill (left_over (after_reply scripts worker (of (at kept q d) run script) r received))
-busy-after_reply scripts worker kept q (Sent a taken None) None script r received busy = after_reply-sent (is_for_script scripts q) kept q a taken script r received busy
+busy-after_reply scripts worker kept q (Sent a taken None) None script r received busy =
+    after_reply-sent (is_for_script scripts q) kept q a taken script r received busy
 busy-after_reply scripts worker kept q (Sent a taken (Some x)) None script r received busy = absurd busy
-busy-after_reply scripts worker kept q Closes None script r received busy = after_reply-closed (is_for_script scripts q) kept q script r received
+busy-after_reply scripts worker kept q Closes None script r received busy =
+    after_reply-closed (is_for_script scripts q) kept q script r received
 busy-after_reply scripts worker kept q d None script r received busy = absurd busy
-busy-after_reply scripts worker kept q d (Some (Leaves (Sent a taken None))) script r received busy = run-still worker kept q d a taken script r received busy
+busy-after_reply scripts worker kept q d (Some (Leaves (Sent a taken None))) script r received busy =
+    run-still worker kept q d a taken script r received busy
 busy-after_reply scripts worker kept q d (Some (Leaves (Sent a taken (Some x)))) script r received busy = absurd busy
 busy-after_reply scripts worker kept q d (Some (Leaves e)) script r received busy = absurd busy
 busy-after_reply scripts worker kept q d (Some y) script r received busy = absurd busy
@@ -305,22 +349,33 @@ stays-filed : (fd : ℕ) (s : Server) (x : OneTurn) → Stays fd s → IsStill (
 stays-filed fd s x stays =
     let c = stays.client in
     let received = received_of x.last x.readable in
-    let after = left_over (after_reply (runs_scripts s.workers) (first_free s.workers s.clients) stays.client x.last (received_of x.last x.readable)) in
-    let is : in_place (clients_in s x) fd ≡ left_over (after_reply (runs_scripts s.workers) (first_free s.workers s.clients) stays.client x.last (received_of x.last x.readable)) =
+    let after =
+    left_over (after_reply (runs_scripts s.workers) (first_free s.workers s.clients) stays.client x.last
+    (received_of x.last x.readable)) in
+    let is : in_place (clients_in s x) fd
+    ≡ left_over (after_reply (runs_scripts s.workers) (first_free s.workers s.clients) stays.client x.last
+    (received_of x.last x.readable)) =
     ap (λ (w : PendingCall). in_place (filed s.workers s.clients w x.last received) fd) stays.turn
-    ∙ (ap (λ (o : Option Client). in_place (after_reply_at s.workers s.clients fd o x.last received) fd) stays.there ∙ at-same s.clients fd after) in
+    ∙ (ap (λ (o : Option Client). in_place (after_reply_at s.workers s.clients fd o x.last received) fd) stays.there
+    ∙ at-same s.clients fd after) in
     subst (λ (o : Option Client). IsStill o) (sym is)
-    (busy-after_reply (runs_scripts s.workers) (first_free s.workers s.clients) c.conn.kept c.conn.q c.conn.phase c.run c.script x.last received stays.busy)
+    (busy-after_reply (runs_scripts s.workers) (first_free s.workers s.clients) c.conn.kept c.conn.q c.conn.phase c.run
+    c.script x.last received stays.busy)
 
-picked-stays : (workers : ℕ) (clients : List (Option Client)) (fd : ℕ) (made : Turn) (t : Server) (c : Client) → in_place clients fd ≡ Some c
-    → Busy c.conn.kept c.conn.phase c.run → t.pending_call ≡ At fd → PicksAt workers clients fd made t.clients → Stays fd t
+picked-stays : (workers : ℕ) (clients : List (Option Client)) (fd : ℕ) (made : Turn) (t : Server) (c : Client)
+    → in_place clients fd ≡ Some c
+    → Busy c.conn.kept c.conn.phase c.run → t.pending_call ≡ At fd → PicksAt workers clients fd made t.clients
+    → Stays fd t
 picked-stays workers clients fd made t c there busy turn picks =
     let same : picks.was ≡ c = some-inj picks.was c (sym picks.there ∙ there) in
-    let ready : picks.ready ≡ c = busy-ready c.conn.kept c.conn.q c.conn.phase c.run c.script picks.ready busy (subst (λ (z : Client). Readies z picks.ready) same picks.readies) in
+    let ready : picks.ready ≡ c =
+    busy-ready c.conn.kept c.conn.q c.conn.phase c.run c.script picks.ready busy
+    (subst (λ (z : Client). Readies z picks.ready) same picks.readies) in
     record {
       client = c;
       turn = turn;
-      there = ap (λ (l : List (Option Client)). in_place l fd) picks.after_is ∙ (at-same clients fd (Some picks.ready) ∙ ap (λ (z : Client). Some z) ready);
+      there = ap (λ (l : List (Option Client)). in_place l fd) picks.after_is
+          ∙ (at-same clients fd (Some picks.ready) ∙ ap (λ (z : Client). Some z) ready);
       busy = busy;
     }
 
@@ -328,26 +383,31 @@ picked-stays workers clients fd made t c there busy turn picks =
 abbrev Goes : (fd gd : ℕ) → Server → Type 0
 Goes fd gd t = (t.pending_call ≡ At gd) ⊎ (Away fd gd t.pending_call ⊎ Stays fd t)
 
-turns-pass : (s : Server) (x : OneTurn) (fd gd : ℕ) → fd ≢ gd → s.pending_call ≡ At fd → IsStill (in_place (clients_in s x) fd)
-    → goes_in (has_free s.workers (clients_in s x)) (in_place (clients_in s x) gd) ≡ true → server_turns in_rounds s x.last x.readable x.made x.after
+turns-pass : (s : Server) (x : OneTurn) (fd gd : ℕ) → fd ≢ gd → s.pending_call ≡ At fd
+    → IsStill (in_place (clients_in s x) fd)
+    → goes_in (has_free s.workers (clients_in s x)) (in_place (clients_in s x) gd) ≡ true
+    → server_turns in_rounds s x.last x.readable x.made x.after
     → Goes fd gd x.after
 turns-pass s x fd gd other turn still goes did = by (in_place (clients_in s x) fd) refl still
   where
     next : in_rounds s.workers (clients_in s x) (At fd) x.last x.after.pending_call
     next = subst (λ (w : PendingCall). in_rounds s.workers (clients_in s x) w x.last x.after.pending_call) turn did.0
 
-    leaves : (from : ℕ) → place_after fd (in_place (clients_in s x) fd) x.last ≡ from → x.after.pending_call ≡ pending_call_from s.workers (clients_in s x) from
+    leaves : (from : ℕ) → place_after fd (in_place (clients_in s x) fd) x.last ≡ from
+        → x.after.pending_call ≡ pending_call_from s.workers (clients_in s x) from
     leaves from is = next ∙ ap (λ k. pending_call_from s.workers (clients_in s x) k) is
 
     off : (o : Option Client) → in_place (clients_in s x) fd ≡ o → leaves_off o x.last ≡ true → Goes fd gd x.after
     off o is passed =
         elim (departs s.workers (clients_in s x) fd gd goes x.after.pending_call
-        (leaves (fd + 1) (ap (λ (z : Option Client). place_after fd z x.last) is ∙ ap (λ b. if b then fd + 1 else fd) passed)) other) [
+        (leaves (fd + 1) (ap (λ (z : Option Client). place_after fd z x.last) is
+        ∙ ap (λ b. if b then fd + 1 else fd) passed)) other) [
           | inl there ↦ inl there
           | inr away ↦ inr (inl away)
         ]
 
-    on : (c : Client) → in_place (clients_in s x) fd ≡ Some c → leaves_off (Some c) x.last ≡ false → IsStill (Some c) → Goes fd gd x.after
+    on : (c : Client) → in_place (clients_in s x) fd ≡ Some c → leaves_off (Some c) x.last ≡ false → IsStill (Some c)
+        → Goes fd gd x.after
     on c is stays undisturbed =
         let busy = on-busy c.conn.kept c.conn.q c.conn.phase c.run c.script x.last stays undisturbed in
         let may : goes_in (has_free s.workers (clients_in s x)) (in_place (clients_in s x) fd) ≡ true =
@@ -358,24 +418,29 @@ turns-pass s x fd gd other turn still goes did = by (in_place (clients_in s x) f
         let high = r.high in
         let same : r.place ≡ fd = omega (arith, low, high) in
         let flies : x.after.pending_call ≡ At fd =
-        leaves fd (ap (λ (z : Option Client). place_after fd z x.last) is ∙ ap (λ b. if b then fd + 1 else fd) stays) ∙ (r.is ∙ ap (λ k. At k) same) in
+        leaves fd (ap (λ (z : Option Client). place_after fd z x.last) is ∙ ap (λ b. if b then fd + 1 else fd) stays)
+        ∙ (r.is ∙ ap (λ k. At k) same) in
         inr (inr (picked-stays s.workers (clients_in s x) fd x.made x.after c is busy flies
         (subst (λ (w : PendingCall). Picks s.workers (clients_in s x) w x.made x.after.clients) flies did.1)))
 
-    which : (b : Bool) (c : Client) → leaves_off (Some c) x.last ≡ b → in_place (clients_in s x) fd ≡ Some c → IsStill (Some c) → Goes fd gd x.after
+    which : (b : Bool) (c : Client) → leaves_off (Some c) x.last ≡ b → in_place (clients_in s x) fd ≡ Some c
+        → IsStill (Some c) → Goes fd gd x.after
     which true c passed is undisturbed = off (Some c) is passed
     which false c stays is undisturbed = on c is stays undisturbed
 
-    by : (o : Option Client) → in_place (clients_in s x) fd ≡ o → IsStill (in_place (clients_in s x) fd) → Goes fd gd x.after
+    by : (o : Option Client) → in_place (clients_in s x) fd ≡ o → IsStill (in_place (clients_in s x) fd)
+        → Goes fd gd x.after
     by None is undisturbed = off None is refl
-    by (Some c) is undisturbed = which (leaves_off (Some c) x.last) c refl is (subst (λ (o : Option Client). IsStill o) is undisturbed)
+    by (Some c) is undisturbed =
+        which (leaves_off (Some c) x.last) c refl is (subst (λ (o : Option Client). IsStill o) is undisturbed)
 
 -- one that begins a request has not had its turn all the time
 never-begins : (fd : ℕ) (t : Server) → Stays fd t → BeginsAt fd t → ⊥
 never-begins fd t stays begun =
     let same : stays.client ≡ begun.client = some-inj stays.client begun.client (sym stays.there ∙ begun.there) in
     let c = begun.client in
-    busy-begins c.conn.kept c.conn.q c.conn.phase c.run (subst (λ (z : Client). Busy z.conn.kept z.conn.phase z.run) same stays.busy) begun.begins begun.no_script
+    busy-begins c.conn.kept c.conn.q c.conn.phase c.run
+    (subst (λ (z : Client). Busy z.conn.kept z.conn.phase z.run) same stays.busy) begun.begins begun.no_script
 
 module _ (y : OneTurn) (fd gd : ℕ) (other : fd ≢ gd) (begun : BeginsAt fd y.after) where
   at-end : Goes fd gd y.after → ⊥
@@ -383,20 +448,25 @@ module _ (y : OneTurn) (fd gd : ℕ) (other : fd ≢ gd) (begun : BeginsAt fd y.
   at-end (inr (inl away)) = not-home fd gd (subst (λ (w : PendingCall). Away fd gd w) begun.turn away)
   at-end (inr (inr stays)) = never-begins fd y.after stays begun
 
-  fair-on : (s : Server) (xs : List OneTurn) → Follow s (xs ++ y ∷ []) → GoesThroughout gd s (xs ++ y ∷ []) → Stays fd s → HasATurn gd xs
-  fair-on s [] turns goes stays = absurd (at-end (turns-pass s y fd gd other stays.turn (stays-filed fd s y stays) goes.0 turns.0))
-  fair-on s (x ∷ xs) turns goes stays = elim (turns-pass s x fd gd other stays.turn (stays-filed fd s x stays) goes.0 turns.0) [
-    | inl there ↦ inl there
-    | inr rest ↦ elim rest [
-      | inl away ↦ inr (comes x.after xs y fd gd turns.1 begun.turn goes.1 other away)
-      | inr still ↦ inr (fair-on x.after xs turns.1 goes.1 still)
-    ]
-  ]
+  fair-on : (s : Server) (xs : List OneTurn) → Follow s (xs ++ y ∷ []) → GoesThroughout gd s (xs ++ y ∷ []) → Stays fd s
+      → HasATurn gd xs
+  fair-on s [] turns goes stays =
+      absurd (at-end (turns-pass s y fd gd other stays.turn (stays-filed fd s y stays) goes.0 turns.0))
+  fair-on s (x ∷ xs) turns goes stays =
+      elim (turns-pass s x fd gd other stays.turn (stays-filed fd s x stays) goes.0 turns.0) [
+        | inl there ↦ inl there
+        | inr rest ↦ elim rest [
+          | inl away ↦ inr (comes x.after xs y fd gd turns.1 begun.turn goes.1 other away)
+          | inr still ↦ inr (fair-on x.after xs turns.1 goes.1 still)
+        ]
+      ]
 
 pub turns_fair : TurnsAreFair
 turns_fair s x xs y fd gd turns answered begun other goes =
     let c = answered.client in
-    let still = subst (λ (o : Option Client). IsStill o) (sym answered.there) (answered-still c.conn.kept c.conn.q c.conn.phase c.run c.script answered.answered) in
+    let still =
+    subst (λ (o : Option Client). IsStill o) (sym answered.there)
+    (answered-still c.conn.kept c.conn.q c.conn.phase c.run c.script answered.answered) in
     elim (turns-pass s x fd gd other answered.turn still goes.0 turns.0) [
       | inl there ↦ inl there
       | inr rest ↦ elim rest [

@@ -1,5 +1,6 @@
 -- Indices of a list, and the remaining elements.
-use Rattle.std.proofs.Common.{◌≡◌, ◌≢◌, ℕ, zero, suc, ◌+◌, ◌-◌, List, [], ◌∷◌, ◌++◌, length, replicate, refl, arith, Option, Some, None}
+use Rattle.std.proofs.Common.{◌≡◌, ◌≢◌, ℕ, zero, suc, ◌+◌, ◌-◌, List, [], ◌∷◌, ◌++◌, length, replicate, refl, arith}
+use Rattle.std.proofs.Common.{Option, Some, None}
 use Rattle.std.specs.Prelude.{option_map}
 use Rattle.std.proofs.lemmas.Bool.Decides.{nat_tests}
 use Rattle.std.proofs.lemmas.Grind.{common_steps}
@@ -26,7 +27,8 @@ at-same xs fd x = grind (arith, nat_tests, common_steps)
 
 pub at-other : {A : Type 0} (xs : List (Option A)) (fd gd : ℕ) (x : Option A) → fd ≢ gd
     → in_place (with_at xs fd x) gd ≡ in_place xs gd
-at-other xs fd gd x differ = let e = place-grown xs (fd + 1 - length xs) gd in grind (arith, nat_tests, common_steps, differ, e)
+at-other xs fd gd x differ = let e = place-grown xs (fd + 1 - length xs) gd in
+    grind (arith, nat_tests, common_steps, differ, e)
 
 -- ---- each place mapped
 

@@ -32,11 +32,14 @@ held-open m fd c order is =
 -- no connection of the server's is one that waits, or that is closed
 pub not-waiting : (m : State) (fd c k : ℕ) → IsOrderly m
     → descriptor m server fd ≡ Some (on.Connection c) → (conn_at m k).accepted ≡ false → c ≢ k
-not-waiting m fd c k order is waits same = (let a = (held-open m fd c order is).0 in let b = ap (λ z. (conn_at m z).accepted) same in absurd (cc (a, b, waits)))
+not-waiting m fd c k order is waits same =
+    (let a = (held-open m fd c order is).0 in let b = ap (λ z. (conn_at m z).accepted) same in
+    absurd (cc (a, b, waits)))
 
 pub not-closed : (m : State) (fd c k : ℕ) → IsOrderly m → descriptor m server fd ≡ Some (on.Connection c)
     → (conn_at m k).closed ≡ true → c ≢ k
-not-closed m fd c k order is closed same = (let a = (held-open m fd c order is).1 in let b = ap (λ z. (conn_at m z).closed) same in absurd (cc (a, b, closed)))
+not-closed m fd c k order is closed same =
+    (let a = (held-open m fd c order is).1 in let b = ap (λ z. (conn_at m z).closed) same in absurd (cc (a, b, closed)))
 
 abbrev number_on : Option Descriptor → ℕ
 number_on (Some (on.Connection c)) = c
@@ -47,7 +50,8 @@ pub conn-same : (m : State) (fd c k : ℕ) → descriptor m server fd ≡ Some (
 conn-same m fd c k is_c is_k = ap number_on (sym is_c ∙ is_k)
 
 -- one that is ready has no request that could begin, where it reads
-pub ready-awaits : (kept : List ℕ) (q : Answer) (d : Phase) (y : Conn) → Readies (record { kept = kept; q = q; phase = d }) y → IsAwaiting y
+pub ready-awaits : (kept : List ℕ) (q : Answer) (d : Phase) (y : Conn)
+    → Readies (record { kept = kept; q = q; phase = d }) y → IsAwaiting y
 ready-awaits kept q Rests y ready = starts ready
   where
     begun : (p : Answer) (rest : List ℕ) → IsAwaiting (record { kept = rest; q = p; phase = begins p })

@@ -1,5 +1,6 @@
 -- Calls of other domains and external events leave the site, and the objects of the server, unchanged.
-use Rattle.std.proofs.Common.{◌≡◌, ◌≢◌, ℕ, ◌==◌, ◌≤◌, List, length, ap, ◌∙◌, refl, sym, subst, arith, Option, Some, None, true, false, Bool, if◌then◌else◌}
+use Rattle.std.proofs.Common.{◌≡◌, ◌≢◌, ℕ, ◌==◌, ◌≤◌, List, length, ap, ◌∙◌, refl, sym, subst, arith, Option, Some}
+use Rattle.std.proofs.Common.{None, true, false, Bool, if◌then◌else◌}
 use Rattle.std.specs.List.{list_any}
 use Rattle.std.proofs.lemmas.Bool.Decides.{nat_tests}
 use Rattle.std.proofs.lemmas.Grind.{common_steps}
@@ -56,7 +57,8 @@ site-stays site_contents m n e leaves fixed undisturbed un = record {
   files = (leaves.files undisturbed).0;
   slots = (leaves.files undisturbed).1;
   net = λ d. may-same m n e net_pool d server leaves (un net_pool) fixed.net_read;
-  readers = λ name f d is. let some = fixed.read_by name f is in may-same m n e (file m f).pool d some.0 leaves (un (file m f).pool) some.1;
+  readers = λ name f d is. let some = fixed.read_by name f is in
+      may-same m n e (file m f).pool d some.0 leaves (un (file m f).pool) some.1;
 }
 
 pub fixed-stays : (site_contents : SiteContents) (steps : EachStepLeavesTheRest) (m n : State) (e : Event) (r : Reply)
@@ -64,8 +66,13 @@ pub fixed-stays : (site_contents : SiteContents) (steps : EachStepLeavesTheRest)
 fixed-stays site_contents steps m n e r step same lives fixed = record {
   lives = leaves.lives server fixed.lives lives;
   outcomes = λ name. outcome name (file_called m name) refl;
-  lengths = λ name f is. subst (λ (l : List ℕ). length l ≤ most_read) (sym (content-same m n f same.slots)) (fixed.lengths name f (sym (called-same m n name same.files) ∙ is));
-  read_by = λ name f is. let was = fixed.read_by name f (sym (called-same m n name same.files) ∙ is) in (was.0, subst (λ (x : FileEntry). may_read n was.0 x.pool ≡ true) (sym (file-same m n f same.files)) (leaves.readers was.0 (file m f).pool was.1));
+  lengths = λ name f is. subst (λ (l : List ℕ). length l ≤ most_read) (sym (content-same m n f same.slots))
+      (fixed.lengths name f (sym (called-same m n name same.files) ∙ is));
+  read_by = λ name f is. let was = fixed.read_by name f (sym (called-same m n name same.files) ∙ is) in (
+    was.0,
+    subst (λ (x : FileEntry). may_read n was.0 x.pool ≡ true) (sym (file-same m n f same.files))
+        (leaves.readers was.0 (file m f).pool was.1),
+  );
   net_read = leaves.readers server net_pool fixed.net_read;
   net_alone = λ d differ. same.net d ∙ fixed.net_alone d differ;
 }
@@ -74,10 +81,15 @@ fixed-stays site_contents steps m n e r step same lives fixed = record {
     leaves = steps.leaves m n e r step
 
     outcome : (name : List ℕ) (o : Option ℕ) → file_called m name ≡ o → outcome_in n name ≡ site_contents name
-    outcome name o is = ap (λ (x : Option ℕ). found_in n x) (called-same m n name same.files ∙ is) ∙ (found o is ∙ (ap (λ (x : Option ℕ). found_in m x) (sym is) ∙ fixed.outcomes name))
+    outcome name o is = ap (λ (x : Option ℕ). found_in n x) (called-same m n name same.files ∙ is)
+        ∙ (found o is ∙ (ap (λ (x : Option ℕ). found_in m x) (sym is) ∙ fixed.outcomes name))
       where
         found : (o : Option ℕ) → file_called m name ≡ o → found_in n o ≡ found_in m o
         found None is = refl
         found (Some f) is =
-            let may : may_read n server (file n f).pool ≡ may_read m server (file m f).pool = ap (λ (x : FileEntry). may_read n server x.pool) (file-same m n f same.files) ∙ same.readers name f server is in
-            ap (λ b. if b then Found (content n f) else Failed 403) may ∙ ap (λ (l : List ℕ). if may_read m server (file m f).pool then Found l else Failed 403) (content-same m n f same.slots)
+            let may : may_read n server (file n f).pool ≡ may_read m server (file m f).pool =
+            ap (λ (x : FileEntry). may_read n server x.pool) (file-same m n f same.files)
+            ∙ same.readers name f server is in
+            ap (λ b. if b then Found (content n f) else Failed 403) may
+            ∙ ap (λ (l : List ℕ). if may_read m server (file m f).pool then Found l else Failed 403)
+            (content-same m n f same.slots)

@@ -1,5 +1,6 @@
 -- Each script that runs has a worker of its own.
-use Rattle.std.proofs.Common.{inl, inr, ◌≡◌, ◌≢◌, ℕ, zero, suc, ◌+◌, ◌==◌, ◌<◌, ◌≤◌, ◌⊎◌, List, [], ◌∷◌, length, get_or, ap, ◌∙◌, refl, sym, subst, arith, Option, Some, None, true, false, Bool, zero-add}
+use Rattle.std.proofs.Common.{inl, inr, ◌≡◌, ◌≢◌, ℕ, zero, suc, ◌+◌, ◌==◌, ◌<◌, ◌≤◌, ◌⊎◌, List, [], ◌∷◌, length, get_or}
+use Rattle.std.proofs.Common.{ap, ◌∙◌, refl, sym, subst, arith, Option, Some, None, true, false, Bool, zero-add}
 use Rattle.std.specs.Prelude.{not, nat_lt, ◌||◌}
 use Rattle.std.specs.List.{list_any, position_or_len, range_with_len}
 use Rattle.std.proofs.lemmas.Bool.{cases_eq}
@@ -11,9 +12,11 @@ use Rattle.iol_core.specs.declared.events.Reply.{Reply}
 use Rattle.iol_core.specs.declared.events.Reply.TheVariants as reply
 use Rattle.iol_proc.specs.declared.process.Turn.{Turn}
 use Rattle.flash_http.specs.Request.{Answer, serve, refuse, Wanted}
-use Rattle.flash_laws.specs.Client.{Client, new_client, uses_agg, uses_fd, is_for_script, Readies, after_drop_whole, file_after_reply, proceeds, run_after_reply, after_reply, left_over, awaits}
+use Rattle.flash_laws.specs.Client.{Client, new_client, uses_agg, uses_fd, is_for_script, Readies, after_drop_whole}
+use Rattle.flash_laws.specs.Client.{file_after_reply, proceeds, run_after_reply, after_reply, left_over, awaits}
 use Rattle.flash_laws.specs.Conn.{Conn, is_head_only}
-use Rattle.flash_laws.specs.Site.Places.{has_worker, is_run_by, runs_at, is_free, first_free, has_free, may_go, EachHasItsOwn, runs_scripts, after_reply_at, accepted, filed}
+use Rattle.flash_laws.specs.Site.Places.{has_worker, is_run_by, runs_at, is_free, first_free, has_free, may_go}
+use Rattle.flash_laws.specs.Site.Places.{EachHasItsOwn, runs_scripts, after_reply_at, accepted, filed}
 use Rattle.flash_laws.specs.Run.OfferedBytes.{HasWorker}
 use Rattle.flash_laws.specs.Run as running
 use Rattle.flash_laws.specs.Run.{is_over, after_wait}
@@ -37,25 +40,33 @@ use Rattle.flash_laws.proofs.Conn.Uses.{same-number}
 
 -- ---- who is free
 
-none-any : {A : Type 0} (p : Option A → Bool) (xs : List (Option A)) (i : ℕ) → p None ≡ false → list_any p xs ≡ false → p (in_place xs i) ≡ false
+none-any : {A : Type 0} (p : Option A → Bool) (xs : List (Option A)) (i : ℕ) → p None ≡ false → list_any p xs ≡ false
+    → p (in_place xs i) ≡ false
 none-any p [] i none is = none
 none-any p (x ∷ xs) zero none is = (neither (p x) (list_any p xs) is).0
 none-any p (x ∷ xs) (suc i) none is = none-any p xs i none (neither (p x) (list_any p xs) is).1
 
 -- a worker that is free runs no script
-pub free-runs : (clients : List (Option Client)) (k gd : ℕ) (y : Client) → is_free clients k ≡ true → in_place clients gd ≡ Some y → is_run_by y k ≡ false
+pub free-runs : (clients : List (Option Client)) (k gd : ℕ) (y : Client) → is_free clients k ≡ true
+    → in_place clients gd ≡ Some y → is_run_by y k ≡ false
 free-runs clients k gd y free is =
-    ap (λ (o : Option Client). runs_at k o) (sym is) ∙ none-any (λ (o : Option Client). runs_at k o) clients gd refl (not-true (list_any (λ o. runs_at k o) clients) free)
+    ap (λ (o : Option Client). runs_at k o) (sym is)
+    ∙ none-any (λ (o : Option Client). runs_at k o) clients gd refl
+    (not-true (list_any (λ o. runs_at k o) clients) free)
 
 pub first-free : (workers : ℕ) (clients : List (Option Client)) → has_free workers clients ≡ true
     → (first_free workers clients < workers) × (is_free clients (first_free workers clients) ≡ true)
 first-free workers clients free =
     let k = first_free workers clients in
     let lt : first_free workers clients < workers = grind (arith, nat_tests, free) in
-    let within : position_or_len (λ j. is_free clients j) (range_with_len 0 workers) < length (range_with_len 0 workers) = subst (λ n. first_free workers clients < n) (sym (length-range_with_len 0 workers)) lt in
-    let at : get_or (range_with_len 0 workers) (first_free workers clients) 0 ≡ first_free workers clients = get_or-range_with_len 0 workers (first_free workers clients) 0 lt ∙ zero-add (first_free workers clients) in (
+    let within : position_or_len (λ j. is_free clients j) (range_with_len 0 workers)
+    < length (range_with_len 0 workers) =
+    subst (λ n. first_free workers clients < n) (sym (length-range_with_len 0 workers)) lt in
+    let at : get_or (range_with_len 0 workers) (first_free workers clients) 0 ≡ first_free workers clients =
+    get_or-range_with_len 0 workers (first_free workers clients) 0 lt ∙ zero-add (first_free workers clients) in (
       lt,
-      ap (λ j. is_free clients j) (sym at) ∙ passes_at_first (λ j. is_free clients j) (range_with_len 0 workers) 0 within,
+      ap (λ j. is_free clients j) (sym at) ∙ passes_at_first (λ j. is_free clients j) (range_with_len 0 workers) 0
+          within,
     )
 
 -- ---- which worker a client has after a reply: the one that it had, or the one that is free, if it waited
@@ -63,7 +74,8 @@ first-free workers clients free =
 abbrev pub Had : (worker : ℕ) → Client → (k : ℕ) → Type 0
 Had worker x k = (is_run_by x k ≡ true) ⊎ ((awaits x ≡ true) × (k ≡ worker))
 
-on-goes : (was over : Bool) (x : Client) (y z : Running) (k : ℕ) → is_run_by (proceeds was over x y z) k ≡ true → has_worker z k ≡ true
+on-goes : (was over : Bool) (x : Client) (y z : Running) (k : ℕ) → is_run_by (proceeds was over x y z) k ≡ true
+    → has_worker z k ≡ true
 on-goes false true x y z k u = absurd (cc (u))
 on-goes true true x y z k u = u
 on-goes true false x y z k u = u
@@ -81,20 +93,25 @@ run-on x worker k has u = absurd (cc (u))
 on-run : (worker : ℕ) (w : Wanted) (c : Conn) (script : List ℕ) (y : Running) (r : Reply) (received : List ℕ) (k : ℕ)
     → has_worker (running.after_reply worker w y r received) k ≡ true → Had worker (of c (Some y) script) k
 on-run worker w c script Awaits r received k u = inr (refl, awaits-on worker r k u)
-on-run worker w c script (Runs run s) r received k u = inl (run-on (running.after_reply worker w (Runs run s) r received) run.worker k (keeps worker w run s r received) u)
+on-run worker w c script (Runs run s) r received k u =
+    inl (run-on (running.after_reply worker w (Runs run s) r received) run.worker k (keeps worker w run s r received) u)
 on-run worker w c script x r received k u = absurd (cc (u))
 
 -- one for which no script runs has none then
 on-script : (kept : List ℕ) (q : Answer) (d : Phase) (script : List ℕ) (r : Reply) (received : List ℕ) (k : ℕ)
-    → is_run_by (file_after_reply true (of (record { kept = kept; q = q; phase = d }) None script) r received) k ≡ true → ⊥
+    → is_run_by (file_after_reply true (of (record { kept = kept; q = q; phase = d }) None script) r received) k ≡ true
+    → ⊥
 on-script kept q (Spares a Script) script r received k u = by (is_head_only q) r u
   where
-    by : (h : Bool) (r : Reply) → is_run_by (of (record { kept = kept; q = q; phase = Spares a Script }) (after_drop_whole h r) script) k ≡ true → ⊥
+    by : (h : Bool) (r : Reply)
+        → is_run_by (of (record { kept = kept; q = q; phase = Spares a Script }) (after_drop_whole h r) script) k ≡ true
+        → ⊥
     by false reply.Done u = cc (u)
     by b r u = cc (u)
 on-script kept q d script r received k u = cc (u)
 
-pub on-after_reply : (scripts : Bool) (worker : ℕ) (c : Conn) (run : Option Running) (script : List ℕ) (r : Reply) (received : List ℕ) (k : ℕ)
+pub on-after_reply : (scripts : Bool) (worker : ℕ) (c : Conn) (run : Option Running) (script : List ℕ) (r : Reply)
+    (received : List ℕ) (k : ℕ)
     → is_run_by (after_reply scripts worker (of c run script) r received) k ≡ true → Had worker (of c run script) k
 on-after_reply scripts worker c None script r received k u = absurd (by (is_for_script scripts c.q) u)
   where
@@ -103,13 +120,17 @@ on-after_reply scripts worker c None script r received k u = absurd (by (is_for_
     by false u = cc (u)
 on-after_reply scripts worker c (Some y) script r received k u = by c.q u
   where
-    by : (q : Answer) → is_run_by (run_after_reply worker q (of c (Some y) script) y r received) k ≡ true → Had worker (of c (Some y) script) k
+    by : (q : Answer) → is_run_by (run_after_reply worker q (of c (Some y) script) y r received) k ≡ true
+        → Had worker (of c (Some y) script) k
     by (serve w) u =
         let z = running.after_reply worker w y r received in
-        on-run worker w c script y r received k (on-goes (is_over y) (is_over (running.after_reply worker w y r received)) (of c (Some y) script) y (running.after_reply worker w y r received) k u)
+        on-run worker w c script y r received k
+        (on-goes (is_over y) (is_over (running.after_reply worker w y r received)) (of c (Some y) script) y
+        (running.after_reply worker w y r received) k u)
     by (refuse status head_only close) u = inl u
 
-pub left-over-is : (c : Conn) (run : Option Running) (script : List ℕ) (y : Client) → left_over (of c run script) ≡ Some y → of c run script ≡ y
+pub left-over-is : (c : Conn) (run : Option Running) (script : List ℕ) (y : Client)
+    → left_over (of c run script) ≡ Some y → of c run script ≡ y
 left-over-is c None script y is = left-is c.phase (of c None script) y is
 left-over-is c (Some z) script y is = some-inj (of c (Some z) script) y is
 
@@ -117,10 +138,12 @@ left-over-is c (Some z) script y is = some-inj (of c (Some z) script) y is
 
 -- a worker that none of the others has
 abbrev IsOwn : (workers : ℕ) → List (Option Client) → (fd k : ℕ) → Type 0
-IsOwn workers clients fd k = (k < workers) × ((gd : ℕ) (z : Client) → fd ≢ gd → in_place clients gd ≡ Some z → is_run_by z k ≡ true → ⊥)
+IsOwn workers clients fd k = (k < workers) × ((gd : ℕ) (z : Client) → fd ≢ gd → in_place clients gd ≡ Some z
+    → is_run_by z k ≡ true → ⊥)
 
 own-set : (workers : ℕ) (clients : List (Option Client)) (fd : ℕ) (o : Option Client) → EachHasItsOwn workers clients
-    → ((k : ℕ) (y : Client) → o ≡ Some y → is_run_by y k ≡ true → IsOwn workers clients fd k) → EachHasItsOwn workers (with_at clients fd o)
+    → ((k : ℕ) (y : Client) → o ≡ Some y → is_run_by y k ≡ true → IsOwn workers clients fd k)
+    → EachHasItsOwn workers (with_at clients fd o)
 own-set workers clients fd o own here = record {
   apart = λ gd hd k x y is_x is_y u v. elim (cases_eq fd gd) [
     | inl g ↦ elim (cases_eq fd hd) [
@@ -139,32 +162,44 @@ own-set workers clients fd o own here = record {
 }
   where
     mine : (gd : ℕ) (y : Client) → fd ≡ gd → in_place (with_at clients fd o) gd ≡ Some y → o ≡ Some y
-    mine gd y same is = sym (at-same clients fd o) ∙ subst (λ g. in_place (with_at clients fd o) g ≡ Some y) (sym same) is
+    mine gd y same is = sym (at-same clients fd o)
+        ∙ subst (λ g. in_place (with_at clients fd o) g ≡ Some y) (sym same) is
 
     old : (gd : ℕ) (y : Client) → fd ≢ gd → in_place (with_at clients fd o) gd ≡ Some y → in_place clients gd ≡ Some y
     old gd y differ is = sym (at-other clients fd gd o differ) ∙ is
 
 -- the worker that it had
-still-own : (workers : ℕ) (clients : List (Option Client)) (fd k : ℕ) (x : Client) → EachHasItsOwn workers clients → in_place clients fd ≡ Some x
+still-own : (workers : ℕ) (clients : List (Option Client)) (fd k : ℕ) (x : Client) → EachHasItsOwn workers clients
+    → in_place clients fd ≡ Some x
     → is_run_by x k ≡ true → IsOwn workers clients fd k
-still-own workers clients fd k x own is u = (own.among fd k x is u, λ gd z differ is_z v. differ (own.apart fd gd k x z is is_z u v))
+still-own workers clients fd k x own is u =
+    (own.among fd k x is u, λ gd z differ is_z v. differ (own.apart fd gd k x z is is_z u v))
 
-new-own : (workers : ℕ) (clients : List (Option Client)) (fd : ℕ) → has_free workers clients ≡ true → IsOwn workers clients fd (first_free workers clients)
+new-own : (workers : ℕ) (clients : List (Option Client)) (fd : ℕ) → has_free workers clients ≡ true
+    → IsOwn workers clients fd (first_free workers clients)
 new-own workers clients fd free =
-    let first = first-free workers clients free in
-    (first.0, λ gd z differ is v. clash (is_run_by z (first_free workers clients)) v (free-runs clients (first_free workers clients) gd z first.1 is))
+    let first = first-free workers clients free in (
+      first.0,
+      λ gd z differ is v. clash (is_run_by z (first_free workers clients)) v
+          (free-runs clients (first_free workers clients) gd z first.1 is),
+    )
 
-own-filed : (workers : ℕ) (clients : List (Option Client)) (w : PendingCall) (r : Reply) (received : List ℕ) → EachHasItsOwn workers clients
+own-filed : (workers : ℕ) (clients : List (Option Client)) (w : PendingCall) (r : Reply) (received : List ℕ)
+    → EachHasItsOwn workers clients
     → PendingCallGoes workers clients w → EachHasItsOwn workers (filed workers clients w r received)
 own-filed workers clients Nothing r received own goes = own
 own-filed workers clients Accepting r received own goes = by r
   where
     by : (r : Reply) → EachHasItsOwn workers (accepted clients r)
-    by (reply.Fd fd) = own-set workers clients fd (Some new_client) own (λ k y is u. absurd (let none : false ≡ true = ap (λ (z : Client). is_run_by z k) (some-inj new_client y is) ∙ u in cc (none)))
+    by (reply.Fd fd) =
+        own-set workers clients fd (Some new_client) own
+        (λ k y is u. absurd (let none : false ≡ true = ap (λ (z : Client). is_run_by z k) (some-inj new_client y is)
+        ∙ u in cc (none)))
     by r = own
 own-filed workers clients (At fd) r received own goes = by (in_place clients fd) refl
   where
-    by : (o : Option Client) → in_place clients fd ≡ o → EachHasItsOwn workers (after_reply_at workers clients fd o r received)
+    by : (o : Option Client) → in_place clients fd ≡ o
+        → EachHasItsOwn workers (after_reply_at workers clients fd o r received)
     by None is = own
     by (Some x) is = own-set workers clients fd (left_over after) own here
       where
@@ -174,42 +209,52 @@ own-filed workers clients (At fd) r received own goes = by (in_place clients fd)
         here : (k : ℕ) (y : Client) → left_over after ≡ Some y → is_run_by y k ≡ true → IsOwn workers clients fd k
         here k y left u =
             let same : after ≡ y = left-over-is after.conn after.run after.script y left in
-            elim (on-after_reply (runs_scripts workers) (first_free workers clients) x.conn x.run x.script r received k (ap (λ (z : Client). is_run_by z k) same ∙ u)) [
+            elim (on-after_reply (runs_scripts workers) (first_free workers clients) x.conn x.run x.script r received k
+            (ap (λ (z : Client). is_run_by z k) same ∙ u)) [
               | inl was ↦ still-own workers clients fd k x own is was
-              | inr new ↦ subst (λ j. IsOwn workers clients fd j) (sym new.1) (new-own workers clients fd (must (has_free workers clients) (awaits x) (goes x is) new.0))
+              | inr new ↦
+                  subst (λ j. IsOwn workers clients fd j) (sym new.1)
+                  (new-own workers clients fd (must (has_free workers clients) (awaits x) (goes x is) new.0))
             ]
 
 -- ---- a turn
 
-pub ready-runs : (c : Conn) (run : Option Running) (script : List ℕ) (y : Client) → Readies (of c run script) y → y.run ≡ run
+pub ready-runs : (c : Conn) (run : Option Running) (script : List ℕ) (y : Client) → Readies (of c run script) y
+    → y.run ≡ run
 ready-runs c None script y ready = ap (λ (z : Client). z.run) ready.2
 ready-runs c (Some z) script y ready = ap (λ (z : Client). z.run) ready
 
 abbrev run_of : Option Running → (k : ℕ) → Bool
 run_of run k = is_run_by (record new_client { run = run }) k
 
-module _ (workers : ℕ) (clients : List (Option Client)) (own : EachHasItsOwn workers clients) (made : Turn) (after : List (Option Client)) where
+module _ (workers : ℕ) (clients : List (Option Client)) (own : EachHasItsOwn workers clients) (made : Turn)
+    (after : List (Option Client)) where
   pub own-picked : (w : PendingCall) → Picks workers clients w made after → EachHasItsOwn workers after
   own-picked (At fd) p = subst (λ (l : List (Option Client)). EachHasItsOwn workers l) (sym p.after_is)
       (own-set workers clients fd (Some p.ready) own
       (λ k y is u. still-own workers clients fd k p.was own p.there
-      (ap (λ (o : Option Running). run_of o k) (sym (ready-runs p.was.conn p.was.run p.was.script p.ready p.readies)) ∙ (ap (λ (z : Client). run_of z.run k) (some-inj p.ready y is) ∙ u))))
+      (ap (λ (o : Option Running). run_of o k) (sym (ready-runs p.was.conn p.was.run p.was.script p.ready p.readies))
+      ∙ (ap (λ (z : Client). run_of z.run k) (some-inj p.ready y is) ∙ u))))
   own-picked x p = subst (λ (l : List (Option Client)). EachHasItsOwn workers l) (sym p.0) own
 
   pub goes-picked : (w : PendingCall) → Picks workers clients w made after → PendingCallGoes workers after w
   goes-picked (At fd) p = λ x is.
-      let same : p.ready ≡ x = some-inj p.ready x (sym (at-same clients fd (Some p.ready)) ∙ (ap (λ (l : List (Option Client)). in_place l fd) (sym p.after_is) ∙ is)) in
+      let same : p.ready ≡ x =
+      some-inj p.ready x (sym (at-same clients fd (Some p.ready))
+      ∙ (ap (λ (l : List (Option Client)). in_place l fd) (sym p.after_is) ∙ is)) in
       ap (λ (z : Client). may_go (has_free workers after) z) (sym same) ∙ p.goes
   goes-picked x p = tt
 
 -- ---- who waits
 
-all-busy : (workers : ℕ) (clients : List (Option Client)) (k : ℕ) → nat_lt (first_free workers clients) workers ≡ false → k < workers → is_free clients k ≡ false
+all-busy : (workers : ℕ) (clients : List (Option Client)) (k : ℕ) → nat_lt (first_free workers clients) workers ≡ false
+    → k < workers → is_free clients k ≡ false
 all-busy workers clients k none lt =
     let past : workers ≤ first_free workers clients = grind (arith, nat_tests, none) in
     let before : k < first_free workers clients = omega (arith, past, lt) in
     let at : get_or (range_with_len 0 workers) k 0 ≡ k = get_or-range_with_len 0 workers k 0 lt ∙ zero-add k in
-    ap (λ j. is_free clients j) (sym at) ∙ fails_before_first (λ j. is_free clients j) (range_with_len 0 workers) k 0 before
+    ap (λ j. is_free clients j) (sym at) ∙ fails_before_first (λ j. is_free clients j) (range_with_len 0 workers) k 0
+    before
 
 -- a place that passes
 record Passes {A : Type 0} (p : Option A → Bool) (xs : List (Option A)) : Type 0 where
@@ -236,18 +281,21 @@ pub record RunsFor (clients : List (Option Client)) (k : ℕ) : Type 0 where
 
 pub runs-for : (clients : List (Option Client)) (k : ℕ) → is_free clients k ≡ false → RunsFor clients k
 runs-for clients k busy =
-    let one = some-any (λ (o : Option Client). runs_at k o) clients (not-false (list_any (λ o. runs_at k o) clients) busy) in
+    let one =
+    some-any (λ (o : Option Client). runs_at k o) clients (not-false (list_any (λ o. runs_at k o) clients) busy) in
     by one.place (in_place clients one.place) refl one.passes
   where
     by : (gd : ℕ) (o : Option Client) → in_place clients gd ≡ o → runs_at k o ≡ true → RunsFor clients k
     by gd None at runs = absurd (cc (runs))
     by gd (Some y) at runs = record { fd = gd; client = y; at = at; runs = runs }
 
-waits-none : (c : Conn) (run : Option Running) (script : List ℕ) (k : ℕ) → awaits (of c run script) ≡ true → is_run_by (of c run script) k ≡ false
+waits-none : (c : Conn) (run : Option Running) (script : List ℕ) (k : ℕ) → awaits (of c run script) ≡ true
+    → is_run_by (of c run script) k ≡ false
 waits-none c (Some (Runs run s)) script k waits = absurd (cc (waits))
 waits-none c run script k waits = refl
 
-another : (clients : List (Option Client)) (fd k : ℕ) (x : Client) → in_place clients fd ≡ Some x → awaits x ≡ true → is_free clients k ≡ false → RunsForAnother clients fd k
+another : (clients : List (Option Client)) (fd k : ℕ) (x : Client) → in_place clients fd ≡ Some x → awaits x ≡ true
+    → is_free clients k ≡ false → RunsForAnother clients fd k
 another clients fd k x there waits busy =
     let ran = runs-for clients k busy in
     record {
@@ -255,8 +303,11 @@ another clients fd k x there waits busy =
       client = ran.client;
       there = ran.at;
       runs = ran.runs;
-      other = λ same. (let mine : ran.client ≡ x = some-inj ran.client x (sym ran.at ∙ (ap (λ z. in_place clients z) (sym same) ∙ there)) in
-          clash (is_run_by ran.client k) ran.runs (ap (λ (z : Client). is_run_by z k) mine ∙ waits-none x.conn x.run x.script k waits));
+      other =
+          λ same. (let mine : ran.client ≡ x =
+          some-inj ran.client x (sym ran.at ∙ (ap (λ z. in_place clients z) (sym same) ∙ there)) in
+          clash (is_run_by ran.client k) ran.runs (ap (λ (z : Client). is_run_by z k) mine
+          ∙ waits-none x.conn x.run x.script k waits));
     }
 
 passed-over : (free waits : Bool) → (free || not waits) ≡ false → (free ≡ false) × (waits ≡ true)
@@ -264,13 +315,15 @@ passed-over true waits is = absurd (cc (is))
 passed-over false true is = (refl, refl)
 passed-over false false is = absurd (cc (is))
 
-waits : (workers : ℕ) (clients : List (Option Client)) (fd : ℕ) (x : Client) → in_place clients fd ≡ Some x → may_go (has_free workers clients) x ≡ false
+waits : (workers : ℕ) (clients : List (Option Client)) (fd : ℕ) (x : Client) → in_place clients fd ≡ Some x
+    → may_go (has_free workers clients) x ≡ false
     → (awaits x ≡ true) × ((k : ℕ) → k < workers → RunsForAnother clients fd k)
 waits workers clients fd x there passed =
     let both = passed-over (has_free workers clients) (awaits x) passed in
     (both.1, λ k lt. another clients fd k x there both.1 (all-busy workers clients k both.0 lt))
 
-going : (free : Bool) (k : ℕ) (c : Conn) (run : Option Running) (script : List ℕ) → is_run_by (of c run script) k ≡ true → may_go free (of c run script) ≡ true
+going : (free : Bool) (k : ℕ) (c : Conn) (run : Option Running) (script : List ℕ) → is_run_by (of c run script) k ≡ true
+    → may_go free (of c run script) ≡ true
 going true k c (Some (Runs run s)) script runs = refl
 going false k c (Some (Runs run s)) script runs = refl
 going free k c run script runs = absurd (cc (runs))
@@ -295,9 +348,14 @@ workers_shared = record {
       let picks = goes.1 in
       let same = goes.2 in
       record {
-        own = subst (λ k. EachHasItsOwn k t.clients) (sym same) (own-picked s.workers (filed_in s last readable) own made t.clients t.pending_call picks);
-        goes = subst (λ k. PendingCallGoes k t.clients t.pending_call) (sym same) (goes-picked s.workers (filed_in s last readable) own made t.clients t.pending_call picks);
+        own =
+            subst (λ k. EachHasItsOwn k t.clients) (sym same)
+            (own-picked s.workers (filed_in s last readable) own made t.clients t.pending_call picks);
+        goes =
+            subst (λ k. PendingCallGoes k t.clients t.pending_call) (sym same)
+            (goes-picked s.workers (filed_in s last readable) own made t.clients t.pending_call picks);
       };
   none = λ s t last readable made hired runs goes.
-      runs-picked s.workers (filed_in s last readable) t.pending_call made t.clients (runs-filed s.workers s.clients s.pending_call last (received_of last readable) hired runs) goes.1;
+      runs-picked s.workers (filed_in s last readable) t.pending_call made t.clients
+      (runs-filed s.workers s.clients s.pending_call last (received_of last readable) hired runs) goes.1;
 }

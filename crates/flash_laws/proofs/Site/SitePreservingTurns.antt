@@ -7,8 +7,10 @@ use Rattle.iol_proc.specs.Turns.{TransitionRelation}
 use Rattle.iol_proc.specs.World.{Stage, copying, WorldRun}
 use Rattle.flash_laws.specs.World.Undisturbed.{AreSitePreserving}
 
-pub rounds-site_preserving : {P : Type 0} (turns : TransitionRelation P) (ds : List ℕ) (i n : ℕ) (rs : List Reply) (w after : Stage State P)
+pub rounds-site_preserving : {P : Type 0} (turns : TransitionRelation P) (ds : List ℕ) (i n : ℕ) (rs : List Reply)
+    (w after : Stage State P)
     → (run : WorldRun copying turns w (rounds ds i n) rs after) → AreSitePreserving turns w (rounds ds i n) rs after run
 rounds-site_preserving turns ds i zero rs w after run = tt
 rounds-site_preserving turns ds i (suc n) [] w after run = tt
-rounds-site_preserving turns ds i (suc n) (r ∷ rs) w after run = (tt, rounds-site_preserving turns ds (suc i) n rs run.0 after run.2)
+rounds-site_preserving turns ds i (suc n) (r ∷ rs) w after run =
+    (tt, rounds-site_preserving turns ds (suc i) n rs run.0 after run.2)

@@ -1,5 +1,6 @@
 -- The server's own call for a client touches only what that client has.
-use Rattle.std.proofs.Common.{inl, inr, ◌≡◌, ◌⊎◌, ℕ, ◌==◌, List, [], ◌∷◌, ap, ◌∙◌, refl, sym, subst, Option, Some, None, true, false, Bool, if◌then◌else◌}
+use Rattle.std.proofs.Common.{inl, inr, ◌≡◌, ◌⊎◌, ℕ, ◌==◌, List, [], ◌∷◌, ap, ◌∙◌, refl, sym, subst, Option, Some, None}
+use Rattle.std.proofs.Common.{true, false, Bool, if◌then◌else◌}
 use Rattle.std.specs.Prelude.{◌||◌, ◌&&◌}
 use Rattle.std.specs.List.{list_any}
 use Rattle.iol_core.specs.State.{State, descriptor}
@@ -11,7 +12,8 @@ use Rattle.iol_core.specs.declared.descriptors.Mode.TheVariants as modes
 use Rattle.iol_core.specs.declared.events.Call.{Call}
 use Rattle.iol_core.specs.declared.events.Call.TheVariants as call
 use Rattle.iol_core.specs.declared.events.Event.TheVariants as event
-use Rattle.iol_laws.specs.Frame.{is_conn, is_end, touches_conn, touches_pipe, touches_fd, changes_files, admits_to, ends, sets_default}
+use Rattle.iol_laws.specs.Frame.{is_conn, is_end, touches_conn, touches_pipe, touches_fd, changes_files, admits_to}
+use Rattle.iol_laws.specs.Frame.{ends, sets_default}
 use Rattle.flash_http.specs.Request.{Answer}
 use Rattle.flash_laws.specs.Client.{Client, is_for_script, conn_wants, job_of, wants, uses_agg}
 use Rattle.flash_laws.specs.Client.Fits.{expected_in, Fits}
@@ -78,7 +80,8 @@ kind-admits k p is = refl
 
 -- ---- alone
 
-wants-kind : (fd : ℕ) (kept : List ℕ) (q : Answer) (d : Phase) → is_client_call (conn.wants fd (record { kept = kept; q = q; phase = d })) ≡ true
+wants-kind : (fd : ℕ) (kept : List ℕ) (q : Answer) (d : Phase)
+    → is_client_call (conn.wants fd (record { kept = kept; q = q; phase = d })) ≡ true
 wants-kind fd kept q (phase.Reads f) = by (is_head_only q)
   where
     by : (b : Bool) → is_client_call (if b then call.Length f else call.IolRead f most_read) ≡ true
@@ -86,14 +89,18 @@ wants-kind fd kept q (phase.Reads f) = by (is_head_only q)
     by false = refl
 wants-kind fd kept q d = refl
 
-module _ (m : State) (fd c : ℕ) (script : List ℕ) (kept : List ℕ) (q : Answer) (expected : List ℕ) (open_on : descriptor m server fd ≡ Some (on.Connection c)) where
-  plain : (d : Phase) → Has m q expected d → CallsAlone m fd c (of (at kept q d) None script) (conn.wants fd (at kept q d))
+module _ (m : State) (fd c : ℕ) (script : List ℕ) (kept : List ℕ) (q : Answer) (expected : List ℕ)
+    (open_on : descriptor m server fd ≡ Some (on.Connection c)) where
+  plain : (d : Phase) → Has m q expected d
+      → CallsAlone m fd c (of (at kept q d) None script) (conn.wants fd (at kept q d))
   plain d has = record {
     kind = wants-kind fd kept q d;
     aggs = λ a u. gives-wants fd kept q d a u;
     fds = λ g u. fds-wants m fd c kept q d g open_on u;
     conns = λ e u. conns-wants m fd c kept q expected d e open_on has u;
-    pipes = λ p u. absurd (clash (touches_pipe m (event.Call server (conn.wants fd (at kept q d))) p) u (pipes-wants m fd c kept q expected d p open_on has));
+    pipes =
+        λ p u. absurd (clash (touches_pipe m (event.Call server (conn.wants fd (at kept q d))) p) u
+        (pipes-wants m fd c kept q expected d p open_on has));
     files = files-wants m fd c kept q d open_on;
   }
 
@@ -102,17 +109,21 @@ module _ (m : State) (fd c : ℕ) (script : List ℕ) (kept : List ℕ) (q : Ans
   left-of false b u = absurd (cc (u))
 
   -- a script is read whole, for HEAD too
-  reads : (f : ℕ) → Has m q expected (phase.Reads f) → CallsAlone m fd c (of (at kept q (phase.Reads f)) None script) (call.IolRead f most_read)
+  reads : (f : ℕ) → Has m q expected (phase.Reads f)
+      → CallsAlone m fd c (of (at kept q (phase.Reads f)) None script) (call.IolRead f most_read)
   reads f has = record {
     kind = refl;
     aggs = λ a u. absurd (cc (u));
     fds = λ g u. inl (left-of (f == g) (is_file (descriptor m server f)) u);
-    conns = λ e u. absurd (let b = sym (ap (λ (x : Option Descriptor). list_any (is_conn e) (x ∷ []) || false) has.1.2) ∙ u in cc (b));
-    pipes = λ p u. absurd (let b = sym (ap (λ (x : Option Descriptor). list_any (is_end p) (x ∷ []) || false) has.1.2) ∙ u in cc (b));
+    conns = λ e u. absurd (let b = sym (ap (λ (x : Option Descriptor). list_any (is_conn e) (x ∷ []) || false) has.1.2)
+        ∙ u in cc (b));
+    pipes = λ p u. absurd (let b = sym (ap (λ (x : Option Descriptor). list_any (is_end p) (x ∷ []) || false) has.1.2)
+        ∙ u in cc (b));
     files = refl;
   }
 
-  scripted : (b : Bool) (d : Phase) → Has m q expected d → CallsAlone m fd c (of (at kept q d) None script) (conn_wants b fd (at kept q d))
+  scripted : (b : Bool) (d : Phase) → Has m q expected d
+      → CallsAlone m fd c (of (at kept q d) None script) (conn_wants b fd (at kept q d))
   scripted true (phase.Reads f) has = reads f has
   scripted b d has = plain d has
 
@@ -127,7 +138,8 @@ kind-of (call.AggGive a to) is = absurd (cc (is))
 kind-of (call.FileNew name p) is = absurd (cc (is))
 kind-of k is = refl
 
-of-run : (m : State) (fd c : ℕ) (conn : Conn) (script : List ℕ) (y : Running) (k : Call) → KeepsToItself m fd c y k → CallsAlone m fd c (of conn (Some y) script) k
+of-run : (m : State) (fd c : ℕ) (conn : Conn) (script : List ℕ) (y : Running) (k : Call) → KeepsToItself m fd c y k
+    → CallsAlone m fd c (of conn (Some y) script) k
 of-run m fd c conn script y k alone = record {
   kind = kind-of k alone.kind;
   aggs = alone.aggs;
@@ -137,30 +149,40 @@ of-run m fd c conn script y k alone = record {
   files = alone.files;
 }
 
-module _ (site_contents : SiteContents) (worker_set : WorkerSet) (laws : AllLaws worker_set) (m : State) (came sent : List ℕ) (fd c : ℕ) (process_slots : List (ProcessSlot worker_set.Worker)) where
+module _ (site_contents : SiteContents) (worker_set : WorkerSet) (laws : AllLaws worker_set) (m : State)
+    (came sent : List ℕ) (fd c : ℕ) (process_slots : List (ProcessSlot worker_set.Worker)) where
   -- the server's descriptor is open on its connection
-  pub opens-on : (conn : Conn) (run : Option Running) (script : List ℕ) → Fits site_contents worker_set m came sent fd c (of conn run script) process_slots
+  pub opens-on : (conn : Conn) (run : Option Running) (script : List ℕ)
+      → Fits site_contents worker_set m came sent fd c (of conn run script) process_slots
       → descriptor m server fd ≡ Some (on.Connection c)
   opens-on conn None script f = f.open_on
   opens-on conn (Some y) script f = f.open_on
 
-  pub calls-alone : (conn : Conn) (run : Option Running) (script : List ℕ) → Fits site_contents worker_set m came sent fd c (of conn run script) process_slots
+  pub calls-alone : (conn : Conn) (run : Option Running) (script : List ℕ)
+      → Fits site_contents worker_set m came sent fd c (of conn run script) process_slots
       → CallsAlone m fd c (of conn run script) (wants site_contents.scripts fd (of conn run script))
-  calls-alone conn None script f = scripted m fd c script conn.kept conn.q (expected_in f.expected conn.q conn.phase) f.open_on (is_for_script site_contents.scripts conn.q) conn.phase f.has
+  calls-alone conn None script f =
+      scripted m fd c script conn.kept conn.q (expected_in f.expected conn.q conn.phase) f.open_on
+      (is_for_script site_contents.scripts conn.q) conn.phase f.has
   calls-alone conn (Some y) script f =
-      subst (λ (k : Call). CallsAlone m fd c (of conn (Some y) script) k) (sym (wants-run site_contents.scripts fd conn (Some y) script f.script.text y f.wanted refl f.script.asks f.kept))
+      subst (λ (k : Call). CallsAlone m fd c (of conn (Some y) script) k)
+      (sym (wants-run site_contents.scripts fd conn (Some y) script f.script.text y f.wanted refl f.script.asks
+      f.kept))
       (of-run m fd c conn script y (running.wants (job_of f.wanted f.script.text) fd f.wanted y)
       ((laws.run_keeps (job_of f.wanted f.script.text)).alone m fd c f.wanted y f.so_far f.open_on f.ongoing f.has))
 
   -- what it uses is there
-  pub there-agg : (conn : Conn) (run : Option Running) (script : List ℕ) (a : ℕ) → Fits site_contents worker_set m came sent fd c (of conn run script) process_slots
+  pub there-agg : (conn : Conn) (run : Option Running) (script : List ℕ) (a : ℕ)
+      → Fits site_contents worker_set m came sent fd c (of conn run script) process_slots
       → uses_agg (of conn run script) a ≡ true → IsReadable m a
   there-agg conn None script a f u = has-agg m conn.q (expected_in f.expected conn.q conn.phase) conn.phase a u f.has
   there-agg conn (Some y) script a f u = run-there m a (job_of f.wanted f.script.text) f.wanted f.so_far y u f.has
 
   -- and what it has: a file, or an end of a pipe
-  pub there-fd : (conn : Conn) (run : Option Running) (script : List ℕ) (g : ℕ) → Fits site_contents worker_set m came sent fd c (of conn run script) process_slots
+  pub there-fd : (conn : Conn) (run : Option Running) (script : List ℕ) (g : ℕ)
+      → Fits site_contents worker_set m came sent fd c (of conn run script) process_slots
       → has_fd (of conn run script) g ≡ true
       → ((i : ℕ) × (pos : ℕ) × (descriptor m server g ≡ Some (on.File i pos modes.Read))) ⊎ IsEnd m g
-  there-fd conn None script g f u = inl (has-fd m conn.q (expected_in f.expected conn.q conn.phase) conn.phase g u f.has)
+  there-fd conn None script g f u =
+      inl (has-fd m conn.q (expected_in f.expected conn.q conn.phase) conn.phase g u f.has)
   there-fd conn (Some y) script g f u = inr (run-end m g (job_of f.wanted f.script.text) f.wanted f.so_far y u f.has)

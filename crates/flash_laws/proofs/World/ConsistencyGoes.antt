@@ -6,7 +6,8 @@ use Rattle.iol_core.specs.Text.{bytes_of}
 use Rattle.iol_core.specs.State.{Connection, is_gone}
 use Rattle.flash_http.specs.Request.{serve, Wanted}
 use Rattle.flash_laws.specs.Client.{Client}
-use Rattle.flash_laws.specs.Client.Fits.{is_at_rest, Answers, IsLeftAlone, given_of, IsFinished, ConsistencyAlone, ConsistencyRun}
+use Rattle.flash_laws.specs.Client.Fits.{is_at_rest, Answers, IsLeftAlone, given_of, IsFinished, ConsistencyAlone}
+use Rattle.flash_laws.specs.Client.Fits.{ConsistencyRun}
 use Rattle.flash_laws.specs.Conn.Fits.{asked}
 use Rattle.flash_laws.specs.Conn.OfferedBytes.{taken_of}
 use Rattle.flash_laws.specs.Run.Fits.{Progress}
@@ -18,9 +19,12 @@ use Rattle.flash_laws.proofs.World.Responses.{begins-less, begins-consistency, b
 
 -- ---- what was sent and is to be sent stays, and so does the peer, unless it closes
 
-module _ (site_contents : SiteContents) (k j : Connection) (took sent after : List ℕ) (total : sent ++ bytes_of k.outgoing ≡ after ++ bytes_of j.outgoing)
-    (gone : is_gone j.peer ≡ is_gone k.peer) (ended : is_none k.peer ≡ false → (j.incoming ≡ k.incoming) × (is_none j.peer ≡ false)) where
-  finished-stays : (d : Phase) → IsFinished site_contents k took (sent ++ bytes_of k.outgoing) d → IsFinished site_contents j took (after ++ bytes_of j.outgoing) d
+module _ (site_contents : SiteContents) (k j : Connection) (took sent after : List ℕ)
+    (total : sent ++ bytes_of k.outgoing ≡ after ++ bytes_of j.outgoing)
+    (gone : is_gone j.peer ≡ is_gone k.peer) (ended : is_none k.peer ≡ false
+    → (j.incoming ≡ k.incoming) × (is_none j.peer ≡ false)) where
+  finished-stays : (d : Phase) → IsFinished site_contents k took (sent ++ bytes_of k.outgoing) d
+      → IsFinished site_contents j took (after ++ bytes_of j.outgoing) d
   finished-stays d f = record {
     quits = f.quits;
     finished = record {
@@ -37,20 +41,29 @@ module _ (site_contents : SiteContents) (k j : Connection) (took sent after : Li
     begins = subst (λ (l : List ℕ). Begins site_contents took l) total f.begins;
   }
 
-  left-stays : IsLeftAlone site_contents k took (sent ++ bytes_of k.outgoing) → IsLeftAlone site_contents j took (after ++ bytes_of j.outgoing)
-  left-stays l = record { gone = gone ∙ l.gone; begins = subst (λ (l : List ℕ). Begins site_contents took l) total l.begins }
+  left-stays : IsLeftAlone site_contents k took (sent ++ bytes_of k.outgoing)
+      → IsLeftAlone site_contents j took (after ++ bytes_of j.outgoing)
+  left-stays l =
+      record { gone = gone ∙ l.gone; begins = subst (λ (l : List ℕ). Begins site_contents took l) total l.begins }
 
-  pub consistency-stays : (x : Client) (expected : List ℕ) → ConsistencyAlone site_contents expected k took sent x → ConsistencyAlone site_contents expected j took after x
+  pub consistency-stays : (x : Client) (expected : List ℕ) → ConsistencyAlone site_contents expected k took sent x
+      → ConsistencyAlone site_contents expected j took after x
   consistency-stays x expected (inl a) = inl (
     a.0,
-    subst (λ (l : List ℕ). Answers site_contents took l x.conn.kept (asked x.conn.q x.conn.phase) (given_of expected (is_at_rest x.conn.phase) (taken_of x.conn.phase))) total a.1,
+    subst (λ (l : List ℕ). Answers site_contents took l x.conn.kept (asked x.conn.q x.conn.phase)
+        (given_of expected (is_at_rest x.conn.phase) (taken_of x.conn.phase))) total a.1,
   )
   consistency-stays x expected (inr (inl f)) = inr (inl (finished-stays x.conn.phase f))
   consistency-stays x expected (inr (inr l)) = inr (inr (left-stays l))
 
-  pub run-stays : (kept : List ℕ) (w : Wanted) (expected : List ℕ) (o : Progress) (y : Running) → ConsistencyRun site_contents expected k took sent kept w o y → ConsistencyRun site_contents expected j took after kept w o y
+  pub run-stays : (kept : List ℕ) (w : Wanted) (expected : List ℕ) (o : Progress) (y : Running)
+      → ConsistencyRun site_contents expected k took sent kept w o y
+      → ConsistencyRun site_contents expected j took after kept w o y
   run-stays kept w expected o y (inl g) = inl (record {
-    answers = subst (λ (l : List ℕ). Answers site_contents took l kept (serve w ∷ []) (take (past_of o + taken_by y) expected)) total g.answers;
+    answers =
+        subst
+        (λ (l : List ℕ). Answers site_contents took l kept (serve w ∷ []) (take (past_of o + taken_by y) expected))
+        total g.answers;
     may = g.may;
     whole = g.whole;
   })
@@ -58,13 +71,26 @@ module _ (site_contents : SiteContents) (k j : Connection) (took sent after : Li
 
 -- ---- the peer is gone, and what was to be sent is dropped
 
-module _ (site_contents : SiteContents) (k j : Connection) (took sent after dropped : List ℕ) (gone : is_gone j.peer ≡ true)
+module _ (site_contents : SiteContents) (k j : Connection) (took sent after dropped : List ℕ)
+    (gone : is_gone j.peer ≡ true)
     (total : sent ++ bytes_of k.outgoing ≡ (after ++ bytes_of j.outgoing) ++ dropped) where
-  left-alone : Begins site_contents took (sent ++ bytes_of k.outgoing) → IsLeftAlone site_contents j took (after ++ bytes_of j.outgoing)
-  left-alone begins = record { gone = gone; begins = begins-less site_contents took (after ++ bytes_of j.outgoing) dropped (subst (λ (l : List ℕ). Begins site_contents took l) total begins) }
+  left-alone : Begins site_contents took (sent ++ bytes_of k.outgoing)
+      → IsLeftAlone site_contents j took (after ++ bytes_of j.outgoing)
+  left-alone begins =
+      record {
+        gone = gone;
+        begins =
+            begins-less site_contents took (after ++ bytes_of j.outgoing) dropped
+            (subst (λ (l : List ℕ). Begins site_contents took l) total begins);
+      }
 
-  pub consistency-leaves : (x : Client) (expected : List ℕ) → MayBeExpected site_contents x.conn.q expected → ConsistencyAlone site_contents expected k took sent x → ConsistencyAlone site_contents expected j took after x
-  consistency-leaves x expected may consistency = inr (inr (left-alone (begins-consistency site_contents k took sent x expected may consistency)))
+  pub consistency-leaves : (x : Client) (expected : List ℕ) → MayBeExpected site_contents x.conn.q expected
+      → ConsistencyAlone site_contents expected k took sent x → ConsistencyAlone site_contents expected j took after x
+  consistency-leaves x expected may consistency =
+      inr (inr (left-alone (begins-consistency site_contents k took sent x expected may consistency)))
 
-  pub run-leaves : (kept : List ℕ) (w : Wanted) (expected : List ℕ) → MayBeExpected site_contents (serve w) expected → (o : Progress) (y : Running) → ConsistencyRun site_contents expected k took sent kept w o y → ConsistencyRun site_contents expected j took after kept w o y
-  run-leaves kept w expected may o y consistency = inr (left-alone (begins-run site_contents k took sent kept w expected may o y consistency))
+  pub run-leaves : (kept : List ℕ) (w : Wanted) (expected : List ℕ) → MayBeExpected site_contents (serve w) expected
+      → (o : Progress) (y : Running) → ConsistencyRun site_contents expected k took sent kept w o y
+      → ConsistencyRun site_contents expected j took after kept w o y
+  run-leaves kept w expected may o y consistency =
+      inr (left-alone (begins-run site_contents k took sent kept w expected may o y consistency))

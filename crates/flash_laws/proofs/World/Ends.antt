@@ -1,6 +1,7 @@
 -- The pipe ends of a client with a run: the read end of its pipe, and the write end until its worker has it; none is
 -- that of a job pipe.
-use Rattle.std.proofs.Common.{inl, inr, ◌≡◌, ◌<◌, ◌⊎◌, ℕ, ◌==◌, List, ap, ◌∙◌, refl, sym, subst, Option, Some, None, true, false, Bool}
+use Rattle.std.proofs.Common.{inl, inr, ◌≡◌, ◌<◌, ◌⊎◌, ℕ, ◌==◌, List, ap, ◌∙◌, refl, sym, subst, Option, Some, None}
+use Rattle.std.proofs.Common.{true, false, Bool}
 use Rattle.std.specs.Prelude.{◌||◌, ◌&&◌}
 use Rattle.iol_core.specs.State.{State, descriptor}
 use Rattle.iol_core.specs.declared.descriptors.Descriptor.TheVariants as on
@@ -26,7 +27,9 @@ use Rattle.flash_laws.specs.declared.phase.Phase.{Phase}
 use Rattle.flash_laws.specs.declared.phase.Phase.TheVariants as phase
 use Rattle.flash_laws.specs.declared.script_run.Run.{Run}
 use Rattle.flash_laws.specs.declared.script_run.Step.{Step}
-use Rattle.flash_laws.specs.declared.script_run.Step.TheVariants.{Gives, Sending, Receives, Spills, Gathers, Frames, Wraps, Trims, Ended, Unholds, Unframes, Lasts, WrapsLast, TrimsLast, Unwraps, Returns}
+use Rattle.flash_laws.specs.declared.script_run.Step.TheVariants.{Gives, Sending, Receives, Spills, Gathers, Frames}
+use Rattle.flash_laws.specs.declared.script_run.Step.TheVariants.{Wraps, Trims, Ended, Unholds, Unframes, Lasts}
+use Rattle.flash_laws.specs.declared.script_run.Step.TheVariants.{WrapsLast, TrimsLast, Unwraps, Returns}
 use Rattle.flash_laws.specs.declared.script_run.Running.{Running}
 use Rattle.flash_laws.specs.declared.script_run.Running.TheVariants.{Runs, Leaves}
 use Rattle.flash_laws.proofs.Forms.{of}
@@ -36,7 +39,8 @@ use Rattle.flash_laws.proofs.Conn.Uses.{same-number, has-fd, one-of}
 use Rattle.flash_laws.proofs.World.OwnRun.{wants-run}
 
 -- what a run that reads reads from
-pub reads-from : (job : ℕ → List ℕ) (m : State) (w : Wanted) (o : Progress) (run : Run) (s : Step) → HasStep job m w o run s → is_reading s ≡ true
+pub reads-from : (job : ℕ → List ℕ) (m : State) (w : Wanted) (o : Progress) (run : Run) (s : Step)
+    → HasStep job m w o run s → is_reading s ≡ true
     → (q : ℕ) × (descriptor m server run.from ≡ Some (on.ReadEnd q))
 reads-from job m w o run (Gives write) has is = (has.0.pipe, has.0.read_end)
 reads-from job m w o run (Returns write) has is = (has.0.pipe, has.0.read_end)
@@ -62,7 +66,8 @@ both-of true false u = absurd (cc (u))
 both-of false b u = absurd (cc (u))
 
 -- an end that a run has is the read end of its pipe, or the write end that it is still to give, or to close
-pub which-end : (job : ℕ → List ℕ) (m : State) (w : Wanted) (o : Progress) (run : Run) (s : Step) (g : ℕ) → HasStep job m w o run s → ends_of run s g ≡ true
+pub which-end : (job : ℕ → List ℕ) (m : State) (w : Wanted) (o : Progress) (run : Run) (s : Step) (g : ℕ)
+    → HasStep job m w o run s → ends_of run s g ≡ true
     → ((is_reading s ≡ true) × (run.from ≡ g)) ⊎ (step_fd s g ≡ true)
 which-end job m w o run s g has u = elim (one-of (is_reading s && (run.from == g)) (step_fd s g) u) [
   | inl from ↦ (let b = both-of (is_reading s) (run.from == g) from in inl (b.0, same-number run.from g b.1))
@@ -90,10 +95,14 @@ has-from run s is = by (is_reading s) is
     by true is = ap (λ b. b || step_fd s run.from) (same run.from)
     by false is = absurd (cc (is))
 
-module _ (site_contents : SiteContents) (worker_set : WorkerSet) (m : State) (came sent : List ℕ) (fd c : ℕ) (process_slots : List (ProcessSlot worker_set.Worker)) where
+module _ (site_contents : SiteContents) (worker_set : WorkerSet) (m : State) (came sent : List ℕ) (fd c : ℕ)
+    (process_slots : List (ProcessSlot worker_set.Worker)) where
   -- a call that touches a pipe is one of a run that reads
-  pub touches-from : (conn : Conn) (run : Option Running) (script : List ℕ) → Fits site_contents worker_set m came sent fd c (of conn run script) process_slots
-      → (v : Run) (s : Step) (q : ℕ) → run ≡ Some (Runs v s) → touches_pipe m (event.Call server (wants site_contents.scripts fd (of conn run script))) q ≡ true → is_reading s ≡ true
+  pub touches-from : (conn : Conn) (run : Option Running) (script : List ℕ)
+      → Fits site_contents worker_set m came sent fd c (of conn run script) process_slots
+      → (v : Run) (s : Step) (q : ℕ) → run ≡ Some (Runs v s)
+      → touches_pipe m (event.Call server (wants site_contents.scripts fd (of conn run script))) q ≡ true
+      → is_reading s ≡ true
   touches-from conn None script f v s q is u = absurd (cc (is))
   touches-from conn (Some y) script f v s q is u =
       touches-reading (job_of f.wanted f.script.text) m fd f.wanted v s q
@@ -102,22 +111,28 @@ module _ (site_contents : SiteContents) (worker_set : WorkerSet) (m : State) (ca
       ∙ ap (λ (z : Running). running.wants (job_of f.wanted f.script.text) fd f.wanted z) (some-inj y (Runs v s) is)) u)
 
   -- no run gives its pipe back
-  pub no-returns : (conn : Conn) (run : Option Running) (script : List ℕ) → Fits site_contents worker_set m came sent fd c (of conn run script) process_slots
+  pub no-returns : (conn : Conn) (run : Option Running) (script : List ℕ)
+      → Fits site_contents worker_set m came sent fd c (of conn run script) process_slots
       → (v : Run) (write : ℕ) → run ≡ Some (Runs v (Returns write)) → ⊥
   no-returns conn None script f v write is = absurd (cc (is))
   no-returns conn (Some y) script f v write is =
-      let at : AtJobQueue worker_set m process_slots v (made_of f.wanted f.script.lines f.shown) f.so_far (Returns write) =
-      subst (λ (z : Running). HasWorkerAt worker_set m process_slots (made_of f.wanted f.script.lines f.shown) f.so_far z) (some-inj y (Runs v (Returns write)) is) f.job_queue in
+      let at : AtJobQueue worker_set m process_slots v (made_of f.wanted f.script.lines f.shown) f.so_far
+      (Returns write) =
+      subst (λ (z : Running). HasWorkerAt worker_set m process_slots (made_of f.wanted f.script.lines f.shown) f.so_far
+      z) (some-inj y (Runs v (Returns write)) is) f.job_queue in
       at.stage
 
   -- a write end that a client has is no job queue's
-  write-apart : (conn : Conn) (y : Running) (script : List ℕ) (g k : ℕ) → FitsRun site_contents worker_set m came sent fd c (of conn (Some y) script) y process_slots → has_end y g ≡ true → k < worker_set.count
+  write-apart : (conn : Conn) (y : Running) (script : List ℕ) (g k : ℕ)
+      → FitsRun site_contents worker_set m came sent fd c (of conn (Some y) script) y process_slots → has_end y g ≡ true
+      → k < worker_set.count
       → descriptor m server g ≡ Some (on.WriteEnd (worker_set.job_queue k)) → ⊥
-  write-apart conn (Runs run s) script g k f u lt is = elim (which-end (job_of f.wanted f.script.text) m f.wanted f.so_far run s g f.has.1 u) [
-    | inl from ↦ (let there = reads-from (job_of f.wanted f.script.text) m f.wanted f.so_far run s f.has.1 from.0 in
-        let here = ap (λ h. descriptor m server h) from.1 in let e = there.1 in absurd (cc (here, e, is)))
-    | inr write ↦ by s f.has.1 f.job_queue write
-  ]
+  write-apart conn (Runs run s) script g k f u lt is =
+      elim (which-end (job_of f.wanted f.script.text) m f.wanted f.so_far run s g f.has.1 u) [
+        | inl from ↦ (let there = reads-from (job_of f.wanted f.script.text) m f.wanted f.so_far run s f.has.1 from.0 in
+            let here = ap (λ h. descriptor m server h) from.1 in let e = there.1 in absurd (cc (here, e, is)))
+        | inr write ↦ by s f.has.1 f.job_queue write
+      ]
     where
       read-inj : (a b : ℕ) → Some (on.ReadEnd a) ≡ Some (on.ReadEnd b) → a ≡ b
       read-inj a b e = cc
@@ -125,18 +140,26 @@ module _ (site_contents : SiteContents) (worker_set : WorkerSet) (m : State) (ca
       write-inj : (a b : ℕ) → Some (on.WriteEnd a) ≡ Some (on.WriteEnd b) → a ≡ b
       write-inj a b e = cc
 
-      by : (s : Step) → HasStep (job_of f.wanted f.script.text) m f.wanted f.so_far run s → AtJobQueue worker_set m process_slots run (made_of f.wanted f.script.lines f.shown) f.so_far s → step_fd s g ≡ true → ⊥
+      by : (s : Step) → HasStep (job_of f.wanted f.script.text) m f.wanted f.so_far run s
+          → AtJobQueue worker_set m process_slots run (made_of f.wanted f.script.lines f.shown) f.so_far s
+          → step_fd s g ≡ true → ⊥
       by (Gives write) has job_queue u =
           let here = ap (λ h. descriptor m server h) (same-number write g u) in
-          let same : has.0.pipe ≡ worker_set.job_queue k = write-inj has.0.pipe (worker_set.job_queue k) (sym has.0.write_end ∙ (here ∙ is)) in
-          job_queue.stage.has.apart k lt (sym same ∙ read-inj has.0.pipe job_queue.stage.has.pipe (sym has.0.read_end ∙ job_queue.stage.has.reads))
+          let same : has.0.pipe ≡ worker_set.job_queue k =
+          write-inj has.0.pipe (worker_set.job_queue k) (sym has.0.write_end ∙ (here ∙ is)) in
+          job_queue.stage.has.apart k lt (sym same
+          ∙ read-inj has.0.pipe job_queue.stage.has.pipe (sym has.0.read_end ∙ job_queue.stage.has.reads))
       by (Returns write) has job_queue u = job_queue.stage
       by s has job_queue u = cc (u)
   write-apart conn y script g k f u lt is = cc (u)
 
-  pub no-job_queue : (conn : Conn) (run : Option Running) (script : List ℕ) (g k : ℕ) → Fits site_contents worker_set m came sent fd c (of conn run script) process_slots
-      → has_fd (of conn run script) g ≡ true → k < worker_set.count → descriptor m server g ≡ Some (on.WriteEnd (worker_set.job_queue k)) → ⊥
-  no-job_queue conn None script g k f u lt is = (let file = (has-fd m conn.q (expected_in f.expected conn.q conn.phase) conn.phase g u f.has).2 in absurd (cc (file, is)))
+  pub no-job_queue : (conn : Conn) (run : Option Running) (script : List ℕ) (g k : ℕ)
+      → Fits site_contents worker_set m came sent fd c (of conn run script) process_slots
+      → has_fd (of conn run script) g ≡ true → k < worker_set.count
+      → descriptor m server g ≡ Some (on.WriteEnd (worker_set.job_queue k)) → ⊥
+  no-job_queue conn None script g k f u lt is =
+      (let file = (has-fd m conn.q (expected_in f.expected conn.q conn.phase) conn.phase g u f.has).2 in
+      absurd (cc (file, is)))
   no-job_queue conn (Some y) script g k f u lt is = write-apart conn y script g k f u lt is
 
   -- a descriptor that a client uses it has, or it is that of its worker's job queue
@@ -145,9 +168,11 @@ module _ (site_contents : SiteContents) (worker_set : WorkerSet) (m : State) (ca
   left-none w o (phase.Shuts f k) g has u = has.sends.0
   left-none w o d g has u = cc (u)
 
-  pub uses-or-job_queue : (conn : Conn) (run : Option Running) (script : List ℕ) (g : ℕ) → Fits site_contents worker_set m came sent fd c (of conn run script) process_slots
+  pub uses-or-job_queue : (conn : Conn) (run : Option Running) (script : List ℕ) (g : ℕ)
+      → Fits site_contents worker_set m came sent fd c (of conn run script) process_slots
       → uses_fd (of conn run script) g ≡ true
-      → (has_fd (of conn run script) g ≡ true) ⊎ ((v : Run) × (s : Step) × (run ≡ Some (Runs v s)) × (job_pipe v.worker ≡ g))
+      → (has_fd (of conn run script) g ≡ true)
+      ⊎ ((v : Run) × (s : Step) × (run ≡ Some (Runs v s)) × (job_pipe v.worker ≡ g))
   uses-or-job_queue conn None script g f u = inl u
   uses-or-job_queue conn (Some (Leaves d)) script g f u = absurd (left-none f.wanted f.so_far d g f.has u)
   uses-or-job_queue conn (Some (Runs v s)) script g f u = elim (one-of (job_pipe v.worker == g) (ends_of v s g) u) [

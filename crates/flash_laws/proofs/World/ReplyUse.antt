@@ -1,5 +1,6 @@
 -- A client uses after a reply only objects that it used before, or that the reply returned.
-use Rattle.std.proofs.Common.{inl, inr, ◌≡◌, ◌⊎◌, ℕ, ◌==◌, List, [], ◌∷◌, ap, ◌∙◌, refl, sym, subst, Option, Some, None, true, false, Bool}
+use Rattle.std.proofs.Common.{inl, inr, ◌≡◌, ◌⊎◌, ℕ, ◌==◌, List, [], ◌∷◌, ap, ◌∙◌, refl, sym, subst, Option, Some, None}
+use Rattle.std.proofs.Common.{true, false, Bool}
 use Rattle.std.specs.Prelude.{◌||◌}
 use Rattle.iol_core.specs.State.{State, descriptor}
 use Rattle.iol_core.specs.Run.{StepsTo}
@@ -12,7 +13,8 @@ use Rattle.iol_core.specs.declared.events.Reply.TheVariants as reply
 use Rattle.iol_laws.specs.Caller.{readable_at, is_agg, is_fd, gives_away}
 use Rattle.iol_laws.specs.Order.{IsOrderly}
 use Rattle.flash_http.specs.Request.{Answer, serve, refuse, Wanted}
-use Rattle.flash_laws.specs.Client.{is_for_script, conn_wants, run_wants, wants, uses_agg, after_drop_whole, file_after_reply, after_run, proceeds, run_after_reply, after_reply}
+use Rattle.flash_laws.specs.Client.{is_for_script, conn_wants, run_wants, wants, uses_agg, after_drop_whole}
+use Rattle.flash_laws.specs.Client.{file_after_reply, after_run, proceeds, run_after_reply, after_reply}
 use Rattle.flash_laws.specs.Client.Holdings.{has_fd}
 use Rattle.flash_laws.specs.Conn as conn
 use Rattle.flash_laws.specs.Conn.{Conn, is_head_only}
@@ -22,7 +24,8 @@ use Rattle.flash_laws.specs.Run.{is_left, is_over, in_phase}
 use Rattle.flash_laws.specs.Site.{server}
 use Rattle.flash_laws.specs.declared.phase.Payload.TheVariants.{Script}
 use Rattle.flash_laws.specs.declared.phase.Phase.{Phase}
-use Rattle.flash_laws.specs.declared.phase.Phase.TheVariants.{Reads as Reading, Shuts, Spares, Heads, Sends, Cuts, Offers, Swaps, Sent, Breaks, Drops}
+use Rattle.flash_laws.specs.declared.phase.Phase.TheVariants.{Reads as Reading, Shuts, Spares, Heads, Sends, Cuts}
+use Rattle.flash_laws.specs.declared.phase.Phase.TheVariants.{Offers, Swaps, Sent, Breaks, Drops}
 use Rattle.flash_laws.specs.declared.script_run.Run.{Run}
 use Rattle.flash_laws.specs.declared.script_run.Step.{Step}
 use Rattle.flash_laws.specs.declared.script_run.Step.TheVariants as step
@@ -41,38 +44,48 @@ abbrev NewAgg : Reply → (a : ℕ) → (was : Bool) → Type 0
 NewAgg r a was = (was ≡ true) ⊎ (is_agg r a ≡ true)
 
 script-uses : (kept : List ℕ) (q : Answer) (d : Phase) (script : List ℕ) (r : Reply) (received : List ℕ) (a : ℕ)
-    → uses_agg (file_after_reply true (of (at kept q d) None script) r received) a ≡ true → NewAgg r a (conn.uses_agg d a)
+    → uses_agg (file_after_reply true (of (at kept q d) None script) r received) a ≡ true
+    → NewAgg r a (conn.uses_agg d a)
 script-uses kept q (Reading f) script (reply.Agg n) received a u = inr u
 script-uses kept q (Reading f) script r received a u = uses-after_reply kept q (Reading f) r received a u
 script-uses kept q (Spares b Script) script r received a u = by (is_head_only q) r u
   where
-    by : (h : Bool) (r : Reply) → uses_agg (of (conn.after_reply (at kept q (Spares b Script)) r received) (after_drop_whole h r) script) a ≡ true → NewAgg r a ((b == a) || false)
+    by : (h : Bool) (r : Reply)
+        → uses_agg (of (conn.after_reply (at kept q (Spares b Script)) r received) (after_drop_whole h r) script) a
+        ≡ true → NewAgg r a ((b == a) || false)
     by false reply.Done u = absurd (cc (u))
     by other r u = uses-after_reply kept q (Spares b Script) r received a u
 script-uses kept q d script r received a u = uses-after_reply kept q d r received a u
 
-over-uses : (z : Running) (a : ℕ) → is_over z ≡ true → conn.uses_agg (after_run z) a ≡ true → running.uses_agg z a ≡ true
+over-uses : (z : Running) (a : ℕ) → is_over z ≡ true → conn.uses_agg (after_run z) a ≡ true
+    → running.uses_agg z a ≡ true
 over-uses (Leaves d) a over u = u
 over-uses Ends a over u = absurd (cc (u))
 over-uses x a over u = absurd (cc (over))
 
-pub client-uses : (scripts : Bool) (worker : ℕ) (c : Conn) (run : Option Running) (script : List ℕ) (r : Reply) (received : List ℕ) (a : ℕ)
-    → uses_agg (after_reply scripts worker (of c run script) r received) a ≡ true → NewAgg r a (uses_agg (of c run script) a)
+pub client-uses : (scripts : Bool) (worker : ℕ) (c : Conn) (run : Option Running) (script : List ℕ) (r : Reply)
+    (received : List ℕ) (a : ℕ)
+    → uses_agg (after_reply scripts worker (of c run script) r received) a ≡ true
+    → NewAgg r a (uses_agg (of c run script) a)
 client-uses scripts worker c None script r received a u = by (is_for_script scripts c.q) u
   where
-    by : (b : Bool) → uses_agg (file_after_reply b (of c None script) r received) a ≡ true → NewAgg r a (conn.uses_agg c.phase a)
+    by : (b : Bool) → uses_agg (file_after_reply b (of c None script) r received) a ≡ true
+        → NewAgg r a (conn.uses_agg c.phase a)
     by true u = script-uses c.kept c.q c.phase script r received a u
     by false u = uses-after_reply c.kept c.q c.phase r received a u
 client-uses scripts worker c (Some y) script r received a u = by c.q u
   where
     on : (w : Wanted) (b e : Bool) → is_over (running.after_reply worker w y r received) ≡ e
-        → uses_agg (proceeds b e (of c (Some y) script) y (running.after_reply worker w y r received)) a ≡ true → NewAgg r a (running.uses_agg y a)
-    on w false true over u = run-uses worker w y r received a (over-uses (running.after_reply worker w y r received) a over u)
+        → uses_agg (proceeds b e (of c (Some y) script) y (running.after_reply worker w y r received)) a ≡ true
+        → NewAgg r a (running.uses_agg y a)
+    on w false true over u =
+        run-uses worker w y r received a (over-uses (running.after_reply worker w y r received) a over u)
     on w true true over u = run-uses worker w y r received a u
     on w true false over u = run-uses worker w y r received a u
     on w false false over u = run-uses worker w y r received a u
 
-    by : (q : Answer) → uses_agg (run_after_reply worker q (of c (Some y) script) y r received) a ≡ true → NewAgg r a (running.uses_agg y a)
+    by : (q : Answer) → uses_agg (run_after_reply worker q (of c (Some y) script) y r received) a ≡ true
+        → NewAgg r a (running.uses_agg y a)
     by (serve w) u = on w (is_over y) (is_over (running.after_reply worker w y r received)) refl u
     by (refuse status head_only close) u = inl u
 
@@ -90,22 +103,28 @@ agg-new laws m n k r a order kind step u = laws.fresh.agg m n server k r a order
 abbrev NewFd : Option Running → Reply → (g : ℕ) → (was : Bool) → Type 0
 NewFd run r g was = (was ≡ true) ⊎ (((run ≡ None) × (is_fd r g ≡ true)) ⊎ ((run ≡ Some Awaits) × (is_fds r g ≡ true)))
 
-plain-fds : (kept : List ℕ) (q : Answer) (d : Phase) (r : Reply) (received : List ℕ) (g : ℕ) → conn.uses_fd (conn.after_reply (at kept q d) r received).phase g ≡ true → NewFd None r g (conn.uses_fd d g)
-plain-fds kept q d r received g u = elim (uses_fd-after_reply kept q d r received g u) [ inl had ↦ inl had | inr new ↦ inr (inl (refl, new)) ]
+plain-fds : (kept : List ℕ) (q : Answer) (d : Phase) (r : Reply) (received : List ℕ) (g : ℕ)
+    → conn.uses_fd (conn.after_reply (at kept q d) r received).phase g ≡ true → NewFd None r g (conn.uses_fd d g)
+plain-fds kept q d r received g u =
+    elim (uses_fd-after_reply kept q d r received g u) [ inl had ↦ inl had | inr new ↦ inr (inl (refl, new)) ]
 
 script-fds : (kept : List ℕ) (q : Answer) (d : Phase) (script : List ℕ) (r : Reply) (received : List ℕ) (g : ℕ)
-    → has_fd (file_after_reply true (of (at kept q d) None script) r received) g ≡ true → NewFd None r g (conn.uses_fd d g)
+    → has_fd (file_after_reply true (of (at kept q d) None script) r received) g ≡ true
+    → NewFd None r g (conn.uses_fd d g)
 script-fds kept q (Reading f) script (reply.Agg n) received g u = inl u
 script-fds kept q (Reading f) script r received g u = plain-fds kept q (Reading f) r received g u
 script-fds kept q (Spares b Script) script r received g u = by (is_head_only q) r u
   where
-    by : (h : Bool) (r : Reply) → has_fd (of (conn.after_reply (at kept q (Spares b Script)) r received) (after_drop_whole h r) script) g ≡ true → NewFd None r g false
+    by : (h : Bool) (r : Reply)
+        → has_fd (of (conn.after_reply (at kept q (Spares b Script)) r received) (after_drop_whole h r) script) g ≡ true
+        → NewFd None r g false
     by false reply.Done u = absurd (cc (u))
     by other r u = plain-fds kept q (Spares b Script) r received g u
 script-fds kept q d script r received g u = plain-fds kept q d r received g u
 
 -- what is left of a response uses no descriptor
-left-fd : (w : Wanted) (d : Phase) (r : Reply) (received : List ℕ) (g : ℕ) → is_left d ≡ true → conn.uses_fd (conn.after_reply (in_phase w d) r received).phase g ≡ true → ⊥
+left-fd : (w : Wanted) (d : Phase) (r : Reply) (received : List ℕ) (g : ℕ) → is_left d ≡ true
+    → conn.uses_fd (conn.after_reply (in_phase w d) r received).phase g ≡ true → ⊥
 left-fd w d r received g left u = elim (uses_fd-after_reply [] (serve w) d r received g u) [
   | inl was ↦ old d left was
   | inr new ↦ made r new d left u
@@ -116,7 +135,8 @@ left-fd w d r received g left u = elim (uses_fd-after_reply [] (serve w) d r rec
     old (Shuts f k) left u = cc (left)
     old d left u = cc (u)
 
-    made : (r : Reply) → is_fd r g ≡ true → (d : Phase) → is_left d ≡ true → conn.uses_fd (conn.after_reply (in_phase w d) r received).phase g ≡ true → ⊥
+    made : (r : Reply) → is_fd r g ≡ true → (d : Phase) → is_left d ≡ true
+        → conn.uses_fd (conn.after_reply (in_phase w d) r received).phase g ≡ true → ⊥
     made (reply.Fd f) new (Heads k) left u = cc (u)
     made (reply.Fd f) new (Sends a len taken more) left u = cc (u)
     made (reply.Fd f) new (Cuts a from len taken more) left u = cc (u)
@@ -143,7 +163,8 @@ module _ (w : Wanted) (run : Run) (g : ℕ) where
   sending-fd (Drops a None) frame reply.Done over u = cc (over)
   sending-fd d frame r over u = cc (over)
 
-  receives-fd : (held : conn.Following) (frame : Option ℕ) (r : Reply) (received : List ℕ) → NoFd (running.after_output w run held frame r received)
+  receives-fd : (held : conn.Following) (frame : Option ℕ) (r : Reply) (received : List ℕ)
+      → NoFd (running.after_output w run held frame r received)
   receives-fd held frame (reply.Agg n) [] over u = cc (over)
   receives-fd held frame (reply.Agg n) (b ∷ received) over u = cc (over)
   receives-fd held frame (reply.Refused (no.Denied p)) received over u = cc (over)
@@ -161,7 +182,8 @@ module _ (w : Wanted) (run : Run) (g : ℕ) where
   step-fd step.Fails reply.Done received over u = cc (over)
   step-fd s r received over u = cc (over)
 
-over-fds : (worker : ℕ) (w : Wanted) (y : Running) (r : Reply) (received : List ℕ) (g : ℕ) → is_over y ≡ false → is_over (running.after_reply worker w y r received) ≡ true
+over-fds : (worker : ℕ) (w : Wanted) (y : Running) (r : Reply) (received : List ℕ) (g : ℕ) → is_over y ≡ false
+    → is_over (running.after_reply worker w y r received) ≡ true
     → conn.uses_fd (after_run (running.after_reply worker w y r received)) g ≡ true → ⊥
 over-fds worker w Awaits (reply.Fds from write) received g ongoing over u = cc (over)
 over-fds worker w Awaits r received g ongoing over u = cc (over)
@@ -169,38 +191,47 @@ over-fds worker w (Leaves d) r received g ongoing over u = left-fd w d r receive
 over-fds worker w Ends r received g ongoing over u = cc (u)
 over-fds worker w (Runs run s) r received g ongoing over u = step-fd w run g s r received over u
 
-run-fds : (worker : ℕ) (w : Wanted) (y : Running) (r : Reply) (received : List ℕ) (g : ℕ) → has_end (running.after_reply worker w y r received) g ≡ true → NewFd (Some y) r g (has_end y g)
+run-fds : (worker : ℕ) (w : Wanted) (y : Running) (r : Reply) (received : List ℕ) (g : ℕ)
+    → has_end (running.after_reply worker w y r received) g ≡ true → NewFd (Some y) r g (has_end y g)
 run-fds worker w Awaits (reply.Fds from write) received g u = inr (inr (refl, u))
-run-fds worker w (Runs run s) r received g u = elim (run-ends worker w (Runs run s) r received g u) [ inl had ↦ inl had | inr new ↦ by r u new ]
+run-fds worker w (Runs run s) r received g u =
+    elim (run-ends worker w (Runs run s) r received g u) [ inl had ↦ inl had | inr new ↦ by r u new ]
   where
-    by : (r : Reply) → has_end (running.after_step w run s r received) g ≡ true → is_fds r g ≡ true → NewFd (Some (Runs run s)) r g (has_end (Runs run s) g)
+    by : (r : Reply) → has_end (running.after_step w run s r received) g ≡ true → is_fds r g ≡ true
+        → NewFd (Some (Runs run s)) r g (has_end (Runs run s) g)
     by r u new = inl (step-has w run g s r received u)
 run-fds worker w y r received g u = absurd (cc (u))
 
 -- the run of a client that runs is not over
-pub client-fds : (scripts : Bool) (worker : ℕ) (c : Conn) (run : Option Running) (script : List ℕ) (r : Reply) (received : List ℕ) (g : ℕ)
+pub client-fds : (scripts : Bool) (worker : ℕ) (c : Conn) (run : Option Running) (script : List ℕ) (r : Reply)
+    (received : List ℕ) (g : ℕ)
     → ((y : Running) → run ≡ Some y → is_over y ≡ false)
-    → has_fd (after_reply scripts worker (of c run script) r received) g ≡ true → NewFd run r g (has_fd (of c run script) g)
+    → has_fd (after_reply scripts worker (of c run script) r received) g ≡ true
+    → NewFd run r g (has_fd (of c run script) g)
 client-fds scripts worker c None script r received g ongoing u = by (is_for_script scripts c.q) u
   where
-    by : (b : Bool) → has_fd (file_after_reply b (of c None script) r received) g ≡ true → NewFd None r g (conn.uses_fd c.phase g)
+    by : (b : Bool) → has_fd (file_after_reply b (of c None script) r received) g ≡ true
+        → NewFd None r g (conn.uses_fd c.phase g)
     by true u = script-fds c.kept c.q c.phase script r received g u
     by false u = plain-fds c.kept c.q c.phase r received g u
 client-fds scripts worker c (Some y) script r received g ongoing u = by c.q u
   where
     on : (w : Wanted) (b e : Bool) → is_over y ≡ b → is_over (running.after_reply worker w y r received) ≡ e
-        → has_fd (proceeds b e (of c (Some y) script) y (running.after_reply worker w y r received)) g ≡ true → NewFd (Some y) r g (has_end y g)
+        → has_fd (proceeds b e (of c (Some y) script) y (running.after_reply worker w y r received)) g ≡ true
+        → NewFd (Some y) r g (has_end y g)
     on w false true going over u = absurd (over-fds worker w y r received g going over u)
     on w true e going over u = absurd (let n = ongoing y refl in cc (n, going))
     on w false false going over u = run-fds worker w y r received g u
 
-    by : (q : Answer) → has_fd (run_after_reply worker q (of c (Some y) script) y r received) g ≡ true → NewFd (Some y) r g (has_end y g)
+    by : (q : Answer) → has_fd (run_after_reply worker q (of c (Some y) script) y r received) g ≡ true
+        → NewFd (Some y) r g (has_end y g)
     by (serve w) u = on w (is_over y) (is_over (running.after_reply worker w y r received)) refl refl u
     by (refuse status head_only close) u = inl u
 
 -- ---- and such a descriptor is new
 
-fds-new : (laws : TheLaws) (m n : State) (r : Reply) (g : ℕ) → StepsTo m (event.Call server call.Pipe) r n → is_fds r g ≡ true → descriptor m server g ≡ None
+fds-new : (laws : TheLaws) (m n : State) (r : Reply) (g : ℕ) → StepsTo m (event.Call server call.Pipe) r n
+    → is_fds r g ≡ true → descriptor m server g ≡ None
 fds-new laws m n (reply.Fds from write) g step u =
     let made = laws.own.makes_pipe m n server (reply.Fds from write) step in
     elim (one-of (from == g) (write == g) u) [
@@ -217,12 +248,16 @@ script-away true fd c = by c.phase
     by (Reading f) = refl
     by d = no-more fd c.kept c.q d
 
-pub fd-new : (laws : TheLaws) (m n : State) (scripts : Bool) (fd : ℕ) (c : Conn) (run : Option Running) (script : List ℕ) (w : Wanted) (r : Reply) (g : ℕ) → IsOrderly m
+pub fd-new : (laws : TheLaws) (m n : State) (scripts : Bool) (fd : ℕ) (c : Conn) (run : Option Running)
+    (script : List ℕ) (w : Wanted) (r : Reply) (g : ℕ) → IsOrderly m
     → (run ≡ Some Awaits → c.q ≡ serve w)
     → StepsTo m (event.Call server (wants scripts fd (of c run script))) r n
     → ((run ≡ None) × (is_fd r g ≡ true)) ⊎ ((run ≡ Some Awaits) × (is_fds r g ≡ true)) → descriptor m server g ≡ None
-fd-new laws m n scripts fd c None script w r g order asks step (inl new) = laws.fresh.fd m n server (conn_wants (is_for_script scripts c.q) fd c) r g order step (script-away (is_for_script scripts c.q) fd c) new.1
+fd-new laws m n scripts fd c None script w r g order asks step (inl new) =
+    laws.fresh.fd m n server (conn_wants (is_for_script scripts c.q) fd c) r g order step
+    (script-away (is_for_script scripts c.q) fd c) new.1
 fd-new laws m n scripts fd c (Some Awaits) script w r g order asks step (inr new) =
-    fds-new laws m n r g (subst (λ (q : Answer). StepsTo m (event.Call server (run_wants fd q script Awaits)) r n) (asks refl) step) new.1
+    fds-new laws m n r g (subst (λ (q : Answer). StepsTo m (event.Call server (run_wants fd q script Awaits)) r n)
+    (asks refl) step) new.1
 fd-new laws m n scripts fd c (Some y) script w r g order asks step (inl new) = absurd (let e = new.0 in cc (e))
 fd-new laws m n scripts fd c run script w r g order asks step (inr new) = absurd (let e = new.0 in cc (e))

@@ -1,5 +1,6 @@
 -- The answer to a stream, request by request, where scripts may run.
-use Rattle.std.proofs.Common.{inl, inr, ◌≡◌, ℕ, ◌+◌, List, [], ◌∷◌, ◌++◌, take, drop, ap, ◌∙◌, refl, sym, subst, append_assoc, append-nil}
+use Rattle.std.proofs.Common.{inl, inr, ◌≡◌, ℕ, ◌+◌, List, [], ◌∷◌, ◌++◌, take, drop, ap, ◌∙◌, refl, sym, subst}
+use Rattle.std.proofs.Common.{append_assoc, append-nil}
 use Rattle.std.proofs.lemmas.List.{take-append-drop}
 use Rattle.iol_core.specs.Text.{Text, bytes_of}
 use Rattle.iol_core.specs.State.{Connection}
@@ -19,7 +20,8 @@ use Rattle.flash_laws.specs.declared.phase.Phase.TheVariants.{Rests, Got}
 use Rattle.flash_laws.specs.declared.script_run.Running.{Running}
 use Rattle.flash_laws.proofs.Conn.Responses.{WindowLaws, order-all, order-more, reads-append}
 
-both-expected : (site_contents : SiteContents) (qs : List Answer) (q : Answer) (rs : List (List ℕ)) (r : List ℕ) → AllMayBeExpected site_contents qs rs → MayBeExpected site_contents q r
+both-expected : (site_contents : SiteContents) (qs : List Answer) (q : Answer) (rs : List (List ℕ)) (r : List ℕ)
+    → AllMayBeExpected site_contents qs rs → MayBeExpected site_contents q r
     → AllMayBeExpected site_contents (qs ++ q ∷ []) (rs ++ r ∷ [])
 both-expected site_contents [] q [] r all may = (may, tt)
 both-expected site_contents (p ∷ qs) q (s ∷ rs) r all may = (all.0, both-expected site_contents qs q rs r all.1 may)
@@ -31,7 +33,8 @@ concat-more [] r = append-nil r
 concat-more (s ∷ rs) r = ap (λ (l : List ℕ). s ++ l) (concat-more rs r) ∙ sym (append_assoc s (concat rs) r)
 
 -- one request more is answered
-pub responds-more : (site_contents : SiteContents) (qs : List Answer) (q : Answer) (bytes r : List ℕ) → Responds site_contents qs bytes → MayBeExpected site_contents q r
+pub responds-more : (site_contents : SiteContents) (qs : List Answer) (q : Answer) (bytes r : List ℕ)
+    → Responds site_contents qs bytes → MayBeExpected site_contents q r
     → Responds site_contents (qs ++ q ∷ []) (bytes ++ r)
 responds-more site_contents qs q bytes r is may = record {
   responses = is.responses ++ r ∷ [];
@@ -43,18 +46,52 @@ pub responds-none : (site_contents : SiteContents) → Responds site_contents []
 responds-none site_contents = record { responses = []; each = tt; all = refl }
 
 pub begins-none : (site_contents : SiteContents) (s : List ℕ) → Begins site_contents s []
-begins-none site_contents s = record { qs = []; rest = s; reads = refl; order = refl; whole = []; responds = responds-none site_contents; more = []; all = refl }
+begins-none site_contents s = record {
+  qs = [];
+  rest = s;
+  reads = refl;
+  order = refl;
+  whole = [];
+  responds =
+      responds-none site_contents;
+  more = [];
+  all = refl;
+}
 
-pub begins-less : (site_contents : SiteContents) (s xs ys : List ℕ) → Begins site_contents s (xs ++ ys) → Begins site_contents s xs
-begins-less site_contents s xs ys b = record { qs = b.qs; rest = b.rest; reads = b.reads; order = b.order; whole = b.whole; responds = b.responds; more = ys ++ b.more; all = b.all ∙ append_assoc xs ys b.more }
+pub begins-less : (site_contents : SiteContents) (s xs ys : List ℕ) → Begins site_contents s (xs ++ ys)
+    → Begins site_contents s xs
+begins-less site_contents s xs ys b = record {
+  qs = b.qs;
+  rest = b.rest;
+  reads = b.reads;
+  order = b.order;
+  whole =
+      b.whole;
+  responds = b.responds;
+  more = ys ++ b.more;
+  all = b.all ∙ append_assoc xs ys b.more;
+}
 
 -- whatever comes after what was read
 module _ (laws : WindowLaws) where
-  pub begins-append : (site_contents : SiteContents) (s t xs : List ℕ) → Begins site_contents s xs → Begins site_contents (s ++ t) xs
-  begins-append site_contents s t xs b = record { qs = b.qs; rest = b.rest ++ t; reads = reads-append laws s t b.qs b.rest b.reads; order = b.order; whole = b.whole; responds = b.responds; more = b.more; all = b.all }
+  pub begins-append : (site_contents : SiteContents) (s t xs : List ℕ) → Begins site_contents s xs
+      → Begins site_contents (s ++ t) xs
+  begins-append site_contents s t xs b =
+      record {
+        qs = b.qs;
+        rest = b.rest ++ t;
+        reads = reads-append laws s t b.qs b.rest b.reads;
+        order =
+            b.order;
+        whole = b.whole;
+        responds = b.responds;
+        more = b.more;
+        all = b.all;
+      }
 
   -- what is finished is the answer to all that came
-  pub finished-whole : (site_contents : SiteContents) (k : Connection) (took out : List ℕ) → Finished site_contents k took out
+  pub finished-whole : (site_contents : SiteContents) (k : Connection) (took out : List ℕ)
+      → Finished site_contents k took out
       → IsAnswer site_contents (took ++ bytes_of k.incoming) out
   finished-whole site_contents k took out f = record {
     qs = f.qs;
@@ -64,12 +101,15 @@ module _ (laws : WindowLaws) where
     responds = f.responds;
     no_more = (elim f.no_more [
       | inl closes ↦ inr closes
-      | inr ends ↦ inl (ap (λ (t : Text). window_in (f.rest ++ bytes_of t)) ends.1 ∙ (ap (λ (l : List ℕ). window_in l) (append-nil f.rest) ∙ ends.0))
+      | inr ends ↦
+          inl (ap (λ (t : Text). window_in (f.rest ++ bytes_of t)) ends.1
+          ∙ (ap (λ (l : List ℕ). window_in l) (append-nil f.rest) ∙ ends.0))
     ]);
   }
 
 -- what is owed begins the answer to what was read
-module _ (site_contents : SiteContents) (took out kept : List ℕ) (q : Answer) (expected : List ℕ) (may : MayBeExpected site_contents q expected) where
+module _ (site_contents : SiteContents) (took out kept : List ℕ) (q : Answer) (expected : List ℕ)
+    (may : MayBeExpected site_contents q expected) where
   pub begins-resting : Answers site_contents took out kept [] [] → Begins site_contents took out
   begins-resting o = record {
     qs = o.done;
@@ -82,7 +122,8 @@ module _ (site_contents : SiteContents) (took out kept : List ℕ) (q : Answer) 
     all = sym (append-nil o.before) ∙ (sym o.out_is ∙ sym (append-nil out));
   }
 
-  pub begins-part : (taken : ℕ) → Answers site_contents took out kept (q ∷ []) (take taken expected) → Begins site_contents took out
+  pub begins-part : (taken : ℕ) → Answers site_contents took out kept (q ∷ []) (take taken expected)
+      → Begins site_contents took out
   begins-part taken o = record {
     qs = o.done ++ q ∷ [];
     rest = kept;
@@ -96,20 +137,30 @@ module _ (site_contents : SiteContents) (took out kept : List ℕ) (q : Answer) 
         ∙ ap (λ (l : List ℕ). l ++ drop taken expected) (sym o.out_is));
   }
 
-  pub begins-answers : (d : Phase) → Answers site_contents took out kept (asked q d) (given_of expected (is_at_rest d) (taken_of d)) → Begins site_contents took out
+  pub begins-answers : (d : Phase)
+      → Answers site_contents took out kept (asked q d) (given_of expected (is_at_rest d) (taken_of d))
+      → Begins site_contents took out
   begins-answers Rests o = begins-resting o
   begins-answers (Got a) o = begins-resting o
   begins-answers d o = begins-part (taken_of d) o
 
 -- of a client for which no script runs
-pub begins-consistency : (site_contents : SiteContents) (k : Connection) (took sent : List ℕ) (x : Client) (expected : List ℕ) → MayBeExpected site_contents x.conn.q expected → ConsistencyAlone site_contents expected k took sent x
+pub begins-consistency : (site_contents : SiteContents) (k : Connection) (took sent : List ℕ) (x : Client)
+    (expected : List ℕ) → MayBeExpected site_contents x.conn.q expected
+    → ConsistencyAlone site_contents expected k took sent x
     → Begins site_contents took (sent ++ bytes_of k.outgoing)
-begins-consistency site_contents k took sent x expected may (inl owes) = begins-answers site_contents took (sent ++ bytes_of k.outgoing) x.conn.kept x.conn.q expected may x.conn.phase owes.1
+begins-consistency site_contents k took sent x expected may (inl owes) =
+    begins-answers site_contents took (sent ++ bytes_of k.outgoing) x.conn.kept x.conn.q expected may x.conn.phase
+    owes.1
 begins-consistency site_contents k took sent x expected may (inr (inl finished)) = finished.begins
 begins-consistency site_contents k took sent x expected may (inr (inr gone)) = gone.begins
 
 -- of one for which a script runs
-pub begins-run : (site_contents : SiteContents) (k : Connection) (took sent kept : List ℕ) (w : Wanted) (expected : List ℕ) → MayBeExpected site_contents (serve w) expected
-    → (o : Progress) (y : Running) → ConsistencyRun site_contents expected k took sent kept w o y → Begins site_contents took (sent ++ bytes_of k.outgoing)
-begins-run site_contents k took sent kept w expected may o y (inl g) = begins-part site_contents took (sent ++ bytes_of k.outgoing) kept (serve w) expected may (past_of o + taken_by y) g.answers
+pub begins-run : (site_contents : SiteContents) (k : Connection) (took sent kept : List ℕ) (w : Wanted)
+    (expected : List ℕ) → MayBeExpected site_contents (serve w) expected
+    → (o : Progress) (y : Running) → ConsistencyRun site_contents expected k took sent kept w o y
+    → Begins site_contents took (sent ++ bytes_of k.outgoing)
+begins-run site_contents k took sent kept w expected may o y (inl g) =
+    begins-part site_contents took (sent ++ bytes_of k.outgoing) kept (serve w) expected may (past_of o + taken_by y)
+    g.answers
 begins-run site_contents k took sent kept w expected may o y (inr l) = l.begins

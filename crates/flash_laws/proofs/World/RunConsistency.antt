@@ -1,6 +1,7 @@
 -- The bytes of a response while a script runs: over the server's own call, the written bytes remain the beginning of
 -- the answer.
-use Rattle.std.proofs.Common.{inl, inr, ◌≡◌, ◌⊎◌, ℕ, ◌+◌, ◌==◌, List, [], ◌∷◌, ◌++◌, length, take, drop, ap, ◌∙◌, refl, sym, subst, arith, Some, None, true, false, Bool, append_assoc, append-nil, if◌then◌else◌}
+use Rattle.std.proofs.Common.{inl, inr, ◌≡◌, ◌⊎◌, ℕ, ◌+◌, ◌==◌, List, [], ◌∷◌, ◌++◌, length, take, drop, ap, ◌∙◌, refl}
+use Rattle.std.proofs.Common.{sym, subst, arith, Some, None, true, false, Bool, append_assoc, append-nil, if◌then◌else◌}
 use Rattle.std.proofs.lemmas.Bool.Decides.{nat_tests}
 use Rattle.std.proofs.lemmas.List.{take_all}
 use Rattle.iol_core.specs.Text.{bytes_of}
@@ -22,7 +23,8 @@ use Rattle.flash_laws.specs.Client.Fits.{IsProper, Answers, IsLeftAlone, Consist
 use Rattle.flash_laws.specs.Workers.WorkerSet.{WorkerSet}
 use Rattle.flash_laws.specs.Conn.Fits.{Names}
 use Rattle.flash_laws.specs.Conn.OfferedBytes.{newly_taken}
-use Rattle.flash_laws.specs.Run.Fits.{Progress, Ran, Broken, NotRun, Follows, IsLeft, HasNone, HasLeft, HasRun, MayAnswer}
+use Rattle.flash_laws.specs.Run.Fits.{Progress, Ran, Broken, NotRun, Follows, IsLeft, HasNone, HasLeft, HasRun}
+use Rattle.flash_laws.specs.Run.Fits.{MayAnswer}
 use Rattle.flash_laws.specs.Run.OfferedBytes.{Learns, taken_by, past_of, IsNextOf, breaks_off}
 use Rattle.flash_laws.specs.Run.{wants, after_reply, is_over}
 use Rattle.flash_laws.specs.Answers.Scripts.{script_response}
@@ -43,7 +45,8 @@ past_run kept w z = record { conn = record { kept = kept; q = serve w; phase = a
 
 -- what ties it after the call: as a run that goes on, or, where that is over, as a connection alone, which rests or
 -- closes
-pub record ConsistencyAfter (site_contents : SiteContents) (expected : List ℕ) (m n : State) (c : ℕ) (took sent kept : List ℕ) (w : Wanted) (after : Progress)
+pub record ConsistencyAfter (site_contents : SiteContents) (expected : List ℕ) (m n : State) (c : ℕ)
+    (took sent kept : List ℕ) (w : Wanted) (after : Progress)
     (z : Running) : Type 0 where
   pub goes : is_over z ≡ false → ConsistencyRun site_contents expected (conn_at n c) took sent kept w after z
   pub ends : is_over z ≡ true → ConsistencyAlone site_contents expected (conn_at n c) took sent (past_run kept w z)
@@ -65,7 +68,8 @@ Wrote m n c w o taken new = ((conn_at n c ≡ conn_at m c) × (new ≡ 0)) ⊎ P
 
 -- a call that touches a connection only by writing to it
 abbrev OnlyWrites : State → (fd c : ℕ) → Call → Type 0
-OnlyWrites m fd c k = (d : ℕ) → touches_conn m (event.Call server k) d ≡ true → (c ≡ d) × ((a : ℕ) × (k ≡ call.IolWrite fd a))
+OnlyWrites m fd c k = (d : ℕ) → touches_conn m (event.Call server k) d ≡ true
+    → (c ≡ d) × ((a : ℕ) × (k ≡ call.IolWrite fd a))
 
 module _ (steps : EachStepLeavesTheRest) (own : CallsServeTheirDomain) (m n : State) (order : IsOrderly m) (fd c : ℕ)
     (open_on : descriptor m server fd ≡ Some (on.Connection c)) (w : Wanted) (o : Progress) (taken : ℕ) where
@@ -78,12 +82,15 @@ module _ (steps : EachStepLeavesTheRest) (own : CallsServeTheirDomain) (m n : St
       counted k = ap (λ b. if b then k else 0) (self fd)
 
       by : (r : Reply) → WritesConn m c next.bytes r n → Wrote m n c w o taken (newly_taken fd (call.IolWrite fd a) r)
-      by (reply.Count k) puts = inr (record { agg = a; next = next; puts = subst (λ (j : ℕ). Puts m c next.bytes j n) (sym (counted k)) puts })
+      by (reply.Count k) puts =
+          inr
+          (record { agg = a; next = next; puts = subst (λ (j : ℕ). Puts m c next.bytes j n) (sym (counted k)) puts })
       by (reply.Refused y) same = inl (ap (λ (s : State). conn_at s c) same, refl)
       by r did = absurd did
 
   -- any other call leaves it
-  untouched : (k : Call) (r : Reply) → StepsTo m (event.Call server k) r n → OnlyWrites m fd c k → ((a : ℕ) → k ≡ call.IolWrite fd a → ⊥) → conn_at n c ≡ conn_at m c
+  untouched : (k : Call) (r : Reply) → StepsTo m (event.Call server k) r n → OnlyWrites m fd c k
+      → ((a : ℕ) → k ≡ call.IolWrite fd a → ⊥) → conn_at n c ≡ conn_at m c
   untouched k r step only other = by (touches_conn m (event.Call server k) c) refl
     where
       by : (b : Bool) → touches_conn m (event.Call server k) c ≡ b → conn_at n c ≡ conn_at m c
@@ -104,7 +111,8 @@ module _ (steps : EachStepLeavesTheRest) (own : CallsServeTheirDomain) (m n : St
       by true is =
           let same : g ≡ fd = grind (arith, nat_tests, is) in
           subst (λ (f : ℕ). Wrote m n c w o taken (newly_taken fd (call.IolWrite f a) r)) (sym same)
-          (writes a r (offers a (ap (λ (f : ℕ). call.IolWrite f a) same)) (subst (λ (f : ℕ). StepsTo m (event.Call server (call.IolWrite f a)) r n) same step))
+          (writes a r (offers a (ap (λ (f : ℕ). call.IolWrite f a) same))
+          (subst (λ (f : ℕ). StepsTo m (event.Call server (call.IolWrite f a)) r n) same step))
       by false is = inl (untouched (call.IolWrite g a) r step only elsewhere, none r)
         where
           elsewhere : (b : ℕ) → call.IolWrite g a ≡ call.IolWrite fd b → ⊥
@@ -130,19 +138,25 @@ module _ (m n : State) (c : ℕ) (w : Wanted) (o : Progress) (taken new : ℕ) w
 
   -- else the next bytes of the response, whatever that will be
   written_more : Wrote m n c w o taken new → (expected : List ℕ) → MayAnswer w o expected
-      → bytes_of (conn_at n c).outgoing ≡ bytes_of (conn_at m c).outgoing ++ take new (drop (past_of o + taken) expected)
+      → bytes_of (conn_at n c).outgoing ≡ bytes_of (conn_at m c).outgoing
+      ++ take new (drop (past_of o + taken) expected)
   written_more (inl same) expected may =
       ap (λ (x : Connection). bytes_of x.outgoing) same.0
-      ∙ (sym (append-nil (bytes_of (conn_at m c).outgoing)) ∙ ap (λ (k : ℕ). bytes_of (conn_at m c).outgoing ++ take k (drop (past_of o + taken) expected)) (sym same.1))
+      ∙ (sym (append-nil (bytes_of (conn_at m c).outgoing))
+      ∙ ap (λ (k : ℕ). bytes_of (conn_at m c).outgoing ++ take k (drop (past_of o + taken) expected)) (sym same.1))
   written_more (inr put) expected may =
       let found = put.next.next expected may in
       let front = next-front new put.next.bytes found.0 (drop (past_of o + taken) expected) found.1 put.puts.within in
       ap (λ (x : Connection). bytes_of x.outgoing) put.puts.conn
-      ∙ (bytes-append (conn_at m c).outgoing put.puts.text ∙ ap (λ (l : List ℕ). bytes_of (conn_at m c).outgoing ++ l) (put.puts.text_is ∙ sym front))
+      ∙ (bytes-append (conn_at m c).outgoing put.puts.text
+      ∙ ap (λ (l : List ℕ). bytes_of (conn_at m c).outgoing ++ l) (put.puts.text_is ∙ sym front))
 
   -- so the request in progress is answered up to so many more
-  answered_on : (site_contents : SiteContents) (took sent kept : List ℕ) (now : List Answer) (expected : List ℕ) (count : ℕ) → Wrote m n c w o taken new → MayAnswer w o expected
-      → count ≡ past_of o + taken + new → Answers site_contents took (sent ++ bytes_of (conn_at m c).outgoing) kept now (take (past_of o + taken) expected)
+  answered_on : (site_contents : SiteContents) (took sent kept : List ℕ) (now : List Answer) (expected : List ℕ)
+      (count : ℕ) → Wrote m n c w o taken new → MayAnswer w o expected
+      → count ≡ past_of o + taken + new
+      → Answers site_contents took (sent ++ bytes_of (conn_at m c).outgoing) kept now
+      (take (past_of o + taken) expected)
       → Answers site_contents took (sent ++ bytes_of (conn_at n c).outgoing) kept now (take count expected)
   answered_on site_contents took sent kept now expected count did may count_is a = record {
     done = a.done;
@@ -154,17 +168,21 @@ module _ (m n : State) (c : ℕ) (w : Wanted) (o : Progress) (taken new : ℕ) w
         ∙ (sym (append_assoc sent (bytes_of (conn_at m c).outgoing) (take new (drop (past_of o + taken) expected)))
         ∙ (ap (λ (l : List ℕ). l ++ take new (drop (past_of o + taken) expected)) a.out_is
         ∙ (append_assoc a.before (take (past_of o + taken) expected) (take new (drop (past_of o + taken) expected))
-        ∙ ap (λ (l : List ℕ). a.before ++ l) (sym (take-plus (past_of o + taken) new expected) ∙ ap (λ (k : ℕ). take k expected) (sym count_is)))));
+        ∙ ap (λ (l : List ℕ). a.before ++ l) (sym (take-plus (past_of o + taken) new expected)
+        ∙ ap (λ (k : ℕ). take k expected) (sym count_is)))));
   }
 
 -- ---- how a run ends
 
 -- no part of the response is being sent, and the connection rests, or is to be closed
 abbrev Ending : Wanted → Progress → Running → Type 0
-Ending w o z = (taken_by z ≡ 0) × (((after_run z ≡ phase.Rests) × IsLeft w o [] × (w.keep ≡ true)) ⊎ ((after_run z ≡ phase.Closes) × HasNone w o))
+Ending w o z =
+    (taken_by z ≡ 0)
+    × (((after_run z ≡ phase.Rests) × IsLeft w o [] × (w.keep ≡ true)) ⊎ ((after_run z ≡ phase.Closes) × HasNone w o))
 
 -- of the phases in which nothing is left only these two have what a run needs
-leaving : (m : State) (w : Wanted) (o : Progress) (d : Phase) → is_over (Leaves d) ≡ true → HasLeft m w o d → Ending w o (Leaves d)
+leaving : (m : State) (w : Wanted) (o : Progress) (d : Phase) → is_over (Leaves d) ≡ true → HasLeft m w o d
+    → Ending w o (Leaves d)
 leaving m w o phase.Rests over has = (refl, inl (refl, has.0, has.1))
 leaving m w o phase.Closes over has = (refl, inr (refl, has))
 leaving m w o (phase.Heads k) over has = absurd (cc (over))
@@ -177,7 +195,8 @@ leaving m w o (phase.Breaks piece a more) over has = absurd (cc (over))
 leaving m w o (phase.Drops a more) over has = absurd (cc (over))
 leaving m w o d over has = absurd has.sends.0
 
-ending : (job : ℕ → List ℕ) (m : State) (w : Wanted) (o : Progress) (z : Running) → is_over z ≡ true → HasRun job m w o z → Ending w o z
+ending : (job : ℕ → List ℕ) (m : State) (w : Wanted) (o : Progress) (z : Running) → is_over z ≡ true
+    → HasRun job m w o z → Ending w o z
 ending job m w o (Leaves d) over has = leaving m w o d over has
 ending job m w o Closes over has = (refl, inr (refl, has))
 ending job m w o x over has = absurd (cc (over))
@@ -189,10 +208,12 @@ none_follows false more is follows = absurd (cc (is))
 
 -- of what is expected all, where it is what was taken
 all_of : (past expected : List ℕ) → expected ≡ past → take (length past) expected ≡ expected
-all_of past expected is = ap (λ (l : List ℕ). take (length l) expected) (sym is) ∙ take_all (length expected) expected (omega arith)
+all_of past expected is = ap (λ (l : List ℕ). take (length l) expected) (sym is)
+    ∙ take_all (length expected) expected (omega arith)
 
 -- where nothing is left all of the response is taken
-all_taken : (w : Wanted) (o : Progress) (expected : List ℕ) → MayAnswer w o expected → IsLeft w o [] → take (past_of o) expected ≡ expected
+all_taken : (w : Wanted) (o : Progress) (expected : List ℕ) → MayAnswer w o expected → IsLeft w o []
+    → take (past_of o) expected ≡ expected
 all_taken w (Ran received ended past) expected may none =
     let same = ap (λ (l : List ℕ). received ++ l) (none_follows ended may.0 none.0 may.1) ∙ append-nil received in
     all_of past expected (may.2 ∙ (ap (λ (l : List ℕ). script_response w l) same ∙ (none.1 ∙ append-nil past)))
@@ -201,13 +222,15 @@ all_taken w (NotRun status past) expected may none = all_of past expected (may �
 
 -- where it is known, and ends with the connection, nothing of it is left, and the request does not keep the connection
 -- open
-closed_whole : (w : Wanted) (o : Progress) (expected : List ℕ) → IsProper (serve w) → MayAnswer w o expected → HasNone w o → IsLeft w o [] × (w.keep ≡ false)
+closed_whole : (w : Wanted) (o : Progress) (expected : List ℕ) → IsProper (serve w) → MayAnswer w o expected
+    → HasNone w o → IsLeft w o [] × (w.keep ≡ false)
 closed_whole w Broken expected proper may none = absurd may
 closed_whole w x expected proper may none = (none.0, (elim none.1 [ inl last ↦ last | inr plain ↦ proper.1 plain ]))
 
 -- ---- the invariant after it
 
-module _ (site_contents : SiteContents) (m n : State) (c : ℕ) (took sent kept : List ℕ) (w : Wanted) (response : List ℕ) (may_be : MayBeExpected site_contents (serve w) response)
+module _ (site_contents : SiteContents) (m n : State) (c : ℕ) (took sent kept : List ℕ) (w : Wanted) (response : List ℕ)
+    (may_be : MayBeExpected site_contents (serve w) response)
     (after : Progress) (z : Running) where
   -- what was written
   abbrev out : List ℕ
@@ -215,21 +238,27 @@ module _ (site_contents : SiteContents) (m n : State) (c : ℕ) (took sent kept 
 
   -- a connection alone that is in this phase
   abbrev Alone : Phase → Type 0
-  Alone d = ConsistencyAlone site_contents response (conn_at n c) took sent (record { conn = record { kept = kept; q = serve w; phase = d }; run = None; script = [] })
+  Alone d =
+      ConsistencyAlone site_contents response (conn_at n c) took sent
+      (record { conn = record { kept = kept; q = serve w; phase = d }; run = None; script = [] })
 
   rests_or_closes : Ending w after z → (after_run z ≡ phase.Rests) ⊎ (after_run z ≡ phase.Closes)
   rests_or_closes e = (elim e.1 [ inl rest ↦ inl rest.0 | inr close ↦ inr close.0 ])
 
   -- all of the response is written
-  answered_whole : (a : Answers site_contents took out kept (serve w ∷ []) (take (past_of after + taken_by z) response)) → taken_by z ≡ 0
+  answered_whole : (a : Answers site_contents took out kept (serve w ∷ []) (take (past_of after + taken_by z) response))
+      → taken_by z ≡ 0
       → MayAnswer w after response → IsLeft w after [] → Responds site_contents (a.done ++ serve w ∷ []) out
   answered_whole a none may rest =
       let count : past_of after + taken_by z ≡ past_of after = omega (arith, none) in
-      subst (λ (l : List ℕ). Responds site_contents (a.done ++ serve w ∷ []) l) (sym (a.out_is ∙ ap (λ (l : List ℕ). a.before ++ l) (ap (λ (k : ℕ). take k response) count ∙ all_taken w after response may rest)))
+      subst (λ (l : List ℕ). Responds site_contents (a.done ++ serve w ∷ []) l)
+      (sym (a.out_is ∙ ap (λ (l : List ℕ). a.before ++ l) (ap (λ (k : ℕ). take k response) count
+      ∙ all_taken w after response may rest)))
       (responds-more site_contents a.done (serve w) a.before response a.responds may_be)
 
   -- it goes on with the next request
-  resting : Answers site_contents took out kept (serve w ∷ []) (take (past_of after + taken_by z) response) → taken_by z ≡ 0
+  resting : Answers site_contents took out kept (serve w ∷ []) (take (past_of after + taken_by z) response)
+      → taken_by z ≡ 0
       → MayAnswer w after response → IsLeft w after [] → w.keep ≡ true → Alone phase.Rests
   resting a none may rest keep = inl (
     refl,
@@ -244,7 +273,8 @@ module _ (site_contents : SiteContents) (m n : State) (c : ℕ) (took sent kept 
   )
 
   -- or this was the last one
-  closing : Answers site_contents took out kept (serve w ∷ []) (take (past_of after + taken_by z) response) → taken_by z ≡ 0
+  closing : Answers site_contents took out kept (serve w ∷ []) (take (past_of after + taken_by z) response)
+      → taken_by z ≡ 0
       → MayAnswer w after response → IsLeft w after [] → w.keep ≡ false → Alone phase.Closes
   closing a none may rest last = inr (inl (record {
     quits = refl;
@@ -260,17 +290,23 @@ module _ (site_contents : SiteContents) (m n : State) (c : ℕ) (took sent kept 
   }))
 
   -- so it is consistent as a connection alone
-  ended : IsProper (serve w) → Answers site_contents took out kept (serve w ∷ []) (take (past_of after + taken_by z) response)
+  ended : IsProper (serve w)
+      → Answers site_contents took out kept (serve w ∷ []) (take (past_of after + taken_by z) response)
       → MayAnswer w after response → Ending w after z → Alone (after_run z)
   ended proper a may e = by e.1
     where
-      by : ((after_run z ≡ phase.Rests) × IsLeft w after [] × (w.keep ≡ true)) ⊎ ((after_run z ≡ phase.Closes) × HasNone w after) → Alone (after_run z)
+      by : ((after_run z ≡ phase.Rests) × IsLeft w after [] × (w.keep ≡ true))
+          ⊎ ((after_run z ≡ phase.Closes) × HasNone w after) → Alone (after_run z)
       by (inl rest) = subst Alone (sym rest.0) (resting a e.0 may rest.1 rest.2)
-      by (inr close) = (let whole = closed_whole w after response proper may close.1 in subst Alone (sym close.0) (closing a e.0 may whole.0 whole.1))
+      by (inr close) =
+          (let whole = closed_whole w after response proper may close.1 in
+          subst Alone (sym close.0) (closing a e.0 may whole.0 whole.1))
 
   -- the response goes on, or is all written
-  pub proceeds : IsProper (serve w) → bytes_of (conn_at n c).incoming ≡ bytes_of (conn_at m c).incoming → (is_over z ≡ true → Ending w after z)
-      → Answers site_contents took out kept (serve w ∷ []) (take (past_of after + taken_by z) response) → MayAnswer w after response → breaks_off z ≡ false
+  pub proceeds : IsProper (serve w) → bytes_of (conn_at n c).incoming ≡ bytes_of (conn_at m c).incoming
+      → (is_over z ≡ true → Ending w after z)
+      → Answers site_contents took out kept (serve w ∷ []) (take (past_of after + taken_by z) response)
+      → MayAnswer w after response → breaks_off z ≡ false
       → ConsistencyAfter site_contents response m n c took sent kept w after z
   proceeds proper unread over a may whole = record {
     goes = λ on. inl (record { answers = a; may = may; whole = whole });
@@ -280,8 +316,10 @@ module _ (site_contents : SiteContents) (m n : State) (c : ℕ) (took sent kept 
   }
 
   -- nobody takes it any more
-  pub left_alone : bytes_of (conn_at n c).incoming ≡ bytes_of (conn_at m c).incoming → (is_over z ≡ true → Ending w after z)
-      → conn_at n c ≡ conn_at m c → IsLeftAlone site_contents (conn_at m c) took (sent ++ bytes_of (conn_at m c).outgoing)
+  pub left_alone : bytes_of (conn_at n c).incoming ≡ bytes_of (conn_at m c).incoming
+      → (is_over z ≡ true → Ending w after z)
+      → conn_at n c ≡ conn_at m c
+      → IsLeftAlone site_contents (conn_at m c) took (sent ++ bytes_of (conn_at m c).outgoing)
       → ConsistencyAfter site_contents response m n c took sent kept w after z
   left_alone unread over same was = record {
     goes = λ on. inr left;
@@ -294,17 +332,21 @@ module _ (site_contents : SiteContents) (m n : State) (c : ℕ) (took sent kept 
       left = subst (λ (x : Connection). IsLeftAlone site_contents x took (sent ++ bytes_of x.outgoing)) (sym same) was
 
 module _ (site_contents : SiteContents) (worker_set : WorkerSet) (laws : AllLaws worker_set) where
-  pub consistency_step : (m n : State) (fd c worker : ℕ) (took sent kept : List ℕ) (w : Wanted) (job : ℕ → List ℕ) (y : Running) (r : Reply)
-      (received : List ℕ) (o after : Progress) (expected : List ℕ) → MayBeExpected site_contents (serve w) expected → IsOrderly m → descriptor m server fd ≡ Some (on.Connection c)
+  pub consistency_step : (m n : State) (fd c worker : ℕ) (took sent kept : List ℕ) (w : Wanted) (job : ℕ
+      → List ℕ) (y : Running) (r : Reply)
+      (received : List ℕ) (o after : Progress) (expected : List ℕ) → MayBeExpected site_contents (serve w) expected
+      → IsOrderly m → descriptor m server fd ≡ Some (on.Connection c)
       → IsProper (serve w) → is_over y ≡ false → HasRun job m w o y
       → StepsTo m (event.Call server (wants job fd w y)) r n → Names n r received
       → Learns m y r received o after → HasRun job n w after (after_reply worker w y r received)
-      → (breaks_off y ≡ false → breaks_off (after_reply worker w y r received) ≡ true → is_gone (conn_at m c).peer ≡ true)
+      → (breaks_off y ≡ false → breaks_off (after_reply worker w y r received) ≡ true
+      → is_gone (conn_at m c).peer ≡ true)
       → (breaks_off y ≡ false → breaks_off (after_reply worker w y r received) ≡ false → MayAnswer w o expected
       → MayAnswer w after expected)
       → ConsistencyRun site_contents expected (conn_at m c) took sent kept w o y
       → ConsistencyAfter site_contents expected m n c took sent kept w after (after_reply worker w y r received)
-  consistency_step m n fd c worker took sent kept w job y r received o after expected may_be order open_on proper ongoing has step names learns stands cut may consistency = by consistency
+  consistency_step m n fd c worker took sent kept w job y r received o after expected may_be order open_on proper
+      ongoing has step names learns stands cut may consistency = by consistency
     where
       z : Running
       z = after_reply worker w y r received
@@ -313,7 +355,8 @@ module _ (site_contents : SiteContents) (worker_set : WorkerSet) (laws : AllLaws
       new = newly_taken fd (wants job fd w y) r
 
       did : Wrote m n c w o (taken_by y) new
-      did = wrote laws.the.steps laws.the.own m n order fd c open_on w o (taken_by y) (wants job fd w y) r step ((laws.run_keeps job).alone m fd c w y o open_on ongoing has).conns
+      did = wrote laws.the.steps laws.the.own m n order fd c open_on w o (taken_by y) (wants job fd w y) r step
+          ((laws.run_keeps job).alone m fd c w y o open_on ongoing has).conns
           (λ a is. (laws.runs job).offers m fd c a w y o open_on has is)
 
       unread : bytes_of (conn_at n c).incoming ≡ bytes_of (conn_at m c).incoming
@@ -322,20 +365,27 @@ module _ (site_contents : SiteContents) (worker_set : WorkerSet) (laws : AllLaws
       over : is_over z ≡ true → Ending w after z
       over is = ending job n w after z is stands
 
-      left : IsLeftAlone site_contents (conn_at m c) took (sent ++ bytes_of (conn_at m c).outgoing) → ConsistencyAfter site_contents expected m n c took sent kept w after z
-      left was = left_alone site_contents m n c took sent kept w expected may_be after z unread over (gone_still m n c w o (taken_by y) new did was.gone) was
+      left : IsLeftAlone site_contents (conn_at m c) took (sent ++ bytes_of (conn_at m c).outgoing)
+          → ConsistencyAfter site_contents expected m n c took sent kept w after z
+      left was =
+          left_alone site_contents m n c took sent kept w expected may_be after z unread over
+          (gone_still m n c w o (taken_by y) new did was.gone) was
 
-      by : ConsistencyRun site_contents expected (conn_at m c) took sent kept w o y → ConsistencyAfter site_contents expected m n c took sent kept w after z
+      by : ConsistencyRun site_contents expected (conn_at m c) took sent kept w o y
+          → ConsistencyAfter site_contents expected m n c took sent kept w after z
       by (inl goes) = cases (breaks_off z) refl
         where
           cases : (b : Bool) → breaks_off z ≡ b → ConsistencyAfter site_contents expected m n c took sent kept w after z
           cases true is = left (record {
             gone = cut goes.whole is;
-            begins = begins-part site_contents took (sent ++ bytes_of (conn_at m c).outgoing) kept (serve w) expected may_be (past_of o + taken_by y) goes.answers;
+            begins = begins-part site_contents took (sent ++ bytes_of (conn_at m c).outgoing) kept (serve w) expected
+                may_be (past_of o + taken_by y) goes.answers;
           })
           cases false is =
-              let count = (laws.runs job).takes m n fd c worker w y r received o after order open_on ongoing has step learns goes.whole is in
+              let count = (laws.runs job).takes m n fd c worker w y r received o after order open_on ongoing has step
+              learns goes.whole is in
               proceeds site_contents m n c took sent kept w expected may_be after z proper unread over
-              (answered_on m n c w o (taken_by y) new site_contents took sent kept (serve w ∷ []) expected (past_of after + taken_by z) did goes.may count goes.answers)
+              (answered_on m n c w o (taken_by y) new site_contents took sent kept (serve w ∷ []) expected
+              (past_of after + taken_by z) did goes.may count goes.answers)
               (may goes.whole is goes.may) is
       by (inr was) = left was

@@ -1,5 +1,5 @@
--- The response with the output of a script (RFC 9112, sections 6.3 and 7.1): in chunks of 4,096 bytes and one of the rest, or,
--- for a client of HTTP/1.0, the bytes up to the close of the connection.
+-- The response with the output of a script (RFC 9112, sections 6.3 and 7.1): in chunks of 4,096 bytes and one of the
+-- rest, or, for a client of HTTP/1.0, the bytes up to the close of the connection.
 use Rattle.std.specs.Prelude.{ℕ, zero, suc, Bool, true, false, List, [], ◌∷◌, ◌++◌, length, take, drop, Some, None}
 use Rattle.flash_http.specs.Chunk.{chunk_head, chunk_end, last_chunk, chunked_body}
 use Rattle.flash_http.specs.Request.{Wanted}

@@ -1,5 +1,6 @@
 -- The invariant of one client, by the input and output of its connection: without a script, or with the run of one.
-use Rattle.std.specs.Prelude.{◌≡◌, ◌≤◌, ℕ, ◌+◌, ◌⊎◌, Bool, true, false, List, [], ◌∷◌, ◌++◌, length, take, Option, Some, None, is_none, if◌then◌else◌}
+use Rattle.std.specs.Prelude.{◌≡◌, ◌≤◌, ℕ, ◌+◌, ◌⊎◌, Bool, true, false, List, [], ◌∷◌, ◌++◌, length, take, Option, Some}
+use Rattle.std.specs.Prelude.{None, is_none, if◌then◌else◌}
 use Rattle.std.specs.List.{list_all}
 use Rattle.iol_core.specs.Text.{bytes_of}
 use Rattle.iol_core.specs.State.{State, Connection, descriptor, content, file, may_read, conn_at, is_gone}
@@ -59,7 +60,8 @@ pub record Finished (site_contents : SiteContents) (k : Connection) (took out : 
 
 -- The requests before the one in progress have their whole responses, that one has these bytes, and the rest of the
 -- stream is buffered.
-pub record Answers (site_contents : SiteContents) (took out kept : List ℕ) (now : List Answer) (given : List ℕ) : Type 0 where
+pub record Answers (site_contents : SiteContents) (took out kept : List ℕ) (now : List Answer) (given : List ℕ) :
+    Type 0 where
   pub done : List Answer
   pub open_yet : list_all (λ p. keeps p) done ≡ true
   pub reads : Reads took (done ++ now) kept
@@ -117,7 +119,8 @@ module _ (site_contents : SiteContents) where
 
   abbrev pub ConsistencyAlone : (expected : List ℕ) → Connection → (took sent : List ℕ) → Client → Type 0
   ConsistencyAlone expected k took sent x =
-      ((quits x.conn.phase ≡ false) × Answers site_contents took (sent ++ bytes_of k.outgoing) x.conn.kept (asked x.conn.q x.conn.phase)
+      ((quits x.conn.phase ≡ false) × Answers site_contents took (sent ++ bytes_of k.outgoing) x.conn.kept
+      (asked x.conn.q x.conn.phase)
       (given_of expected (is_at_rest x.conn.phase) (taken_of x.conn.phase)))
       ⊎ (IsFinished k took (sent ++ bytes_of k.outgoing) x.conn.phase
       ⊎ IsLeftAlone site_contents k took (sent ++ bytes_of k.outgoing))
@@ -160,12 +163,14 @@ module _ (site_contents : SiteContents) where
     pub proper : IsProper (serve w)
 
   -- the expected response may be the one that is being sent
-  pub record Proceeds (expected : List ℕ) (took out kept : List ℕ) (w : Wanted) (o : Progress) (y : Running) : Type 0 where
+  pub record Proceeds (expected : List ℕ) (took out kept : List ℕ) (w : Wanted) (o : Progress) (y : Running) :
+      Type 0 where
     pub answers : Answers site_contents took out kept (serve w ∷ []) (take (past_of o + taken_by y) expected)
     pub may : run.MayAnswer w o expected
     pub whole : breaks_off y ≡ false
 
-  abbrev pub ConsistencyRun : (expected : List ℕ) → Connection → (took sent kept : List ℕ) → Wanted → Progress → Running → Type 0
+  abbrev pub ConsistencyRun : (expected : List ℕ) → Connection → (took sent kept : List ℕ) → Wanted → Progress → Running
+      → Type 0
   ConsistencyRun expected k took sent kept w o y = Proceeds expected took (sent ++ bytes_of k.outgoing) kept w o y
       ⊎ IsLeftAlone site_contents k took (sent ++ bytes_of k.outgoing)
 
@@ -186,10 +191,12 @@ module _ (site_contents : SiteContents) (worker_set : WorkerSet) where
     pub so_far : Progress
     pub has : HasRun (job_of wanted script.text) m wanted so_far y
     pub ongoing : is_over y ≡ false
-    pub consistency : ConsistencyRun site_contents (response_to wanted (made_of wanted script.lines shown)) (conn_at m c) took sent x.conn.kept wanted so_far y
+    pub consistency : ConsistencyRun site_contents (response_to wanted (made_of wanted script.lines shown))
+        (conn_at m c) took sent x.conn.kept wanted so_far y
     pub job_queue : HasWorkerAt worker_set m process_slots (made_of wanted script.lines shown) so_far y
 
-  abbrev pub FitsBy : Option Running → State → (came sent : List ℕ) → (fd c : ℕ) → Client → List (ProcessSlot worker_set.Worker) → Type 0
+  abbrev pub FitsBy : Option Running → State → (came sent : List ℕ) → (fd c : ℕ) → Client
+      → List (ProcessSlot worker_set.Worker) → Type 0
   FitsBy None m came sent fd c x process_slots = FitsAlone site_contents m came sent fd c x
   FitsBy (Some y) m came sent fd c x process_slots = FitsRun m came sent fd c x y process_slots
 

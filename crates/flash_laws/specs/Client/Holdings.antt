@@ -12,7 +12,8 @@ use Rattle.iol_core.specs.declared.events.Reply.{Reply}
 use Rattle.iol_core.specs.declared.events.Reply.TheVariants as reply
 use Rattle.iol_laws.specs.Caller.{readable_at}
 use Rattle.iol_laws.specs.Order.{IsOrderly}
-use Rattle.flash_laws.specs.Client.{Client, new_client, uses_agg, is_for_script, wants, Readies, keeps_text, awaits, after_reply}
+use Rattle.flash_laws.specs.Client.{Client, new_client, uses_agg, is_for_script, wants, Readies, keeps_text, awaits}
+use Rattle.flash_laws.specs.Client.{after_reply}
 use Rattle.flash_laws.specs.Client.OfferedBytes.{is_ending}
 use Rattle.flash_laws.specs.Conn as conn
 use Rattle.flash_laws.specs.Conn.{is_head_only}
@@ -43,21 +44,26 @@ HoldsNoOther scripts x = is_to_run scripts x ≡ false → x.script ≡ []
 
 pub record ClientKeepsNothing (scripts : Bool) : Type 0 where
   -- an aggregate returned by a call for a client is used by it
-  pub brought : (m n : State) (fd c worker : ℕ) (x : Client) (known : Known) (r : Reply) (received bytes : List ℕ) (a : ℕ)
+  pub brought : (m n : State) (fd c worker : ℕ) (x : Client) (known : Known) (r : Reply) (received bytes : List ℕ)
+      (a : ℕ)
       → IsOrderly m → HasAccess m → is_live m server ≡ true → descriptor m server fd ≡ Some (on.Connection c)
       → is_ending x ≡ false → HasKnown scripts m x known → StepsTo m (event.Call server (wants scripts fd x)) r n
-      → readable_at m server a ≡ None → readable_at n server a ≡ Some bytes → uses_agg (after_reply scripts worker x r received) a ≡ true
+      → readable_at m server a ≡ None → readable_at n server a ≡ Some bytes
+      → uses_agg (after_reply scripts worker x r received) a ≡ true
   -- the same for the descriptor of a file, and for both ends of a pipe
   pub opened : (m n : State) (fd worker f : ℕ) (x : Client) (received : List ℕ) → x.run ≡ None
       → StepsTo m (event.Call server (wants scripts fd x)) (reply.Fd f) n
       → has_fd (after_reply scripts worker x (reply.Fd f) received) f ≡ true
-  pub piped : (m : State) (worker from write : ℕ) (x : Client) (known : Known) (received : List ℕ) (g : ℕ) → awaits x ≡ true
+  pub piped : (m : State) (worker from write : ℕ) (x : Client) (known : Known) (received : List ℕ) (g : ℕ)
+      → awaits x ≡ true
       → HasKnown scripts m x known → ((from == g) || (write == g)) ≡ true
       → has_fd (after_reply scripts worker x (reply.Fds from write) received) g ≡ true
   -- an aggregate that it no longer uses is gone
-  pub left : (m n : State) (fd worker : ℕ) (x : Client) (known : Known) (r : Reply) (received : List ℕ) (a : ℕ) → IsOrderly m
+  pub left : (m n : State) (fd worker : ℕ) (x : Client) (known : Known) (r : Reply) (received : List ℕ) (a : ℕ)
+      → IsOrderly m
       → HasKnown scripts m x known → StepsTo m (event.Call server (wants scripts fd x)) r n
-      → uses_agg x a ≡ true → uses_agg (after_reply scripts worker x r received) a ≡ false → readable_at n server a ≡ None
+      → uses_agg x a ≡ true → uses_agg (after_reply scripts worker x r received) a ≡ false
+      → readable_at n server a ≡ None
   -- the same for the descriptor of a file, and for each end of a pipe, which is closed, or given to the worker
   pub shut : (m n : State) (fd worker : ℕ) (x : Client) (known : Known) (r : Reply) (received : List ℕ) (g : ℕ)
       → HasKnown scripts m x known → StepsTo m (event.Call server (wants scripts fd x)) r n

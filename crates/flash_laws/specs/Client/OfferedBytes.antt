@@ -18,7 +18,8 @@ use Rattle.iol_laws.specs.Frame.{touches_fd}
 use Rattle.iol_laws.specs.Order.{IsOrderly}
 use Rattle.flash_http.specs.Request.{Answer, serve, Wanted}
 use Rattle.flash_laws.specs.Answers.{Outcome}
-use Rattle.flash_laws.specs.Client.{Client, uses_agg, uses_fd, job_of, wants, is_for_script, awaits, after_run, after_reply}
+use Rattle.flash_laws.specs.Client.{Client, uses_agg, uses_fd, job_of, wants, is_for_script, awaits, after_run}
+use Rattle.flash_laws.specs.Client.{after_reply}
 use Rattle.flash_laws.specs.Conn as conn
 use Rattle.flash_laws.specs.Conn.{begins, most_read}
 use Rattle.flash_laws.specs.Conn.Fits.{Names, is_closing}
@@ -57,7 +58,8 @@ ConnLearns script d r received (OfScript text o) after = after ≡ OfScript text
 
 -- the result of the calls of a run
 abbrev pub RunLearns : State → Running → Reply → (received : List ℕ) → (before after : Known) → Type 0
-RunLearns m y r received (OfScript text o) after = (p : Progress) × run.Learns m y r received o p × (after ≡ OfScript text p)
+RunLearns m y r received (OfScript text o) after = (p : Progress) × run.Learns m y r received o p
+    × (after ≡ OfScript text p)
 RunLearns m y r received (OfFile o) after = ⊥
 
 abbrev pub Learns : (scripts : Bool) → State → Client → Reply → (received : List ℕ) → (before after : Known) → Type 0
@@ -156,7 +158,8 @@ pub record ClientOffersTheResponse (scripts : Bool) : Type 0 where
       → (awaits x ≡ true → HasJobPipe m worker)
       → is_ending x ≡ false
       → HasKnown scripts m x before → StepsTo m (event.Call server (wants scripts fd x)) r n → Names n r received
-      → (after : Known) × Learns scripts m x r received before after × HasKnown scripts n (after_reply scripts worker x r received) after
+      → (after : Known) × Learns scripts m x r received before after
+      × HasKnown scripts n (after_reply scripts worker x r received) after
   -- the same for any other event that neither consumes nor moves what the client uses
   pub stays : (m n : State) (x : Client) (e : Event) (r : Reply) (known : Known) → StepsTo m e r n
       → ((a : ℕ) → uses_agg x a ≡ true → gives_up e server a ≡ false)
@@ -167,7 +170,8 @@ pub record ClientOffersTheResponse (scripts : Bool) : Type 0 where
       → wants scripts fd x ≡ call.IolWrite g a
       → ((g ≡ fd) × IsNextOf m x.conn.q known a (taken_by x)) ⊎ HandsJob x g a
   -- the bytes that the connection took count as taken, while the response is neither over nor aborted
-  pub takes : (m n : State) (fd c worker : ℕ) (x : Client) (r : Reply) (received : List ℕ) (before after : Known) → IsOrderly m
+  pub takes : (m n : State) (fd c worker : ℕ) (x : Client) (r : Reply) (received : List ℕ) (before after : Known)
+      → IsOrderly m
       → descriptor m server fd ≡ Some (on.Connection c) → is_ending x ≡ false → HasKnown scripts m x before
       → StepsTo m (event.Call server (wants scripts fd x)) r n → Learns scripts m x r received before after
       → drops_rest x ≡ false → drops_rest (after_reply scripts worker x r received) ≡ false
@@ -175,13 +179,16 @@ pub record ClientOffersTheResponse (scripts : Bool) : Type 0 where
       → taken_before after + taken_by (after_reply scripts worker x r received)
       ≡ taken_before before + taken_by x + newly_taken fd (wants scripts fd x) r
   -- for a request that is not for a script the client behaves as its connection
-  pub files : (m : State) (x : Client) (o : Outcome) → is_for_script scripts x.conn.q ≡ false → HasKnown scripts m x (OfFile o)
+  pub files : (m : State) (x : Client) (o : Outcome) → is_for_script scripts x.conn.q ≡ false
+      → HasKnown scripts m x (OfFile o)
       → IsAsItsConn scripts m x o
   -- while a script runs it behaves as its run
   pub runs : (m : State) (x : Client) (w : Wanted) (y : Running) (text : List ℕ) (o : Progress) → x.run ≡ Some y
-      → x.conn.q ≡ serve w → is_over y ≡ false → HasKnown scripts m x (OfScript text o) → IsAsItsRun scripts m x w y text o
+      → x.conn.q ≡ serve w → is_over y ≡ false → HasKnown scripts m x (OfScript text o)
+      → IsAsItsRun scripts m x w y text o
   -- the text of a script is read whole, also for HEAD
-  pub whole : (fd f : ℕ) (x : Client) → x.run ≡ None → is_for_script scripts x.conn.q ≡ true → x.conn.phase ≡ phase.Reads f
+  pub whole : (fd f : ℕ) (x : Client) → x.run ≡ None → is_for_script scripts x.conn.q ≡ true
+      → x.conn.phase ≡ phase.Reads f
       → wants scripts fd x ≡ call.IolRead f most_read
   -- replies leave its request unchanged, and append the bytes read to its buffered stream
   pub keeps : (worker : ℕ) (x : Client) (r : Reply) (received : List ℕ)
@@ -196,7 +203,8 @@ pub record ClientOffersTheResponse (scripts : Bool) : Type 0 where
       → StepsTo m (event.Call server (wants scripts fd x)) r n → Names n r received
       → Nears rank x r (after_reply scripts worker x r received) ⊎ ReceivesMore x r received
   -- a successful call is not repeated
-  pub moves : (m n : State) (fd worker : ℕ) (x : Client) (r : Reply) (received : List ℕ) (known : Known) → is_ending x ≡ false
+  pub moves : (m n : State) (fd worker : ℕ) (x : Client) (r : Reply) (received : List ℕ) (known : Known)
+      → is_ending x ≡ false
       → HasKnown scripts m x known → StepsTo m (event.Call server (wants scripts fd x)) r n
       → after_reply scripts worker x r received ≡ x → may_repeat (wants scripts fd x) r ≡ true
 

@@ -50,7 +50,8 @@ taken_before (OfScript text o) = past_of o
 pub record IsNextOf (m : State) (q : Answer) (known : Known) (a taken : ℕ) : Type 0 where
   pub bytes : List ℕ
   pub is_readable : readable_at m server a ≡ Some bytes
-  pub next : (r : List ℕ) → MayAnswer q known r → (after : List ℕ) × (bytes ++ after ≡ drop (taken_before known + taken) r)
+  pub next : (r : List ℕ) → MayAnswer q known r
+      → (after : List ℕ) × (bytes ++ after ≡ drop (taken_before known + taken) r)
 
 -- ---- what the machine has of it
 

@@ -40,4 +40,5 @@ needs_memory x = by x.run
 
 -- to buffer bytes, or to continue at once
 abbrev pub WantsOn : (scripts : Bool) → (t x : Client) → Reply → (received : List ℕ) → Type 0
-WantsOn scripts t x r received = ClientReceives scripts x r received ⊎ ((leaves_off (left_over t) r ≡ false) × (needs_memory t ≡ true))
+WantsOn scripts t x r received = ClientReceives scripts x r received
+    ⊎ ((leaves_off (left_over t) r ≡ false) × (needs_memory t ≡ true))

@@ -1,5 +1,6 @@
 -- The invariant of one connection, by its input and output.
-use Rattle.std.specs.Prelude.{◌≡◌, ◌≤◌, ◌<◌, ℕ, ◌+◌, ◌-◌, ◌||◌, ◌==◌, Bool, true, false, List, [], ◌∷◌, ◌++◌, length, drop, slice_range, Some, None}
+use Rattle.std.specs.Prelude.{◌≡◌, ◌≤◌, ◌<◌, ℕ, ◌+◌, ◌-◌, ◌||◌, ◌==◌, Bool, true, false, List, [], ◌∷◌, ◌++◌, length}
+use Rattle.std.specs.Prelude.{drop, slice_range, Some, None}
 use Rattle.iol_core.specs.State.{State, descriptor}
 use Rattle.iol_laws.specs.Caller.{readable_at}
 use Rattle.iol_core.specs.declared.limits.TheConstants.{MAX_AGGREGATE_BYTES}
@@ -16,7 +17,9 @@ use Rattle.flash_laws.specs.declared.phase.FileResult.TheVariants.{File, Length,
 use Rattle.flash_laws.specs.declared.phase.Payload.{Payload}
 use Rattle.flash_laws.specs.declared.phase.Payload.TheVariants.{Body, Bare, Error, Script}
 use Rattle.flash_laws.specs.declared.phase.Phase.{Phase}
-use Rattle.flash_laws.specs.declared.phase.Phase.TheVariants.{Rests, Got, Opens, Reads as Reading, Shuts, Picks, Spares, Heads, Joins, Sends, Cuts, Offers, Swaps, Sent, Breaks, Drops, Closes, Over}
+use Rattle.flash_laws.specs.declared.phase.Phase.TheVariants.{Rests, Got, Opens, Reads as Reading, Shuts, Picks, Spares}
+use Rattle.flash_laws.specs.declared.phase.Phase.TheVariants.{Heads, Joins, Sends, Cuts, Offers, Swaps, Sent, Breaks}
+use Rattle.flash_laws.specs.declared.phase.Phase.TheVariants.{Drops, Closes, Over}
 
 -- ---- what the machine has of a response: the server offers the next bytes of the expected response
 
@@ -127,7 +130,8 @@ Has m q expected (Shuts f k) = IsFile m f × HasFileResult m q expected k
 Has m q expected (Picks a from to len) = HasPart m expected (text_of q (Body a 0 len)) a from to
 Has m q expected (Spares a k) = IsReadable m a × (content_agg k a ≡ false) × HasContent m q expected k
 Has m q expected (Heads k) = HasContent m q expected k
-Has m q expected (Joins a size body len) = HoldsRest m expected a size 0 (Some (body, len)) × (size + len ≤ MAX_AGGREGATE_BYTES)
+Has m q expected (Joins a size body len) = HoldsRest m expected a size 0 (Some (body, len))
+    × (size + len ≤ MAX_AGGREGATE_BYTES)
 Has m q expected (Sends a len taken more) = HoldsRest m expected a len taken more
 Has m q expected (Cuts a from len taken more) = HoldsRestFrom m expected a from len taken more × (from < len)
 Has m q expected (Offers a from len piece taken more) = HoldsPiece m expected a from len piece taken more

@@ -37,9 +37,11 @@ pub record KeepsNothing : Type 0 where
   pub brought : (m n : State) (fd c : ℕ) (x : Conn) (o : Outcome) (r : Reply) (received bytes : List ℕ) (a : ℕ)
       → IsOrderly m → HasAccess m → is_live m server ≡ true → descriptor m server fd ≡ Some (on.Connection c)
       → HasAnswer m x o → StepsTo m (event.Call server (wants fd x)) r n
-      → readable_at m server a ≡ None → readable_at n server a ≡ Some bytes → uses_agg (after_reply x r received).phase a ≡ true
+      → readable_at m server a ≡ None → readable_at n server a ≡ Some bytes
+      → uses_agg (after_reply x r received).phase a ≡ true
   -- the same for a descriptor
-  pub opened : (m n : State) (fd f : ℕ) (x : Conn) (received : List ℕ) → StepsTo m (event.Call server (wants fd x)) (reply.Fd f) n
+  pub opened : (m n : State) (fd f : ℕ) (x : Conn) (received : List ℕ)
+      → StepsTo m (event.Call server (wants fd x)) (reply.Fd f) n
       → uses_fd (after_reply x (reply.Fd f) received).phase f ≡ true
   -- an aggregate that it no longer uses is gone
   pub left : (m n : State) (fd : ℕ) (x : Conn) (r : Reply) (received : List ℕ) (a : ℕ) → IsOrderly m
@@ -50,5 +52,6 @@ pub record KeepsNothing : Type 0 where
       → StepsTo m (event.Call server (wants fd x)) r n
       → uses_fd x.phase g ≡ true → uses_fd (after_reply x r received).phase g ≡ false → descriptor n server g ≡ None
   -- its calls touch only what it has, including the last, which closes it
-  pub alone : (m : State) (fd c : ℕ) (x : Conn) (o : Outcome) → descriptor m server fd ≡ Some (on.Connection c) → HasAnswer m x o
+  pub alone : (m : State) (fd c : ℕ) (x : Conn) (o : Outcome) → descriptor m server fd ≡ Some (on.Connection c)
+      → HasAnswer m x o
       → TouchesItsOwn m fd c x.phase (wants fd x)

@@ -3,7 +3,8 @@
 --
 -- The laws are about single steps, undisturbed or not: what the machine has of a response remains, unless a call
 -- consumes or moves what the connection uses. That this holds over a whole run is not stated here.
-use Rattle.std.specs.Prelude.{◌≡◌, ◌⊎◌, ℕ, ◌+◌, ◌==◌, Bool, true, false, if◌then◌else◌, List, [], ◌++◌, length, drop, Some, None}
+use Rattle.std.specs.Prelude.{◌≡◌, ◌⊎◌, ℕ, ◌+◌, ◌==◌, Bool, true, false, if◌then◌else◌, List, [], ◌++◌, length, drop}
+use Rattle.std.specs.Prelude.{Some, None}
 use Rattle.iol_core.specs.Access.{HasAccess}
 use Rattle.iol_core.specs.State.{State, descriptor, is_live, is_gone, conn_at}
 use Rattle.iol_core.specs.Run.{StepsTo}
@@ -25,7 +26,8 @@ use Rattle.flash_http.specs.Request.{Answer, serve, refuse}
 use Rattle.flash_laws.specs.Answers.{Outcome, Found, Failed, error_text, response}
 use Rattle.flash_laws.specs.Conn.{Conn, uses_agg, uses_fd, wants, begins, status_of, after_reply}
 use Rattle.flash_laws.specs.declared.phase.Phase.{Phase}
-use Rattle.flash_laws.specs.declared.phase.Phase.TheVariants.{Rests, Opens, Reads, Sends, Cuts, Offers, Swaps, Sent, Breaks, Drops, Closes, Over}
+use Rattle.flash_laws.specs.declared.phase.Phase.TheVariants.{Rests, Opens, Reads, Sends, Cuts, Offers, Swaps, Sent}
+use Rattle.flash_laws.specs.declared.phase.Phase.TheVariants.{Breaks, Drops, Closes, Over}
 use Rattle.flash_laws.specs.Conn.Fits.{Has, Names, is_closing}
 use Rattle.flash_laws.specs.Conn.Progress.{Rank, Nears, CanMake, is_busy}
 use Rattle.flash_laws.specs.Conn.Policy.{is_later}
@@ -107,8 +109,10 @@ pub record OffersTheResponse : Type 0 where
       → IsNextOf m x.q o a (taken_of x.phase)
   -- the bytes that the connection took count as taken, while the response is neither over nor aborted
   pub takes : (m n : State) (fd c : ℕ) (x : Conn) (r : Reply) (received : List ℕ) (o : Outcome) → IsOrderly m
-      → descriptor m server fd ≡ Some (on.Connection c) → HasAnswer m x o → StepsTo m (event.Call server (wants fd x)) r n
-      → is_dropping x.phase ≡ false → is_dropping (after_reply x r received).phase ≡ false → is_busy (after_reply x r received).phase ≡ true
+      → descriptor m server fd ≡ Some (on.Connection c) → HasAnswer m x o
+      → StepsTo m (event.Call server (wants fd x)) r n
+      → is_dropping x.phase ≡ false → is_dropping (after_reply x r received).phase ≡ false
+      → is_busy (after_reply x r received).phase ≡ true
       → taken_of (after_reply x r received).phase ≡ taken_of x.phase + newly_taken fd (wants fd x) r
   -- after it is sent all of it is taken
   pub whole : (m : State) (x : Conn) (o : Outcome) (a taken : ℕ) → x.phase ≡ Sent a taken None → HasAnswer m x o
@@ -119,8 +123,10 @@ pub record OffersTheResponse : Type 0 where
       → StepsTo m (event.Call server (wants fd x)) r n → is_dropping x.phase ≡ false
       → is_dropping (after_reply x r received).phase ≡ true → is_gone (conn_at m c).peer ≡ true
   -- a connection that is to be closed is closed by its next call, and then over
-  pub closes : (m n : State) (fd c : ℕ) (x : Conn) (r : Reply) (received : List ℕ) → IsOrderly m → is_live m server ≡ true
-      → descriptor m server fd ≡ Some (on.Connection c) → x.phase ≡ Closes → StepsTo m (event.Call server (wants fd x)) r n
+  pub closes : (m n : State) (fd c : ℕ) (x : Conn) (r : Reply) (received : List ℕ) → IsOrderly m
+      → is_live m server ≡ true
+      → descriptor m server fd ≡ Some (on.Connection c) → x.phase ≡ Closes
+      → StepsTo m (event.Call server (wants fd x)) r n
       → (r ≡ reply.Done) × ((after_reply x r received).phase ≡ Over) × ((conn_at n c).closed ≡ true)
   -- each reply reduces the rank of a request, unless its call is retried later
   pub rank : Conn → Rank

@@ -3,7 +3,8 @@
 -- A round goes over the connections by index, then accepts waiting ones, and ends with a yield. A connection continues
 -- until its call is to be retried later, its response is taken whole and more input is buffered, or it only reads more
 -- input.
-use Rattle.std.specs.Prelude.{ℕ, ◌==◌, ◌||◌, Bool, true, false, not, if◌then◌else◌, nat_lt, List, length, Option, Some, None}
+use Rattle.std.specs.Prelude.{ℕ, ◌==◌, ◌||◌, Bool, true, false, not, if◌then◌else◌, nat_lt, List, length, Option, Some}
+use Rattle.std.specs.Prelude.{None}
 use Rattle.iol_core.specs.NumberedLists.{taken}
 use Rattle.iol_core.specs.declared.refusals.Refusal.TheVariants.{WouldBlock, TooMany, PoolClosed, NoRoom, Memory}
 use Rattle.iol_core.specs.declared.events.Reply.{Reply}

@@ -1,5 +1,6 @@
 -- The invariant of the run of a script, by the machine and the output that was read: what it has of the response.
-use Rattle.std.specs.Prelude.{◌≡◌, ◌≤◌, ◌<◌, ℕ, ◌+◌, ◌==◌, ◌⊎◌, not, Bool, true, false, List, [], ◌++◌, length, Option, Some, None}
+use Rattle.std.specs.Prelude.{◌≡◌, ◌≤◌, ◌<◌, ℕ, ◌+◌, ◌==◌, ◌⊎◌, not, Bool, true, false, List, [], ◌++◌, length, Option}
+use Rattle.std.specs.Prelude.{Some, None}
 use Rattle.iol_core.specs.State.{State, descriptor}
 use Rattle.iol_core.specs.declared.descriptors.Descriptor.TheVariants as on
 use Rattle.iol_laws.specs.Caller.{readable_at}
@@ -19,7 +20,10 @@ use Rattle.flash_laws.specs.declared.phase.Phase.TheVariants as phase
 use Rattle.flash_laws.specs.declared.script_run.TheConstants.{CHUNK_BYTES}
 use Rattle.flash_laws.specs.declared.script_run.Run.{Run}
 use Rattle.flash_laws.specs.declared.script_run.Step.{Step}
-use Rattle.flash_laws.specs.declared.script_run.Step.TheVariants.{Gives, Makes, Hands, Lets, Heads, Sending, Receives, Spills, Gathers, Frames, Wraps, Trims, Ended, Unholds, Stops, Unframes, Lasts, WrapsLast, TrimsLast, Unwraps, Returns, Lapses, Fails}
+use Rattle.flash_laws.specs.declared.script_run.Step.TheVariants.{Gives, Makes, Hands, Lets, Heads, Sending, Receives}
+use Rattle.flash_laws.specs.declared.script_run.Step.TheVariants.{Spills, Gathers, Frames, Wraps, Trims, Ended, Unholds}
+use Rattle.flash_laws.specs.declared.script_run.Step.TheVariants.{Stops, Unframes, Lasts, WrapsLast, TrimsLast, Unwraps}
+use Rattle.flash_laws.specs.declared.script_run.Step.TheVariants.{Returns, Lapses, Fails}
 use Rattle.flash_laws.specs.declared.script_run.Running.{Running}
 use Rattle.flash_laws.specs.declared.script_run.Running.TheVariants.{Awaits, Runs, Leaves, Closes}
 
@@ -44,7 +48,8 @@ Follows false more = Unit {0}
 
 -- The possible responses, for every further output; once its end was read, the response to the output.
 abbrev pub MayAnswer : Wanted → Progress → List ℕ → Type 0
-MayAnswer w (Ran received ended past) r = (more : List ℕ) × Follows ended more × (r ≡ script_response w (received ++ more))
+MayAnswer w (Ran received ended past) r = (more : List ℕ) × Follows ended more
+    × (r ≡ script_response w (received ++ more))
 MayAnswer w Broken r = ⊥
 MayAnswer w (NotRun status past) r = r ≡ error_text status w.head_only (not w.keep)
 
@@ -122,14 +127,16 @@ pub record HasOutput (m : State) (w : Wanted) (held : Following) (frame : Option
   pub apart : meets held frame ≡ false
 
 -- output is read
-pub record HasReceived (m : State) (w : Wanted) (o : Progress) (run : Run) (held : Following) (frame : Option ℕ) : Type 0 where
+pub record HasReceived (m : State) (w : Wanted) (o : Progress) (run : Run) (held : Following) (frame : Option ℕ) :
+    Type 0 where
   pub reads : IsReading m run
   pub bytes : List ℕ
   pub has : HasOutput m w held frame bytes
   pub goes : Goes run.broken w o bytes
 
 -- the end of the output was read
-pub record HasAll (m : State) (w : Wanted) (o : Progress) (run : Run) (held : Following) (frame : Option ℕ) : Type 0 where
+pub record HasAll (m : State) (w : Wanted) (o : Progress) (run : Run) (held : Following) (frame : Option ℕ) :
+    Type 0 where
   pub bytes : List ℕ
   pub has : HasOutput m w held frame bytes
   pub ends : Ends run.broken w o bytes
@@ -250,13 +257,16 @@ module _ (job : (fd : ℕ) → List ℕ) where
   HasStep m w o run (Wraps held frame) = HasChunk m w o run held × HasFrame m (Some frame) × ((frame == held) ≡ false)
   HasStep m w o run (Trims held chunk len frame) = IsSpare m held (Sending (phase.Sends chunk len 0 None) (Some frame))
       × HasPart m w o run (phase.Sends chunk len 0 None) (Some frame)
-  HasStep m w o run (Ended a held frame) = IsSpare m a (Stops held frame) × IsReading m run × HasAll m w o run held frame
-  HasStep m w o run (Unholds held frame) = IsSpare m held (Stops None frame) × IsReading m run × HasAll m w o run None frame
+  HasStep m w o run (Ended a held frame) = IsSpare m a (Stops held frame) × IsReading m run
+      × HasAll m w o run held frame
+  HasStep m w o run (Unholds held frame) = IsSpare m held (Stops None frame) × IsReading m run
+      × HasAll m w o run None frame
   HasStep m w o run (Stops held frame) = IsReading m run × HasAll m w o run held frame
   HasStep m w o run (Unframes f held) = HasAll m w o run held (Some f)
   HasStep m w o run (Lasts held) = (w.chunked ≡ true) × (run.broken ≡ false) × HasAll m w o run held None
   HasStep m w o run (WrapsLast held size frame) = HasLast m w o held size frame
-  HasStep m w o run (TrimsLast held chunk len frame) = IsSpare m held (Unwraps frame chunk len) × IsSpare m frame (Lapses chunk)
+  HasStep m w o run (TrimsLast held chunk len frame) = IsSpare m held (Unwraps frame chunk len)
+      × IsSpare m frame (Lapses chunk)
       × HasEnd m w o chunk len
   HasStep m w o run (Unwraps frame chunk len) = IsSpare m frame (Lapses chunk) × HasEnd m w o chunk len
   HasStep m w o run (Returns write) = HasPipe m run write × IsFresh run o

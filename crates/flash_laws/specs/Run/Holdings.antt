@@ -69,22 +69,27 @@ pub record RunKeepsNothing (job : ℕ → List ℕ) : Type 0 where
       (received bytes : List ℕ) (a : ℕ)
       → IsOrderly m → descriptor m server fd ≡ Some (on.Connection c) → is_over x ≡ false → HasRun job m w o x
       → StepsTo m (event.Call server (wants job fd w x)) r n
-      → readable_at m server a ≡ None → readable_at n server a ≡ Some bytes → uses_agg (after_reply worker w x r received) a ≡ true
+      → readable_at m server a ≡ None → readable_at n server a ≡ Some bytes
+      → uses_agg (after_reply worker w x r received) a ≡ true
   -- both ends of a pipe returned by a call for it belong to it
-  pub opened : (m n : State) (fd worker : ℕ) (w : Wanted) (x : Running) (o : Progress) (from write : ℕ) (received : List ℕ) (g : ℕ)
+  pub opened : (m n : State) (fd worker : ℕ) (w : Wanted) (x : Running) (o : Progress) (from write : ℕ)
+      (received : List ℕ) (g : ℕ)
       → is_over x ≡ false → HasRun job m w o x
       → StepsTo m (event.Call server (wants job fd w x)) (reply.Fds from write) n
       → ((from == g) || (write == g)) ≡ true → has_end (after_reply worker w x (reply.Fds from write) received) g ≡ true
   -- an aggregate that it no longer uses is gone
-  pub left : (m n : State) (fd worker : ℕ) (w : Wanted) (x : Running) (o : Progress) (r : Reply) (received : List ℕ) (a : ℕ)
+  pub left : (m n : State) (fd worker : ℕ) (w : Wanted) (x : Running) (o : Progress) (r : Reply) (received : List ℕ)
+      (a : ℕ)
       → IsOrderly m → HasRun job m w o x → StepsTo m (event.Call server (wants job fd w x)) r n
       → uses_agg x a ≡ true → uses_agg (after_reply worker w x r received) a ≡ false → readable_at n server a ≡ None
   -- the same for an end of its pipe, which is closed, or given to the worker
-  pub shut : (m n : State) (fd worker : ℕ) (w : Wanted) (x : Running) (o : Progress) (r : Reply) (received : List ℕ) (g : ℕ)
+  pub shut : (m n : State) (fd worker : ℕ) (w : Wanted) (x : Running) (o : Progress) (r : Reply) (received : List ℕ)
+      (g : ℕ)
       → HasRun job m w o x → StepsTo m (event.Call server (wants job fd w x)) r n
       → has_end x g ≡ true → has_end (after_reply worker w x r received) g ≡ false → descriptor n server g ≡ None
   -- its calls touch only what it has
-  pub alone : (m : State) (fd c : ℕ) (w : Wanted) (x : Running) (o : Progress) → descriptor m server fd ≡ Some (on.Connection c)
+  pub alone : (m : State) (fd c : ℕ) (w : Wanted) (x : Running) (o : Progress)
+      → descriptor m server fd ≡ Some (on.Connection c)
       → is_over x ≡ false → HasRun job m w o x → KeepsToItself m fd c x (wants job fd w x)
 
 abbrev pub RunsKeepNothing : Type 0

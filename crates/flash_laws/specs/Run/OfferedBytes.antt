@@ -3,7 +3,8 @@
 --
 -- The laws are about single steps, undisturbed or not: what a run has remains, unless a call consumes or moves what it
 -- uses. That this holds over a whole run is not stated here, and neither is what a worker writes.
-use Rattle.std.specs.Prelude.{◌≡◌, ◌<◌, ℕ, ◌+◌, ◌-◌, ◌⊎◌, Bool, true, false, List, [], ◌∷◌, ◌++◌, length, drop, Option, Some, None}
+use Rattle.std.specs.Prelude.{◌≡◌, ◌<◌, ℕ, ◌+◌, ◌-◌, ◌⊎◌, Bool, true, false, List, [], ◌∷◌, ◌++◌, length, drop, Option}
+use Rattle.std.specs.Prelude.{Some, None}
 use Rattle.iol_core.specs.State.{State, descriptor, is_live, pipe_at, conn_at, new_pipe, is_gone}
 use Rattle.iol_core.specs.Run.{StepsTo}
 use Rattle.iol_core.specs.Values.{gives_up}
@@ -30,7 +31,9 @@ use Rattle.flash_laws.specs.declared.phase.Phase.TheVariants as phase
 use Rattle.flash_laws.specs.declared.script_run.TheConstants.{CHUNK_BYTES}
 use Rattle.flash_laws.specs.declared.script_run.Run.{Run}
 use Rattle.flash_laws.specs.declared.script_run.Step.{Step}
-use Rattle.flash_laws.specs.declared.script_run.Step.TheVariants.{Gives, Makes, Hands, Lets, Heads, Sending, Receives, Ended, Unholds, Stops, Unframes, Lasts, WrapsLast, TrimsLast, Unwraps, Returns, Lapses, Fails}
+use Rattle.flash_laws.specs.declared.script_run.Step.TheVariants.{Gives, Makes, Hands, Lets, Heads, Sending, Receives}
+use Rattle.flash_laws.specs.declared.script_run.Step.TheVariants.{Ended, Unholds, Stops, Unframes, Lasts, WrapsLast}
+use Rattle.flash_laws.specs.declared.script_run.Step.TheVariants.{TrimsLast, Unwraps, Returns, Lapses, Fails}
 use Rattle.flash_laws.specs.declared.script_run.Running.{Running}
 use Rattle.flash_laws.specs.declared.script_run.Running.TheVariants.{Awaits, Runs, Leaves}
 
@@ -102,7 +105,8 @@ breaks_off x = false
 -- the peer is gone, or the server may not read the output
 abbrev pub IsCutOff : State → (c : ℕ) → Running → Type 0
 IsCutOff m c (Runs run step) = (is_gone (conn_at m c).peer ≡ true)
-    ⊎ ((p : ℕ) × (q : ℕ) × (descriptor m server run.from ≡ Some (on.ReadEnd p)) × IsHidden m server q (pipe_at m p).queue)
+    ⊎ ((p : ℕ) × (q : ℕ) × (descriptor m server run.from ≡ Some (on.ReadEnd p))
+    × IsHidden m server q (pipe_at m p).queue)
 IsCutOff m c x = is_gone (conn_at m c).peer ≡ true
 
 -- whether the script is given up before it runs
@@ -171,11 +175,13 @@ pub record RunOffersTheResponse (job : ℕ → List ℕ) : Type 0 where
   -- the beginning of a run
   pub starts : (m : State) (w : Wanted) → HasRun job m w nothing_yet Awaits
   -- after the reply to its call the machine has what is needed next; the worker that it gets is one with a job pipe
-  pub replied : (m n : State) (fd c worker : ℕ) (w : Wanted) (x : Running) (r : Reply) (received : List ℕ) (before : Progress)
+  pub replied : (m n : State) (fd c worker : ℕ) (w : Wanted) (x : Running) (r : Reply) (received : List ℕ)
+      (before : Progress)
       → IsOrderly m → descriptor m server fd ≡ Some (on.Connection c) → (x ≡ Awaits → HasJobPipe m worker)
       → is_over x ≡ false → HasRun job m w before x
       → StepsTo m (event.Call server (wants job fd w x)) r n → Names n r received
-      → (after : Progress) × Learns m x r received before after × HasRun job n w after (after_reply worker w x r received)
+      → (after : Progress) × Learns m x r received before after
+      × HasRun job n w after (after_reply worker w x r received)
   -- the same for any other event that neither consumes nor moves what the run uses
   pub stays : (m n : State) (w : Wanted) (x : Running) (e : Event) (r : Reply) (o : Progress) → StepsTo m e r n
       → ((a : ℕ) → uses_agg x a ≡ true → gives_up e server a ≡ false)
@@ -189,11 +195,13 @@ pub record RunOffersTheResponse (job : ℕ → List ℕ) : Type 0 where
   pub silent : (m : State) (fd a : ℕ) (w : Wanted) (x : Running) → HasRun job m w Broken x
       → wants job fd w x ≡ call.IolWrite fd a → ⊥
   -- the bytes that the connection took count as taken, while the response is not aborted
-  pub takes : (m n : State) (fd c worker : ℕ) (w : Wanted) (x : Running) (r : Reply) (received : List ℕ) (before after : Progress)
+  pub takes : (m n : State) (fd c worker : ℕ) (w : Wanted) (x : Running) (r : Reply) (received : List ℕ)
+      (before after : Progress)
       → IsOrderly m → descriptor m server fd ≡ Some (on.Connection c) → is_over x ≡ false → HasRun job m w before x
       → StepsTo m (event.Call server (wants job fd w x)) r n → Learns m x r received before after
       → breaks_off x ≡ false → breaks_off (after_reply worker w x r received) ≡ false
-      → past_of after + taken_by (after_reply worker w x r received) ≡ past_of before + taken_by x + newly_taken fd (wants job fd w x) r
+      → past_of after + taken_by (after_reply worker w x r received) ≡ past_of before + taken_by x + newly_taken fd
+      (wants job fd w x) r
   -- it is aborted only if the peer is gone, or the server may not read the output
   pub breaks : (m n : State) (fd c worker : ℕ) (w : Wanted) (x : Running) (r : Reply) (received : List ℕ) (o : Progress)
       → descriptor m server fd ≡ Some (on.Connection c) → is_over x ≡ false → HasRun job m w o x
@@ -222,7 +230,8 @@ pub record RunOffersTheResponse (job : ℕ → List ℕ) : Type 0 where
       (frame : Option ℕ) (r : Reply)
       → IsOrderly m → HasRun job m w o (Runs run (Receives held frame))
       → StepsTo m (event.Call server (wants job fd w (Runs run (Receives held frame)))) r n
-      → (p : ℕ) × (descriptor m server run.from ≡ Some (on.ReadEnd p)) × ReadsPipe m server p (CHUNK_BYTES - held_size held) r n
+      → (p : ℕ) × (descriptor m server run.from ≡ Some (on.ReadEnd p))
+      × ReadsPipe m server p (CHUNK_BYTES - held_size held) r n
   -- it reads until the end of the output, or until it may not read, also after the response is aborted
   pub reads_on : (worker : ℕ) (w : Wanted) (x : Running) (r : Reply) (received : List ℕ) → is_stopping x ≡ false
       → is_stopping (after_reply worker w x r received) ≡ true → StopsBy x r received

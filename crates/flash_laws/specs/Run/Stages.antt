@@ -55,18 +55,22 @@ module _ (worker_set : WorkerSet) where
     pub writes : descriptor m process_slot.by fd ≡ Some (on.WriteEnd ready.has.pipe)
 
   -- it has the job, and its further output is the rest
-  pub record IsPuttingOut (m : State) (process_slot : ProcessSlot worker_set.Worker) (run : Run) (made : Made) (o : Progress) : Type 0 where
+  pub record IsPuttingOut (m : State) (process_slot : ProcessSlot worker_set.Worker) (run : Run) (made : Made)
+      (o : Progress) : Type 0 where
     pub has : HasPipeOf m run
     pub more : List ℕ
-    pub puts_out : puts.PutsOut worker_set.turns worker_set.pools worker_set.Free worker_set.Expected m (worker_set.job_queue run.worker) has.pipe process_slot made more
+    pub puts_out : puts.PutsOut worker_set.turns worker_set.pools worker_set.Free worker_set.Expected m
+        (worker_set.job_queue run.worker) has.pipe process_slot made more
     pub to_come : IsToCome o (text_of made) more
 
   -- it is free again, and all was read
-  pub record HasPutOut (m : State) (process_slot : ProcessSlot worker_set.Worker) (run : Run) (made : Made) (o : Progress) : Type 0 where
+  pub record HasPutOut (m : State) (process_slot : ProcessSlot worker_set.Worker) (run : Run) (made : Made)
+      (o : Progress) : Type 0 where
     pub free : worker_set.Free m (worker_set.job_queue run.worker) process_slot
     pub whole : IsReceivedWhole o (text_of made)
 
-  abbrev pub OutputFrom : (stops : Bool) → State → ProcessSlot worker_set.Worker → Run → (made : Made) → Progress → Type 0
+  abbrev pub OutputFrom : (stops : Bool) → State → ProcessSlot worker_set.Worker → Run → (made : Made) → Progress
+      → Type 0
   OutputFrom true m process_slot run made o = HasPutOut m process_slot run made o
   OutputFrom false m process_slot run made o = IsPuttingOut m process_slot run made o
 
@@ -75,20 +79,23 @@ module _ (worker_set : WorkerSet) where
   abbrev pub Stage : State → ProcessSlot worker_set.Worker → Run → (made : Made) → Progress → Step → Type 0
   Stage m process_slot run made o (Gives write) = IsReadyFor m process_slot run
   Stage m process_slot run made o (Makes f) = IsGiven m process_slot run f
-  Stage m process_slot run made o (Hands j f) = IsGiven m process_slot run f × (lie_in worker_set.jobs (text m server j) ≡ true)
+  Stage m process_slot run made o (Hands j f) =
+      IsGiven m process_slot run f × (lie_in worker_set.jobs (text m server j) ≡ true)
   Stage m process_slot run made o (Returns write) = ⊥
   Stage m process_slot run made o (Lapses j) = ⊥
   Stage m process_slot run made o Fails = ⊥
   Stage m process_slot run made o step = OutputFrom (is_stopping (Runs run step)) m process_slot run made o
 
   -- the worker of a run, and what it has of it
-  pub record AtJobQueue (m : State) (process_slots : List (ProcessSlot worker_set.Worker)) (run : Run) (made : Made) (o : Progress)
+  pub record AtJobQueue (m : State) (process_slots : List (ProcessSlot worker_set.Worker)) (run : Run) (made : Made)
+      (o : Progress)
       (step : Step) : Type 0 where
     pub process_slot : ProcessSlot worker_set.Worker
     pub sits : slice_get process_slots run.worker ≡ Some process_slot
     pub stage : Stage m process_slot run made o step
 
   -- the same for a run, if it has a worker
-  abbrev pub HasWorkerAt : State → (process_slots : List (ProcessSlot worker_set.Worker)) → (made : Made) → Progress → Running → Type 0
+  abbrev pub HasWorkerAt : State → (process_slots : List (ProcessSlot worker_set.Worker)) → (made : Made) → Progress
+      → Running → Type 0
   HasWorkerAt m process_slots made o (Runs run step) = AtJobQueue m process_slots run made o step
   HasWorkerAt m process_slots made o y = Unit {0}

@@ -32,7 +32,8 @@ pub record TurnsGoRound : Type 0 where
   pub rises : (workers : ℕ) (clients : List (Option Client)) (fd gd : ℕ) (last : Reply)
       → in_rounds workers clients (At fd) last (At gd) → fd ≤ gd
   -- and no client between them that may take a turn is skipped
-  pub skips_nobody : (workers : ℕ) (clients : List (Option Client)) (was next : PendingCall) (last : Reply) (fd : ℕ) (x : Client)
+  pub skips_nobody : (workers : ℕ) (clients : List (Option Client)) (was next : PendingCall) (last : Reply) (fd : ℕ)
+      (x : Client)
       → in_rounds workers clients was last next → IsAfter was fd → IsBefore next fd → in_place clients fd ≡ Some x
       → may_go (has_free workers clients) x ≡ false
   -- after an accept the server yields, or accepts again if this one returned a connection

@@ -4,7 +4,8 @@
 -- until its call is to be retried later, its response is taken whole and more input is buffered, it only reads more
 -- input, or it has to wait for a worker. A client that waits for a worker is passed over while none is free; a worker
 -- that becomes free is assigned to the next waiting client by index.
-use Rattle.std.specs.Prelude.{◌≡◌, ℕ, ◌+◌, ◌||◌, Bool, true, false, if◌then◌else◌, List, drop, position, Option, Some, None, option_map}
+use Rattle.std.specs.Prelude.{◌≡◌, ℕ, ◌+◌, ◌||◌, Bool, true, false, if◌then◌else◌, List, drop, position, Option, Some}
+use Rattle.std.specs.Prelude.{None, option_map}
 use Rattle.iol_core.specs.NumberedLists.{in_place}
 use Rattle.iol_core.specs.declared.events.Reply.{Reply}
 use Rattle.flash_laws.specs.Client.{Client, is_bare, awaits, has_answered}

@@ -37,7 +37,8 @@ WantsPlace clients r = ⊥
 
 -- after a reply is processed, the turn of the client at an index passes on, and the next is picked
 abbrev pub WantsPast : (workers : ℕ) → (filed : List (Option Client)) → (fd : ℕ) → Reply → Type 0
-WantsPast workers filed fd r = (leaves_off (in_place filed fd) r ≡ true) × WantsFrom (has_free workers filed) filed (fd + 1)
+WantsPast workers filed fd r = (leaves_off (in_place filed fd) r ≡ true)
+    × WantsFrom (has_free workers filed) filed (fd + 1)
 
 -- after the reply to the pending call
 abbrev pub MayWant : (workers : ℕ) → List (Option Client) → PendingCall → Reply → (received : List ℕ) → Type 0

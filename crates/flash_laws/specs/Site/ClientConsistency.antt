@@ -46,19 +46,25 @@ abbrev pub AreOwned : State → Past → List (Option Client) → Type 0
 AreOwned m p clients = (a : ℕ) → IsReadable m a → IsUsed clients a ⊎ (p.given a ≡ true)
 
 -- each worker is in its own domain, and the server writes its jobs to its job pipe
-pub record AreAtJobQueues (worker_set : WorkerSet) (m : State) (process_slots : List (ProcessSlot worker_set.Worker)) : Type 0 where
-  pub in_slots : (k : ℕ) → k < worker_set.count → (process_slot : ProcessSlot worker_set.Worker) × (slice_get process_slots k ≡ Some process_slot)
-  pub by : (k : ℕ) (process_slot : ProcessSlot worker_set.Worker) → slice_get process_slots k ≡ Some process_slot → (k < worker_set.count) × (process_slot.by ≡ worker_domain k)
-  pub job_queues : (k : ℕ) → k < worker_set.count → descriptor m server (job_pipe k) ≡ Some (on.WriteEnd (worker_set.job_queue k))
+pub record AreAtJobQueues (worker_set : WorkerSet) (m : State) (process_slots : List (ProcessSlot worker_set.Worker)) :
+    Type 0 where
+  pub in_slots : (k : ℕ) → k < worker_set.count → (process_slot : ProcessSlot worker_set.Worker)
+      × (slice_get process_slots k ≡ Some process_slot)
+  pub by : (k : ℕ) (process_slot : ProcessSlot worker_set.Worker) → slice_get process_slots k ≡ Some process_slot
+      → (k < worker_set.count) × (process_slot.by ≡ worker_domain k)
+  pub job_queues : (k : ℕ) → k < worker_set.count
+      → descriptor m server (job_pipe k) ≡ Some (on.WriteEnd (worker_set.job_queue k))
 
 module _ (site_contents : SiteContents) (worker_set : WorkerSet) where
   -- the invariant of the client at a descriptor
-  pub record FitsAt (m : State) (p : Past) (fd : ℕ) (x : Client) (process_slots : List (ProcessSlot worker_set.Worker)) : Type 0 where
+  pub record FitsAt (m : State) (p : Past) (fd : ℕ) (x : Client)
+      (process_slots : List (ProcessSlot worker_set.Worker)) : Type 0 where
     pub conn : ℕ
     pub fits : Fits site_contents worker_set m (p.came conn) (p.sent conn) fd conn x process_slots
 
   -- all clients of the server, all other connections, and all workers
-  pub record AllFit (m : State) (p : Past) (clients : List (Option Client)) (process_slots : List (ProcessSlot worker_set.Worker)) : Type 0 where
+  pub record AllFit (m : State) (p : Past) (clients : List (Option Client))
+      (process_slots : List (ProcessSlot worker_set.Worker)) : Type 0 where
     pub each : (fd : ℕ) (x : Client) → in_place clients fd ≡ Some x → FitsAt m p fd x process_slots
     pub others : (c : ℕ) → Held m clients c ⊎ Aside site_contents p c (conn_at m c)
     -- two clients share nothing
@@ -73,10 +79,12 @@ module _ (site_contents : SiteContents) (worker_set : WorkerSet) where
     pub unreported : (c : ℕ) → m.next_conn ≤ c → p.gone c ≡ false
     -- no worker runs two scripts, and each other worker is free
     pub own : EachHasItsOwn worker_set.count clients
-    pub free : (k : ℕ) (process_slot : ProcessSlot worker_set.Worker) → slice_get process_slots k ≡ Some process_slot → is_free clients k ≡ true
+    pub free : (k : ℕ) (process_slot : ProcessSlot worker_set.Worker) → slice_get process_slots k ≡ Some process_slot
+        → is_free clients k ≡ true
         → worker_set.Free m (worker_set.job_queue k) process_slot
     pub job_queues : AreAtJobQueues worker_set m process_slots
 
   -- The claim: on each connection of the net, the bytes sent and those queued begin the answer to its input.
   abbrev pub AreAnswered : State → Past → Type 0
-  AreAnswered m p = (c : ℕ) → p.net c ≡ true → Begins site_contents (p.came c) (p.sent c ++ bytes_of (conn_at m c).outgoing)
+  AreAnswered m p = (c : ℕ) → p.net c ≡ true
+      → Begins site_contents (p.came c) (p.sent c ++ bytes_of (conn_at m c).outgoing)

@@ -1,6 +1,7 @@
 -- A slot for each descriptor of the server, and the connections that it does not have: those that wait for it, and
 -- those of others.
-use Rattle.std.specs.Prelude.{◌≡◌, ℕ, ◌+◌, ◌-◌, true, false, List, [], ◌++◌, length, replicate, slice_set, Option, Some, None}
+use Rattle.std.specs.Prelude.{◌≡◌, ℕ, ◌+◌, ◌-◌, true, false, List, [], ◌++◌, length, replicate, slice_set, Option, Some}
+use Rattle.std.specs.Prelude.{None}
 use Rattle.iol_core.specs.Text.{bytes_of}
 use Rattle.iol_core.specs.State.{Connection}
 use Rattle.flash_laws.specs.Conn.{Conn}

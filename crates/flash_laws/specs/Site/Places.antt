@@ -60,7 +60,8 @@ pub record EachHasItsOwn (workers : ℕ) (clients : List (Option Client)) : Type
 abbrev pub runs_scripts : (workers : ℕ) → Bool
 runs_scripts workers = nat_lt 0 workers
 
-abbrev pub after_reply_at : (workers : ℕ) → List (Option Client) → (fd : ℕ) → Option Client → Reply → (received : List ℕ)
+abbrev pub after_reply_at : (workers : ℕ) → List (Option Client) → (fd : ℕ) → Option Client → Reply
+    → (received : List ℕ)
     → List (Option Client)
 after_reply_at workers clients fd None r received = clients
 after_reply_at workers clients fd (Some x) r received =
@@ -71,7 +72,8 @@ accepted clients (reply.Fd fd) = with_at clients fd (Some new_client)
 accepted clients r = clients
 
 -- the clients after the reply to the pending call is processed
-abbrev pub filed : (workers : ℕ) → List (Option Client) → PendingCall → Reply → (received : List ℕ) → List (Option Client)
+abbrev pub filed : (workers : ℕ) → List (Option Client) → PendingCall → Reply → (received : List ℕ)
+    → List (Option Client)
 filed workers clients Nothing r received = clients
 filed workers clients Accepting r received = accepted clients r
 filed workers clients (At fd) r received = after_reply_at workers clients fd (in_place clients fd) r received

@@ -44,7 +44,8 @@ expected_of_script seen w (Failed status) = response (serve w) (Failed status)
 
 abbrev pub expected_if : (script : Bool) → SiteContents → Seen → Answer → List ℕ
 expected_if true site_contents seen (serve w) = expected_of_script seen w (site_contents w.name)
-expected_if true site_contents seen (refuse status head_only close) = expected_to site_contents (refuse status head_only close)
+expected_if true site_contents seen (refuse status head_only close) =
+    expected_to site_contents (refuse status head_only close)
 expected_if false site_contents seen q = expected_to site_contents q
 
 -- The response that is expected, for a server that runs scripts or not.
@@ -54,18 +55,26 @@ expected scripts site_contents seen q = expected_if (is_for_script scripts q) si
 -- It is a possible response at each time, given the results of the calls for the request so far.
 pub record ExpectedMayCome : Type 0 where
   -- for a request of no script it is the only response
-  pub file : (scripts : Bool) (site_contents : SiteContents) (seen : Seen) (q : Answer) → is_for_script scripts q ≡ false
+  pub file : (scripts : Bool) (site_contents : SiteContents) (seen : Seen) (q : Answer)
+      → is_for_script scripts q ≡ false
       → expected scripts site_contents seen q ≡ expected_to site_contents q
   -- for a request of a script, once that was read, or could not be
-  pub read : (scripts : Bool) (site_contents : SiteContents) (seen : Seen) (w : Wanted) (text : List ℕ) → is_for_script scripts (serve w) ≡ true
-      → site_contents w.name ≡ Found text → MayAnswer (serve w) (of_text text) (expected scripts site_contents seen (serve w))
-  pub unread : (scripts : Bool) (site_contents : SiteContents) (seen : Seen) (w : Wanted) (status : ℕ) → is_for_script scripts (serve w) ≡ true
-      → site_contents w.name ≡ Failed status → MayAnswer (serve w) (OfFile (Failed status)) (expected scripts site_contents seen (serve w))
+  pub read : (scripts : Bool) (site_contents : SiteContents) (seen : Seen) (w : Wanted) (text : List ℕ)
+      → is_for_script scripts (serve w) ≡ true
+      → site_contents w.name ≡ Found text
+      → MayAnswer (serve w) (of_text text) (expected scripts site_contents seen (serve w))
+  pub unread : (scripts : Bool) (site_contents : SiteContents) (seen : Seen) (w : Wanted) (status : ℕ)
+      → is_for_script scripts (serve w) ≡ true
+      → site_contents w.name ≡ Failed status
+      → MayAnswer (serve w) (OfFile (Failed status)) (expected scripts site_contents seen (serve w))
   -- while its output is read: the output so far begins it, and at its end is all of it
-  pub received : (scripts : Bool) (site_contents : SiteContents) (seen : Seen) (w : Wanted) (text received past more : List ℕ) (lines : List Line)
-      (ended : Bool) → is_for_script scripts (serve w) ≡ true → site_contents w.name ≡ Found text → script_of text ≡ Some lines
+  pub received : (scripts : Bool) (site_contents : SiteContents) (seen : Seen) (w : Wanted)
+      (text received past more : List ℕ) (lines : List Line)
+      (ended : Bool) → is_for_script scripts (serve w) ≡ true → site_contents w.name ≡ Found text
+      → script_of text ≡ Some lines
       → w.head_only ≡ false → output w.query lines (outcomes_by seen lines) ≡ received ++ more → Follows ended more
       → MayAnswer (serve w) (OfScript text (Ran received ended past)) (expected scripts site_contents seen (serve w))
   -- the output of a worker by the files as it sees them
-  pub outcomes : (m : State) (d : ℕ) (seen : Seen) (lines : List Line) → ((name : List ℕ) → outcome_in m d name ≡ seen name)
+  pub outcomes : (m : State) (d : ℕ) (seen : Seen) (lines : List Line)
+      → ((name : List ℕ) → outcome_in m d name ≡ seen name)
       → outcomes_in m d lines ≡ outcomes_by seen lines

@@ -6,14 +6,18 @@ use Rattle.flash_laws.specs.SiteContents.{SiteContents, expected_to, MayBeExpect
 
 -- nothing is refused
 abbrev pub RefusesNothing : SiteContents → Type 0
-RefusesNothing site_contents = (x : Refusal) → (site_contents.refuses.of_server x ≡ false) × (site_contents.refuses.of_workers x ≡ false)
+RefusesNothing site_contents = (x : Refusal) → (site_contents.refuses.of_server x ≡ false)
+    × (site_contents.refuses.of_workers x ≡ false)
 
 pub record StreamsHaveOneAnswer : Type 0 where
   -- The response by the current files is possible, whatever is refused.
-  pub expected : (site_contents : SiteContents) (q : Answer) → MayBeExpected site_contents q (expected_to site_contents q)
+  pub expected : (site_contents : SiteContents) (q : Answer)
+      → MayBeExpected site_contents q (expected_to site_contents q)
   -- If nothing is refused, it is the only one.
   pub one : (site_contents : SiteContents) (q : Answer) (r : List ℕ) → RefusesNothing site_contents → MayBeExpected site_contents q r → r ≡ expected_to site_contents q
   -- Then bytes that begin an answer to a stream begin each answer to it, and a stream has one answer.
-  pub begins : (site_contents : SiteContents) (s bytes all : List ℕ) → RefusesNothing site_contents → Begins site_contents s bytes → IsAnswer site_contents s all
+  pub begins : (site_contents : SiteContents) (s bytes all : List ℕ) → RefusesNothing site_contents
+      → Begins site_contents s bytes → IsAnswer site_contents s all
       → (more : List ℕ) × (all ≡ bytes ++ more)
-  pub same : (site_contents : SiteContents) (s a b : List ℕ) → RefusesNothing site_contents → IsAnswer site_contents s a → IsAnswer site_contents s b → a ≡ b
+  pub same : (site_contents : SiteContents) (s a b : List ℕ) → RefusesNothing site_contents → IsAnswer site_contents s a
+      → IsAnswer site_contents s b → a ≡ b

@@ -11,7 +11,8 @@ use Rattle.flash_laws.specs.declared.phase.PendingCall.TheVariants.{At}
 
 -- the client of the pending call does not wait for a worker, or one is free
 abbrev pub PendingCallGoes : (workers : ℕ) → List (Option Client) → PendingCall → Type 0
-PendingCallGoes workers clients (At fd) = (x : Client) → in_place clients fd ≡ Some x → may_go (has_free workers clients) x ≡ true
+PendingCallGoes workers clients (At fd) = (x : Client) → in_place clients fd ≡ Some x
+    → may_go (has_free workers clients) x ≡ true
 PendingCallGoes workers clients w = Unit {0}
 
 pub record IsShared (s : Server) : Type 0 where
@@ -30,7 +31,8 @@ pub record WorkersAreShared : Type 0 where
   -- this holds for a new server, with any number of workers
   pub first : (workers : ℕ) → IsShared (record new_server { workers = workers })
   -- processing a reply preserves it
-  pub filing : (workers : ℕ) (clients : List (Option Client)) (pending_call : PendingCall) (r : Reply) (received : List ℕ)
+  pub filing : (workers : ℕ) (clients : List (Option Client)) (pending_call : PendingCall) (r : Reply)
+      (received : List ℕ)
       → EachHasItsOwn workers clients → PendingCallGoes workers clients pending_call
       → EachHasItsOwn workers (filed workers clients pending_call r received)
   -- the same for a turn, for every choice
@@ -45,5 +47,6 @@ pub record WorkersAreShared : Type 0 where
   -- a waiting client has no aggregate, descriptor or pipe end
   pub waiting : (x : Client) → awaits x ≡ true → ((a : ℕ) → uses_agg x a ≡ false) × ((g : ℕ) → uses_fd x g ≡ false)
   -- for a server without workers no script runs
-  pub none : (s t : Server) (last : Reply) (readable : ℕ → Option (List ℕ)) (made : Turn) → s.workers ≡ 0 → NoneRuns s.clients
+  pub none : (s t : Server) (last : Reply) (readable : ℕ → Option (List ℕ)) (made : Turn) → s.workers ≡ 0
+      → NoneRuns s.clients
       → server_turns any s last readable made t → NoneRuns t.clients

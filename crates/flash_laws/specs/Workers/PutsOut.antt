@@ -24,7 +24,8 @@ use Rattle.flash_cgi.specs.Outcomes.{AreFiles}
 use Rattle.flash_cgi.specs.OutputPools.{HoldFiles}
 
 -- Free and Expected are those of `WorkersRun`.
-module _ {W : Type 0} (works : TransitionRelation W) (pools : ℕ → Bool) (Free : State → (j : ℕ) → ProcessSlot W → Type 0)
+module _ {W : Type 0} (works : TransitionRelation W) (pools : ℕ → Bool) (Free : State → (j : ℕ) → ProcessSlot W
+    → Type 0)
     (Expected : State → (j p : ℕ) → ProcessSlot W → Made → (text : List ℕ) → Type 0) where
   -- all of the text is in the pipe, which has no writer any more, and its worker is free
   pub record IsAllThere (m : State) (j p : ℕ) (process_slot : ProcessSlot W) (text : List ℕ) : Type 0 where
@@ -38,13 +39,15 @@ module _ {W : Type 0} (works : TransitionRelation W) (pools : ℕ → Bool) (Fre
   PutsOut m j p process_slot made text = Expected m j p process_slot made text ⊎ IsAllThere m j p process_slot text
 
   -- these bytes were its front
-  pub record HasRead (n : State) (j p : ℕ) (process_slot : ProcessSlot W) (made : Made) (text bytes : List ℕ) : Type 0 where
+  pub record HasRead (n : State) (j p : ℕ) (process_slot : ProcessSlot W) (made : Made) (text bytes : List ℕ) :
+      Type 0 where
     pub rest : List ℕ
     pub splits : text ≡ bytes ++ rest
     pub puts_out : PutsOut n j p process_slot made rest
 
   -- after a turn with this reply it is the same, or its replacement
-  pub record PutsOutStill (n : State) (j p : ℕ) (next : ProcessSlot W) (made : Made) (text : List ℕ) (r : Reply) : Type 0 where
+  pub record PutsOutStill (n : State) (j p : ℕ) (next : ProcessSlot W) (made : Made) (text : List ℕ) (r : Reply) :
+      Type 0 where
     pub after : Made
     pub later : List ℕ
     pub instead : Instead r made after text later
@@ -52,28 +55,36 @@ module _ {W : Type 0} (works : TransitionRelation W) (pools : ℕ → Bool) (Fre
 
   pub record TextsArePutOut : Type 0 where
     -- a turn of the worker preserves the text, or replaces it, while the pipe has a reader
-    pub turns : (m n : State) (j p : ℕ) (process_slot next : ProcessSlot W) (yields : Bool) (r : Reply) (made : Made) (text : List ℕ) → IsOrderly m
+    pub turns : (m n : State) (j p : ℕ) (process_slot next : ProcessSlot W) (yields : Bool) (r : Reply) (made : Made)
+        (text : List ℕ) → IsOrderly m
         → ArePlaced m → AreFiles m → HoldFiles pools m process_slot.by → PutsOut m j p process_slot made text
-        → ProcessSlotTurn copying works m process_slot yields r n next → (pipe_at m p).reading ≡ true → (pipe_at n p).reading ≡ true
+        → ProcessSlotTurn copying works m process_slot yields r n next → (pipe_at m p).reading ≡ true
+        → (pipe_at n p).reading ≡ true
         → PutsOutStill n j p next made text r
     -- the same for events of others that do not change the files and both pipes
-    pub left : (m n : State) (j p : ℕ) (process_slot : ProcessSlot W) (e : Event) (r : Reply) (made : Made) (text : List ℕ) → IsOrderly m
-        → ArePlaced m → StepsTo m e r n → is_call_of e process_slot.by ≡ false → LeavesFiles m process_slot.by n → pipe_at n j ≡ pipe_at m j
+    pub left : (m n : State) (j p : ℕ) (process_slot : ProcessSlot W) (e : Event) (r : Reply) (made : Made)
+        (text : List ℕ) → IsOrderly m
+        → ArePlaced m → StepsTo m e r n → is_call_of e process_slot.by ≡ false → LeavesFiles m process_slot.by n
+        → pipe_at n j ≡ pipe_at m j
         → pipe_at n p ≡ pipe_at m p → PutsOut m j p process_slot made text → PutsOut n j p process_slot made text
     -- a read of the pipe gives its front
-    pub reads : (m n : State) (j p by fd count a : ℕ) (process_slot : ProcessSlot W) (made : Made) (text bytes : List ℕ) → IsOrderly m → ArePlaced m
+    pub reads : (m n : State) (j p by fd count a : ℕ) (process_slot : ProcessSlot W) (made : Made) (text bytes : List ℕ)
+        → IsOrderly m → ArePlaced m
         → StepsTo m (event.Call by (call.IolRead fd count)) (reply.Agg a) n
         → is_call_of (event.Call by (call.IolRead fd count)) process_slot.by ≡ false
         → descriptor m by fd ≡ Some (on.ReadEnd p) → LeavesFiles m process_slot.by n → pipe_at n j ≡ pipe_at m j
-        → readable_at n by a ≡ Some bytes → PutsOut m j p process_slot made text → HasRead n j p process_slot made text bytes
+        → readable_at n by a ≡ Some bytes → PutsOut m j p process_slot made text
+        → HasRead n j p process_slot made text bytes
     -- a read of no bytes means the end: nothing more is expected, and the worker is free
-    pub ends : (m n : State) (j p by fd count a : ℕ) (process_slot : ProcessSlot W) (made : Made) (text : List ℕ) → IsOrderly m → ArePlaced m
+    pub ends : (m n : State) (j p by fd count a : ℕ) (process_slot : ProcessSlot W) (made : Made) (text : List ℕ)
+        → IsOrderly m → ArePlaced m
         → 0 < count
         → StepsTo m (event.Call by (call.IolRead fd count)) (reply.Agg a) n
         → is_call_of (event.Call by (call.IolRead fd count)) process_slot.by ≡ false
         → descriptor m by fd ≡ Some (on.ReadEnd p) → LeavesFiles m process_slot.by n → pipe_at n j ≡ pipe_at m j
         → readable_at n by a ≡ Some [] → PutsOut m j p process_slot made text → (text ≡ []) × Free n j process_slot
     -- and a domain that may read these pools is never denied a read
-    pub undenied : (m n : State) (j p by fd count q : ℕ) (process_slot : ProcessSlot W) (made : Made) (text : List ℕ) → MayReadAll m by pools
+    pub undenied : (m n : State) (j p by fd count q : ℕ) (process_slot : ProcessSlot W) (made : Made) (text : List ℕ)
+        → MayReadAll m by pools
         → descriptor m by fd ≡ Some (on.ReadEnd p) → PutsOut m j p process_slot made text
         → StepsTo m (event.Call by (call.IolRead fd count)) (reply.Refused (Denied q)) n → ⊥

@@ -44,7 +44,8 @@ pub record IsFixedFor (site_contents : SiteContents) (worker_set : WorkerSet) (m
   pub low : AreLow m
   pub files : AreFiles m
   pub holds : (k : ℕ) → k < worker_set.count → HoldFiles worker_set.pools m (worker_domain k)
-  pub shows : (k : ℕ) → k < worker_set.count → (name : List ℕ) → outcome_in m (worker_domain k) name ≡ site_contents.shows name
+  pub shows : (k : ℕ) → k < worker_set.count → (name : List ℕ)
+      → outcome_in m (worker_domain k) name ≡ site_contents.shows name
   pub wide : MayReadAll m server worker_set.pools
   pub read_jobs : (k : ℕ) → k < worker_set.count → MayReadAll m (worker_domain k) worker_set.jobs
   pub default : worker_set.jobs (default_pool m server) ≡ true

@@ -8,7 +8,8 @@ use Rattle.flash_cgi.specs.Expected.{Made}
 use Rattle.flash_laws.specs.Workers.WorkerSet.{WorkerSet}
 use Rattle.flash_laws.specs.World.{JobQueuesAreApart}
 
-module _ {W : Type 0} (turns : TransitionRelation W) (quiescent : Claim W) (free : (pools : ℕ → Bool) → State → (j : ℕ) → ProcessSlot W → Type 0)
+module _ {W : Type 0} (turns : TransitionRelation W) (quiescent : Claim W) (free : (pools : ℕ → Bool) → State → (j : ℕ)
+    → ProcessSlot W → Type 0)
     (expected : (pools : ℕ → Bool) → State → (j p : ℕ) → ProcessSlot W → Made → (text : List ℕ) → Type 0) where
   -- count workers with these job pipes, with their output in these pools, and their jobs in those
   abbrev pub worker_set_with : (count : ℕ) → (job_queue : ℕ → ℕ) → (pools jobs : ℕ → Bool) → WorkerSet
@@ -26,7 +27,8 @@ module _ {W : Type 0} (turns : TransitionRelation W) (quiescent : Claim W) (free
 
   -- a statement about each set of workers with distinct job pipes
   abbrev pub OfEach : (claim : WorkerSet → Type 0) → Type 0
-  OfEach claim = (count : ℕ) (job_queue : ℕ → ℕ) (pools jobs : ℕ → Bool) → JobQueuesAreApart (worker_set_with count job_queue pools jobs)
+  OfEach claim = (count : ℕ) (job_queue : ℕ → ℕ) (pools jobs : ℕ → Bool)
+      → JobQueuesAreApart (worker_set_with count job_queue pools jobs)
       → claim (worker_set_with count job_queue pools jobs)
 
   -- the existence of such a set of workers

@@ -56,7 +56,8 @@ abbrev pub server_account : Policy → TransitionRelation Server
 server_account may = record { goes = server_turns may; may_want = server_wants }
 
 -- when a process may need memory
-abbrev pub actor_wants : {W : Type 0} → TransitionRelation W → Actor W → Reply → (readable : ℕ → Option (List ℕ)) → Type 0
+abbrev pub actor_wants : {W : Type 0} → TransitionRelation W → Actor W → Reply → (readable : ℕ → Option (List ℕ))
+    → Type 0
 actor_wants works (Serving s) last readable = server_wants s last readable
 actor_wants works (Working w) last readable = works.may_want w last readable
 

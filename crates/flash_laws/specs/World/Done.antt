@@ -37,7 +37,8 @@ AsksForScript site_contents m p c part = (p.gone c ≡ true)
     ⊎ AnswersScript site_contents (p.came c) (p.sent c ++ bytes_of (conn_at m c).outgoing) part
 
 -- this worker runs the script that was requested on a connection with a full output queue
-pub record RunsForHeldUp (site_contents : SiteContents) (m : State) (p : Past) (clients : List (Option Client)) (k : ℕ) : Type 0 where
+pub record RunsForHeldUp (site_contents : SiteContents) (m : State) (p : Past) (clients : List (Option Client))
+    (k : ℕ) : Type 0 where
   pub place : ℕ
   pub client : Client
   pub there : in_place clients place ≡ Some client
@@ -50,7 +51,8 @@ pub record RunsForHeldUp (site_contents : SiteContents) (m : State) (p : Past) (
 
 -- The client of this connection requested a script, and none of the response is made yet: it waits for a worker, while
 -- each runs the script of a client with a full output queue.
-pub record AwaitsWorker (site_contents : SiteContents) (workers : ℕ) (m : State) (p : Past) (clients : List (Option Client))
+pub record AwaitsWorker (site_contents : SiteContents) (workers : ℕ) (m : State) (p : Past)
+    (clients : List (Option Client))
     (c : ℕ) : Type 0 where
   pub place : ℕ
   pub client : Client
@@ -61,7 +63,8 @@ pub record AwaitsWorker (site_contents : SiteContents) (workers : ℕ) (m : Stat
   pub some : 0 < workers
   pub busy : (k : ℕ) → k < workers → RunsForHeldUp site_contents m p clients k
 
-pub record IsDone (site_contents : SiteContents) (workers : ℕ) (m : State) (p : Past) (clients : List (Option Client)) : Type 0 where
+pub record IsDone (site_contents : SiteContents) (workers : ℕ) (m : State) (p : Past) (clients : List (Option Client)) :
+    Type 0 where
   -- each connection of the net is accepted, unless the server has the maximum number open
   pub accepted : (c : ℕ) → p.net c ≡ true → ((conn_at m c).accepted ≡ true) ⊎ IsFull m clients
   -- each accepted connection whose peer did not leave, closed or not, has its whole answer, or its output queue is
@@ -82,6 +85,8 @@ pub record IsDone (site_contents : SiteContents) (workers : ℕ) (m : State) (p 
 -- When all are idle in a world with the invariant, nothing is left to do.
 abbrev pub IdleIsDone : WorkerSet → Type 0
 IdleIsDone worker_set = ActorsAreQuiescent worker_set.turns worker_set.quiescent
-    → (site_contents : SiteContents) (xs : List Choice) (rs : List Reply) (w after : Stage State (Actor worker_set.Worker)) (most : ℕ)
-    → Idles copying (actor_turns in_rounds worker_set.turns) w most true after → (consistent : Consistent site_contents worker_set xs rs after)
+    → (site_contents : SiteContents) (xs : List Choice) (rs : List Reply)
+    (w after : Stage State (Actor worker_set.Worker)) (most : ℕ)
+    → Idles copying (actor_turns in_rounds worker_set.turns) w most true after
+    → (consistent : Consistent site_contents worker_set xs rs after)
     → IsDone site_contents worker_set.count after.machine (past_of xs rs) consistent.in_slots.state.clients

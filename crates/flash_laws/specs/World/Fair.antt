@@ -20,7 +20,11 @@ no_refusal = record { of_server = λ x. false; of_workers = λ x. false }
 
 -- TooMany, NoRoom, Fault and Memory
 abbrev pub any_refusal : Refusals
-any_refusal = record { of_server = λ x. is_resource_failure (reply.Refused x); of_workers = λ x. is_resource_failure (reply.Refused x) }
+any_refusal = record {
+  of_server = λ x. is_resource_failure (reply.Refused x);
+  of_workers =
+      λ x. is_resource_failure (reply.Refused x);
+}
 
 -- whether both are the same of TooMany, NoRoom of a pool, Fault of a file and Memory
 abbrev pub is_same : Refusal → Refusal → Bool
@@ -66,7 +70,8 @@ OwnIsFair = (xs ys : List Choice) (rs ss : List Reply) → length xs ≡ length 
 
 -- The refusals that their turns got are in each set with which they are fair.
 abbrev pub OwnIsLeast : Type 0
-OwnIsLeast = (refuses : Refusals) (xs : List Choice) (rs : List Reply) → AreFair refuses xs rs → IsWithin (refusals_in xs rs) refuses
+OwnIsLeast = (refuses : Refusals) (xs : List Choice) (rs : List Reply) → AreFair refuses xs rs
+    → IsWithin (refusals_in xs rs) refuses
 
 -- With no refusal allowed, nothing is refused: so each request has one response.
 abbrev pub NoneRefusesNothing : Type 0

@@ -21,7 +21,8 @@ module _ (worker_set : WorkerSet) where
     pub answered : AllAnswered site_contents xs rs after.machine
     pub whole : ClosedAreWhole site_contents xs rs after.machine
     pub consistent : Consistent site_contents worker_set xs rs after
-    pub done : idle ≡ true → IsDone site_contents worker_set.count after.machine (past_of xs rs) consistent.in_slots.state.clients
+    pub done : idle ≡ true
+        → IsDone site_contents worker_set.count after.machine (past_of xs rs) consistent.in_slots.state.clients
 
   -- A new world executes choices with site-preserving external calls, and then turns until it is idle; each turn is
   -- fair.
@@ -33,5 +34,7 @@ module _ (worker_set : WorkerSet) where
       → AreSitePreserving (actor_turns in_rounds worker_set.turns) w xs rs mid run
       → (ends : Idles copying (actor_turns in_rounds worker_set.turns) mid most idle after)
       → AreFair site_contents.refuses xs rs
-      → AreFair site_contents.refuses (rounds (domains_of mid.process_slots) 0 (length ends.went)) (map (λ t. t.1) ends.went)
-      → IsRight site_contents (xs ++ rounds (domains_of mid.process_slots) 0 (length ends.went)) (rs ++ map (λ t. t.1) ends.went) idle after
+      → AreFair site_contents.refuses (rounds (domains_of mid.process_slots) 0 (length ends.went))
+      (map (λ t. t.1) ends.went)
+      → IsRight site_contents (xs ++ rounds (domains_of mid.process_slots) 0 (length ends.went))
+      (rs ++ map (λ t. t.1) ends.went) idle after

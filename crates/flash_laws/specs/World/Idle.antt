@@ -29,7 +29,8 @@ Blocks m by workers clients place x = IsAwaiting x
 
 -- the same for the client at an index, if there is one
 abbrev pub BlocksAt : State → (by workers : ℕ) → List (Option Client) → (place : ℕ) → Type 0
-BlocksAt m by workers clients place = (x : Client) → in_place clients place ≡ Some x → Blocks m by workers clients place x
+BlocksAt m by workers clients place = (x : Client) → in_place clients place ≡ Some x
+    → Blocks m by workers clients place x
 
 -- the same for a whole round: the clients, and an accept, unless the server has the maximum number
 pub record AllBlock (m : State) (by workers : ℕ) (clients : List (Option Client)) : Type 0 where

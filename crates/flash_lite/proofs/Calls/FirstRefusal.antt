@@ -1,5 +1,6 @@
 -- The first refusal among replies.
-use Rattle.std.proofs.Common.{◌≡◌, ◌<◌, ℕ, suc, ◌+◌, List, [], ◌∷◌, ◌++◌, length, take, drop, get_or, refl, sym, ap, ◌∙◌, Some, None, drop-cons}
+use Rattle.std.proofs.Common.{◌≡◌, ◌<◌, ℕ, suc, ◌+◌, List, [], ◌∷◌, ◌++◌, length, take, drop, get_or, refl, sym, ap}
+use Rattle.std.proofs.Common.{◌∙◌, Some, None, drop-cons}
 use Rattle.std.proofs.lemmas.List.{take_more, take-append-drop}
 use Rattle.iol_core.specs.declared.events.Reply.{Reply}
 use Rattle.iol_core.specs.declared.events.Reply.TheVariants as reply
@@ -13,15 +14,18 @@ refusal-append (reply.Refused x ∷ rs) qs none = absurd (cc)
 refusal-append (r ∷ rs) qs none = refusal-append rs qs none
 
 -- the one in this place is the first
-pub refused_at : (rs : List Reply) (i : ℕ) (x : Refusal) (d : Reply) → i < length rs → first_refusal (take i rs) ≡ None → get_or rs i d ≡ reply.Refused x → first_refusal rs ≡ Some x
+pub refused_at : (rs : List Reply) (i : ℕ) (x : Refusal) (d : Reply) → i < length rs → first_refusal (take i rs) ≡ None
+    → get_or rs i d ≡ reply.Refused x → first_refusal rs ≡ Some x
 refused_at rs i x d within none is =
     ap first_refusal (sym (take-append-drop i rs))
     ∙ (refusal-append (take i rs) (drop i rs) none
     ∙ (ap first_refusal (drop-cons rs i d within) ∙ ap (λ (r : Reply). first_refusal (r ∷ drop (suc i) rs)) is))
 
 -- one more that does not refuse
-pub none_more : (rs : List Reply) (i : ℕ) (d : Reply) → i < length rs → first_refusal (take i rs) ≡ None → first_refusal (get_or rs i d ∷ []) ≡ None → first_refusal (take (i + 1) rs) ≡ None
-none_more rs i d within none one = ap first_refusal (take_more rs i d within) ∙ (refusal-append (take i rs) (get_or rs i d ∷ []) none ∙ one)
+pub none_more : (rs : List Reply) (i : ℕ) (d : Reply) → i < length rs → first_refusal (take i rs) ≡ None
+    → first_refusal (get_or rs i d ∷ []) ≡ None → first_refusal (take (i + 1) rs) ≡ None
+none_more rs i d within none one = ap first_refusal (take_more rs i d within)
+    ∙ (refusal-append (take i rs) (get_or rs i d ∷ []) none ∙ one)
 
 pub not_refused : (r q : Reply) → r ≡ q → ((x : Refusal) → r ≡ reply.Refused x → ⊥) → first_refusal (q ∷ []) ≡ None
 not_refused r q same not = ap (λ (p : Reply). first_refusal (p ∷ [])) (sym same) ∙ by r not

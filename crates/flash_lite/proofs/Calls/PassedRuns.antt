@@ -1,5 +1,6 @@
 -- A run in which no event is refused, step by step.
-use Rattle.std.proofs.Common.{◌≡◌, ℕ, ◌==◌, List, [], ◌∷◌, ◌++◌, map, refl, subst, ap, ◌∙◌, Option, Some, None, true, false}
+use Rattle.std.proofs.Common.{◌≡◌, ℕ, ◌==◌, List, [], ◌∷◌, ◌++◌, map, refl, subst, ap, ◌∙◌, Option, Some, None, true}
+use Rattle.std.proofs.Common.{false}
 use Rattle.std.specs.Prelude.{if◌then◌else◌}
 use Rattle.std.specs.List.{flat_map}
 use Rattle.std.specs.Option.{option_map_or}
@@ -20,12 +21,13 @@ use Rattle.flash_lite.specs.Setup.{first_refusal}
 abbrev pub over : (slots : List (List ℕ)) → State → State
 over slots s = record s { slots = slots }
 
--- Each event is tried, none of its refusals holds, and the next one follows. Each finds some bytes in the slots, and leaves those that
--- were there at first: so it is over a store whose bytes are not known.
+-- Each event is tried, none of its refusals holds, and the next one follows. Each finds some bytes in the slots, and
+-- leaves those that were there at first: so it is over a store whose bytes are not known.
 module _ (Of : List (List ℕ) → Type 0) where
   abbrev pub Passes : State → List Event → State → Type 0
   Passes s [] t = t ≡ s
-  Passes s (e ∷ es) t = (slots : List (List ℕ)) × Of slots × (first (meaning (over slots s) e).refusals ≡ None) × Passes (over s.slots (meaning (over slots s) e).after) es t
+  Passes s (e ∷ es) t = (slots : List (List ℕ)) × Of slots × (first (meaning (over slots s) e).refusals ≡ None)
+      × Passes (over s.slots (meaning (over slots s) e).after) es t
 
   pub record Parted (s : State) (es fs : List Event) (t : State) : Type 0 where
     pub mid : State
@@ -51,7 +53,8 @@ pub record Passed (m : Meaning Reply) (t : State) (rs : List Reply) : Type 0 whe
   pub rest : first_refusal rs ≡ None
 
 -- where no reply refuses, the first does not
-pub first_passed : (m : Meaning Reply) (s t : State) (r : Reply) (rs : List Reply) → first_refusal (r ∷ rs) ≡ None → Step m s (outcome r) t → Passed m t rs
+pub first_passed : (m : Meaning Reply) (s t : State) (r : Reply) (rs : List Reply) → first_refusal (r ∷ rs) ≡ None
+    → Step m s (outcome r) t → Passed m t rs
 first_passed m s t (reply.Refused x) rs none step = absurd (cc)
 first_passed m s t r rs none step = record { unrefused = step.0; after = step.2; rest = none }
 
@@ -69,13 +72,17 @@ abbrev pub ArePlain : List Event → Type 0
 ArePlain [] = Unit {0}
 ArePlain (e ∷ es) = IsPlain e × ArePlain es
 
-given_slots : (s : State) (by fd to : ℕ) (o : Option Descriptor) → (option_map_or (given_to s by fd to) o s).slots ≡ s.slots
+given_slots : (s : State) (by fd to : ℕ) (o : Option Descriptor)
+    → (option_map_or (given_to s by fd to) o s).slots ≡ s.slots
 unfolding with_domain
 given_slots s by fd to None = refl
-given_slots s by fd to (Some x) = elim (by == to) as (λ b. (if b then with_fds s by (placed (freed s by fd) (lowest (freed s by fd)) x) else with_fds (opened s to x) by (freed s by fd)).slots ≡ s.slots) [
-  | true ↦ refl
-  | false ↦ refl
-]
+given_slots s by fd to (Some x) =
+    elim (by == to) as
+    (λ b. (if b then with_fds s by (placed (freed s by fd) (lowest (freed s by fd)) x) else with_fds (opened s to x) by
+    (freed s by fd)).slots ≡ s.slots) [
+      | true ↦ refl
+      | false ↦ refl
+    ]
 
 plain_slots : (s : State) (e : Event) → IsPlain e → (meaning s e).after.slots ≡ s.slots
 unfolding with_domain
@@ -87,14 +94,16 @@ plain_slots s (event.Call by call.Pipe) plain = refl
 plain_slots s (event.Call by (call.GiveFd fd to)) plain = given_slots s by fd to (descriptor s by fd)
 plain_slots s e plain = absurd plain
 
-pub run_passes : (es : List Event) (rs : List Reply) (slots : List (List ℕ)) (s t : State) → s.slots ≡ slots → ArePlain es → Run s es rs t → first_refusal rs ≡ None → Passes (λ x. x ≡ slots) s es t
+pub run_passes : (es : List Event) (rs : List Reply) (slots : List (List ℕ)) (s t : State) → s.slots ≡ slots
+    → ArePlain es → Run s es rs t → first_refusal rs ≡ None → Passes (λ x. x ≡ slots) s es t
 run_passes [] [] slots s t same plain run none = run
 run_passes [] (r ∷ rs) slots s t same plain run none = absurd run
 run_passes (e ∷ es) [] slots s t same plain run none = absurd run
 run_passes (e ∷ es) (r ∷ rs) slots s t same plain run none =
     let one = first_passed (meaning s e) s run.0 r rs none run.1 in
     let stays : (meaning s e).after.slots ≡ s.slots = plain_slots s e plain.0 in
-    let mid : run.0 ≡ over s.slots (meaning s e).after = one.after ∙ ap (λ (x : List (List ℕ)). over x (meaning s e).after) stays in
+    let mid : run.0 ≡ over s.slots (meaning s e).after =
+    one.after ∙ ap (λ (x : List (List ℕ)). over x (meaning s e).after) stays in
     let kept : run.0.slots ≡ slots = ap (λ (m : State). m.slots) one.after ∙ (stays ∙ same) in
     let rest = run_passes es rs slots run.0 t kept plain.1 run.2 one.rest in
     (s.slots, same, one.unrefused, subst (λ (m : State). Passes (λ x. x ≡ slots) m es t) mid rest)
@@ -109,6 +118,7 @@ pub plain-map : {A : Type 0} (f : A → Event) (xs : List A) → ((x : A) → Is
 plain-map f [] each = tt
 plain-map f (x ∷ xs) each = (each x, plain-map f xs each)
 
-pub plain-flat_map : {A : Type 0} (f : A → List Event) (xs : List A) → ((x : A) → ArePlain (f x)) → ArePlain (flat_map f xs)
+pub plain-flat_map : {A : Type 0} (f : A → List Event) (xs : List A) → ((x : A) → ArePlain (f x))
+    → ArePlain (flat_map f xs)
 plain-flat_map f [] each = tt
 plain-flat_map f (x ∷ xs) each = plain-append (f x) (flat_map f xs) (each x) (plain-flat_map f xs each)

@@ -1,5 +1,6 @@
 -- The action of a client, by the action of its connection.
-use Rattle.std.proofs.Common.{inl, inr, ◌≡◌, ◌≢◌, ℕ, ◌<◌, ◌==◌, ◌||◌, if◌then◌else◌, length, List, [], ◌∷◌, Option, Some, None, Bool, true, false, refl, sym, ap, subst, arith, ◌∙◌}
+use Rattle.std.proofs.Common.{inl, inr, ◌≡◌, ◌≢◌, ℕ, ◌<◌, ◌==◌, ◌||◌, if◌then◌else◌, length, List, [], ◌∷◌, Option}
+use Rattle.std.proofs.Common.{Some, None, Bool, true, false, refl, sym, ap, subst, arith, ◌∙◌}
 use Rattle.std.specs.Prelude.{◌&&◌, is_some, nat_le, option_map}
 use Rattle.std.specs.List.{slice_split}
 use Rattle.std.proofs.lemmas.Bool.Decides.{nat_tests}
@@ -11,7 +12,9 @@ use Rattle.iol_core.specs.declared.events.Reply.{Reply}
 use Rattle.iol_core.specs.declared.events.Reply.TheVariants as reply
 use Rattle.flash_http.specs.Request.{Answer}
 use Rattle.flash_http.specs.Window.{window_in}
-use Rattle.flash_laws.specs.Client.{Client, Readies, has_answered, is_bare, can_run, kept_if, conn_wants, conn_after_reply, file_after_reply, after_drop_whole, is_for_script, left_over, wants, awaits}
+use Rattle.flash_laws.specs.Client.{Client, Readies, has_answered, is_bare, can_run, kept_if, conn_wants}
+use Rattle.flash_laws.specs.Client.{conn_after_reply, file_after_reply, after_drop_whole, is_for_script, left_over}
+use Rattle.flash_laws.specs.Client.{wants, awaits}
 use Rattle.flash_laws.specs.Client.Wants.{Receives, ClientReceives, needs_memory, WantsOn}
 use Rattle.flash_laws.specs.Conn as conn
 use Rattle.flash_laws.specs.Conn.{Conn, is_head_only}
@@ -24,7 +27,9 @@ use Rattle.flash_laws.specs.Conn.Wants as wanting
 use Rattle.flash_laws.specs.declared.script_run.Running.{Running}
 use Rattle.flash_laws.specs.declared.phase.Payload.TheVariants.{Script}
 use Rattle.flash_laws.specs.declared.phase.Phase.{Phase}
-use Rattle.flash_laws.specs.declared.phase.Phase.TheVariants.{Rests, Got, Opens, Reads, Shuts, Picks, Spares, Heads, Joins, Sends, Cuts, Offers, Swaps, Sent, Breaks, Drops, Closes, Over}
+use Rattle.flash_laws.specs.declared.phase.Phase.TheVariants.{Rests, Got, Opens, Reads, Shuts, Picks, Spares, Heads}
+use Rattle.flash_laws.specs.declared.phase.Phase.TheVariants.{Joins, Sends, Cuts, Offers, Swaps, Sent, Breaks, Drops}
+use Rattle.flash_laws.specs.declared.phase.Phase.TheVariants.{Closes, Over}
 use Rattle.flash_laws.proofs.Site.InPlaces.{left-map}
 use Rattle.flash_lite.specs.Course.{whole, found, runs, text_received, ended, left_with, Proceeds, IsLeft, IsCourse}
 use Rattle.flash_lite.specs.Onward as onward
@@ -43,7 +48,8 @@ plain c script = record { conn = c; run = None; script = script }
 
 -- ---- its call
 
-wants-whole : (script : Bool) (fd : ℕ) (kept : List ℕ) (q : Answer) (d : Phase) → whole script d (conn.wants fd (at kept q d)) ≡ conn_wants script fd (at kept q d)
+wants-whole : (script : Bool) (fd : ℕ) (kept : List ℕ) (q : Answer) (d : Phase)
+    → whole script d (conn.wants fd (at kept q d)) ≡ conn_wants script fd (at kept q d)
 wants-whole false fd kept q d = refl
 wants-whole true fd kept q Rests = refl
 wants-whole true fd kept q (Got a) = refl
@@ -72,40 +78,59 @@ wants-plain-of : (scripts : Bool) (fd : ℕ) (c : Conn) (run : Option Running) (
 wants-plain-of scripts fd c None script none = refl
 wants-plain-of scripts fd c (Some y) script none = absurd (cc (none))
 
-wants-plain : (scripts : Bool) (fd : ℕ) (y : Client) → y.run ≡ None → conn_wants (is_for_script scripts y.conn.q) fd y.conn ≡ wants scripts fd y
+wants-plain : (scripts : Bool) (fd : ℕ) (y : Client) → y.run ≡ None
+    → conn_wants (is_for_script scripts y.conn.q) fd y.conn ≡ wants scripts fd y
 wants-plain scripts fd y none = wants-plain-of scripts fd y.conn y.run y.script none
 
 -- ---- where no script runs
 
-leaves-map : (script : List ℕ) (o : Option Conn) (r : Reply) → leaves_off (option_map (λ (c : Conn). plain c script) o) r ≡ policy.leaves_off o r
+leaves-map : (script : List ℕ) (o : Option Conn) (r : Reply)
+    → leaves_off (option_map (λ (c : Conn). plain c script) o) r ≡ policy.leaves_off o r
 leaves-map script None r = refl
 leaves-map script (Some c) r = refl
 
-pub leaves-plain : (c : Conn) (script : List ℕ) (r : Reply) → leaves_off (left_over (plain c script)) r ≡ policy.leaves_off (consistent.left_over c) r
-leaves-plain c script r = ap (λ (o : Option Client). leaves_off o r) (sym (left-map (λ (z : Conn). plain z script) c.phase c)) ∙ leaves-map script (consistent.left_over c) r
+pub leaves-plain : (c : Conn) (script : List ℕ) (r : Reply)
+    → leaves_off (left_over (plain c script)) r ≡ policy.leaves_off (consistent.left_over c) r
+leaves-plain c script r =
+    ap (λ (o : Option Client). leaves_off o r) (sym (left-map (λ (z : Conn). plain z script) c.phase c))
+    ∙ leaves-map script (consistent.left_over c) r
 
-pub stays-plain : (c : Conn) (script : List ℕ) → consistent.left_over c ≡ Some c → left_over (plain c script) ≡ Some (plain c script)
-stays-plain c script stays = sym (left-map (λ (z : Conn). plain z script) c.phase c) ∙ ap (λ (o : Option Conn). option_map (λ (z : Conn). plain z script) o) stays
+pub stays-plain : (c : Conn) (script : List ℕ) → consistent.left_over c ≡ Some c
+    → left_over (plain c script) ≡ Some (plain c script)
+stays-plain c script stays = sym (left-map (λ (z : Conn). plain z script) c.phase c)
+    ∙ ap (λ (o : Option Conn). option_map (λ (z : Conn). plain z script) o) stays
 
-asks-plain : (x : Client) (k : Conn) (r : Reply) (received : List ℕ) → onward.Proceeds x.conn r received k → Proceeds (conn_after_reply x r received) r (plain k x.script)
+asks-plain : (x : Client) (k : Conn) (r : Reply) (received : List ℕ) → onward.Proceeds x.conn r received k
+    → Proceeds (conn_after_reply x r received) r (plain k x.script)
 asks-plain x k r received g = record {
   on = leaves-plain (conn.after_reply x.conn r received) x.script r ∙ g.on;
   stays = stays-plain (conn.after_reply x.conn r received) x.script g.stays;
   readies = (k, g.readies, refl);
 }
 
-pub asks_alone : (scripts : Bool) (fd : ℕ) (x y : Client) (r : Reply) (received : List ℕ) (k : Call) → x.run ≡ None → onward.Proceeds x.conn r received y.conn
+pub asks_alone : (scripts : Bool) (fd : ℕ) (x y : Client) (r : Reply) (received : List ℕ) (k : Call) → x.run ≡ None
+    → onward.Proceeds x.conn r received y.conn
     → y.run ≡ None → y.script ≡ x.script → k ≡ conn_wants (is_for_script scripts y.conn.q) fd y.conn
     → Proceeds (conn_after_reply x r received) r y × (k ≡ wants scripts fd y)
 asks_alone scripts fd x y r received k none g runs same is =
-    let e : plain y.conn x.script ≡ y = ap (λ (l : List ℕ). plain y.conn l) (sym same) ∙ ap (λ (o : Option Running). record { conn = y.conn; run = o; script = y.script }) (sym runs) in
-    (subst (λ (z : Client). Proceeds (conn_after_reply x r received) r z) e (asks-plain x y.conn r received g), is ∙ ap (λ (z : Client). wants scripts fd z) e)
+    let e : plain y.conn x.script ≡ y = ap (λ (l : List ℕ). plain y.conn l) (sym same)
+    ∙ ap (λ (o : Option Running). record { conn = y.conn; run = o; script = y.script }) (sym runs) in (
+      subst (λ (z : Client). Proceeds (conn_after_reply x r received) r z) e (asks-plain x y.conn r received g),
+      is
+          ∙ ap (λ (z : Client). wants scripts fd z) e,
+    )
 
-pub leaves_alone : (x y : Client) (k : Conn) (r : Reply) (received : List ℕ) (d : Phase) → x.run ≡ None → onward.IsLeft x.conn r received d k → y ≡ record { conn = k; run = x.run; script = x.script } → IsLeft (conn_after_reply x r received) x r (Goes d) y
+pub leaves_alone : (x y : Client) (k : Conn) (r : Reply) (received : List ℕ) (d : Phase) → x.run ≡ None
+    → onward.IsLeft x.conn r received d k → y ≡ record { conn = k; run = x.run; script = x.script }
+    → IsLeft (conn_after_reply x r received) x r (Goes d) y
 leaves_alone x y k r received d none l is = record {
   passed = leaves-plain (conn.after_reply x.conn r received) x.script r ∙ l.off;
-  after_reply_is = ap (λ (c : Conn). plain c x.script) l.after_reply_is ∙ ap (λ (o : Option Running). record { conn = record x.conn { phase = d }; run = o; script = x.script }) (sym none);
-  remains_is = ap (λ (e : Phase). consistent.left_by e (conn_after_reply x r received)) (ap (λ (c : Conn). c.phase) l.after_reply_is);
+  after_reply_is = ap (λ (c : Conn). plain c x.script) l.after_reply_is
+      ∙ ap (λ (o : Option Running). record { conn = record x.conn { phase = d }; run = o; script = x.script })
+      (sym none);
+  remains_is =
+      ap (λ (e : Phase). consistent.left_by e (conn_after_reply x r received))
+      (ap (λ (c : Conn). c.phase) l.after_reply_is);
   can_rest = l.can_rest;
   as_it_was = is ∙ ap (λ (c : Conn). record { conn = c; run = x.run; script = x.script }) l.as_it_was;
 }
@@ -121,21 +146,59 @@ pub course_reply : (scripts : Bool) (fd : ℕ) (t x : Client) (r : Reply) (o : C
 course_reply scripts fd t x r (Asks k) y now c =
     (record { on = leaves-now (left_over t) r now ∙ c.0.on; stays = c.0.stays; readies = c.0.readies }, c.1)
 course_reply scripts fd t x r (Leaves (Goes d)) y now c =
-    record { passed = leaves-now (left_over t) r now ∙ c.passed; after_reply_is = c.after_reply_is; remains_is = c.remains_is; can_rest = c.can_rest; as_it_was = c.as_it_was }
+    record {
+      passed = leaves-now (left_over t) r now ∙ c.passed;
+      after_reply_is = c.after_reply_is;
+      remains_is =
+          c.remains_is;
+      can_rest = c.can_rest;
+      as_it_was = c.as_it_was;
+    }
 course_reply scripts fd t x r (Leaves (Ends d)) y now c =
-    record { passed = leaves-now (left_over t) r now ∙ c.passed; after_reply_is = c.after_reply_is; remains_is = c.remains_is; can_rest = c.can_rest; as_it_was = c.as_it_was }
+    record {
+      passed = leaves-now (left_over t) r now ∙ c.passed;
+      after_reply_is = c.after_reply_is;
+      remains_is =
+          c.remains_is;
+      can_rest = c.can_rest;
+      as_it_was = c.as_it_was;
+    }
 course_reply scripts fd t x r (Leaves Begins) y now c =
-    record { passed = leaves-now (left_over t) r now ∙ c.passed; after_reply_is = c.after_reply_is; remains_is = c.remains_is; can_rest = c.can_rest; as_it_was = c.as_it_was }
+    record {
+      passed = leaves-now (left_over t) r now ∙ c.passed;
+      after_reply_is = c.after_reply_is;
+      remains_is =
+          c.remains_is;
+      can_rest = c.can_rest;
+      as_it_was = c.as_it_was;
+    }
 course_reply scripts fd t x r (Leaves (Continues d)) y now c =
-    record { passed = leaves-now (left_over t) r now ∙ c.passed; after_reply_is = c.after_reply_is; remains_is = c.remains_is; can_rest = c.can_rest; as_it_was = c.as_it_was }
+    record {
+      passed = leaves-now (left_over t) r now ∙ c.passed;
+      after_reply_is = c.after_reply_is;
+      remains_is =
+          c.remains_is;
+      can_rest = c.can_rest;
+      as_it_was = c.as_it_was;
+    }
 course_reply scripts fd t x r (Leaves Stays) y now c =
-    record { passed = leaves-now (left_over t) r now ∙ c.passed; after_reply_is = c.after_reply_is; remains_is = c.remains_is; can_rest = c.can_rest; as_it_was = c.as_it_was }
+    record {
+      passed = leaves-now (left_over t) r now ∙ c.passed;
+      after_reply_is = c.after_reply_is;
+      remains_is =
+          c.remains_is;
+      can_rest = c.can_rest;
+      as_it_was = c.as_it_was;
+    }
 
 -- it goes on with this, and no script runs for it
 pub goes_as : (scripts : Bool) (fd : ℕ) (t y : Client) (r : Reply) (k : Call) → Proceeds t r t → t.run ≡ None → y ≡ t
     → k ≡ conn_wants (is_for_script scripts y.conn.q) fd y.conn → Proceeds t r y × (k ≡ wants scripts fd y)
-goes_as scripts fd t y r k goes none is asks =
-    (subst (λ (z : Client). Proceeds t r z) (sym is) goes, asks ∙ wants-plain scripts fd y (ap (λ (z : Client). z.run) is ∙ none))
+goes_as scripts fd t y r k goes none is asks = (
+  subst (λ (z : Client). Proceeds t r z) (sym is) goes,
+  asks
+      ∙ wants-plain scripts fd y (ap (λ (z : Client). z.run) is ∙ none),
+)
 
 -- ---- a script is found
 
@@ -151,14 +214,16 @@ record IsText (b : Bool) (x : Client) (r : Reply) (received : List ℕ) (f n : �
   now : is_later r ≡ false
   receives : 0 < length received → Receives b x.conn.phase r received
 
-text-found : (b : Bool) (kept : List ℕ) (q : Answer) (d : Phase) (run : Option Running) (script : List ℕ) (r : Reply) (received : List ℕ) (h : Bool) (f n : ℕ)
+text-found : (b : Bool) (kept : List ℕ) (q : Answer) (d : Phase) (run : Option Running) (script : List ℕ) (r : Reply)
+    (received : List ℕ) (h : Bool) (f n : ℕ)
     → found b d r h ≡ reports.Text f n → IsText b (of kept q d run script) r received f n
 text-found false kept q d run script r received h f n is = absurd (cc (is))
 text-found true kept q (Reads g) run script (reply.Agg m) received h f n is =
     let eg : g ≡ f = cc in
     let em : m ≡ n = cc in
     record {
-      after_reply = ap (λ k. text_received (of kept q (Reads g) run script) k m received) eg ∙ ap (λ k. text_received (of kept q (Reads g) run script) f k received) em;
+      after_reply = ap (λ k. text_received (of kept q (Reads g) run script) k m received) eg
+          ∙ ap (λ k. text_received (of kept q (Reads g) run script) f k received) em;
       now = refl;
       receives = λ some. some;
     }
@@ -169,7 +234,8 @@ text-found true kept q d run script r received h f n is = absurd (cc (is))
 record IsBegun (b : Bool) (x : Client) (r : Reply) (received : List ℕ) : Type 0 where
   after_reply : file_after_reply b x r received ≡ left_with x Begins
 
-run-found : (b : Bool) (kept : List ℕ) (q : Answer) (d : Phase) (run : Option Running) (script : List ℕ) (r : Reply) (received : List ℕ) (h : Bool)
+run-found : (b : Bool) (kept : List ℕ) (q : Answer) (d : Phase) (run : Option Running) (script : List ℕ) (r : Reply)
+    (received : List ℕ) (h : Bool)
     → is_head_only q ≡ h → found b d r h ≡ reports.Runs → IsBegun b (of kept q d run script) r received
 run-found false kept q d run script r received h e is = absurd (cc (is))
 run-found true kept q (Reads g) run script (reply.Agg m) received h e is = absurd (cc (is))
@@ -177,20 +243,26 @@ run-found true kept q (Reads g) run script r received h e is = absurd (cc (is))
 run-found true kept q (Spares a Script) run script reply.Done received true e is = absurd (cc (is))
 run-found true kept q (Spares a Script) run script reply.Done received false e is =
     record {
-      after_reply = ap (λ b. record { conn = at kept q (Heads Script); run = after_drop_whole b reply.Done; script = script }) e;
+      after_reply =
+          ap (λ b. record { conn = at kept q (Heads Script); run = after_drop_whole b reply.Done; script = script }) e;
     }
 run-found true kept q (Spares a Script) run script r received h e is = absurd (cc (is))
 run-found true kept q d run script r received h e is = absurd (cc (is))
 
-file-found : (b : Bool) (kept : List ℕ) (q : Answer) (d : Phase) (run : Option Running) (script : List ℕ) (r : Reply) (received : List ℕ) (h : Bool)
-    → is_head_only q ≡ h → found b d r h ≡ reports.AsFile → file_after_reply b (of kept q d run script) r received ≡ conn_after_reply (of kept q d run script) r received
+file-found : (b : Bool) (kept : List ℕ) (q : Answer) (d : Phase) (run : Option Running) (script : List ℕ) (r : Reply)
+    (received : List ℕ) (h : Bool)
+    → is_head_only q ≡ h → found b d r h ≡ reports.AsFile
+    → file_after_reply b (of kept q d run script) r received ≡ conn_after_reply (of kept q d run script) r received
 file-found false kept q d run script r received h e is = refl
 file-found true kept q (Reads g) run script (reply.Agg m) received h e is = absurd (cc (is))
 file-found true kept q (Reads g) run script r received h e is = refl
-file-found true kept q (Spares a Script) run script reply.Done received true e is = ap (λ b. record { conn = at kept q (Heads Script); run = after_drop_whole b reply.Done; script = script }) e
+file-found true kept q (Spares a Script) run script reply.Done received true e is =
+    ap (λ b. record { conn = at kept q (Heads Script); run = after_drop_whole b reply.Done; script = script }) e
 file-found true kept q (Spares a Script) run script reply.Done received false e is = absurd (cc (is))
-file-found true kept q (Spares a Script) run script r received true e is = ap (λ b. record { conn = at kept q (Spares a Script); run = after_drop_whole b r; script = script }) e
-file-found true kept q (Spares a Script) run script r received false e is = ap (λ b. record { conn = at kept q (Spares a Script); run = after_drop_whole b r; script = script }) e
+file-found true kept q (Spares a Script) run script r received true e is =
+    ap (λ b. record { conn = at kept q (Spares a Script); run = after_drop_whole b r; script = script }) e
+file-found true kept q (Spares a Script) run script r received false e is =
+    ap (λ b. record { conn = at kept q (Spares a Script); run = after_drop_whole b r; script = script }) e
 file-found true kept q d run script r received h e is = refl
 
 -- one that begins waits for a worker
@@ -219,8 +291,10 @@ kept-none false text = refl
 pub long_kept : (h : Bool) (text : List ℕ) → MAX_SCRIPT_BYTES < length text → kept_if h (can_run text) text ≡ []
 long_kept h text long = ap (λ b. kept_if h b text) (long_runs text long) ∙ kept-none h text
 
-pub received_goes : (scripts : Bool) (fd : ℕ) (x y : Client) (f n : ℕ) (received : List ℕ) (k : Call) → y ≡ text_received x f n received
-    → k ≡ conn_wants (is_for_script scripts y.conn.q) fd y.conn → Proceeds (text_received x f n received) reply.Done y × (k ≡ wants scripts fd y)
+pub received_goes : (scripts : Bool) (fd : ℕ) (x y : Client) (f n : ℕ) (received : List ℕ) (k : Call)
+    → y ≡ text_received x f n received
+    → k ≡ conn_wants (is_for_script scripts y.conn.q) fd y.conn → Proceeds (text_received x f n received) reply.Done y
+    × (k ≡ wants scripts fd y)
 received_goes scripts fd x y f n received k is asks =
     goes_as scripts fd (text_received x f n received) y reply.Done k
     (record { on = refl; stays = refl; readies = ((text_received x f n received).conn, refl, refl) }) refl is asks
@@ -230,14 +304,17 @@ pub file_receives : (scripts : Bool) (fd : ℕ) (x y : Client) (r : Reply) (rece
     → IsCourse scripts fd (text_received x f n received) x reply.Done o y
     → IsCourse scripts fd (file_after_reply (is_for_script scripts x.conn.q) x r received) x r o y
 file_receives scripts fd x y r received o f n is course =
-    let t = text-found (is_for_script scripts x.conn.q) x.conn.kept x.conn.q x.conn.phase x.run x.script r received (is_head_only x.conn.q) f n (sym is) in
-    subst (λ (z : Client). IsCourse scripts fd z x r o y) (sym t.after_reply) (course_reply scripts fd (text_received x f n received) x r o y t.now course)
+    let t = text-found (is_for_script scripts x.conn.q) x.conn.kept x.conn.q x.conn.phase x.run x.script r received
+    (is_head_only x.conn.q) f n (sym is) in
+    subst (λ (z : Client). IsCourse scripts fd z x r o y) (sym t.after_reply)
+    (course_reply scripts fd (text_received x f n received) x r o y t.now course)
 
 pub file_runs : (scripts : Bool) (x : Client) (r : Reply) (received : List ℕ)
     → reports.Runs ≡ found (is_for_script scripts x.conn.q) x.conn.phase r (is_head_only x.conn.q)
     → IsLeft (file_after_reply (is_for_script scripts x.conn.q) x r received) x r Begins x
 file_runs scripts x r received is =
-    let t = run-found (is_for_script scripts x.conn.q) x.conn.kept x.conn.q x.conn.phase x.run x.script r received (is_head_only x.conn.q) refl (sym is) in
+    let t = run-found (is_for_script scripts x.conn.q) x.conn.kept x.conn.q x.conn.phase x.run x.script r received
+    (is_head_only x.conn.q) refl (sym is) in
     record {
       passed = ap (λ (z : Client). leaves_off (left_over z) r) t.after_reply ∙ begun-passes x r;
       after_reply_is = t.after_reply;
@@ -248,50 +325,68 @@ file_runs scripts x r received is =
 
 pub file_alone : (scripts : Bool) (fd : ℕ) (x y : Client) (r : Reply) (received : List ℕ) (o : Course)
     → reports.AsFile ≡ found (is_for_script scripts x.conn.q) x.conn.phase r (is_head_only x.conn.q)
-    → IsCourse scripts fd (conn_after_reply x r received) x r o y → IsCourse scripts fd (file_after_reply (is_for_script scripts x.conn.q) x r received) x r o y
+    → IsCourse scripts fd (conn_after_reply x r received) x r o y
+    → IsCourse scripts fd (file_after_reply (is_for_script scripts x.conn.q) x r received) x r o y
 file_alone scripts fd x y r received o is course =
-    let same = file-found (is_for_script scripts x.conn.q) x.conn.kept x.conn.q x.conn.phase x.run x.script r received (is_head_only x.conn.q) refl (sym is) in
+    let same = file-found (is_for_script scripts x.conn.q) x.conn.kept x.conn.q x.conn.phase x.run x.script r received
+    (is_head_only x.conn.q) refl (sym is) in
     subst (λ (z : Client). IsCourse scripts fd z x r o y) (sym same) course
 
 -- ---- memory
 
-receives-none : (scripts : Bool) (c : Conn) (run : Option Running) (script : List ℕ) (r : Reply) (received : List ℕ) → run ≡ None
-    → Receives (is_for_script scripts c.q) c.phase r received → ClientReceives scripts (record { conn = c; run = run; script = script }) r received
+receives-none : (scripts : Bool) (c : Conn) (run : Option Running) (script : List ℕ) (r : Reply) (received : List ℕ)
+    → run ≡ None
+    → Receives (is_for_script scripts c.q) c.phase r received
+    → ClientReceives scripts (record { conn = c; run = run; script = script }) r received
 receives-none scripts c None script r received none receives = receives
 receives-none scripts c (Some y) script r received none receives = absurd (cc (none))
 
-receives-more : (b : Bool) (d : Phase) (r : Reply) (received : List ℕ) → wanting.Receives d r received → Receives b d r received
+receives-more : (b : Bool) (d : Phase) (r : Reply) (received : List ℕ) → wanting.Receives d r received
+    → Receives b d r received
 receives-more false d r received receives = receives
 receives-more true (Reads f) (reply.Agg n) received receives = absurd receives
 receives-more true (Reads f) r received receives = absurd receives
 receives-more true d r received receives = receives
 
 pub receives_wants : (scripts : Bool) (x : Client) (r : Reply) (received : List ℕ) (f n : ℕ) → x.run ≡ None
-    → reports.Text f n ≡ found (is_for_script scripts x.conn.q) x.conn.phase r (is_head_only x.conn.q) → 0 < length received
+    → reports.Text f n ≡ found (is_for_script scripts x.conn.q) x.conn.phase r (is_head_only x.conn.q)
+    → 0 < length received
     → WantsOn scripts (file_after_reply (is_for_script scripts x.conn.q) x r received) x r received
 receives_wants scripts x r received f n none is some =
-    let t = text-found (is_for_script scripts x.conn.q) x.conn.kept x.conn.q x.conn.phase x.run x.script r received (is_head_only x.conn.q) f n (sym is) in
+    let t = text-found (is_for_script scripts x.conn.q) x.conn.kept x.conn.q x.conn.phase x.run x.script r received
+    (is_head_only x.conn.q) f n (sym is) in
     inl (receives-none scripts x.conn x.run x.script r received none (t.receives some))
 
 pub alone_wants : (scripts : Bool) (x : Client) (r : Reply) (received : List ℕ) → x.run ≡ None
     → reports.AsFile ≡ found (is_for_script scripts x.conn.q) x.conn.phase r (is_head_only x.conn.q)
-    → wanting.WantsOn x.conn r received → WantsOn scripts (file_after_reply (is_for_script scripts x.conn.q) x r received) x r received
-alone_wants scripts x r received none is (inl here) = inl (receives-none scripts x.conn x.run x.script r received none (receives-more (is_for_script scripts x.conn.q) x.conn.phase r received here))
+    → wanting.WantsOn x.conn r received
+    → WantsOn scripts (file_after_reply (is_for_script scripts x.conn.q) x r received) x r received
+alone_wants scripts x r received none is (inl here) =
+    inl
+    (receives-none scripts x.conn x.run x.script r received none
+    (receives-more (is_for_script scripts x.conn.q) x.conn.phase r received here))
 alone_wants scripts x r received none is (inr on) =
-    let same = file-found (is_for_script scripts x.conn.q) x.conn.kept x.conn.q x.conn.phase x.run x.script r received (is_head_only x.conn.q) refl (sym is) in
+    let same = file-found (is_for_script scripts x.conn.q) x.conn.kept x.conn.q x.conn.phase x.run x.script r received
+    (is_head_only x.conn.q) refl (sym is) in
     inr (
-      ap (λ (z : Client). leaves_off (left_over z) r) same ∙ (leaves-plain (conn.after_reply x.conn r received) x.script r ∙ on.0),
+      ap (λ (z : Client). leaves_off (left_over z) r) same
+          ∙ (leaves-plain (conn.after_reply x.conn r received) x.script r ∙ on.0),
       ap (λ (z : Client). needs_memory z) same ∙ on.1,
     )
 
 -- ---- a run is over
 
-pub rests_asks : (scripts : Bool) (fd : ℕ) (x y : Client) (c : Conn) (k j : Call) → onward.Frees fd x.conn (going.Asks j) c
+pub rests_asks : (scripts : Bool) (fd : ℕ) (x y : Client) (c : Conn) (k j : Call)
+    → onward.Frees fd x.conn (going.Asks j) c
     → y ≡ plain c [] → k ≡ conn_wants (is_for_script scripts y.conn.q) fd y.conn
     → Proceeds (ended x Rests) reply.Done y × (k ≡ wants scripts fd y)
 rests_asks scripts fd x y c k j f is asks =
-    let goes : Proceeds (ended x Rests) reply.Done (plain c []) = record { on = f.0; stays = refl; readies = (c, f.1, refl) } in
-    (subst (λ (z : Client). Proceeds (ended x Rests) reply.Done z) (sym is) goes, asks ∙ wants-plain scripts fd y (ap (λ (z : Client). z.run) is))
+    let goes : Proceeds (ended x Rests) reply.Done (plain c []) =
+    record { on = f.0; stays = refl; readies = (c, f.1, refl) } in (
+      subst (λ (z : Client). Proceeds (ended x Rests) reply.Done z) (sym is) goes,
+      asks
+          ∙ wants-plain scripts fd y (ap (λ (z : Client). z.run) is),
+    )
 
 pub rests_leaves : (fd : ℕ) (x y : Client) (c : Conn) (d : Phase) → onward.Frees fd x.conn (going.Leaves d) c
     → y ≡ record { conn = c; run = x.run; script = x.script } → IsLeft (ended x Rests) x reply.Done (Ends d) y
@@ -308,7 +403,8 @@ rests_leaves fd x y c d f is =
       as_it_was = is ∙ ap (λ (z : Conn). record { conn = z; run = x.run; script = x.script }) f.2;
     }
 
-pub rests_wants : (x : Client) → policy.is_bare (record x.conn { phase = Rests }) ≡ false → wanting.can_begin (window_in x.conn.kept) ≡ true
+pub rests_wants : (x : Client) → policy.is_bare (record x.conn { phase = Rests }) ≡ false
+    → wanting.can_begin (window_in x.conn.kept) ≡ true
     → (leaves_off (left_over (ended x Rests)) reply.Done ≡ false) × (needs_memory (ended x Rests) ≡ true)
 rests_wants x some begins = (some, begins)
 
@@ -319,8 +415,10 @@ goes-ended kept q Over busy on over = absurd (on refl)
 goes-ended kept q (Sent a taken more) busy on over = absurd (cc (over))
 goes-ended kept q d busy on over = record { on = refl; stays = refl; readies = (at kept q d, refl, refl) }
 
-pub ends_asks : (scripts : Bool) (fd : ℕ) (x y : Client) (d : Phase) (k : Call) → d ≢ Rests → d ≢ Over → is_left d ≡ false → y ≡ ended x d
-    → k ≡ conn_wants (is_for_script scripts y.conn.q) fd y.conn → Proceeds (ended x d) reply.Done y × (k ≡ wants scripts fd y)
+pub ends_asks : (scripts : Bool) (fd : ℕ) (x y : Client) (d : Phase) (k : Call) → d ≢ Rests → d ≢ Over
+    → is_left d ≡ false → y ≡ ended x d
+    → k ≡ conn_wants (is_for_script scripts y.conn.q) fd y.conn → Proceeds (ended x d) reply.Done y
+    × (k ≡ wants scripts fd y)
 ends_asks scripts fd x y d k busy on over is asks =
     goes_as scripts fd (ended x d) y reply.Done k (goes-ended x.conn.kept x.conn.q d busy on over) refl is asks
 
@@ -328,17 +426,26 @@ pub ends_wants : (x : Client) (d : Phase) → d ≢ Rests → d ≢ Over → wan
     → (leaves_off (left_over (ended x d)) reply.Done ≡ false) × (needs_memory (ended x d) ≡ true)
 ends_wants x d busy on bytes = by d bytes
   where
-    by : (d : Phase) → wanting.has_bytes d ≡ true → (leaves_off (left_over (ended x d)) reply.Done ≡ false) × (needs_memory (ended x d) ≡ true)
+    by : (d : Phase) → wanting.has_bytes d ≡ true → (leaves_off (left_over (ended x d)) reply.Done ≡ false)
+        × (needs_memory (ended x d) ≡ true)
     by Opens is = (refl, refl)
     by (Heads k) is = (refl, refl)
     by d is = absurd (cc (is))
 
 pub over_leaves : (x : Client) → IsLeft (ended x Over) x reply.Done (Ends Over) x
-over_leaves x = record { passed = refl; after_reply_is = refl; remains_is = refl; can_rest = record { small = omega arith; awaits = tt }; as_it_was = refl }
+over_leaves x = record {
+  passed = refl;
+  after_reply_is = refl;
+  remains_is = refl;
+  can_rest =
+      record { small = omega arith; awaits = tt };
+  as_it_was = refl;
+}
 
 -- ---- its next call
 
-ready-plain : (c : Conn) (run : Option Running) (script : List ℕ) → conn.Readies c c → Readies (record { conn = c; run = run; script = script }) (record { conn = c; run = run; script = script })
+ready-plain : (c : Conn) (run : Option Running) (script : List ℕ) → conn.Readies c c
+    → Readies (record { conn = c; run = run; script = script }) (record { conn = c; run = run; script = script })
 ready-plain c None script ready = (c, ready, refl)
 ready-plain c (Some y) script ready = refl
 

@@ -14,14 +14,19 @@ use Rattle.flash_laws.proofs.Site.InPlaces.{at-same}
 use Rattle.flash_lite.specs.Offers.{OffersNext}
 
 -- whatever is picked
-pub offers_next : ClientsAreOfferedTheResponse → (workers : ℕ) (clients : List (Option Client)) (t : Server) (made : Turn) → t.workers ≡ workers
+pub offers_next : ClientsAreOfferedTheResponse
+    → (workers : ℕ) (clients : List (Option Client)) (t : Server) (made : Turn) → t.workers ≡ workers
     → Picks workers clients t.pending_call made t.clients → OffersNext t made
 offers_next law workers clients t made hired p m fd g a x known flies there writes has =
-    let picked : PicksAt workers clients fd made t.clients = subst (λ (f : PendingCall). Picks workers clients f made t.clients) flies p in
-    let same : Some picked.ready ≡ Some x = sym (at-same clients fd (Some picked.ready)) ∙ (ap (λ (l : List (Option Client)). in_place l fd) (sym picked.after_is) ∙ there) in
+    let picked : PicksAt workers clients fd made t.clients =
+    subst (λ (f : PendingCall). Picks workers clients f made t.clients) flies p in
+    let same : Some picked.ready ≡ Some x = sym (at-same clients fd (Some picked.ready))
+    ∙ (ap (λ (l : List (Option Client)). in_place l fd) (sym picked.after_is) ∙ there) in
     let ready : picked.ready ≡ x = cc in
     let scripts : runs_scripts workers ≡ runs_scripts t.workers = ap (λ k. runs_scripts k) (sym hired) in
     let asked : turn.Make (wants (runs_scripts t.workers) fd x) ≡ turn.Make (call.IolWrite g a) =
-    ap (λ b. turn.Make (wants b fd x)) (sym scripts) ∙ (ap (λ (y : Client). turn.Make (wants (runs_scripts workers) fd y)) (sym ready) ∙ (sym picked.call_is ∙ writes)) in
+    ap (λ b. turn.Make (wants b fd x)) (sym scripts)
+    ∙ (ap (λ (y : Client). turn.Make (wants (runs_scripts workers) fd y)) (sym ready)
+    ∙ (sym picked.call_is ∙ writes)) in
     let asks : wants (runs_scripts t.workers) fd x ≡ call.IolWrite g a = cc in
     (law (runs_scripts t.workers)).offers m fd g a x known has asks

@@ -12,8 +12,13 @@ use Rattle.flash_lite.specs.Runs.{reading}
 
 -- ---- what is read
 
-pub receives_read : (w : Wanted) (run : Run) (held : Following) (frame : Option ℕ) (n : ℕ) (received : List ℕ) → after_output w run held frame (reply.Agg n) received ≡ Runs run (reading run.broken w.chunked held frame n (count_of received))
+pub receives_read : (w : Wanted) (run : Run) (held : Following) (frame : Option ℕ) (n : ℕ) (received : List ℕ)
+    → after_output w run held frame (reply.Agg n) received
+    ≡ Runs run (reading run.broken w.chunked held frame n (count_of received))
 receives_read w run held frame n [] = refl
 receives_read w run held frame n (b ∷ received) =
     let e : (count_of (b ∷ received) == 0) ≡ false = grind (arith, nat_tests) in
-    sym (ap (λ (t : Bool). Runs run (cond t (Ended n held frame) (hearing run.broken w.chunked held frame n (count_of (b ∷ received))))) e)
+    sym
+    (ap
+    (λ (t : Bool).
+    Runs run (cond t (Ended n held frame) (hearing run.broken w.chunked held frame n (count_of (b ∷ received))))) e)

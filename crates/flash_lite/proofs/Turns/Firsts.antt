@@ -1,5 +1,6 @@
 -- The first free worker, by its index in the list of free workers.
-use Rattle.std.proofs.Common.{◌≡◌, ℕ, ◌≤◌, List, length, take, ◌∙◌, sym, arith, Option, Some, None, true, false, Bool, refl}
+use Rattle.std.proofs.Common.{◌≡◌, ℕ, ◌≤◌, List, length, take, ◌∙◌, sym, arith, Option, Some, None, true, false, Bool}
+use Rattle.std.proofs.Common.{refl}
 use Rattle.std.specs.Prelude.{nat_lt, cond, not, position}
 use Rattle.std.specs.List.{position_or_len}
 use Rattle.std.proofs.lemmas.Bool.Decides.{nat_tests}
@@ -17,15 +18,19 @@ place-is xs k is = by (nat_lt (position_or_len (λ b. b) xs) (length xs)) is
 none-passes : (xs : List Bool) → position (λ b. b) xs ≡ None → length xs ≡ position_or_len (λ b. b) xs
 none-passes xs is = by (nat_lt (position_or_len (λ b. b) xs) (length xs)) refl is
   where
-    by : (b : Bool) → nat_lt (position_or_len (λ b. b) xs) (length xs) ≡ b → cond b (Some (position_or_len (λ b. b) xs)) None ≡ None
+    by : (b : Bool) → nat_lt (position_or_len (λ b. b) xs) (length xs) ≡ b
+        → cond b (Some (position_or_len (λ b. b) xs)) None ≡ None
         → length xs ≡ position_or_len (λ b. b) xs
     by true past e = absurd (cc (e))
     by false past e = let most = prefix_len-le-length (λ b. not b) xs in grind (arith, nat_tests, past, most)
 
-pub first_some : (free : List Bool) (workers k : ℕ) (o : Option ℕ) → o ≡ position (λ b. b) (take workers free) → o ≡ Some k
+pub first_some : (free : List Bool) (workers k : ℕ) (o : Option ℕ) → o ≡ position (λ b. b) (take workers free)
+    → o ≡ Some k
     → k ≡ first_in workers free
 first_some free workers k o is found = place-is (take workers free) k (sym is ∙ found)
 
-pub first_none : (free : List Bool) (workers : ℕ) (o : Option ℕ) → workers ≤ length free → o ≡ position (λ b. b) (take workers free)
+pub first_none : (free : List Bool) (workers : ℕ) (o : Option ℕ) → workers ≤ length free
+    → o ≡ position (λ b. b) (take workers free)
     → o ≡ None → workers ≡ first_in workers free
-first_none free workers o long is none = sym (length-take-le workers free long) ∙ none-passes (take workers free) (sym is ∙ none)
+first_none free workers o long is none = sym (length-take-le workers free long)
+    ∙ none-passes (take workers free) (sym is ∙ none)

@@ -10,18 +10,23 @@ use Rattle.flash_lite.specs.ServerTurn.{Turns}
 use Rattle.flash_lite.specs.declared.site.TheConstants.{MAX_WORKERS}
 use Rattle.flash_lite.proofs.Few.{few_turn}
 
-pub account_turn : (s t : Table) (last : Reply) (readable : ℕ → Option (List ℕ)) (received : List ℕ) (made : Turn) → received ≡ received_of last readable → Turns s last received made t
+pub account_turn : (s t : Table) (last : Reply) (readable : ℕ → Option (List ℕ)) (received : List ℕ) (made : Turn)
+    → received ≡ received_of last readable → Turns s last received made t
     → server_turns in_rounds (serving s) last readable made (serving t)
 account_turn s t last readable received made receives turns =
-    let all : Turns s last (received_of last readable) made t = subst (λ (l : List ℕ). Turns s last l made t) receives turns in
+    let all : Turns s last (received_of last readable) made t =
+    subst (λ (l : List ℕ). Turns s last l made t) receives turns in
     (all.policy, all.picks, all.hired)
 
-pub kept_turn : (s t : Table) (last : Reply) (readable : ℕ → Option (List ℕ)) (received : List ℕ) (made : Turn) → received ≡ received_of last readable → IsKept s → Turns s last received made t → IsKept t
+pub kept_turn : (s t : Table) (last : Reply) (readable : ℕ → Option (List ℕ)) (received : List ℕ) (made : Turn)
+    → received ≡ received_of last readable → IsKept s → Turns s last received made t → IsKept t
 kept_turn s t last readable received made receives kept turns =
     let all = account_turn s t last readable received made receives turns in record {
-      few = few_turn s.workers s.clients s.pending_call last received t.pending_call made t.clients kept.few turns.picks turns.policy;
+      few = few_turn s.workers s.clients s.pending_call last received t.pending_call made t.clients kept.few turns.picks
+          turns.policy;
       hired = subst (λ k. k ≤ MAX_WORKERS) (sym turns.hired) kept.hired;
       shared = workers_shared.turns (serving s) (serving t) last readable made kept.shared (tt, all.1, all.2);
       reports = turns.reports;
-      none = λ zero. let same : s.workers ≡ 0 = sym turns.hired ∙ zero in workers_shared.none (serving s) (serving t) last readable made same (kept.none same) (tt, all.1, all.2);
+      none = λ zero. let same : s.workers ≡ 0 = sym turns.hired ∙ zero in
+          workers_shared.none (serving s) (serving t) last readable made same (kept.none same) (tt, all.1, all.2);
     }

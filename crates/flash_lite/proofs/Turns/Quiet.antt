@@ -29,11 +29,13 @@ reading : (head_only : Bool) (f : ℕ) → IsCopyFreeCall (if head_only then cal
 reading true f = tt
 reading false f = tt
 
-phase : (fd : ℕ) (kept : List ℕ) (q : Answer) (d : Phase) → IsCopyFreeCall (conn.wants fd (record { kept = kept; q = q; phase = d }))
+phase : (fd : ℕ) (kept : List ℕ) (q : Answer) (d : Phase)
+    → IsCopyFreeCall (conn.wants fd (record { kept = kept; q = q; phase = d }))
 phase fd kept q (Reads f) = reading (is_head_only q) f
 phase fd kept q d = tt
 
-script-phase : (script : Bool) (fd : ℕ) (kept : List ℕ) (q : Answer) (d : Phase) → IsCopyFreeCall (conn_wants script fd (record { kept = kept; q = q; phase = d }))
+script-phase : (script : Bool) (fd : ℕ) (kept : List ℕ) (q : Answer) (d : Phase)
+    → IsCopyFreeCall (conn_wants script fd (record { kept = kept; q = q; phase = d }))
 script-phase true fd kept q (Reads f) = tt
 script-phase true fd kept q d = tt
 script-phase false fd kept q d = phase fd kept q d
@@ -48,7 +50,8 @@ run job fd w (Runs r s) = step job fd w r s
 run job fd w (Leaves d) = phase fd (in_phase w d).kept (in_phase w d).q d
 run job fd w Finished = tt
 
-quiet-wants : (scripts : Bool) (fd : ℕ) (c : Conn) (r : Option Running) (script : List ℕ) → IsCopyFreeCall (wants scripts fd (record { conn = c; run = r; script = script }))
+quiet-wants : (scripts : Bool) (fd : ℕ) (c : Conn) (r : Option Running) (script : List ℕ)
+    → IsCopyFreeCall (wants scripts fd (record { conn = c; run = r; script = script }))
 quiet-wants scripts fd c None script = script-phase (is_for_script scripts c.q) fd c.kept c.q c.phase
 quiet-wants scripts fd c (Some y) script = by c.q
   where
@@ -56,11 +59,15 @@ quiet-wants scripts fd c (Some y) script = by c.q
     by (serve w) = run (λ g. job_of w script g) fd w y
     by (refuse status head_only close) = tt
 
-quiet-picks : (workers : ℕ) (l : List (Option Client)) (pending_call : PendingCall) (made : Turn) (after : List (Option Client)) → Picks workers l pending_call made after → IsCopyFree made
+quiet-picks : (workers : ℕ) (l : List (Option Client)) (pending_call : PendingCall) (made : Turn)
+    (after : List (Option Client)) → Picks workers l pending_call made after → IsCopyFree made
 quiet-picks workers l Nothing made after p = subst (λ (t : Turn). IsCopyFree t) (sym p.1) tt
 quiet-picks workers l Accepting made after p = subst (λ (t : Turn). IsCopyFree t) (sym p.1) tt
 quiet-picks workers l (At fd) made after p =
-    subst (λ (t : Turn). IsCopyFree t) (sym p.call_is) (quiet-wants (runs_scripts workers) fd p.ready.conn p.ready.run p.ready.script)
+    subst (λ (t : Turn). IsCopyFree t) (sym p.call_is)
+    (quiet-wants (runs_scripts workers) fd p.ready.conn p.ready.run p.ready.script)
 
-pub quiet_turn : (s t : Table) (r : Reply) (received : List ℕ) (made : Turn) → Turns s r received made t → IsCopyFree made
-quiet_turn s t r received made turns = quiet-picks s.workers (filed_by s r received) t.pending_call made t.clients turns.picks
+pub quiet_turn : (s t : Table) (r : Reply) (received : List ℕ) (made : Turn) → Turns s r received made t
+    → IsCopyFree made
+quiet_turn s t r received made turns =
+    quiet-picks s.workers (filed_by s r received) t.pending_call made t.clients turns.picks

@@ -24,7 +24,8 @@ module _ (s : Site) (slots : List (List ℕ)) (xs : List Choice) (rs : List Repl
   abbrev after_reply : List Reply
   after_reply = map (λ t. t.1) hosts.ends.went
 
-  pub failure_free-turns : FailureFreeIsFair → FailureFreeRuns (actor_turns in_rounds worker_turns) → after.resource_failure ≡ false
+  pub failure_free-turns : FailureFreeIsFair → FailureFreeRuns (actor_turns in_rounds worker_turns)
+      → after.resource_failure ≡ false
       → HasFairTurns s slots xs rs turns idle after hosts no_refusal
   failure_free-turns fair runs failure_free =
       let late = runs.machine.never_was hosts.mid after in_turns after_reply hosts.ends.run failure_free in
@@ -34,5 +35,8 @@ module _ (s : Site) (slots : List (List ℕ)) (xs : List Choice) (rs : List Repl
   pub any-turns : AnyIsFair → HasFairTurns s slots xs rs turns idle after hosts any_refusal
   any-turns fair = (fair xs rs, fair in_turns after_reply)
 
-  pub own-turns : OwnIsFair → HasFairTurns s slots xs rs turns idle after hosts (refusals_of s slots xs rs turns idle after hosts)
-  own-turns fair = fair xs in_turns rs after_reply (run-even (actor_turns in_rounds worker_turns) xs rs hosts.first hosts.mid hosts.run)
+  pub own-turns : OwnIsFair
+      → HasFairTurns s slots xs rs turns idle after hosts (refusals_of s slots xs rs turns idle after hosts)
+  own-turns fair =
+      fair xs in_turns rs after_reply (run-even (actor_turns in_rounds worker_turns) xs rs hosts.first hosts.mid
+      hosts.run)

@@ -1,6 +1,7 @@
 -- The machine of a site that was set up meets the fixed conditions of the law over whole worlds: for the server and for
 -- each worker.
-use Rattle.std.proofs.Common.{◌≡◌, ℕ, zero, suc, ◌+◌, ◌-◌, ◌==◌, ◌≤◌, ◌<◌, List, [], length, map, refl, sym, subst, ap, ◌∙◌, arith, Option, Some, None, true, false, Bool}
+use Rattle.std.proofs.Common.{◌≡◌, ℕ, zero, suc, ◌+◌, ◌-◌, ◌==◌, ◌≤◌, ◌<◌, List, [], length, map, refl, sym, subst, ap}
+use Rattle.std.proofs.Common.{◌∙◌, arith, Option, Some, None, true, false, Bool}
 use Rattle.std.specs.Prelude.{◌||◌, not, bytes_eq, nat_lt, option_map, position, slice_index_or, if◌then◌else◌}
 use Rattle.std.specs.List.{list_any, range_with_len, slice_get}
 use Rattle.std.proofs.lemmas.Bool.Decides.{nat_tests}
@@ -25,16 +26,19 @@ use Rattle.flash_lite.specs.Setup.{has_script, is_in_range, is_private, workers_
 use Rattle.flash_lite.specs.SiteState.{file_of, pools_of, state_of}
 use Rattle.flash_lite.specs.declared.site.Site.{Site}
 use Rattle.flash_lite.specs.declared.site.SiteFile.{SiteFile}
-use Rattle.flash_lite.proofs.World.FixedMachine.{called_at, called_there, content_there, file_at, file_there, fixed, may_in, private_there}
+use Rattle.flash_lite.proofs.World.FixedMachine.{called_at, called_there, content_there, file_at, file_there, fixed}
+use Rattle.flash_lite.proofs.World.FixedMachine.{may_in, private_there}
 
 -- ---- numbers
 
 -- a list of numbers has each of them
 listed : (a n d : ℕ) → a ≤ d → d < a + n → list_any (λ e. e == d) (range_with_len a n) ≡ true
 listed a zero d le lt = absurd (omega (arith, le, lt))
-listed a (suc n) d le lt = by (a == d) refl (λ is. listed (a + 1) n d (grind (arith, nat_tests, is, le)) (omega (arith, lt)))
+listed a (suc n) d le lt =
+    by (a == d) refl (λ is. listed (a + 1) n d (grind (arith, nat_tests, is, le)) (omega (arith, lt)))
   where
-    by : (b : Bool) → (a == d) ≡ b → ((a == d) ≡ false → list_any (λ e. e == d) (range_with_len (a + 1) n) ≡ true) → (b || list_any (λ e. e == d) (range_with_len (a + 1) n)) ≡ true
+    by : (b : Bool) → (a == d) ≡ b → ((a == d) ≡ false → list_any (λ e. e == d) (range_with_len (a + 1) n) ≡ true)
+        → (b || list_any (λ e. e == d) (range_with_len (a + 1) n)) ≡ true
     by true is later = refl
     by false is later = later is
 
@@ -78,7 +82,8 @@ pools_there : (private : Bool) (w g : ℕ) → is_numbered (pools_of private w g
 pools_there true w g = refl
 pools_there false w g = refl
 
-vault_closed : (w g d : ℕ) → d < 2 + w → list_any (λ e. e == d) (numbered_or (pools_of true w g) 4 no_pool).domains ≡ false
+vault_closed : (w g d : ℕ) → d < 2 + w → list_any (λ e. e == d) (numbered_or (pools_of true w g) 4 no_pool).domains
+    ≡ false
 vault_closed w g d lt = let e : (2 + w == d) ≡ false = grind (arith, nat_tests, lt) in ap (λ (b : Bool). b || false) e
 
 module _ (s : Site) (slots : List (List ℕ)) where
@@ -92,7 +97,8 @@ module _ (s : Site) (slots : List (List ℕ)) where
   work_read d le lt = listed 1 (1 + s.workers + s.guests) d le (omega (arith, lt))
 
   -- so the server and each worker read what is not private
-  reads : (d : ℕ) → 1 ≤ d → d < 2 + s.workers → (x : SiteFile) → (x.private ≡ true → is_private s ≡ true) → may_read (state_of s slots) d (file_of x).pool ≡ not x.private
+  reads : (d : ℕ) → 1 ≤ d → d < 2 + s.workers → (x : SiteFile) → (x.private ≡ true → is_private s ≡ true)
+      → may_read (state_of s slots) d (file_of x).pool ≡ not x.private
   reads d le lt x vault = by x.private refl
     where
       by : (b : Bool) → x.private ≡ b → may_read (state_of s slots) d (if b then 4 else 1) ≡ not b
@@ -100,13 +106,15 @@ module _ (s : Site) (slots : List (List ℕ)) where
       by false is = site_read d le lt
 
   works_in : (d : ℕ) → 1 ≤ d → d < 2 + s.workers → (q : ℕ) → is_work q ≡ true → may_read (state_of s slots) d q ≡ true
-  works_in d le lt q is = subst (λ (p : ℕ). may_read (state_of s slots) d p ≡ true) (sym (same q 3 is)) (work_read d le lt)
+  works_in d le lt q is =
+      subst (λ (p : ℕ). may_read (state_of s slots) d p ≡ true) (sym (same q 3 is)) (work_read d le lt)
 
   shows_in : (d : ℕ) → 1 ≤ d → d < 2 + s.workers → (q : ℕ) → is_shown q ≡ true → may_read (state_of s slots) d q ≡ true
   shows_in d le lt q is = by (q == 1) refl is
     where
       by : (b : Bool) → (q == 1) ≡ b → (b || is_work q) ≡ true → may_read (state_of s slots) d q ≡ true
-      by true one is = subst (λ (p : ℕ). may_read (state_of s slots) d p ≡ true) (sym (same q 1 one)) (site_read d le lt)
+      by true one is =
+          subst (λ (p : ℕ). may_read (state_of s slots) d p ≡ true) (sym (same q 1 one)) (site_read d le lt)
       by false un is = works_in d le lt q is
 
   -- ---- files
@@ -123,7 +131,8 @@ module _ (s : Site) (slots : List (List ℕ)) where
       let at = file_at s name c.place c.found in
       record {
         one = at.file;
-        same = ap (λ (k : ℕ). file (state_of s slots) k) c.number ∙ file_there s slots c.place at.file at.there at.within;
+        same = ap (λ (k : ℕ). file (state_of s slots) k) c.number
+            ∙ file_there s slots c.place at.file at.there at.within;
         vault = private_there s.files.items c.place at.file at.there;
       }
 
@@ -134,13 +143,15 @@ module _ (s : Site) (slots : List (List ℕ)) where
       by true is = ap (λ (c : Bool). is_numbered (pools_of c s.workers s.guests) 4) (vault is)
       by false is = pools_there (is_private s) s.workers s.guests
 
-  are_files : ((i : ℕ) → i < length s.files.items → length (content (state_of s slots) (i + 1)) ≤ MAX_FILE_BYTES) → AreFiles (state_of s slots)
+  are_files : ((i : ℕ) → i < length s.files.items → length (content (state_of s slots) (i + 1)) ≤ MAX_FILE_BYTES)
+      → AreFiles (state_of s slots)
   are_files short = record {
     lengths = λ f is.
         let at = numbered (map file_of s.files.items) f is in
         let len = length-map s.files.items file_of in
         let within = at.within in
-        subst (λ (k : ℕ). length (content (state_of s slots) k) ≤ MAX_FILE_BYTES) (sym at.number) (short at.place (omega (arith, len, within)));
+        subst (λ (k : ℕ). length (content (state_of s slots) k) ≤ MAX_FILE_BYTES) (sym at.number)
+        (short at.place (omega (arith, len, within)));
     pooled = λ name f called.
         let of = of_site name f called in
         subst (λ (x : File). is_pool (state_of s slots) x.pool ≡ true) (sym of.same) (there of.one of.vault);
@@ -154,28 +165,38 @@ module _ (s : Site) (slots : List (List ℕ)) where
       shown true is = absurd (cc (is))
       shown false is = refl
 
-      held : (f : ℕ) → IsOfSite f → may_read (state_of s slots) d (file (state_of s slots) f).pool ≡ true → is_shown (file (state_of s slots) f).pool ≡ true
+      held : (f : ℕ) → IsOfSite f → may_read (state_of s slots) d (file (state_of s slots) f).pool ≡ true
+          → is_shown (file (state_of s slots) f).pool ≡ true
       held f of may =
-          let open_to : not of.one.private ≡ true = sym (reads d le lt of.one of.vault) ∙ (ap (λ (x : File). may_read (state_of s slots) d x.pool) (sym of.same) ∙ may) in
+          let open_to : not of.one.private ≡ true = sym (reads d le lt of.one of.vault)
+          ∙ (ap (λ (x : File). may_read (state_of s slots) d x.pool) (sym of.same) ∙ may) in
           ap (λ (x : File). is_shown x.pool) of.same ∙ shown of.one.private open_to
 
   -- ---- what a script finds
 
-  seen_there : (d : ℕ) → 1 ≤ d → d < 2 + s.workers → (i : ℕ) (x : SiteFile) → slice_get s.files.items i ≡ Some x → i < length s.files.items → outcome_of (state_of s slots) d (Some (i + 1)) ≡ seen_at s slots (Some i)
+  seen_there : (d : ℕ) → 1 ≤ d → d < 2 + s.workers → (i : ℕ) (x : SiteFile) → slice_get s.files.items i ≡ Some x
+      → i < length s.files.items → outcome_of (state_of s slots) d (Some (i + 1)) ≡ seen_at s slots (Some i)
   seen_there d le lt i x is within =
       let m = state_of s slots in
-      ap (λ (f : File). if may_read m d f.pool then Found (content m (i + 1)) else Failed (Denied f.pool)) (file_there s slots i x is within)
-      ∙ (ap (λ (b : Bool). if b then Found (content m (i + 1)) else Failed (Denied (file_of x).pool)) (reads d le lt x (private_there s.files.items i x is))
+      ap (λ (f : File). if may_read m d f.pool then Found (content m (i + 1)) else Failed (Denied f.pool))
+      (file_there s slots i x is within)
+      ∙ (ap (λ (b : Bool). if b then Found (content m (i + 1)) else Failed (Denied (file_of x).pool))
+      (reads d le lt x (private_there s.files.items i x is))
       ∙ (by x.private ∙ ap (λ (o : Option SiteFile). seen o (slice_index_or slots i [])) (sym is)))
     where
-      by : (b : Bool) → (if not b then Found (content (state_of s slots) (i + 1)) else Failed (Denied (if b then 4 else 1))) ≡ (if b then Failed (Denied 4) else Found (slice_index_or slots i []))
+      by : (b : Bool)
+          → (if not b then Found (content (state_of s slots) (i + 1)) else Failed (Denied (if b then 4 else 1)))
+          ≡ (if b then Failed (Denied 4) else Found (slice_index_or slots i []))
       by true = refl
       by false = ap (λ (l : List ℕ). Found l) (content_there s slots i)
 
-  seen_are : (d : ℕ) → 1 ≤ d → d < 2 + s.workers → (name : List ℕ) → outcome_in (state_of s slots) d name ≡ seen_of s slots name
-  seen_are d le lt name = ap (λ (o : Option ℕ). outcome_of (state_of s slots) d o) (called_there s slots name) ∙ by (position (λ f. bytes_eq f.name.items name) s.files.items) refl
+  seen_are : (d : ℕ) → 1 ≤ d → d < 2 + s.workers → (name : List ℕ)
+      → outcome_in (state_of s slots) d name ≡ seen_of s slots name
+  seen_are d le lt name = ap (λ (o : Option ℕ). outcome_of (state_of s slots) d o) (called_there s slots name)
+      ∙ by (position (λ f. bytes_eq f.name.items name) s.files.items) refl
     where
-      by : (o : Option ℕ) → position (λ f. bytes_eq f.name.items name) s.files.items ≡ o → outcome_of (state_of s slots) d (option_map (λ i. i + 1) o) ≡ seen_at s slots o
+      by : (o : Option ℕ) → position (λ f. bytes_eq f.name.items name) s.files.items ≡ o
+          → outcome_of (state_of s slots) d (option_map (λ i. i + 1) o) ≡ seen_at s slots o
       by None is = refl
       by (Some i) is = let f = file_at s name i is in seen_there d le lt i f.file f.there f.within
 
@@ -185,7 +206,8 @@ module _ (s : Site) (slots : List (List ℕ)) where
   among : (k : ℕ) → k < workers_used s → k + 2 < 2 + s.workers
   among k lt = (let all = used_within s in omega (arith, lt, all))
 
-  pub fixed_for : (refuses : Refusals) → is_in_range s ≡ true → HasAccess (state_of s slots) → ArePlaced (state_of s slots) → AreLow (state_of s slots)
+  pub fixed_for : (refuses : Refusals) → is_in_range s ≡ true → HasAccess (state_of s slots)
+      → ArePlaced (state_of s slots) → AreLow (state_of s slots)
       → ((i : ℕ) → i < length s.files.items → length (content (state_of s slots) (i + 1)) ≤ MAX_FILE_BYTES)
       → IsFixedFor (library_of s slots refuses) (worker_set_of s) (state_of s slots)
   unfolding domain

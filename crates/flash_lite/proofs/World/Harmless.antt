@@ -1,6 +1,7 @@
 -- Harmless choices are site-preserving in a world with the invariant, and properties of a run that ends with turns
 -- apply to the run before them.
-use Rattle.std.proofs.Common.{◌≡◌, ◌<◌, ℕ, zero, suc, ◌+◌, ◌%◌, List, [], ◌∷◌, ◌++◌, length, map, ap, ◌∙◌, refl, sym, subst, arith, Some, true, false, Bool, slice_get, slice_index, append-nil, append_assoc}
+use Rattle.std.proofs.Common.{◌≡◌, ◌<◌, ℕ, zero, suc, ◌+◌, ◌%◌, List, [], ◌∷◌, ◌++◌, length, map, ap, ◌∙◌, refl, sym}
+use Rattle.std.proofs.Common.{subst, arith, Some, true, false, Bool, slice_get, slice_index, append-nil, append_assoc}
 use Rattle.std.specs.List.{AllByRecursion}
 use Rattle.iol_core.specs.State.{State, conn_at}
 use Rattle.iol_core.specs.Text.{bytes_of}
@@ -47,10 +48,12 @@ none-admitted d k p is = refl
 
 -- ---- a domain behind those of the processes
 
-process_slot-there : {W : Type 0} (workers : List (ProcessSlot W)) (i : ℕ) (s : ProcessSlot (Actor W)) → slice_get (map (λ w. as_actor w) workers) i ≡ Some s
+process_slot-there : {W : Type 0} (workers : List (ProcessSlot W)) (i : ℕ) (s : ProcessSlot (Actor W))
+    → slice_get (map (λ w. as_actor w) workers) i ≡ Some s
     → (process_slot : ProcessSlot W) × (slice_get workers i ≡ Some process_slot) × (s.by ≡ process_slot.by)
 process_slot-there [] i s is = absurd (cc (is))
-process_slot-there {W = W} (x ∷ xs) zero s is = (x, refl, ap (λ (v : ProcessSlot (Actor W)). v.by) (sym (some-inj (as_actor x) s is)))
+process_slot-there {W = W} (x ∷ xs) zero s is =
+    (x, refl, ap (λ (v : ProcessSlot (Actor W)). v.by) (sym (some-inj (as_actor x) s is)))
 process_slot-there (x ∷ xs) (suc i) s is = process_slot-there xs i s is
 
 fair-parts : (refuses : Refusals) (x : Choice) (r : Reply) (xs : List Choice) (rs : List Reply)
@@ -59,15 +62,23 @@ fair-parts refuses (choice.Turn by) r xs rs fair = ((fair.0, tt), fair.1)
 fair-parts refuses (choice.Outside e) r xs rs fair = (tt, fair)
 
 module _ (site_contents : SiteContents) (worker_set : WorkerSet) where
-  sits-below : (xs : List Choice) (rs : List Reply) (w : Stage State (Actor worker_set.Worker)) → Consistent site_contents worker_set xs rs w
-      → (i : ℕ) (s : ProcessSlot (Actor worker_set.Worker)) → slice_get w.process_slots i ≡ Some s → s.by < server + worker_set.count + 1
-  sits-below xs rs w consistent i s is = below i (sym (ap (λ (l : List (ProcessSlot (Actor worker_set.Worker))). slice_get l i) consistent.in_slots.process_slots) ∙ is)
+  sits-below : (xs : List Choice) (rs : List Reply) (w : Stage State (Actor worker_set.Worker))
+      → Consistent site_contents worker_set xs rs w
+      → (i : ℕ) (s : ProcessSlot (Actor worker_set.Worker)) → slice_get w.process_slots i ≡ Some s
+      → s.by < server + worker_set.count + 1
+  sits-below xs rs w consistent i s is =
+      below i
+      (sym (ap (λ (l : List (ProcessSlot (Actor worker_set.Worker))). slice_get l i) consistent.in_slots.process_slots)
+      ∙ is)
     where
       first : ProcessSlot (Actor worker_set.Worker)
       first = record { by = server; process = Serving consistent.in_slots.state; last = consistent.in_slots.last }
 
-      below : (i : ℕ) → slice_get (first ∷ map (λ v. as_actor v) consistent.in_slots.workers) i ≡ Some s → s.by < server + worker_set.count + 1
-      below zero is = (let e : s.by ≡ server = ap (λ (v : ProcessSlot (Actor worker_set.Worker)). v.by) (sym (some-inj first s is)) in omega (arith, e))
+      below : (i : ℕ) → slice_get (first ∷ map (λ v. as_actor v) consistent.in_slots.workers) i ≡ Some s
+          → s.by < server + worker_set.count + 1
+      below zero is =
+          (let e : s.by ≡ server =
+          ap (λ (v : ProcessSlot (Actor worker_set.Worker)). v.by) (sym (some-inj first s is)) in omega (arith, e))
       below (suc i) is =
           let at = process_slot-there consistent.in_slots.workers i s is in
           let job_queue = consistent.in_slots.serves.fit.job_queues.by i at.0 at.1 in
@@ -76,8 +87,10 @@ module _ (site_contents : SiteContents) (worker_set : WorkerSet) where
           omega (arith, few, own)
 
   module _ (stays : SiteStays) where
-    step-site_preserving : (xs : List Choice) (rs : List Reply) (x : Choice) (r : Reply) (w after : Stage State (Actor worker_set.Worker))
-        → WorldStep copying (actor_turns in_rounds worker_set.turns) w x r after → IsHarmless worker_set.count x → Consistent site_contents worker_set xs rs w → IsSitePreserving w x after
+    step-site_preserving : (xs : List Choice) (rs : List Reply) (x : Choice) (r : Reply)
+        (w after : Stage State (Actor worker_set.Worker))
+        → WorldStep copying (actor_turns in_rounds worker_set.turns) w x r after → IsHarmless worker_set.count x
+        → Consistent site_contents worker_set xs rs w → IsSitePreserving w x after
     step-site_preserving xs rs (choice.Outside (event.Call d k)) r w after step harmless consistent = (
       nobody,
       stays site_contents.finds w.machine after.machine (event.Call d k) r consistent.fixed.site step.step
@@ -92,9 +105,12 @@ module _ (site_contents : SiteContents) (worker_set : WorkerSet) where
             absurd (omega (arith, low, high, e))
     step-site_preserving xs rs x r w after step harmless consistent = tt
 
-    pub all-site_preserving : (keeps : StepKeepsConsistency in_rounds worker_set) (past xs : List Choice) (ps rs : List Reply)
-        (w after : Stage State (Actor worker_set.Worker)) → (run : WorldRun copying (actor_turns in_rounds worker_set.turns) w xs rs after)
-        → Consistent site_contents worker_set past ps w → AreFair site_contents.refuses xs rs → AllByRecursion (λ x. IsHarmless worker_set.count x) xs
+    pub all-site_preserving : (keeps : StepKeepsConsistency in_rounds worker_set) (past xs : List Choice)
+        (ps rs : List Reply)
+        (w after : Stage State (Actor worker_set.Worker))
+        → (run : WorldRun copying (actor_turns in_rounds worker_set.turns) w xs rs after)
+        → Consistent site_contents worker_set past ps w → AreFair site_contents.refuses xs rs
+        → AllByRecursion (λ x. IsHarmless worker_set.count x) xs
         → AreSitePreserving (actor_turns in_rounds worker_set.turns) w xs rs after run
     all-site_preserving keeps past [] ps rs w after run consistent fair harmless = tt
     all-site_preserving keeps past (x ∷ xs) ps [] w after run consistent fair harmless = tt
@@ -110,16 +126,20 @@ module _ (site_contents : SiteContents) (worker_set : WorkerSet) where
 
 past-rounds : (ds : List ℕ) (i : ℕ) (xs : List Choice) (rs : List Reply) (ts : List Went) → length xs ≡ length rs
     → past_of (xs ++ rounds ds i (length ts)) (rs ++ map (λ t. t.1) ts) ≡ past_of xs rs
-past-rounds ds i xs rs [] even = ap (λ (l : List Choice). past_of l (rs ++ [])) (append-nil xs) ∙ ap (λ (l : List Reply). past_of xs l) (append-nil rs)
+past-rounds ds i xs rs [] even = ap (λ (l : List Choice). past_of l (rs ++ [])) (append-nil xs)
+    ∙ ap (λ (l : List Reply). past_of xs l) (append-nil rs)
 past-rounds ds i xs rs (t ∷ ts) even =
     let by : ℕ = slice_index ds (i % length ds) in
     let rest : List Choice = rounds ds (suc i) (length ts) in
     let after_reply : List Reply = map (λ u. u.1) ts in
     ap (λ (l : List Choice). past_of l (rs ++ t.1 ∷ after_reply)) (sym (append_assoc xs (choice.Turn by ∷ []) rest))
-    ∙ (ap (λ (l : List Reply). past_of ((xs ++ choice.Turn by ∷ []) ++ rest) l) (sym (append_assoc rs (t.1 ∷ []) after_reply))
-    ∙ (past-rounds ds (suc i) (xs ++ choice.Turn by ∷ []) (rs ++ t.1 ∷ []) ts (even-more xs rs (choice.Turn by) t.1 even) ∙ past-turn xs rs by t.1 even))
+    ∙ (ap (λ (l : List Reply). past_of ((xs ++ choice.Turn by ∷ []) ++ rest) l)
+    (sym (append_assoc rs (t.1 ∷ []) after_reply))
+    ∙ (past-rounds ds (suc i) (xs ++ choice.Turn by ∷ []) (rs ++ t.1 ∷ []) ts
+    (even-more xs rs (choice.Turn by) t.1 even) ∙ past-turn xs rs by t.1 even))
 
-pub run-even : {P : Type 0} (turns : TransitionRelation P) (xs : List Choice) (rs : List Reply) (w after : Stage State P) → WorldRun copying turns w xs rs after
+pub run-even : {P : Type 0} (turns : TransitionRelation P) (xs : List Choice) (rs : List Reply)
+    (w after : Stage State P) → WorldRun copying turns w xs rs after
     → length xs ≡ length rs
 run-even turns [] [] w after run = refl
 run-even turns (x ∷ xs) (r ∷ rs) w after run = ap suc (run-even turns xs rs run.0 after run.2)
@@ -132,8 +152,10 @@ module _ (site_contents : SiteContents) (worker_set : WorkerSet) where
       → IsAnswer site_contents (p.came c) (p.sent c ++ bytes_of (conn_at m c).outgoing)
 
   -- what is right of a run that ends with turns is so of what was before them
-  pub right-before : (ds : List ℕ) (xs : List Choice) (rs : List Reply) (ts : List Went) (idle : Bool) (after : Stage State (Actor worker_set.Worker))
-      → length xs ≡ length rs → IsRight worker_set site_contents (xs ++ rounds ds 0 (length ts)) (rs ++ map (λ t. t.1) ts) idle after
+  pub right-before : (ds : List ℕ) (xs : List Choice) (rs : List Reply) (ts : List Went) (idle : Bool)
+      (after : Stage State (Actor worker_set.Worker))
+      → length xs ≡ length rs
+      → IsRight worker_set site_contents (xs ++ rounds ds 0 (length ts)) (rs ++ map (λ t. t.1) ts) idle after
       → IsRight worker_set site_contents xs rs idle after
   right-before ds xs rs ts idle after even right =
       let same = past-rounds ds 0 xs rs ts even in
@@ -149,8 +171,10 @@ module _ (site_contents : SiteContents) (worker_set : WorkerSet) where
             last = s.last;
             workers = s.workers;
             process_slots = s.process_slots;
-            serves = subst (λ (p : Past). IsServing site_contents worker_set after.machine p s.state s.last s.workers) same s.serves;
+            serves = subst (λ (p : Past). IsServing site_contents worker_set after.machine p s.state s.last s.workers)
+                same s.serves;
           };
         };
-        done = λ is. subst (λ (p : Past). IsDone site_contents worker_set.count after.machine p s.state.clients) same (right.done is);
+        done = λ is. subst (λ (p : Past). IsDone site_contents worker_set.count after.machine p s.state.clients) same
+            (right.done is);
       }

@@ -23,7 +23,8 @@ pub world_new : (s : Site) (slots : List (List ℕ)) (old sys : SystemState) (w 
     → LeavesSite s (machine_of old) (machine_of sys)
     → (machine_of sys).slots ≡ (machine_of old).slots
     → IsNewAt s (machine_of old) (machine_of sys)
-    → AreActors s ps → w.machine ≡ sys → IsPermutation (map process_slot_of ps) w.process_slots → IsRising (domains_of w.process_slots) → w.resource_failure ≡ false
+    → AreActors s ps → w.machine ≡ sys → IsPermutation (map process_slot_of ps) w.process_slots
+    → IsRising (domains_of w.process_slots) → w.resource_failure ≡ false
     → IsNewWorld s slots (copied w)
 world_new s slots old sys w ps begins placed leaves same new procs machine process_slots rises failure_free =
     let kept : (machine_of sys).slots ≡ slots = same ∙ ap (λ (m : State). m.slots) begins in
@@ -32,7 +33,9 @@ world_new s slots old sys w ps begins placed leaves same new procs machine proce
       machine = is ∙ ((leaves slots begins).state ∙ ap (λ (l : List (List ℕ)). state_of s l) kept);
       process_slots = in_slots;
       failure_free = failure_free;
-      new = λ refuses. new (copied w) is in_slots slots refuses begins (subst (λ (m : State). ArePlaced m) begins placed).slots;
+      new =
+          λ refuses. new (copied w) is in_slots slots refuses begins
+          (subst (λ (m : State). ArePlaced m) begins placed).slots;
     }
 
 pub hosted : (s : Site) (slots : List (List ℕ)) (xs : List Choice) (rs : List Reply) (turns : ℕ) (idle : Bool)
@@ -40,4 +43,5 @@ pub hosted : (s : Site) (slots : List (List ℕ)) (xs : List Choice) (rs : List 
     → WorldRun copying (actor_turns in_rounds worker_turns) w xs rs mid
     → Idles copying (actor_turns in_rounds worker_turns) mid turns idle after
     → Hosts s slots xs rs turns idle after
-hosted s slots xs rs turns idle w mid after new run ends = record { first = w; new = new; mid = mid; run = run; ends = ends }
+hosted s slots xs rs turns idle w mid after new run ends =
+    record { first = w; new = new; mid = mid; run = run; ends = ends }

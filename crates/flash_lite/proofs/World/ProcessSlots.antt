@@ -1,5 +1,6 @@
 -- The process slots of a site's processes: in a world they are in ascending order of domains, which is the given order.
-use Rattle.std.proofs.Common.{◌≡◌, ◌∙◌, inl, inr, ℕ, suc, ◌<◌, List, [], ◌∷◌, map, refl, sym, ap, subst, arith, IsPermutation}
+use Rattle.std.proofs.Common.{◌≡◌, ◌∙◌, inl, inr, ℕ, suc, ◌<◌, List, [], ◌∷◌, map, refl, sym, ap, subst, arith}
+use Rattle.std.proofs.Common.{IsPermutation}
 use Rattle.std.specs.Prelude.{◌⊎◌}
 use Rattle.std.specs.List.{AllByRecursion}
 use Rattle.std.proofs.lemmas.List.Elements.{All-from_recursion, recursion_from_All}
@@ -33,12 +34,15 @@ module _ {X : Type 0} where
   kept_in : (xs ys : List X) (y : X) → IsPermutation xs ys → IsIn y ys → IsIn y xs
   kept_in xs ys y moved at =
       let P : X → Type 0 = λ x. IsIn x xs in
-      each_in P ys y (recursion_from_All P ys (All-permutation P xs ys moved (All-from_recursion P xs (all_in xs xs (λ x in_it. in_it))))) at
+      each_in P ys y
+      (recursion_from_All P ys
+      (All-permutation P xs ys moved (All-from_recursion P xs (all_in xs xs (λ x in_it. in_it))))) at
 
 -- ---- in one order, by rising domains
 
 module _ {P : Type 0} where
-  rest_rises : (s : ProcessSlot P) (ss : List (ProcessSlot P)) → IsRising (domains_of (s ∷ ss)) → IsRising (domains_of ss)
+  rest_rises : (s : ProcessSlot P) (ss : List (ProcessSlot P)) → IsRising (domains_of (s ∷ ss))
+      → IsRising (domains_of ss)
   rest_rises s [] rises = tt
   rest_rises s (t ∷ ss) rises = rises.1
 
@@ -85,13 +89,20 @@ domains-process_slots : (ps : List (ℕ × Actor Worker)) → domains_of (map pr
 domains-process_slots [] = refl
 domains-process_slots (p ∷ ps) = ap (λ (l : List ℕ). p.0 ∷ l) (domains-process_slots ps)
 
-pub in_slots_by : (s : Site) (ps : List (ℕ × Actor Worker)) (process_slots : List (ProcessSlot (Actor Worker))) → AreActors s ps
-    → IsPermutation (map process_slot_of ps) process_slots → IsRising (domains_of process_slots) → AreInSlots s process_slots
+pub in_slots_by : (s : Site) (ps : List (ℕ × Actor Worker)) (process_slots : List (ProcessSlot (Actor Worker)))
+    → AreActors s ps
+    → IsPermutation (map process_slot_of ps) process_slots → IsRising (domains_of process_slots)
+    → AreInSlots s process_slots
 in_slots_by s ps process_slots are moved rises =
-    let given : IsRising (domains_of (map process_slot_of ps)) = subst (λ (l : List ℕ). IsRising l) (sym (domains-process_slots ps ∙ domains_are s ps are)) (range_rises 1 (suc (workers_used s))) in
+    let given : IsRising (domains_of (map process_slot_of ps)) =
+    subst (λ (l : List ℕ). IsRising l) (sym (domains-process_slots ps ∙ domains_are s ps are))
+    (range_rises 1 (suc (workers_used s))) in
     record {
       actors = ps;
       are = are;
-      process_slots_are = same_order (map process_slot_of ps) process_slots given rises (λ u at. kept_in (map process_slot_of ps) process_slots u moved at)
-          (λ u at. kept_in process_slots (map process_slot_of ps) u (IsPermutation-sym (map process_slot_of ps) process_slots moved) at);
+      process_slots_are =
+          same_order (map process_slot_of ps) process_slots given rises
+          (λ u at. kept_in (map process_slot_of ps) process_slots u moved at)
+          (λ u at. kept_in process_slots (map process_slot_of ps) u
+          (IsPermutation-sym (map process_slot_of ps) process_slots moved) at);
     }

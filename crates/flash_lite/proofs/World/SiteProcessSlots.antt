@@ -39,9 +39,11 @@ record AreSitting (at : ℕ → ℕ) (actors : List (ℕ × Actor Worker)) : Typ
   pub process_slots : List (ProcessSlot Worker)
   pub are : map process_slot_of actors ≡ map (λ w. as_actor w) process_slots
   pub many : length process_slots ≡ length actors
-  pub each : (k : ℕ) (process_slot : ProcessSlot Worker) → slice_get process_slots k ≡ Some process_slot → SitsNew (at k) process_slot
+  pub each : (k : ℕ) (process_slot : ProcessSlot Worker) → slice_get process_slots k ≡ Some process_slot
+      → SitsNew (at k) process_slot
 
-one_more : (at : ℕ → ℕ) (actor : ℕ × Actor Worker) (actors : List (ℕ × Actor Worker)) → IsWorkerAt (at 0) actor → AreSitting (λ k. at (suc k)) actors → AreSitting at (actor ∷ actors)
+one_more : (at : ℕ → ℕ) (actor : ℕ × Actor Worker) (actors : List (ℕ × Actor Worker)) → IsWorkerAt (at 0) actor
+    → AreSitting (λ k. at (suc k)) actors → AreSitting at (actor ∷ actors)
 one_more at (d, Serving s) actors is rest = absurd is
 one_more at (d, Working w) actors is rest = record {
   process_slots = first ∷ rest.process_slots;
@@ -53,7 +55,8 @@ one_more at (d, Working w) actors is rest = record {
     first : ProcessSlot Worker
     first = process_slot_of (d, w)
 
-    by : (k : ℕ) (process_slot : ProcessSlot Worker) → slice_get (first ∷ rest.process_slots) k ≡ Some process_slot → SitsNew (at k) process_slot
+    by : (k : ℕ) (process_slot : ProcessSlot Worker) → slice_get (first ∷ rest.process_slots) k ≡ Some process_slot
+        → SitsNew (at k) process_slot
     by zero process_slot there = record {
       worker = w;
       new = is.1;
@@ -61,8 +64,10 @@ one_more at (d, Working w) actors is rest = record {
     }
     by (suc k) process_slot there = rest.each k process_slot there
 
-sitting : (at : ℕ → ℕ) (actors : List (ℕ × Actor Worker)) → ((k : ℕ) (p : ℕ × Actor Worker) → slice_get actors k ≡ Some p → IsWorkerAt (at k) p) → AreSitting at actors
-sitting at [] each = record { process_slots = []; are = refl; many = refl; each = λ k process_slot is. absurd (cc (is)) }
+sitting : (at : ℕ → ℕ) (actors : List (ℕ × Actor Worker))
+    → ((k : ℕ) (p : ℕ × Actor Worker) → slice_get actors k ≡ Some p → IsWorkerAt (at k) p) → AreSitting at actors
+sitting at [] each =
+    record { process_slots = []; are = refl; many = refl; each = λ k process_slot is. absurd (cc (is)) }
 sitting at (p ∷ ps) each = one_more at p ps (each 0 p refl) (sitting (λ k. at (suc k)) ps (λ k q is. each (suc k) q is))
 
 -- ---- of a site
@@ -71,11 +76,15 @@ sitting at (p ∷ ps) each = one_more at p ps (each 0 p refl) (sitting (λ k. at
 pub record HasWorkerSet (s : Site) (process_slots : List (ProcessSlot (Actor Worker))) : Type 0 where
   pub workers : List (ProcessSlot Worker)
   pub process_slots_are : process_slots ≡ process_slots_of (server_with (workers_used s)) reply.Done workers
-  pub there : (k : ℕ) → k < workers_used s → (process_slot : ProcessSlot Worker) × (slice_get workers k ≡ Some process_slot)
-  pub number : (k : ℕ) (process_slot : ProcessSlot Worker) → slice_get workers k ≡ Some process_slot → k < workers_used s
-  pub each : (k : ℕ) (process_slot : ProcessSlot Worker) → slice_get workers k ≡ Some process_slot → SitsNew k process_slot
+  pub there : (k : ℕ) → k < workers_used s → (process_slot : ProcessSlot Worker)
+      × (slice_get workers k ≡ Some process_slot)
+  pub number : (k : ℕ) (process_slot : ProcessSlot Worker) → slice_get workers k ≡ Some process_slot
+      → k < workers_used s
+  pub each : (k : ℕ) (process_slot : ProcessSlot Worker) → slice_get workers k ≡ Some process_slot
+      → SitsNew k process_slot
 
-pub has_worker_set : (s : Site) (process_slots : List (ProcessSlot (Actor Worker))) → AreInSlots s process_slots → HasWorkerSet s process_slots
+pub has_worker_set : (s : Site) (process_slots : List (ProcessSlot (Actor Worker))) → AreInSlots s process_slots
+    → HasWorkerSet s process_slots
 has_worker_set s process_slots h =
     let all = sitting (λ k. k) h.are.workers h.are.each in
     let many : length all.process_slots ≡ workers_used s = all.many ∙ h.are.many in
@@ -83,8 +92,11 @@ has_worker_set s process_slots h =
       workers = all.process_slots;
       process_slots_are = h.process_slots_are
           ∙ (ap (λ (l : List (ℕ × Actor Worker)). map process_slot_of l) h.are.are
-          ∙ ap (λ (l : List (ProcessSlot (Actor Worker))). process_slot_of (server, Serving (server_with (workers_used s))) ∷ l) all.are);
+          ∙ ap
+          (λ (l : List (ProcessSlot (Actor Worker))). process_slot_of
+          (server, Serving (server_with (workers_used s))) ∷ l) all.are);
       there = λ k lt. has_place all.process_slots k (omega (arith, lt, many));
-      number = λ k process_slot is. (let lt = place_within all.process_slots k process_slot is in omega (arith, lt, many));
+      number = λ k process_slot is. (let lt = place_within all.process_slots k process_slot is in
+          omega (arith, lt, many));
       each = all.each;
     }

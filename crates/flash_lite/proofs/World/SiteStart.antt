@@ -1,6 +1,7 @@
 -- The start of the world of a site over any store, the reasons for its refusal, and its run as a chain of the system's
 -- steps.
-use Rattle.std.proofs.Common.{◌≡◌, ◌∙◌, inl, inr, ℕ, List, [], ◌∷◌, ◌++◌, map, sym, ap, subst, Bool, false, IsPermutation}
+use Rattle.std.proofs.Common.{◌≡◌, ◌∙◌, inl, inr, ℕ, List, [], ◌∷◌, ◌++◌, map, sym, ap, subst, Bool, false}
+use Rattle.std.proofs.Common.{IsPermutation}
 use Rattle.std.specs.Prelude.{◌*◌, replicate}
 use Rattle.iol_back.specs.Disk.{Disk}
 use Rattle.iol_core.specs.declared.configuration.Config.{Config}
@@ -31,7 +32,8 @@ use Rattle.flash_lite.proofs.World.ProcessSlots.{in_slots_by}
 
 -- ---- a new system
 
-pub begun_by : (config : Config) (store : Disk) (s : SystemState) → machine_of s ≡ new_state (slots_of s.disk.slots) → s.disk ≡ store
+pub begun_by : (config : Config) (store : Disk) (s : SystemState) → machine_of s ≡ new_state (slots_of s.disk.slots)
+    → s.disk ≡ store
     → s.kernel.store.arena.entries ≡ replicate (config.chunks * CHUNK_PAGES) no_entry
     → s.kernel.store.arena.taken ≡ replicate config.chunks false → s.kernel.store.arena.limit ≡ config.gen_limit
     → s.kernel.sums.entries ≡ [] → s.kernel.sums.limit ≡ config.sums → s.kernel.cache.orders ≡ [] → IsSafe s
@@ -50,22 +52,26 @@ begun_by config store s machine disk entries taken limit sums sum_limit orders s
 
 -- ---- a world that starts
 
-pub starts_by : (config : Config) (store : Disk) (s : Site) (begun sys : SystemState) (w : Stage SystemState (Actor Worker))
+pub starts_by : (config : Config) (store : Disk) (s : Site) (begun sys : SystemState)
+    (w : Stage SystemState (Actor Worker))
     (ps : List (ℕ × Actor Worker)) → IsNewSystem config store begun → IsMade s begun sys
     → LeavesSite s (machine_of begun) (machine_of sys) → AreActors s ps → w.machine ≡ sys
-    → IsPermutation (map process_slot_of ps) w.process_slots → IsRising (domains_of w.process_slots) → w.resource_failure ≡ false → Starts config store s w
+    → IsPermutation (map process_slot_of ps) w.process_slots → IsRising (domains_of w.process_slots)
+    → w.resource_failure ≡ false → Starts config store s w
 starts_by config store s begun sys w ps new made leaves procs machine process_slots rises failure_free = record {
   begun = begun;
   new = new;
   made = subst (λ (x : SystemState). IsMade s begun x) (sym machine) made;
-  site = subst (λ (x : SystemState). IsSetUp s (machine_of x)) (sym machine) (leaves (slots_of store.slots) new.machine);
+  site =
+      subst (λ (x : SystemState). IsSetUp s (machine_of x)) (sym machine) (leaves (slots_of store.slots) new.machine);
   process_slots = in_slots_by s ps w.process_slots procs process_slots rises;
   failure_free = failure_free;
 }
 
 -- ---- none, since a call of the site was refused
 
-pub none_of_setup : (config : Config) (store : Disk) (s : Site) (x : Refusal) (begun after : SystemState) → IsNewSystem config store begun
+pub none_of_setup : (config : Config) (store : Disk) (s : Site) (x : Refusal) (begun after : SystemState)
+    → IsNewSystem config store begun
     → WhyRefused s x begun after → WhyNone config store s x
 none_of_setup config store s x begun after new why = elim why [
   | inl memory ↦ inr (inl memory.0)
@@ -74,9 +80,11 @@ none_of_setup config store s x begun after new why = elim why [
 
 -- ---- what it does
 
-chain_on : (old mid new : SystemState) (es fs : List Event) (rs ss : List Reply) → Chain old es rs mid → Chain mid fs ss new → Chain old (es ++ fs) (rs ++ ss) new
+chain_on : (old mid new : SystemState) (es fs : List Event) (rs ss : List Reply) → Chain old es rs mid
+    → Chain mid fs ss new → Chain old (es ++ fs) (rs ++ ss) new
 chain_on old mid new [] fs [] ss first next = subst (λ (h : SystemState). Chain h fs ss new) first next
-chain_on old mid new (e ∷ es) fs (r ∷ rs) ss first next = (first.0, first.1, chain_on first.0 mid new es fs rs ss first.2 next)
+chain_on old mid new (e ∷ es) fs (r ∷ rs) ss first next =
+    (first.0, first.1, chain_on first.0 mid new es fs rs ss first.2 next)
 chain_on old mid new [] fs (r ∷ rs) ss first next = absurd first
 chain_on old mid new (e ∷ es) fs [] ss first next = absurd first
 
@@ -90,13 +98,15 @@ joined old mid new a b = record {
 made_events : (s : Site) (old new : SystemState) → IsMade s old new → HasEvents old new
 made_events s old new made = record { events = calls s; replies = made.replies; chain = made.chain }
 
-pub hosted_over : (config : Config) (store : Disk) (s : Site) (xs : List Choice) (rs : List Reply) (turns : ℕ) (idle : Bool)
+pub hosted_over : (config : Config) (store : Disk) (s : Site) (xs : List Choice) (rs : List Reply) (turns : ℕ)
+    (idle : Bool)
     (first mid after : Stage SystemState (Actor Worker)) → Starts config store s first
     → WorldRun sharing (actor_turns in_rounds worker_turns) first xs rs mid → HasEvents first.machine mid.machine
     → Idles sharing (actor_turns in_rounds worker_turns) mid turns idle after → HasEvents mid.machine after.machine
     → HostsOver config store s xs rs turns idle after
 hosted_over config store s xs rs turns idle first mid after starts run ran ends went =
-    let events : HasEvents starts.begun after.machine = joined starts.begun first.machine after.machine (made_events s starts.begun first.machine starts.made)
+    let events : HasEvents starts.begun after.machine =
+    joined starts.begun first.machine after.machine (made_events s starts.begun first.machine starts.made)
     (joined first.machine mid.machine after.machine ran went) in record {
       first = first;
       starts = starts;

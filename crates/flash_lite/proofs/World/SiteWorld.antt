@@ -48,20 +48,26 @@ module _ (orders : EachStepKeepsOrder) (descriptors : DescriptorsComeByReplies) 
         }
 
     -- each worker waits at its job queue
-    free_at : (k : ℕ) → k < workers_used s → (process_slot : ProcessSlot Worker) → SitsNew k process_slot → IsFreeFor is_shown (state_of s slots) k process_slot
-    free_at k lt process_slot sits = subst (λ (x : ProcessSlot Worker). IsFreeFor is_shown (state_of s slots) k x) (sym sits.here) (record {
-      free = stay_free.new (state_of s slots) (worker_domain k) sits.worker sits.new;
-      none = no_job k lt;
-      default = ap (λ (d : Domain Text). is_shown (unwrap_or d.default 0)) (worker_there s slots k (within k lt));
-    })
+    free_at : (k : ℕ) → k < workers_used s → (process_slot : ProcessSlot Worker) → SitsNew k process_slot
+        → IsFreeFor is_shown (state_of s slots) k process_slot
+    free_at k lt process_slot sits =
+        subst (λ (x : ProcessSlot Worker). IsFreeFor is_shown (state_of s slots) k x) (sym sits.here) (record {
+          free = stay_free.new (state_of s slots) (worker_domain k) sits.worker sits.new;
+          none = no_job k lt;
+          default = ap (λ (d : Domain Text). is_shown (unwrap_or d.default 0)) (worker_there s slots k (within k lt));
+        })
 
     -- the server has no aggregate
     no_aggregate : (a : ℕ) → readable_at (state_of s slots) server a ≡ None
     unfolding domain
     no_aggregate a = refl
 
-    new_by : (process_slots : List (ProcessSlot (Actor Worker))) (resource_failure : Bool) (refuses : Refusals) → is_in_range s ≡ true → Led (Just slots) s slots (state_of s slots) → HasWorkerSet s process_slots → IsOrderly (state_of s slots)
-        → HasAccess (state_of s slots) → ArePlaced (state_of s slots) → AreLow (state_of s slots) → IsNew (library_of s slots refuses) (worker_set_of s) (record { machine = state_of s slots; process_slots = process_slots; resource_failure = resource_failure })
+    new_by : (process_slots : List (ProcessSlot (Actor Worker))) (resource_failure : Bool) (refuses : Refusals)
+        → is_in_range s ≡ true → Led (Just slots) s slots (state_of s slots) → HasWorkerSet s process_slots
+        → IsOrderly (state_of s slots)
+        → HasAccess (state_of s slots) → ArePlaced (state_of s slots) → AreLow (state_of s slots)
+        → IsNew (library_of s slots refuses) (worker_set_of s)
+        (record { machine = state_of s slots; process_slots = process_slots; resource_failure = resource_failure })
     unfolding conn_at
     new_by process_slots resource_failure refuses fits l has order access placed low = record {
       order = order;
@@ -70,7 +76,11 @@ module _ (orders : EachStepKeepsOrder) (descriptors : DescriptorsComeByReplies) 
       process_slots = has.process_slots_are;
       job_queues = record {
         in_slots = has.there;
-        by = λ k process_slot is. (has.number k process_slot is, ap (λ (x : ProcessSlot Worker). x.by) (has.each k process_slot is).here);
+        by =
+            λ k process_slot is. (
+              has.number k process_slot is,
+              ap (λ (x : ProcessSlot Worker). x.by) (has.each k process_slot is).here,
+            );
         job_queues = λ k lt. (has_job_queue s slots k (within k lt)).writes;
       };
       free = λ k process_slot is. free_at k (has.number k process_slot is) process_slot (has.each k process_slot is);
@@ -80,14 +90,24 @@ module _ (orders : EachStepKeepsOrder) (descriptors : DescriptorsComeByReplies) 
 
   pub set_up_a_new_world : SetUpIsANewWorld
   set_up_a_new_world s old w fits set in_slots slots refuses is enough =
-      let run : Run (new_state slots) (calls s) set.replies w.machine = subst (λ (m : State). Run m (calls s) set.replies w.machine) is set.run in
+      let run : Run (new_state slots) (calls s) set.replies w.machine =
+      subst (λ (m : State). Run m (calls s) set.replies w.machine) is set.run in
       let l = led_by s slots old w.machine fits set is in
-      let order = run_keeps IsOrderly orders.step (new_state slots) w.machine (calls s) set.replies (orders.new slots) run in
-      let access = run_keeps HasAccess orders.access (new_state slots) w.machine (calls s) set.replies (orders.new_access slots) run in
-      let placed = run_keeps ArePlaced orders.places (new_state slots) w.machine (calls s) set.replies (orders.new_places slots enough) run in
+      let order = run_keeps IsOrderly orders.step (new_state slots) w.machine (calls s) set.replies (orders.new slots)
+      run in
+      let access =
+      run_keeps HasAccess orders.access (new_state slots) w.machine (calls s) set.replies (orders.new_access slots)
+      run in
+      let placed =
+      run_keeps ArePlaced orders.places (new_state slots) w.machine (calls s) set.replies
+      (orders.new_places slots enough) run in
       let low = descriptors.reached slots w.machine (calls s) set.replies run in
-      subst (λ (m : State). Led (Just slots) s slots m → IsOrderly m → HasAccess m → ArePlaced m → AreLow m → IsNew (library_of s slots refuses) (worker_set_of s) (record { machine = m; process_slots = w.process_slots; resource_failure = w.resource_failure })) (sym l.state)
-      (λ led o a p d. new_by s slots w.process_slots w.resource_failure refuses fits led (has_worker_set s w.process_slots in_slots) o a p d) l order access placed low
+      subst (λ (m : State). Led (Just slots) s slots m → IsOrderly m → HasAccess m → ArePlaced m → AreLow m
+      → IsNew (library_of s slots refuses) (worker_set_of s)
+      (record { machine = m; process_slots = w.process_slots; resource_failure = w.resource_failure }))
+      (sym l.state)
+      (λ led o a p d. new_by s slots w.process_slots w.resource_failure refuses fits led
+      (has_worker_set s w.process_slots in_slots) o a p d) l order access placed low
 
 -- ---- hosted by a system
 

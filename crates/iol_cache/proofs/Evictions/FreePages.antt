@@ -1,5 +1,6 @@
 -- Free pages and pinned ones.
-use Rattle.std.proofs.Common.{inl, inr, ◌≡◌, ℕ, suc, ◌+◌, ◌<◌, ◌≤◌, Bool, true, false, cond, List, [], ◌∷◌, length, refl, sym, ap, ◌∙◌, arith, Some}
+use Rattle.std.proofs.Common.{inl, inr, ◌≡◌, ℕ, suc, ◌+◌, ◌<◌, ◌≤◌, Bool, true, false, cond, List, [], ◌∷◌, length}
+use Rattle.std.proofs.Common.{refl, sym, ap, ◌∙◌, arith, Some}
 use Rattle.std.specs.Prelude.{not, nat_lt, ◌||◌, ◌&&◌}
 use Rattle.std.specs.List.{filter, flat_map}
 use Rattle.std.proofs.lemmas.Bool.{cases_eq}
@@ -30,18 +31,28 @@ free_is (Tail p) e = cc
 -- what may be used is not pinned
 usable_reclaimable : (s : Stored) (clean : List BufId) (q : ℕ) → usable s.arena q ≡ true → is_pinned s clean q ≡ false
 unfolding is_pinned
-usable_reclaimable s clean q can = parts (kind_free (entry_at s.arena q).kind) (nat_lt (generation_at s.arena q) s.arena.limit) refl refl can
+usable_reclaimable s clean q can =
+    parts (kind_free (entry_at s.arena q).kind) (nat_lt (generation_at s.arena q) s.arena.limit) refl refl can
   where
-    parts : (f l : Bool) → kind_free (entry_at s.arena q).kind ≡ f → nat_lt (generation_at s.arena q) s.arena.limit ≡ l → (f && l) ≡ true → (not (nat_lt (generation_at s.arena q) s.arena.limit) || is_begun s clean (first_on (entry_at s.arena q).kind q)) ≡ false
-    parts true true f l can = ap (λ b. not b || is_begun s clean (first_on (entry_at s.arena q).kind q)) l ∙ ap (λ (k : kind.PageKind). is_begun s clean (first_on k q)) (free_is (entry_at s.arena q).kind f)
+    parts : (f l : Bool) → kind_free (entry_at s.arena q).kind ≡ f → nat_lt (generation_at s.arena q) s.arena.limit ≡ l
+        → (f && l) ≡ true
+        → (not (nat_lt (generation_at s.arena q) s.arena.limit)
+        || is_begun s clean (first_on (entry_at s.arena q).kind q)) ≡ false
+    parts true true f l can = ap (λ b. not b || is_begun s clean (first_on (entry_at s.arena q).kind q)) l
+        ∙ ap (λ (k : kind.PageKind). is_begun s clean (first_on k q)) (free_is (entry_at s.arena q).kind f)
     parts true false f l can = cc
     parts false l f m can = cc
 
-pub at_most : (s : Stored) (clean : List BufId) (qs : List ℕ) → length (filter (usable s.arena) qs) + length (filter (is_pinned s clean) qs) ≤ length qs
+pub at_most : (s : Stored) (clean : List BufId) (qs : List ℕ)
+    → length (filter (usable s.arena) qs) + length (filter (is_pinned s clean) qs) ≤ length qs
 at_most s clean [] = omega arith
-at_most s clean (q ∷ qs) = one (usable s.arena q) (is_pinned s clean q) (usable_reclaimable s clean q) (at_most s clean qs)
+at_most s clean (q ∷ qs) =
+    one (usable s.arena q) (is_pinned s clean q) (usable_reclaimable s clean q) (at_most s clean qs)
   where
-    one : (u p : Bool) → (u ≡ true → p ≡ false) → length (filter (usable s.arena) qs) + length (filter (is_pinned s clean) qs) ≤ length qs → length (cond u (q ∷ filter (usable s.arena) qs) (filter (usable s.arena) qs)) + length (cond p (q ∷ filter (is_pinned s clean) qs) (filter (is_pinned s clean) qs)) ≤ suc (length qs)
+    one : (u p : Bool) → (u ≡ true → p ≡ false)
+        → length (filter (usable s.arena) qs) + length (filter (is_pinned s clean) qs) ≤ length qs
+        → length (cond u (q ∷ filter (usable s.arena) qs) (filter (usable s.arena) qs))
+        + length (cond p (q ∷ filter (is_pinned s clean) qs) (filter (is_pinned s clean) qs)) ≤ suc (length qs)
     one true true h ih = absurd (let e : ◌≡◌ {A = Bool} true false = h refl in cc)
     one true false h ih = omega (arith, ih)
     one false true h ih = omega (arith, ih)
@@ -52,14 +63,16 @@ abbrev pub IsBeside : Stored → (clean : List BufId) → (q : ℕ) → Type 0
 IsBeside s clean q = (b : BufId) → IsLive s.arena b → LiesOn s.arena b q → tally b clean ≡ 0
 
 -- then a live buffer there is held by others
-held_live : (s : Stored) (clean : List BufId) (b : BufId) → IsTidy s → IsLive s.arena b → tally b clean ≡ 0 → nat_lt (tally b clean) (count_of s b) ≡ true
+held_live : (s : Stored) (clean : List BufId) (b : BufId) → IsTidy s → IsLive s.arena b → tally b clean ≡ 0
+    → nat_lt (tally b clean) (count_of s b) ≡ true
 held_live s clean b tidy live none = let h = tidy.held b live in grind (arith, nat_tests, none, h)
 
 buf_is : (s : State) (b : BufId) → IsLive s b → buf_at s b.page ≡ b
 buf_is s b live = λ i. (let x : BufId = record { page = b.page; generation = live.generation i } in x)
 
 -- the first page of what lies on q
-begun_on : (s : Stored) (clean : List BufId) (q : ℕ) → IsTidy s → IsStill s.arena → IsBeside s clean q → kind_free (entry_at s.arena q).kind ≡ false → is_begun s clean (first_on (entry_at s.arena q).kind q) ≡ true
+begun_on : (s : Stored) (clean : List BufId) (q : ℕ) → IsTidy s → IsStill s.arena → IsBeside s clean q
+    → kind_free (entry_at s.arena q).kind ≡ false → is_begun s clean (first_on (entry_at s.arena q).kind q) ≡ true
 begun_on s clean q tidy still beside busy = elim (tidy.placed q) [
   | inl free ↦ absurd (let e : ◌≡◌ {A = Bool} true false = sym (ap kind_free free) ∙ busy in cc)
   | inr r ↦ elim r [
@@ -67,45 +80,78 @@ begun_on s clean q tidy still beside busy = elim (tidy.placed q) [
     | inr in_it ↦ (
         let b = in_it.0 in
         let first : first_on (entry_at s.arena q).kind q ≡ Some b.page = elim (cases_eq q b.page) [
-          | inl e ↦ ap (λ n. first_on (entry_at s.arena n).kind n) e ∙ ap (λ (k : kind.PageKind). first_on k b.page) in_it.1.head
-          | inr ne ↦ (let lies = in_it.2 in ap (λ (k : kind.PageKind). first_on k q) ((tidy.runs.each b.page (kind_len (entry_at s.arena b.page).kind) in_it.1.head).tails q (omega (arith, lies.from, ne)) lies.to))
+          | inl e ↦ ap (λ n. first_on (entry_at s.arena n).kind n) e
+              ∙ ap (λ (k : kind.PageKind). first_on k b.page) in_it.1.head
+          | inr ne ↦
+              (let lies = in_it.2 in
+              ap (λ (k : kind.PageKind). first_on k q)
+              ((tidy.runs.each b.page (kind_len (entry_at s.arena b.page).kind) in_it.1.head).tails q
+              (omega (arith, lies.from, ne)) lies.to))
         ] in
-        ap (is_begun s clean) first ∙ ap (λ x. nat_lt (tally x clean) (count_of s x)) (buf_is s.arena b in_it.1) ∙ held_live s clean b tidy in_it.1 (beside b in_it.1 in_it.2))
+        ap (is_begun s clean) first ∙ ap (λ x. nat_lt (tally x clean) (count_of s x)) (buf_is s.arena b in_it.1)
+        ∙ held_live s clean b tidy in_it.1 (beside b in_it.1 in_it.2))
   ]
 ]
 
-busy_pinned : (s : Stored) (clean : List BufId) (q : ℕ) → IsTidy s → IsStill s.arena → IsBeside s clean q → usable s.arena q ≡ false → is_pinned s clean q ≡ true
+busy_pinned : (s : Stored) (clean : List BufId) (q : ℕ) → IsTidy s → IsStill s.arena → IsBeside s clean q
+    → usable s.arena q ≡ false → is_pinned s clean q ≡ true
 unfolding is_pinned
-busy_pinned s clean q tidy still beside no_use = parts (kind_free (entry_at s.arena q).kind) (nat_lt (generation_at s.arena q) s.arena.limit) refl refl no_use
+busy_pinned s clean q tidy still beside no_use =
+    parts (kind_free (entry_at s.arena q).kind) (nat_lt (generation_at s.arena q) s.arena.limit) refl refl no_use
   where
-    parts : (f l : Bool) → kind_free (entry_at s.arena q).kind ≡ f → nat_lt (generation_at s.arena q) s.arena.limit ≡ l → (f && l) ≡ false → (not (nat_lt (generation_at s.arena q) s.arena.limit) || is_begun s clean (first_on (entry_at s.arena q).kind q)) ≡ true
+    parts : (f l : Bool) → kind_free (entry_at s.arena q).kind ≡ f → nat_lt (generation_at s.arena q) s.arena.limit ≡ l
+        → (f && l) ≡ false
+        → (not (nat_lt (generation_at s.arena q) s.arena.limit)
+        || is_begun s clean (first_on (entry_at s.arena q).kind q)) ≡ true
     parts true true f l h = cc
     parts f false g l h = ap (λ b. not b || is_begun s clean (first_on (entry_at s.arena q).kind q)) l
-    parts false true f l h = ap (λ b. not b || is_begun s clean (first_on (entry_at s.arena q).kind q)) l ∙ begun_on s clean q tidy still beside f
+    parts false true f l h = ap (λ b. not b || is_begun s clean (first_on (entry_at s.arena q).kind q)) l
+        ∙ begun_on s clean q tidy still beside f
 
 -- where clean extents hold no buffer there, what may not be used is pinned
-pub all_of : (s : Stored) (clean : List BufId) (qs : List ℕ) → IsTidy s → IsStill s.arena → ((q : ℕ) → In qs q → IsBeside s clean q) → length (filter (usable s.arena) qs) + length (filter (is_pinned s clean) qs) ≡ length qs
+pub all_of : (s : Stored) (clean : List BufId) (qs : List ℕ) → IsTidy s → IsStill s.arena
+    → ((q : ℕ) → In qs q → IsBeside s clean q)
+    → length (filter (usable s.arena) qs) + length (filter (is_pinned s clean) qs) ≡ length qs
 all_of s clean [] tidy still beside = refl
-all_of s clean (q ∷ qs) tidy still beside = one (usable s.arena q) (is_pinned s clean q) (usable_reclaimable s clean q) (busy_pinned s clean q tidy still (beside q (inl refl))) (all_of s clean qs tidy still (λ x h. beside x (inr h)))
+all_of s clean (q ∷ qs) tidy still beside =
+    one (usable s.arena q) (is_pinned s clean q) (usable_reclaimable s clean q)
+    (busy_pinned s clean q tidy still (beside q (inl refl))) (all_of s clean qs tidy still (λ x h. beside x (inr h)))
   where
-    one : (u p : Bool) → (u ≡ true → p ≡ false) → (u ≡ false → p ≡ true) → length (filter (usable s.arena) qs) + length (filter (is_pinned s clean) qs) ≡ length qs → length (cond u (q ∷ filter (usable s.arena) qs) (filter (usable s.arena) qs)) + length (cond p (q ∷ filter (is_pinned s clean) qs) (filter (is_pinned s clean) qs)) ≡ suc (length qs)
+    one : (u p : Bool) → (u ≡ true → p ≡ false) → (u ≡ false → p ≡ true)
+        → length (filter (usable s.arena) qs) + length (filter (is_pinned s clean) qs) ≡ length qs
+        → length (cond u (q ∷ filter (usable s.arena) qs) (filter (usable s.arena) qs))
+        + length (cond p (q ∷ filter (is_pinned s clean) qs) (filter (is_pinned s clean) qs)) ≡ suc (length qs)
     one true true h k ih = absurd (let e : ◌≡◌ {A = Bool} true false = h refl in cc)
     one true false h k ih = omega (arith, ih)
     one false true h k ih = omega (arith, ih)
     one false false h k ih = absurd (let e : ◌≡◌ {A = Bool} false true = k refl in cc)
 
 -- the room there is, whatever was given up
-pub room_at_most : (s t : Stored) (p n : ℕ) (clean left : List BufId) → pages_of t p ≡ pages_of s p → FreesOnly s t → Counts s t clean left → n ≤ length (free_pages t.arena (pool_in t.pools p).chunks) → pinned_beside s clean p + n ≤ length (pages_of s p)
+pub room_at_most : (s t : Stored) (p n : ℕ) (clean left : List BufId) → pages_of t p ≡ pages_of s p → FreesOnly s t
+    → Counts s t clean left → n ≤ length (free_pages t.arena (pool_in t.pools p).chunks)
+    → pinned_beside s clean p + n ≤ length (pages_of s p)
 room_at_most s t p n clean left same frees counts enough =
     let most = at_most t left (pages_of t p) in
     let kept = pinned_kept (pages_of t p) frees counts in
     omega (arith, most, kept, enough, ap (λ (qs : List ℕ). length (filter (is_pinned s clean) qs)) same, ap length same)
 
-pub no_room_left : (s t : Stored) (p n : ℕ) (clean left : List BufId) → pages_of t p ≡ pages_of s p → FreesOnly s t → Counts s t clean left → IsTidy t → IsStill t.arena → ((q : ℕ) → In (pages_of t p) q → IsBeside t left q) → length (free_pages t.arena (pool_in t.pools p).chunks) < n → pinned_beside s clean p + n ≤ length (pages_of s p) → ⊥
+pub no_room_left : (s t : Stored) (p n : ℕ) (clean left : List BufId) → pages_of t p ≡ pages_of s p → FreesOnly s t
+    → Counts s t clean left → IsTidy t → IsStill t.arena → ((q : ℕ) → In (pages_of t p) q → IsBeside t left q)
+    → length (free_pages t.arena (pool_in t.pools p).chunks) < n → pinned_beside s clean p + n ≤ length (pages_of s p)
+    → ⊥
 no_room_left s t p n clean left same frees counts tidy still beside few room =
     let all = all_of t left (pages_of t p) tidy still beside in
     let kept = pinned_kept (pages_of t p) frees counts in
-    omega (arith, all, kept, few, room, ap (λ (qs : List ℕ). length (filter (is_pinned s clean) qs)) same, ap length same)
+    omega (
+      arith,
+      all,
+      kept,
+      few,
+      room,
+      ap (λ (qs : List ℕ). length (filter (is_pinned s clean) qs)) same,
+      ap length same,
+    )
 
-pub same_pages : (s t : Stored) (p : ℕ) → FreesOnly s t → (pool_in s.pools p).closed ≡ false → pages_of t p ≡ pages_of s p
+pub same_pages : (s t : Stored) (p : ℕ) → FreesOnly s t → (pool_in s.pools p).closed ≡ false
+    → pages_of t p ≡ pages_of s p
 same_pages s t p frees is = ap (λ (x : Pool). flat_map chunk_pages x.chunks) (frees.pools p is)

@@ -1,5 +1,6 @@
 -- How many pages a range wants does not depend on how its hits are sliced.
-use Rattle.std.proofs.Common.{inl, inr, ◌≡◌, ◌∙◌, ℕ, zero, suc, ◌+◌, ◌<◌, ◌≤◌, nat_lt, cond, List, [], ◌∷◌, ◌++◌, length, map, min, refl, sym, ap, arith, subst, Option, Some, None}
+use Rattle.std.proofs.Common.{inl, inr, ◌≡◌, ◌∙◌, ℕ, zero, suc, ◌+◌, ◌<◌, ◌≤◌, nat_lt, cond, List, [], ◌∷◌, ◌++◌}
+use Rattle.std.proofs.Common.{length, map, min, refl, sym, ap, arith, subst, Option, Some, None}
 use Rattle.std.specs.Prelude.{not, ◌||◌}
 use Rattle.std.specs.List.{filter, flat_map, range_with_len}
 use Rattle.std.proofs.lemmas.Bool.{cases_lt}
@@ -56,7 +57,9 @@ held_there : (b : BufId) (xs : List Slice) → 0 < tally b (bufs_of xs) → 0 < 
 unfolding tally
 held_there b [] h = h
 held_there b (x ∷ xs) h =
-    let all : tally b (bufs_at (places (x ∷ xs))) ≡ tally b (row x x.from x.len) + tally b (bufs_at (places xs)) = ap (tally b) (bufs_at-append (slice_places x) (places xs)) ∙ tally-append b (row x x.from x.len) (bufs_at (places xs)) in
+    let all : tally b (bufs_at (places (x ∷ xs))) ≡ tally b (row x x.from x.len) + tally b (bufs_at (places xs)) =
+    ap (tally b) (bufs_at-append (slice_places x) (places xs))
+    ∙ tally-append b (row x x.from x.len) (bufs_at (places xs)) in
     elim (cases_lt 0 (tally b (bufs_of xs))) [
       | inl later ↦ omega (arith, all, held_there b xs later)
       | inr none ↦ omega (arith, all, h, none, row_some b x x.from x.len x.some)
@@ -66,19 +69,24 @@ there_held : (b : BufId) (xs : List Slice) → 0 < tally b (bufs_at (places xs))
 unfolding tally
 there_held b [] h = h
 there_held b (x ∷ xs) h =
-    let all : tally b (bufs_at (places (x ∷ xs))) ≡ tally b (row x x.from x.len) + tally b (bufs_at (places xs)) = ap (tally b) (bufs_at-append (slice_places x) (places xs)) ∙ tally-append b (row x x.from x.len) (bufs_at (places xs)) in
+    let all : tally b (bufs_at (places (x ∷ xs))) ≡ tally b (row x x.from x.len) + tally b (bufs_at (places xs)) =
+    ap (tally b) (bufs_at-append (slice_places x) (places xs))
+    ∙ tally-append b (row x x.from x.len) (bufs_at (places xs)) in
     elim (cases_lt 0 (same b x.hold.buf)) [
       | inl here ↦ omega (arith, here)
-      | inr none ↦ (let nothing = row_none b x x.from x.len (omega (arith, none)) in let rest = there_held b xs (omega (arith, all, h, nothing)) in omega (arith, rest))
+      | inr none ↦ (let nothing = row_none b x x.from x.len (omega (arith, none)) in let rest =
+          there_held b xs (omega (arith, all, h, nothing)) in omega (arith, rest))
     ]
 
 -- slices of the same places hold the same buffers
-pub held_alike : (b : BufId) (xs ys : List Slice) → places xs ≡ places ys → 0 < tally b (bufs_of xs) → 0 < tally b (bufs_of ys)
+pub held_alike : (b : BufId) (xs ys : List Slice) → places xs ≡ places ys → 0 < tally b (bufs_of xs)
+    → 0 < tally b (bufs_of ys)
 held_alike b xs ys same h = there_held b ys (subst (λ ls. 0 < tally b (bufs_at ls)) same (held_there b xs h))
 
 -- Held once more by such slices, the same pages are pinned.
 
-module _ (s t u : Stored) (clean : List BufId) (xs ys : List Slice) (same : places xs ≡ places ys) (covers : Covers s clean) (m : Shares s t [] (bufs_of xs)) (n : Shares s u [] (bufs_of ys)) where
+module _ (s t u : Stored) (clean : List BufId) (xs ys : List Slice) (same : places xs ≡ places ys)
+    (covers : Covers s clean) (m : Shares s t [] (bufs_of xs)) (n : Shares s u [] (bufs_of ys)) where
   beside_alike : (b : BufId) → is_held_beside t clean b ≡ is_held_beside u clean b
   beside_alike b = elim (cases_lt 0 (tally b (bufs_of xs))) [
     | inl some ↦ (
@@ -88,7 +96,9 @@ module _ (s t u : Stored) (clean : List BufId) (xs ys : List Slice) (same : plac
         grind (arith, nat_tests, p, q))
     | inr none ↦ elim (cases_lt 0 (tally b (bufs_of ys))) [
       | inl some ↦ absurd (let more = held_alike b ys xs (sym same) some in omega (arith, more, none))
-      | inr nothing ↦ (let e : count_of t b ≡ count_of u b = omega (arith, m.counts.each b, n.counts.each b, tally_none b, none, nothing) in ap (nat_lt (tally b clean)) e)
+      | inr nothing ↦
+          (let e : count_of t b ≡ count_of u b =
+          omega (arith, m.counts.each b, n.counts.each b, tally_none b, none, nothing) in ap (nat_lt (tally b clean)) e)
     ]
   ]
 
@@ -97,13 +107,16 @@ module _ (s t u : Stored) (clean : List BufId) (xs ys : List Slice) (same : plac
 
   begun_alike : (o : Option ℕ) → is_begun t clean o ≡ is_begun u clean o
   begun_alike None = refl
-  begun_alike (Some p) = ap (λ (a : State). is_held_beside t clean (buf_at a p)) arenas ∙ beside_alike (buf_at u.arena p)
+  begun_alike (Some p) = ap (λ (a : State). is_held_beside t clean (buf_at a p)) arenas
+      ∙ beside_alike (buf_at u.arena p)
 
   pinned_alike : (q : ℕ) → is_pinned t clean q ≡ is_pinned u clean q
   unfolding is_pinned
   pinned_alike q =
-      ap (λ (a : State). not (nat_lt (generation_at a q) a.limit) || is_begun t clean (first_on (entry_at a q).kind q)) arenas
-      ∙ ap (λ b. not (nat_lt (generation_at u.arena q) u.arena.limit) || b) (begun_alike (first_on (entry_at u.arena q).kind q))
+      ap (λ (a : State). not (nat_lt (generation_at a q) a.limit) || is_begun t clean (first_on (entry_at a q).kind q))
+      arenas
+      ∙ ap (λ b. not (nat_lt (generation_at u.arena q) u.arena.limit) || b)
+      (begun_alike (first_on (entry_at u.arena q).kind q))
 
   filter_alike : (qs : List ℕ) → filter (is_pinned t clean) qs ≡ filter (is_pinned u clean) qs
   filter_alike [] = refl
@@ -113,28 +126,37 @@ module _ (s t u : Stored) (clean : List BufId) (xs ys : List Slice) (same : plac
 
   pub pinned_one : (p : ℕ) → pinned_beside t clean p ≡ pinned_beside u clean p
   pinned_one p =
-      ap (λ (ps : List Pool). length (filter (is_pinned t clean) (flat_map chunk_pages (pool_in ps p).chunks))) (m.pools ∙ sym n.pools)
+      ap (λ (ps : List Pool). length (filter (is_pinned t clean) (flat_map chunk_pages (pool_in ps p).chunks))) (m.pools
+      ∙ sym n.pools)
       ∙ ap length (filter_alike (pages_of u p))
 
-pub wants_one : (s : Stored) (c : Cached) (f from to : ℕ) → IsSound s c → (x y : Pins s c f from to) → wanted_pages x ≡ wanted_pages y
+pub wants_one : (s : Stored) (c : Cached) (f from to : ℕ) → IsSound s c → (x y : Pins s c f from to)
+    → wanted_pages x ≡ wanted_pages y
 wants_one s c f from to sound x y =
     let es = extents_in c.files f in
     let gaps = gaps_alone es from to x.hits x.gaps y.hits y.gaps x.tile y.tile in
     let lies : places x.pins ≡ places y.pins = x.lies ∙ ap (places_beside es from to) gaps ∙ sym y.lies in
-    let pinned = pinned_one s x.mid y.mid (clean_held c.files) x.pins y.pins lies (covers_all c.files sound.covered) x.shares y.shares (file_in c.files f).pool in
-    ap (λ n. n + gap_pages x.gaps) pinned ∙ ap (λ l. pinned_beside y.mid (clean_held c.files) (file_in c.files f).pool + gap_pages l) gaps
+    let pinned = pinned_one s x.mid y.mid (clean_held c.files) x.pins y.pins lies (covers_all c.files sound.covered)
+    x.shares y.shares (file_in c.files f).pool in
+    ap (λ n. n + gap_pages x.gaps) pinned
+    ∙ ap (λ l. pinned_beside y.mid (clean_held c.files) (file_in c.files f).pool + gap_pages l) gaps
 
-pub has_or_lacks : (s : Stored) (c : Cached) (f from to : ℕ) → IsSound s c → HasRoom s c f from to → LacksRoom s c f from to → ⊥
-has_or_lacks s c f from to sound has lacks = omega (arith, has.fits, lacks.lacks, wants_one s c f from to sound has.pinned lacks.pinned)
+pub has_or_lacks : (s : Stored) (c : Cached) (f from to : ℕ) → IsSound s c → HasRoom s c f from to
+    → LacksRoom s c f from to → ⊥
+has_or_lacks s c f from to sound has lacks =
+    omega (arith, has.fits, lacks.lacks, wants_one s c f from to sound has.pinned lacks.pinned)
 
 -- A read.
 
 pub end_one : (disk : Disk) (c : Cached) (f m n : ℕ) → IsEnd disk c f m → IsEnd disk c f n → m ≡ n
 end_one disk c f m n a b = a.is ∙ sym b.is
 
-pub reads_or_lacks : (f at n : ℕ) (disk : Disk) (h : Holding) → IsSound h.store h.cache → RoomToRead f at n disk h → NoRoomToRead f at n disk h → ⊥
+pub reads_or_lacks : (f at n : ℕ) (disk : Disk) (h : Holding) → IsSound h.store h.cache → RoomToRead f at n disk h
+    → NoRoomToRead f at n disk h → ⊥
 reads_or_lacks f at n disk h sound x y =
     let end = end_one disk h.cache f x.range.end y.range.end x.range.ends y.range.ends in
     let from : x.range.from ≡ y.range.from = x.range.begins ∙ ap (min at) end ∙ sym y.range.begins in
     let to : x.range.to ≡ y.range.to = x.range.stops ∙ ap (min (at + n)) end ∙ sym y.range.stops in
-    has_or_lacks h.store h.cache f y.range.from y.range.to sound (subst (λ k. HasRoom h.store h.cache f y.range.from k) to (subst (λ k. HasRoom h.store h.cache f k x.range.to) from x.room)) y.lacks
+    has_or_lacks h.store h.cache f y.range.from y.range.to sound
+    (subst (λ k. HasRoom h.store h.cache f y.range.from k) to
+    (subst (λ k. HasRoom h.store h.cache f k x.range.to) from x.room)) y.lacks

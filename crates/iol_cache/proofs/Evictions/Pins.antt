@@ -1,5 +1,6 @@
 -- Evictions pin and unpin no page.
-use Rattle.std.proofs.Common.{inl, inr, ◌≡◌, ℕ, ◌+◌, Bool, true, false, cond, List, [], ◌∷◌, length, refl, sym, ap, ◌∙◌, arith, Option, Some, None}
+use Rattle.std.proofs.Common.{inl, inr, ◌≡◌, ℕ, ◌+◌, Bool, true, false, cond, List, [], ◌∷◌, length, refl, sym, ap, ◌∙◌}
+use Rattle.std.proofs.Common.{arith, Option, Some, None}
 use Rattle.std.specs.Prelude.{not, nat_lt, ◌||◌}
 use Rattle.std.specs.List.{filter}
 use Rattle.std.proofs.lemmas.Bool.{cases_lt}
@@ -21,17 +22,22 @@ same_test l c n o e = elim (cases_lt l n) [
   | inr h ↦ grind (arith, nat_tests, h, e)
 ]
 
-pub beside_same : {s t : Stored} {clean left : List BufId} (b : BufId) → Counts s t clean left → is_held_beside t left b ≡ is_held_beside s clean b
-beside_same {s = s} {t = t} {clean = clean} {left = left} b g = same_test (tally b left) (tally b clean) (count_of t b) (count_of s b) (g.each b)
+pub beside_same : {s t : Stored} {clean left : List BufId} (b : BufId) → Counts s t clean left
+    → is_held_beside t left b ≡ is_held_beside s clean b
+beside_same {s = s} {t = t} {clean = clean} {left = left} b g =
+    same_test (tally b left) (tally b clean) (count_of t b) (count_of s b) (g.each b)
 
 buf_same : (s t : State) (p : ℕ) → generation_at t p ≡ generation_at s p → buf_at t p ≡ buf_at s p
 buf_same s t p e = λ i. (let x : BufId = record { page = p; generation = e i } in x)
 
-begun_same : {s t : Stored} {clean left : List BufId} (o : Option ℕ) → FreesOnly s t → Counts s t clean left → is_begun t left o ≡ is_begun s clean o
+begun_same : {s t : Stored} {clean left : List BufId} (o : Option ℕ) → FreesOnly s t → Counts s t clean left
+    → is_begun t left o ≡ is_begun s clean o
 begun_same None f g = refl
-begun_same {s = s} {t = t} {left = left} (Some p) f g = ap (is_held_beside t left) (buf_same s.arena t.arena p (f.raised p)) ∙ beside_same (buf_at s.arena p) g
+begun_same {s = s} {t = t} {left = left} (Some p) f g =
+    ap (is_held_beside t left) (buf_same s.arena t.arena p (f.raised p)) ∙ beside_same (buf_at s.arena p) g
 
-none_begun : {s t : Stored} {clean left : List BufId} (o : Option ℕ) → Counts s t clean left → ((p : ℕ) → o ≡ Some p → count_of t (buf_at s.arena p) ≡ 0) → is_begun s clean o ≡ false
+none_begun : {s t : Stored} {clean left : List BufId} (o : Option ℕ) → Counts s t clean left
+    → ((p : ℕ) → o ≡ Some p → count_of t (buf_at s.arena p) ≡ 0) → is_begun s clean o ≡ false
 none_begun None g zero_of = refl
 none_begun {s = s} {t = t} {clean = clean} {left = left} (Some p) g zero_of =
     let b = buf_at s.arena p in
@@ -41,23 +47,31 @@ none_begun {s = s} {t = t} {clean = clean} {left = left} (Some p) g zero_of =
     lt_none m n z = grind (arith, nat_tests, z)
 
 -- no page is pinned or unpinned
-pub pinned_same : {s t : Stored} {clean left : List BufId} (q : ℕ) → FreesOnly s t → Counts s t clean left → is_pinned t left q ≡ is_pinned s clean q
+pub pinned_same : {s t : Stored} {clean left : List BufId} (q : ℕ) → FreesOnly s t → Counts s t clean left
+    → is_pinned t left q ≡ is_pinned s clean q
 unfolding is_pinned
 pinned_same {s = s} {t = t} {clean = clean} {left = left} q f g =
     let last = ap not (ap (λ n. nat_lt n t.arena.limit) (f.raised q) ∙ ap (nat_lt (generation_at s.arena q)) f.limit) in
-    let held : is_begun t left (first_on (entry_at t.arena q).kind q) ≡ is_begun s clean (first_on (entry_at s.arena q).kind q) = elim (f.each q) [
-      | inl same ↦ ap (λ (k : kind.PageKind). is_begun t left (first_on k q)) same ∙ begun_same (first_on (entry_at s.arena q).kind q) f g
-      | inr free ↦ ap (λ (k : kind.PageKind). is_begun t left (first_on k q)) free ∙ sym (none_begun (first_on (entry_at s.arena q).kind q) g (λ p is. f.freed q p free is))
+    let held : is_begun t left (first_on (entry_at t.arena q).kind q)
+    ≡ is_begun s clean (first_on (entry_at s.arena q).kind q) = elim (f.each q) [
+      | inl same ↦ ap (λ (k : kind.PageKind). is_begun t left (first_on k q)) same
+          ∙ begun_same (first_on (entry_at s.arena q).kind q) f g
+      | inr free ↦ ap (λ (k : kind.PageKind). is_begun t left (first_on k q)) free
+          ∙ sym (none_begun (first_on (entry_at s.arena q).kind q) g (λ p is. f.freed q p free is))
     ] in
-    ap (λ b. b || is_begun t left (first_on (entry_at t.arena q).kind q)) last ∙ ap (λ b. not (nat_lt (generation_at s.arena q) s.arena.limit) || b) held
+    ap (λ b. b || is_begun t left (first_on (entry_at t.arena q).kind q)) last
+    ∙ ap (λ b. not (nat_lt (generation_at s.arena q) s.arena.limit) || b) held
 
 -- so their number is the same
-pub pinned_kept : {s t : Stored} {clean left : List BufId} (qs : List ℕ) → FreesOnly s t → Counts s t clean left → length (filter (is_pinned t left) qs) ≡ length (filter (is_pinned s clean) qs)
+pub pinned_kept : {s t : Stored} {clean left : List BufId} (qs : List ℕ) → FreesOnly s t → Counts s t clean left
+    → length (filter (is_pinned t left) qs) ≡ length (filter (is_pinned s clean) qs)
 pinned_kept [] f g = refl
 pinned_kept {s = s} {t = t} {clean = clean} {left = left} (q ∷ qs) f g =
     ap (λ b. length (cond b (q ∷ filter (is_pinned t left) qs) (filter (is_pinned t left) qs))) (pinned_same q f g)
     ∙ one (is_pinned s clean q) (pinned_kept qs f g)
   where
-    one : (b : Bool) → length (filter (is_pinned t left) qs) ≡ length (filter (is_pinned s clean) qs) → length (cond b (q ∷ filter (is_pinned t left) qs) (filter (is_pinned t left) qs)) ≡ length (cond b (q ∷ filter (is_pinned s clean) qs) (filter (is_pinned s clean) qs))
+    one : (b : Bool) → length (filter (is_pinned t left) qs) ≡ length (filter (is_pinned s clean) qs)
+        → length (cond b (q ∷ filter (is_pinned t left) qs) (filter (is_pinned t left) qs))
+        ≡ length (cond b (q ∷ filter (is_pinned s clean) qs) (filter (is_pinned s clean) qs))
     one true e = omega (arith, e)
     one false e = e

@@ -20,7 +20,8 @@ use Rattle.iol_cache.proofs.Extents.FileEntries.{order_same, numbered_bounds, nu
 use Rattle.iol_cache.specs.Sound.{IsSound}
 use Rattle.iol_cache.proofs.Extents.OtherCalls.{files_stay, mirrors_stay}
 
-pub goes_trans : (d : Disk) (xs ys zs : List BufId) (a b c : Holding) → Goes d xs ys a b → Goes d ys zs b c → Goes d xs zs a c
+pub goes_trans : (d : Disk) (xs ys zs : List BufId) (a b c : Holding) → Goes d xs ys a b → Goes d ys zs b c
+    → Goes d xs zs a c
 goes_trans d xs ys zs a b c m n = record {
   moves = record {
     counts = record { each = λ x. omega (arith, m.moves.counts.each x, n.moves.counts.each x) };
@@ -41,7 +42,16 @@ goes_trans d xs ys zs a b c m n = record {
 pub goes_less : (d : Disk) (own : List BufId) (a b : Holding) → GivesUp a b → Goes d own own a b
 goes_less d own a b m = record {
   moves = record {
-    counts = record { each = λ x. omega (arith, m.moves.counts.each x, tally-append x (held a.cache.files) own, tally-append x (held b.cache.files) own) };
+    counts =
+        record {
+          each =
+              λ x. omega (
+                arith,
+                m.moves.counts.each x,
+                tally-append x (held a.cache.files) own,
+                tally-append x (held b.cache.files) own,
+              );
+        };
     stays = m.moves.stays;
     still = m.moves.still;
     tidy = m.moves.tidy;
@@ -56,10 +66,22 @@ goes_less d own a b m = record {
 }
 
 -- only room and orders changed
-pub goes_cache : (d : Disk) (own : List BufId) (s : Stored) (c e : Cached) → length e.files ≡ length c.files → ((f : ℕ) → (file_in e.files f).pool ≡ (file_in c.files f).pool) → ((f : ℕ) → extents_in e.files f ≡ extents_in c.files f) → held e.files ≡ held c.files → Goes d own own (record { store = s; cache = c }) (record { store = s; cache = e })
+pub goes_cache : (d : Disk) (own : List BufId) (s : Stored) (c e : Cached) → length e.files ≡ length c.files
+    → ((f : ℕ) → (file_in e.files f).pool ≡ (file_in c.files f).pool)
+    → ((f : ℕ) → extents_in e.files f ≡ extents_in c.files f) → held e.files ≡ held c.files
+    → Goes d own own (record { store = s; cache = c }) (record { store = s; cache = e })
 goes_cache d own s c e count pools extents same = record {
   moves = record {
-    counts = record { each = λ x. omega (arith, tally-append x (held c.files) own, tally-append x (held e.files) own, ap (tally x) same) };
+    counts =
+        record {
+          each =
+              λ x. omega (
+                arith,
+                tally-append x (held c.files) own,
+                tally-append x (held e.files) own,
+                ap (tally x) same,
+              );
+        };
     stays = (moves_none s).stays;
     still = λ h. h;
     tidy = λ h. h;
@@ -74,10 +96,24 @@ goes_cache d own s c e count pools extents same = record {
 }
 
 -- only the store went on: of what others hold, some went and some came
-pub goes_moved : (d : Disk) (own more gone come : List BufId) (s t : Stored) (c : Cached) → ((x : BufId) → tally x own + tally x come ≡ tally x gone + tally x more) → IsSound s c → Moves s t gone come → Covers t (held c.files) → SameLists s t → (AllReclaimed s → AllReclaimed t) → page_count t.arena ≡ page_count s.arena → Goes d own more (record { store = s; cache = c }) (record { store = t; cache = c })
+pub goes_moved : (d : Disk) (own more gone come : List BufId) (s t : Stored) (c : Cached)
+    → ((x : BufId) → tally x own + tally x come ≡ tally x gone + tally x more) → IsSound s c → Moves s t gone come
+    → Covers t (held c.files) → SameLists s t → (AllReclaimed s → AllReclaimed t)
+    → page_count t.arena ≡ page_count s.arena
+    → Goes d own more (record { store = s; cache = c }) (record { store = t; cache = c })
 goes_moved d own more gone come s t c split sound m covers lists reclaims pages = record {
   moves = record {
-    counts = record { each = λ x. omega (arith, m.counts.each x, split x, tally-append x (held c.files) own, tally-append x (held c.files) more) };
+    counts =
+        record {
+          each =
+              λ x. omega (
+                arith,
+                m.counts.each x,
+                split x,
+                tally-append x (held c.files) own,
+                tally-append x (held c.files) more,
+              );
+        };
     stays = m.stays;
     still = m.still;
     tidy = m.tidy;
@@ -91,10 +127,14 @@ goes_moved d own more gone come s t c split sound m covers lists reclaims pages 
   files = λ honest h. files_stay d.slots c.files sound.files m.stays covers;
 }
 
-pub goes_store : (d : Disk) (xs ys : List BufId) (s t : Stored) (c : Cached) → IsSound s c → Moves s t xs ys → Covers t (held c.files) → SameLists s t → (AllReclaimed s → AllReclaimed t) → page_count t.arena ≡ page_count s.arena → Goes d xs ys (record { store = s; cache = c }) (record { store = t; cache = c })
+pub goes_store : (d : Disk) (xs ys : List BufId) (s t : Stored) (c : Cached) → IsSound s c → Moves s t xs ys
+    → Covers t (held c.files) → SameLists s t → (AllReclaimed s → AllReclaimed t)
+    → page_count t.arena ≡ page_count s.arena
+    → Goes d xs ys (record { store = s; cache = c }) (record { store = t; cache = c })
 goes_store d xs ys s t c = goes_moved d xs ys xs ys s t c (λ x. refl)
 
-pub goes_covers : (d : Disk) (xs ys : List BufId) (a b : Holding) → Goes d xs ys a b → Covers a.store (held a.cache.files ++ xs) → Covers b.store (held b.cache.files ++ ys)
+pub goes_covers : (d : Disk) (xs ys : List BufId) (a b : Holding) → Goes d xs ys a b
+    → Covers a.store (held a.cache.files ++ xs) → Covers b.store (held b.cache.files ++ ys)
 goes_covers d xs ys a b m covers = record { each = λ x. omega (arith, covers.each x, m.moves.counts.each x) }
 
 pub covers_left : (s : Stored) (xs ys : List BufId) → Covers s (xs ++ ys) → Covers s xs
@@ -105,13 +145,24 @@ covers_right s xs ys covers = record { each = λ x. omega (arith, covers.each x,
 
 -- Hits leave room.
 
-pub hits_entries_left : (s : Stored) (r e : Cached) (f n : ℕ) (hits : List Span) → IsSound s r → is_numbered r.files f ≡ true → CountsHits f hits r e → n ≤ (order_in r.orders (file_in r.files f).pool).room → n ≤ (order_in e.orders (file_in e.files f).pool).room
+pub hits_entries_left : (s : Stored) (r e : Cached) (f n : ℕ) (hits : List Span) → IsSound s r
+    → is_numbered r.files f ≡ true → CountsHits f hits r e → n ≤ (order_in r.orders (file_in r.files f).pool).room
+    → n ≤ (order_in e.orders (file_in e.files f).pool).room
 hits_entries_left s r e f n hits sound numbered m h =
     let p = (file_in r.files f).pool in
     let x = hits_counted (order_in r.orders p) f (extents_in r.files f) hits in
     let ob = numbered_bounds r.orders p (sound.opened f numbered).ordered in
-    omega (arith, h, ap (λ fs. (order_in e.orders (file_in fs f).pool).room) m.files, ap (λ os. (order_in os p).room) m.orders, ap (λ (y : Ranking). y.room) (order_same r.orders p x ob.0 ob.1), hits_same (λ (y : Ranking). y.room) (λ y g at. refl) (order_in r.orders p) f (extents_in r.files f) hits)
+    omega (
+      arith,
+      h,
+      ap (λ fs. (order_in e.orders (file_in fs f).pool).room) m.files,
+      ap (λ os. (order_in os p).room) m.orders,
+      ap (λ (y : Ranking). y.room) (order_same r.orders p x ob.0 ob.1),
+      hits_same (λ (y : Ranking). y.room) (λ y g at. refl) (order_in r.orders p) f (extents_in r.files f) hits,
+    )
 
 -- a file of a cache with other room
-pub numbered_same : (c e : Cached) (f : ℕ) → SameButRoom c e → is_numbered c.files f ≡ true → is_numbered e.files f ≡ true
-numbered_same c e f same h = (let b = numbered_bounds c.files f h in numbered_yes e.files f b.0 (omega (arith, b.1, same.files)))
+pub numbered_same : (c e : Cached) (f : ℕ) → SameButRoom c e → is_numbered c.files f ≡ true
+    → is_numbered e.files f ≡ true
+numbered_same c e f same h =
+    (let b = numbered_bounds c.files f h in numbered_yes e.files f b.0 (omega (arith, b.1, same.files)))

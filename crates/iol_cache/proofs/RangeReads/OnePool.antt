@@ -20,7 +20,10 @@ IsOf p l = l.pool ≡ p
 first_pool : (p : ℕ) (x : Slice) → All (IsOf p) (slice_places x) → x.hold.pool ≡ p
 first_pool p x h =
     let d : Place = place_in x 0 in
-    sym (ap (λ (l : Place). l.pool) (get_or-map-range_with_len (place_in x) x.from x.len 0 x.from d (omega (arith, x.some)) (omega arith))) ∙ h 0 d (omega (arith, length-slice_places x, x.some))
+    sym
+    (ap (λ (l : Place). l.pool)
+    (get_or-map-range_with_len (place_in x) x.from x.len 0 x.from d (omega (arith, x.some)) (omega arith)))
+    ∙ h 0 d (omega (arith, length-slice_places x, x.some))
 
 -- each slice has a byte
 pub pooled_places : (p : ℕ) (xs : List Slice) → All (IsOf p) (places xs) → All (λ (x : Slice). x.hold.pool ≡ p) xs
@@ -33,7 +36,8 @@ pooled_places p (x ∷ xs) h =
     (first_pool p x (All-same (IsOf p) _ _ (sym head) (All-take (IsOf p) n (places (x ∷ xs)) h)))
     (pooled_places p xs (All-same (IsOf p) _ _ (sym rest) (All-drop (IsOf p) n (places (x ∷ xs)) h)))
 
-places_of : (t : Stored) (p : ℕ) (ls : List Place) (w : List ℕ) → map (byte_at t) ls ≡ text.labelled p w → All (IsOf p) ls
+places_of : (t : Stored) (p : ℕ) (ls : List Place) (w : List ℕ) → map (byte_at t) ls ≡ text.labelled p w
+    → All (IsOf p) ls
 places_of t p [] w e = All-nil (IsOf p)
 places_of t p (l ∷ ls) [] e = cc
 places_of t p (l ∷ ls) (b ∷ w) e =
@@ -41,5 +45,6 @@ places_of t p (l ∷ ls) (b ∷ w) e =
     let rest : map (byte_at t) ls ≡ text.labelled p w = cc in
     All-cons (IsOf p) l ls here (places_of t p ls w rest)
 
-pub pooled_text : (t : Stored) (p : ℕ) (xs : List Slice) (w : List ℕ) → text_of t xs ≡ text.labelled p w → All (λ (x : Slice). x.hold.pool ≡ p) xs
+pub pooled_text : (t : Stored) (p : ℕ) (xs : List Slice) (w : List ℕ) → text_of t xs ≡ text.labelled p w
+    → All (λ (x : Slice). x.hold.pool ≡ p) xs
 pooled_text t p xs w e = pooled_places p xs (places_of t p (places xs) w e)

@@ -1,5 +1,6 @@
 -- The slices of extents that meet a range.
-use Rattle.std.proofs.Common.{◌≡◌, ℕ, ◌+◌, ◌-◌, ◌<◌, ◌≤◌, Bool, true, false, min, cond, ltb, List, [], ◌∷◌, ◌++◌, Some, refl, sym, ap, subst, ◌∙◌, arith, inl, inr, append_assoc, append-nil}
+use Rattle.std.proofs.Common.{◌≡◌, ℕ, ◌+◌, ◌-◌, ◌<◌, ◌≤◌, Bool, true, false, min, cond, ltb, List, [], ◌∷◌, ◌++◌, Some}
+use Rattle.std.proofs.Common.{refl, sym, ap, subst, ◌∙◌, arith, inl, inr, append_assoc, append-nil}
 use Rattle.std.proofs.lemmas.Bool.{cases_lt, le-ltb}
 use Rattle.iol_core.specs.declared.numbers.BufId.{BufId}
 use Rattle.iol_agg.specs.Pours.{meeting}
@@ -19,30 +20,36 @@ unfolding meeting
 meeting-past from to [] h = refl
 meeting-past from to (x ∷ xs) h =
     let len = byte_len-cons x xs in
-    ap (λ b. cond b (x ∷ []) [] ++ meeting (from - x.len) (to - x.len) xs) (le-ltb from (min to x.len) (omega (arith, len, h)))
+    ap (λ b. cond b (x ∷ []) [] ++ meeting (from - x.len) (to - x.len) xs)
+    (le-ltb from (min to x.len) (omega (arith, len, h)))
     ∙ meeting-past (from - x.len) (to - x.len) xs (omega (arith, len, h))
 
 -- ranges that go on to the last byte meet the same slices
-meeting-far : (from to end : ℕ) (xs : List Slice) → byte_len xs ≤ to → byte_len xs ≤ end → meeting from to xs ≡ meeting from end xs
+meeting-far : (from to end : ℕ) (xs : List Slice) → byte_len xs ≤ to → byte_len xs ≤ end
+    → meeting from to xs ≡ meeting from end xs
 unfolding meeting
 meeting-far from to end [] h k = refl
 meeting-far from to end (x ∷ xs) h k =
     let len = byte_len-cons x xs in
     let same : min to x.len ≡ min end x.len = omega (arith, len, h, k) in
     ap (λ n. cond (ltb from n) (x ∷ []) [] ++ meeting (from - x.len) (to - x.len) xs) same
-    ∙ ap (λ t. cond (ltb from (min end x.len)) (x ∷ []) [] ++ t) (meeting-far (from - x.len) (to - x.len) (end - x.len) xs (omega (arith, len, h)) (omega (arith, len, k)))
+    ∙ ap (λ t. cond (ltb from (min end x.len)) (x ∷ []) [] ++ t)
+    (meeting-far (from - x.len) (to - x.len) (end - x.len) xs (omega (arith, len, h)) (omega (arith, len, k)))
 
 -- of extents that begin later, those that meet a range do so from wherever it begins before them
-over_later : (low : ℕ) (es : List Extent) (at next to : ℕ) → IsApart low es → at ≤ low → next ≤ low → slices_over es at to ≡ slices_over es next to
+over_later : (low : ℕ) (es : List Extent) (at next to : ℕ) → IsApart low es → at ≤ low → next ≤ low
+    → slices_over es at to ≡ slices_over es next to
 over_later low [] at next to apart h k = refl
 over_later low (x ∷ xs) at next to apart h k =
     let same : at - x.at ≡ next - x.at = omega (arith, apart.0, h, k) in
     ap (λ n. meeting n (to - x.at) x.parts ++ slices_over xs at to) same
-    ∙ ap (λ t. meeting (next - x.at) (to - x.at) x.parts ++ t) (over_later (end_of x) xs at next to apart.2 (omega (arith, apart.0, h)) (omega (arith, apart.0, k)))
+    ∙ ap (λ t. meeting (next - x.at) (to - x.at) x.parts ++ t)
+    (over_later (end_of x) xs at next to apart.2 (omega (arith, apart.0, h)) (omega (arith, apart.0, k)))
 
 -- the slices of one extent from a byte of it on: up to its end or that of the range, and then none
 of_one : (x : Extent) (at n to : ℕ) → x.at ≤ at → at < end_of x → at ≤ to → n ≡ min (to - at) (end_of x - at)
-    → (meeting (at - x.at) (to - x.at) x.parts ≡ meeting (at - x.at) ((at - x.at) + n) x.parts) × (meeting ((at + n) - x.at) (to - x.at) x.parts ≡ [])
+    → (meeting (at - x.at) (to - x.at) x.parts ≡ meeting (at - x.at) ((at - x.at) + n) x.parts)
+    × (meeting ((at + n) - x.at) (to - x.at) x.parts ≡ [])
 of_one x at n to lo hi le is = elim (cases_lt to (end_of x)) [
   | inl h ↦ (
       let end : to - x.at ≡ (at - x.at) + n = omega (arith, lo, hi, le, is, h) in
@@ -51,19 +58,25 @@ of_one x at n to lo hi le is = elim (cases_lt to (end_of x)) [
         ap (λ k. meeting k (to - x.at) x.parts) same ∙ meeting-empty (to - x.at) x.parts,
       ))
   | inr h ↦ (
-    meeting-far (at - x.at) (to - x.at) ((at - x.at) + n) x.parts (omega (arith, lo, hi, le, is, h)) (omega (arith, lo, hi, le, is, h)),
+    meeting-far (at - x.at) (to - x.at) ((at - x.at) + n) x.parts (omega (arith, lo, hi, le, is, h))
+        (omega (arith, lo, hi, le, is, h)),
     meeting-past ((at + n) - x.at) (to - x.at) x.parts (omega (arith, lo, hi, le, is, h)),
   )
 ]
 
 -- the slices over a range are those of the extent over its first byte, and those from there on
-pub over_next : (low : ℕ) (es : List Extent) (at n to : ℕ) (e : Extent) → IsApart low es → extent_over es at ≡ Some e → at ≤ to → n ≡ min (to - at) (end_of e - at)
+pub over_next : (low : ℕ) (es : List Extent) (at n to : ℕ) (e : Extent) → IsApart low es → extent_over es at ≡ Some e
+    → at ≤ to → n ≡ min (to - at) (end_of e - at)
     → slices_over es at to ≡ meeting (at - e.at) ((at - e.at) + n) e.parts ++ slices_over es (at + n) to
 over_next low [] at n to e apart h le is = cc
 over_next low (x ∷ xs) at n to e apart h le is =
-    here (is_over x at) (λ t. over_at (x ∷ xs) at x (ap (λ b. cond b (Some x) (extent_over xs at)) t)) h (λ t. over_next (end_of x) xs at n to e apart.2 t le is)
+    here (is_over x at) (λ t. over_at (x ∷ xs) at x (ap (λ b. cond b (Some x) (extent_over xs at)) t)) h
+    (λ t. over_next (end_of x) xs at n to e apart.2 t le is)
   where
-    here : (b : Bool) → (is_over x at ≡ true → (x.at ≤ at) × (at < end_of x)) → cond b (Some x) (extent_over xs at) ≡ Some e → (extent_over xs at ≡ Some e → slices_over xs at to ≡ meeting (at - e.at) ((at - e.at) + n) e.parts ++ slices_over xs (at + n) to)
+    here : (b : Bool) → (is_over x at ≡ true → (x.at ≤ at) × (at < end_of x))
+        → cond b (Some x) (extent_over xs at) ≡ Some e
+        → (extent_over xs at ≡ Some e → slices_over xs at to ≡ meeting (at - e.at) ((at - e.at) + n) e.parts
+        ++ slices_over xs (at + n) to)
         → slices_over (x ∷ xs) at to ≡ meeting (at - e.at) ((at - e.at) + n) e.parts ++ slices_over (x ∷ xs) (at + n) to
     here true f k ih =
         let same : x ≡ e = cc in
@@ -73,33 +86,40 @@ over_next low (x ∷ xs) at n to e apart h le is =
         let m : n ≡ min (to - at) (end_of x - at) = omega (arith, is, ap end_of same) in
         let one = of_one x at n to lo hi le m in
         let first = meeting (at - x.at) ((at - x.at) + n) x.parts in
-        subst (λ (y : Extent). slices_over (x ∷ xs) at to ≡ meeting (at - y.at) ((at - y.at) + n) y.parts ++ slices_over (x ∷ xs) (at + n) to) same
+        subst (λ (y : Extent). slices_over (x ∷ xs) at to ≡ meeting (at - y.at) ((at - y.at) + n) y.parts
+        ++ slices_over (x ∷ xs) (at + n) to) same
         (ap (λ l. l ++ slices_over xs at to) one.0
-        ∙ ap (λ l. first ++ l) (over_later (end_of x) xs at (at + n) to apart.2 (omega (arith, hi)) (omega (arith, m)) ∙ sym (ap (λ l. l ++ slices_over xs (at + n) to) one.1)))
+        ∙ ap (λ l. first ++ l) (over_later (end_of x) xs at (at + n) to apart.2 (omega (arith, hi)) (omega (arith, m))
+        ∙ sym (ap (λ l. l ++ slices_over xs (at + n) to) one.1)))
     here false f k ih =
         let has = over_at xs at e k in
         let low = over_low (end_of x) xs at e apart.2 k in
         let none = meeting-past (at - x.at) (to - x.at) x.parts (omega (arith, has.0, low)) in
         let later = meeting-past ((at + n) - x.at) (to - x.at) x.parts (omega (arith, has.0, low)) in
-        ap (λ l. l ++ slices_over xs at to) none ∙ ih k ∙ ap (λ l. meeting (at - e.at) ((at - e.at) + n) e.parts ++ (l ++ slices_over xs (at + n) to)) (sym later)
+        ap (λ l. l ++ slices_over xs at to) none ∙ ih k
+        ∙ ap (λ l. meeting (at - e.at) ((at - e.at) + n) e.parts ++ (l ++ slices_over xs (at + n) to)) (sym later)
 
 -- no slice is over an empty range
 pub slices_over_none : (es : List Extent) (at : ℕ) → slices_over es at at ≡ []
 slices_over_none [] at = refl
-slices_over_none (x ∷ xs) at = ap (λ l. l ++ slices_over xs at at) (meeting-empty (at - x.at) x.parts) ∙ slices_over_none xs at
+slices_over_none (x ∷ xs) at = ap (λ l. l ++ slices_over xs at at) (meeting-empty (at - x.at) x.parts)
+    ∙ slices_over_none xs at
 
 -- Lists of slices that grow.
 
 -- slices were added, the first of those that were left
-pub parts_more : (old new part left rest : List Slice) (all : List BufId) → bufs_of new ≡ bufs_of old ++ bufs_of part → left ≡ part ++ rest → bufs_of old ++ bufs_of left ≡ all → bufs_of new ++ bufs_of rest ≡ all
+pub parts_more : (old new part left rest : List Slice) (all : List BufId) → bufs_of new ≡ bufs_of old ++ bufs_of part
+    → left ≡ part ++ rest → bufs_of old ++ bufs_of left ≡ all → bufs_of new ++ bufs_of rest ≡ all
 parts_more old new part left rest all more is before =
     ap (λ l. l ++ bufs_of rest) more ∙ append_assoc (bufs_of old) (bufs_of part) (bufs_of rest)
     ∙ ap (λ l. bufs_of old ++ l) (sym (ap bufs_of is ∙ bufs-append part rest)) ∙ before
 
 -- nothing is left
-pub parts_done : (xs left : List Slice) (all : List BufId) → left ≡ [] → bufs_of xs ++ bufs_of left ≡ all → bufs_of xs ≡ all
+pub parts_done : (xs left : List Slice) (all : List BufId) → left ≡ [] → bufs_of xs ++ bufs_of left ≡ all
+    → bufs_of xs ≡ all
 parts_done xs left all none h = sym (append-nil (bufs_of xs)) ∙ ap (λ l. bufs_of xs ++ bufs_of l) (sym none) ∙ h
 
 -- the last were added
-pub parts_last : (old new part : List Slice) (all : List BufId) → bufs_of new ≡ bufs_of old ++ bufs_of part → bufs_of old ++ bufs_of part ≡ all → bufs_of new ≡ all
+pub parts_last : (old new part : List Slice) (all : List BufId) → bufs_of new ≡ bufs_of old ++ bufs_of part
+    → bufs_of old ++ bufs_of part ≡ all → bufs_of new ≡ all
 parts_last old new part all more before = more ∙ before

@@ -1,5 +1,6 @@
 -- Parts of a range, put together.
-use Rattle.std.proofs.Common.{◌≡◌, ℕ, ◌+◌, ◌-◌, ◌<◌, ◌≤◌, ◌++◌, ◌^◌, List, [], ◌∷◌, length, take, drop, sym, ap, ◌∙◌, arith, append_assoc, length-append}
+use Rattle.std.proofs.Common.{◌≡◌, ℕ, ◌+◌, ◌-◌, ◌<◌, ◌≤◌, ◌++◌, ◌^◌, List, [], ◌∷◌, length, take, drop, sym, ap, ◌∙◌}
+use Rattle.std.proofs.Common.{arith, append_assoc, length-append}
 use Rattle.std.proofs.lemmas.List.{take_at, drop_at, append-nil}
 use Rattle.iol_core.specs.declared.numbers.BufId.{BufId}
 use Rattle.iol_hold.specs.Moves.{Shares, Covers}
@@ -29,7 +30,9 @@ pub still_covers : {s t : Stored} {xs ys : List BufId} → Covers s ys → Share
 still_covers c m = record { each = λ b. omega (arith, c.each b, m.counts.each b, tally_none b) }
 
 -- a part of what lies beside the gaps may be added to what was shared so far
-pub may_add_part : {s t : Stored} {from to : ℕ} {gaps : List Span} (xs ys : List Slice) (used next : ℕ) → LieBeside s from to gaps ys → Shares s t [] (bufs_of xs) → AllReadable s xs → CountsBelow s (2 ^ 61) → used ≤ next → next ≤ byte_len ys → byte_len xs + (next - used) < 2 ^ 32 → MayAddPart t xs ys used next
+pub may_add_part : {s t : Stored} {from to : ℕ} {gaps : List Span} (xs ys : List Slice) (used next : ℕ)
+    → LieBeside s from to gaps ys → Shares s t [] (bufs_of xs) → AllReadable s xs → CountsBelow s (2 ^ 61) → used ≤ next
+    → next ≤ byte_len ys → byte_len xs + (next - used) < 2 ^ 32 → MayAddPart t xs ys used next
 may_add_part xs ys used next beside m readable few ordered within small = record {
   ordered = ordered;
   within = within;
@@ -41,12 +44,20 @@ may_add_part xs ys used next beside m readable few ordered within small = record
   small = small;
 }
 
-pub length-places_beside : (es : List Extent) (at to : ℕ) (gs : List Span) → length (places_beside es at to gs) ≡ len_beside at to gs
+pub length-places_beside : (es : List Extent) (at to : ℕ) (gs : List Span)
+    → length (places_beside es at to gs) ≡ len_beside at to gs
 length-places_beside es at to [] = length-places_over es at to
-length-places_beside es at to (g ∷ gs) = omega (arith, length-append (places_over es at g.from) (places_beside es g.to to gs), length-places_over es at g.from, length-places_beside es g.to to gs)
+length-places_beside es at to (g ∷ gs) =
+    omega (
+      arith,
+      length-append (places_over es at g.from) (places_beside es g.to to gs),
+      length-places_over es at g.from,
+      length-places_beside es g.to to gs,
+    )
 
 -- what lies beside the gaps, woven with what lies in them
-pub woven-beside : (old new : List Extent) (at to : ℕ) (gs : List Span) → woven (places_beside old at to gs) new at to gs ≡ places_read old new at to gs
+pub woven-beside : (old new : List Extent) (at to : ℕ) (gs : List Span)
+    → woven (places_beside old at to gs) new at to gs ≡ places_read old new at to gs
 woven-beside old new at to [] = take_all (places_over old at to) (to - at) (length-places_over old at to)
   where
     take_all : (xs : List Place) (n : ℕ) → length xs ≡ n → take n xs ≡ xs
@@ -62,11 +73,17 @@ woven-beside old new at to (g ∷ gs) =
     ∙ ap (λ l. here ++ places_over new g.from g.to ++ l) (woven-beside old new g.to to gs)
 
 -- with a part of what can be read
-pub readable_more : {s : Stored} (more xs ys : List Slice) (from to : ℕ) → places more ≡ places xs ++ slice_range (places ys) from to → AllReadable s xs → AllReadable s ys → AllReadable s more
-readable_more {s = s} more xs ys from to e h k = readable_places more xs (slice_range (places ys) from to) e h (All-take (IsThere s) (to - from) (drop from (places ys)) (All-drop (IsThere s) from (places ys) k.each))
+pub readable_more : {s : Stored} (more xs ys : List Slice) (from to : ℕ)
+    → places more ≡ places xs ++ slice_range (places ys) from to → AllReadable s xs → AllReadable s ys
+    → AllReadable s more
+readable_more {s = s} more xs ys from to e h k =
+    readable_places more xs (slice_range (places ys) from to) e h
+    (All-take (IsThere s) (to - from) (drop from (places ys)) (All-drop (IsThere s) from (places ys) k.each))
 
 -- where the bytes lie that were shared up to a gap, and then up to the next
-pub beside_more : (es : List Extent) (so_far more : List Place) (at to : ℕ) {gs rest : List Span} {g : Span} {all : List Place} → gs ≡ g ∷ rest → more ≡ so_far ++ places_over es at g.from → so_far ++ places_beside es at to gs ≡ all → more ++ places_beside es g.to to rest ≡ all
+pub beside_more : (es : List Extent) (so_far more : List Place) (at to : ℕ) {gs rest : List Span} {g : Span}
+    {all : List Place} → gs ≡ g ∷ rest → more ≡ so_far ++ places_over es at g.from
+    → so_far ++ places_beside es at to gs ≡ all → more ++ places_beside es g.to to rest ≡ all
 beside_more es so_far more at to {rest = rest} {g = g} next is whole =
     ap (λ l. l ++ places_beside es g.to to rest) is
     ∙ append_assoc so_far (places_over es at g.from) (places_beside es g.to to rest)

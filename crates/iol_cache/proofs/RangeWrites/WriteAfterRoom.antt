@@ -16,7 +16,8 @@ use Rattle.iol_arena.specs.State.{page_count}
 use Rattle.iol_cache.specs.CacheState.{held}
 use Rattle.iol_cache.specs.Evictions.{Holding}
 use Rattle.iol_cache.specs.ReadSteps.{Goes}
-use Rattle.iol_cache.specs.Overwrites.{IsWritten, KeepsFiles, KeepsMirrors, KeepsOthers, LiesDirty, MakesRoom, Overwrites, bytes_in}
+use Rattle.iol_cache.specs.Overwrites.{IsWritten, KeepsFiles, KeepsMirrors, KeepsOthers, LiesDirty, MakesRoom}
+use Rattle.iol_cache.specs.Overwrites.{Overwrites, bytes_in}
 use Rattle.iol_cache.specs.Sound.{IsSound}
 use Rattle.iol_cache.proofs.Extents.FileEntries.{numbered_bounds, numbered_yes}
 use Rattle.iol_cache.proofs.RangeWrites.OverwrittenFile.{over_lies, over_mirrors, over_moves, over_others, over_written}
@@ -26,11 +27,13 @@ use Rattle.iol_cache.proofs.Extents.Steps.{covers_right, goes_cache, goes_covers
 abbrev honest_of : List (List ℕ) → Disk
 honest_of slots = record { slots = slots; failures = 0; honest = true; reported = [] }
 
-pub goes_room : (d : Disk) (own : List BufId) (p n : ℕ) (old new : Holding) → MakesRoom p n old new → Goes d own own old new
+pub goes_room : (d : Disk) (own : List BufId) (p n : ℕ) (old new : Holding) → MakesRoom p n old new
+    → Goes d own own old new
 goes_room d own p n old new m =
     let s = m.rooms in
     let mid : Holding = record { store = old.store; cache = m.reserved } in
-    goes_trans d own own own old mid new (goes_cache d own old.store old.cache m.reserved s.files s.pools s.extents s.held) (goes_less d own mid new m.gives_up)
+    goes_trans d own own own old mid new (goes_cache d own old.store old.cache m.reserved s.files s.pools s.extents
+    s.held) (goes_less d own mid new m.gives_up)
 
 -- A step by which no file changes.
 pub record KeepsAll (f : ℕ) (old new : Holding) : Type 0 where
@@ -47,7 +50,17 @@ goes_all f old new g =
       mirrors = record { each = λ slots is. (g (honest_of slots)).mirrors refl is };
       others = record { each = λ slots is k ne. ((g (honest_of slots)).files refl is).each k };
       moves = record {
-        counts = record { each = λ b. omega (arith, m.counts.each b, tally-append b (held old.cache.files) [], tally-append b (held new.cache.files) [], tally_none b) };
+        counts =
+            record {
+              each =
+                  λ b. omega (
+                    arith,
+                    m.counts.each b,
+                    tally-append b (held old.cache.files) [],
+                    tally-append b (held new.cache.files) [],
+                    tally_none b,
+                  );
+            };
         stays = m.stays;
         still = m.still;
         tidy = m.tidy;
@@ -56,24 +69,38 @@ goes_all f old new g =
 
 -- A write that was refused after room was made.
 
-pub goes_refused : (d : Disk) (p n : ℕ) (old mid : Holding) (t : Stored) → MakesRoom p n old mid → IsSound mid.store mid.cache → Moves mid.store t [] [] → SameLists mid.store t → (AllReclaimed mid.store → AllReclaimed t) → page_count t.arena ≡ page_count mid.store.arena → Goes d [] [] old (record { store = t; cache = mid.cache })
+pub goes_refused : (d : Disk) (p n : ℕ) (old mid : Holding) (t : Stored) → MakesRoom p n old mid
+    → IsSound mid.store mid.cache → Moves mid.store t [] [] → SameLists mid.store t
+    → (AllReclaimed mid.store → AllReclaimed t) → page_count t.arena ≡ page_count mid.store.arena
+    → Goes d [] [] old (record { store = t; cache = mid.cache })
 goes_refused d p n old mid t m sound none lists reclaims pages =
-    let covers : Covers t (held mid.cache.files) = record { each = λ b. omega (arith, sound.covered.each b, none.counts.each b, tally_none b) } in
-    goes_trans d [] [] [] old mid _ (goes_room d [] p n old mid m) (goes_store d [] [] mid.store t mid.cache sound none covers lists reclaims pages)
+    let covers : Covers t (held mid.cache.files) =
+    record { each = λ b. omega (arith, sound.covered.each b, none.counts.each b, tally_none b) } in
+    goes_trans d [] [] [] old mid _ (goes_room d [] p n old mid m)
+    (goes_store d [] [] mid.store t mid.cache sound none covers lists reclaims pages)
 
 -- What the write needs of the room that was made.
 
-pub room_numbered : (p n f : ℕ) (old mid : Holding) → MakesRoom p n old mid → is_numbered old.cache.files f ≡ true → is_numbered mid.cache.files f ≡ true
+pub room_numbered : (p n f : ℕ) (old mid : Holding) → MakesRoom p n old mid → is_numbered old.cache.files f ≡ true
+    → is_numbered mid.cache.files f ≡ true
 room_numbered p n f old mid m h =
     let b = numbered_bounds old.cache.files f h in
     let g = goes_room (honest_of []) [] p n old mid m in
     numbered_yes mid.cache.files f b.0 (omega (arith, b.1, g.count))
 
-pub room_held : (p n : ℕ) (source : List Slice) (old mid : Holding) → MakesRoom p n old mid → Covers old.store (held old.cache.files ++ bufs_of source) → Covers mid.store (held mid.cache.files ++ bufs_of source)
-room_held p n source old mid m covers = goes_covers (honest_of []) (bufs_of source) (bufs_of source) old mid (goes_room (honest_of []) (bufs_of source) p n old mid m) covers
+pub room_held : (p n : ℕ) (source : List Slice) (old mid : Holding) → MakesRoom p n old mid
+    → Covers old.store (held old.cache.files ++ bufs_of source)
+    → Covers mid.store (held mid.cache.files ++ bufs_of source)
+room_held p n source old mid m covers =
+    goes_covers (honest_of []) (bufs_of source) (bufs_of source) old mid
+    (goes_room (honest_of []) (bufs_of source) p n old mid m) covers
 
-pub room_readable : (p n : ℕ) (source : List Slice) (old mid : Holding) → MakesRoom p n old mid → Covers old.store (held old.cache.files ++ bufs_of source) → AllReadable old.store source → AllReadable mid.store source
-room_readable p n source old mid m covers readable = readable_stays {old = old.store} {new = mid.store} source (goes_room (honest_of []) [] p n old mid m).moves.stays (covers_right mid.store (held mid.cache.files) (bufs_of source) (room_held p n source old mid m covers)) readable
+pub room_readable : (p n : ℕ) (source : List Slice) (old mid : Holding) → MakesRoom p n old mid
+    → Covers old.store (held old.cache.files ++ bufs_of source) → AllReadable old.store source
+    → AllReadable mid.store source
+room_readable p n source old mid m covers readable =
+    readable_stays {old = old.store} {new = mid.store} source (goes_room (honest_of []) [] p n old mid m).moves.stays
+    (covers_right mid.store (held mid.cache.files) (bufs_of source) (room_held p n source old mid m covers)) readable
 
 -- A write that was carried out.
 pub record Wrote (f at : ℕ) (source : List Slice) (old new : Holding) : Type 0 where
@@ -83,7 +110,10 @@ pub record Wrote (f at : ℕ) (source : List Slice) (old new : Holding) : Type 0
   pub lies : LiesDirty f at source new.cache
   pub moves : Moves old.store new.store (held old.cache.files) (held new.cache.files)
 
-module _ (old mid new : Holding) (f at p n : ℕ) (source : List Slice) (m : MakesRoom p n old mid) (sound : IsSound mid.store mid.cache) (numbered : is_numbered old.cache.files f ≡ true) (sound' : IsSound new.store new.cache) (some : 0 < byte_len source) (w : Overwrites f at source mid new) (covers : Covers old.store (held old.cache.files ++ bufs_of source)) (readable : AllReadable old.store source) where
+module _ (old mid new : Holding) (f at p n : ℕ) (source : List Slice) (m : MakesRoom p n old mid)
+    (sound : IsSound mid.store mid.cache) (numbered : is_numbered old.cache.files f ≡ true)
+    (sound' : IsSound new.store new.cache) (some : 0 < byte_len source) (w : Overwrites f at source mid new)
+    (covers : Covers old.store (held old.cache.files ++ bufs_of source)) (readable : AllReadable old.store source) where
   there : is_numbered mid.cache.files f ≡ true
   there = room_numbered p n f old mid m numbered
 
@@ -91,10 +121,14 @@ module _ (old mid new : Holding) (f at p n : ℕ) (source : List Slice) (m : Mak
   room d = goes_room d [] p n old mid m
 
   source_held : Covers mid.store (bufs_of source)
-  source_held = covers_right mid.store (held mid.cache.files) (bufs_of source) (goes_covers (honest_of []) (bufs_of source) (bufs_of source) old mid (goes_room (honest_of []) (bufs_of source) p n old mid m) covers)
+  source_held =
+      covers_right mid.store (held mid.cache.files) (bufs_of source)
+      (goes_covers (honest_of []) (bufs_of source) (bufs_of source) old mid
+      (goes_room (honest_of []) (bufs_of source) p n old mid m) covers)
 
   same_text : text_of mid.store source ≡ text_of old.store source
-  same_text = text_stays {old = old.store} {new = mid.store} source (room (honest_of [])).moves.stays source_held readable
+  same_text = text_stays {old = old.store} {new = mid.store} source (room (honest_of [])).moves.stays source_held
+      readable
 
   pub all_wrote : Wrote f at source old new
   all_wrote =
@@ -103,15 +137,22 @@ module _ (old mid new : Holding) (f at p n : ℕ) (source : List Slice) (m : Mak
       record {
         written = record {
           each = λ slots mirrors begins. (let same = ((room (honest_of slots)).files refl mirrors).each f in
-              (over_written mid new f at source sound there sound' some w).each slots ((room (honest_of slots)).mirrors refl mirrors) (subst (λ (l : List ℕ). at ≤ length l) (sym same) begins)
+              (over_written mid new f at source sound there sound' some w).each slots
+              ((room (honest_of slots)).mirrors refl mirrors)
+              (subst (λ (l : List ℕ). at ≤ length l) (sym same) begins)
               ∙ ap (λ l. overwritten at (text.bytes_of l) (bytes_in mid slots f)) same_text
               ∙ ap (overwritten at (text.bytes_of (text_of old.store source))) same);
         };
         others = record {
-          each = λ slots mirrors g ne. (over_others mid new f at source sound there sound' some w).each slots ((room (honest_of slots)).mirrors refl mirrors) g ne
+          each = λ slots mirrors g ne. (over_others mid new f at source sound there sound' some w).each slots
+              ((room (honest_of slots)).mirrors refl mirrors) g ne
               ∙ ((room (honest_of slots)).files refl mirrors).each g;
         };
-        mirrors = record { each = λ slots mirrors. (over_mirrors mid new f at source sound there sound' some w).each slots ((room (honest_of slots)).mirrors refl mirrors) };
+        mirrors =
+            record {
+              each = λ slots mirrors. (over_mirrors mid new f at source sound there sound' some w).each slots
+                  ((room (honest_of slots)).mirrors refl mirrors);
+            };
         lies = over_lies mid new f at source sound there sound' some w;
         moves = record {
           counts = record { each = λ x. omega (arith, a.counts.each x, b.counts.each x) };

@@ -2,11 +2,14 @@
 use Rattle.std.proofs.Common.{◌≡◌, ℕ, ◌+◌, ◌-◌, List, [], ◌∷◌, ◌++◌, length, refl, length-append, Some, None}
 use Rattle.std.specs.Prelude.{codes, Ok, Err}
 use Rattle.iol_core.specs.Text.{Text, labelled, bytes_of}
-use Rattle.iol_core.specs.State.{State, new_domain, no_domain, domain, pool, aggregate, text, file, content, pipe_at, conn_at, with_domain, with_pipe, with_conn, with_content}
-use Rattle.iol_core.specs.declared.refusals.Refusal.TheVariants.{NoDomain, BadAgg, NoPool, BadRange, TooLong, TooMany, Denied, PoolClosed}
+use Rattle.iol_core.specs.State.{State, new_domain, no_domain, domain, pool, aggregate, text, file, content, pipe_at}
+use Rattle.iol_core.specs.State.{conn_at, with_domain, with_pipe, with_conn, with_content}
+use Rattle.iol_core.specs.declared.refusals.Refusal.TheVariants.{NoDomain, BadAgg, NoPool, BadRange, TooLong, TooMany}
+use Rattle.iol_core.specs.declared.refusals.Refusal.TheVariants.{Denied, PoolClosed}
 use Rattle.iol_core.specs.declared.limits.TheConstants.{MAX_AGGREGATE_BYTES, LAST_AGGREGATE}
 use Rattle.iol_core.proofs.Examples.World.{answered, caller, world, with_receiver}
-use Rattle.iol_core.specs.Calls.Aggregates.{agg_make, agg_dup, agg_cut, agg_split, agg_join, agg_replace, agg_drop, agg_give, show}
+use Rattle.iol_core.specs.Calls.Aggregates.{agg_make, agg_dup, agg_cut, agg_split, agg_join, agg_replace, agg_drop}
+use Rattle.iol_core.specs.Calls.Aggregates.{agg_give, show}
 
 -- domain 1 with no aggregate number left, with one left, and placing in a pool that was closed since
 abbrev tired : State
@@ -18,23 +21,30 @@ last = record world { domains = record caller { next_agg = LAST_AGGREGATE } ∷ 
 abbrev placing_in_closed : State
 placing_in_closed = record world { domains = record caller { default = Some 4 } ∷ new_domain ∷ no_domain ∷ [] }
 
-agg_make_too_long : (bytes : List ℕ) → length bytes ≡ MAX_AGGREGATE_BYTES + 1 → answered (agg_make world 1 bytes) ≡ Err TooLong
+agg_make_too_long : (bytes : List ℕ) → length bytes ≡ MAX_AGGREGATE_BYTES + 1
+    → answered (agg_make world 1 bytes) ≡ Err TooLong
 unfolding domain pool file content pipe_at conn_at with_domain with_pipe with_conn with_content
 agg_make_too_long bytes long = rw long refl
 
 -- an aggregate of some length beside "cd"
 abbrev beside : Text → State
-beside t = record world { domains = record caller { aggs = (1, t) ∷ (2, labelled 2 (codes "cd")) ∷ [] } ∷ new_domain ∷ no_domain ∷ [] }
+beside t =
+    record world {
+      domains = record caller { aggs = (1, t) ∷ (2, labelled 2 (codes "cd")) ∷ [] } ∷ new_domain
+          ∷ no_domain ∷ [];
+    }
 
 agg_join_too_long : (t : Text) → length t ≡ MAX_AGGREGATE_BYTES - 1 → answered (agg_join (beside t) 1 1 2) ≡ Err TooLong
 unfolding domain pool file content pipe_at conn_at with_domain with_pipe with_conn with_content
 agg_join_too_long t long = rw long refl
 
-agg_join_as_long_as_may_be : (t : Text) → length t ≡ MAX_AGGREGATE_BYTES - 2 → answered (agg_join (beside t) 1 1 2) ≡ Ok 3
+agg_join_as_long_as_may_be : (t : Text) → length t ≡ MAX_AGGREGATE_BYTES - 2
+    → answered (agg_join (beside t) 1 1 2) ≡ Ok 3
 unfolding domain pool file content pipe_at conn_at with_domain with_pipe with_conn with_content
 agg_join_as_long_as_may_be t long = rw long refl
 
-agg_replace_too_long : (t : Text) → length t ≡ MAX_AGGREGATE_BYTES → answered (agg_replace (beside t) 1 2 1 1 1) ≡ Err TooLong
+agg_replace_too_long : (t : Text) → length t ≡ MAX_AGGREGATE_BYTES
+    → answered (agg_replace (beside t) 1 2 1 1 1) ≡ Err TooLong
 unfolding domain pool file content pipe_at conn_at with_domain with_pipe with_conn with_content
 agg_replace_too_long t long = rw (length-append {A = ℕ × ℕ}, long) refl
 
@@ -166,7 +176,8 @@ agg_give_refused :
     (answered (agg_give world 3 1 1) ≡ Err NoDomain)
     × (answered (agg_give world 1 1 3) ≡ Err NoDomain)
     × (answered (agg_give world 1 9 2) ≡ Err BadAgg)
-    × (answered (agg_give (with_receiver world (record (new_domain {A = Text}) { next_agg = LAST_AGGREGATE + 1 })) 1 1 2) ≡ Err TooMany)
+    × (answered (agg_give (with_receiver world (record (new_domain {A = Text}) { next_agg = LAST_AGGREGATE + 1 })) 1 1
+    2) ≡ Err TooMany)
     × (answered (agg_give world 1 2 2) ≡ Err (Denied 2))
 unfolding domain pool file content pipe_at conn_at with_domain with_pipe with_conn with_content
 agg_give_refused = (refl, refl, refl, refl, refl)

@@ -2,7 +2,8 @@
 use Rattle.std.proofs.Common.{◌≡◌, [], ◌∷◌, replicate, refl, true, false, Some, None}
 use Rattle.std.specs.Prelude.{codes, Ok, Err}
 use Rattle.iol_core.specs.Text.{Text, bytes_of}
-use Rattle.iol_core.specs.State.{State, Domain, new_domain, new_pipe, domain, pool, descriptor, file, content, pipe_at, conn_at, with_domain, with_pipe, with_conn, with_content}
+use Rattle.iol_core.specs.State.{State, Domain, new_domain, new_pipe, domain, pool, descriptor, file, content, pipe_at}
+use Rattle.iol_core.specs.State.{conn_at, with_domain, with_pipe, with_conn, with_content}
 use Rattle.iol_core.specs.declared.refusals.Refusal.TheVariants.{NoDomain, BadFd, TooMany, Denied, WouldBlock}
 use Rattle.iol_core.specs.declared.descriptors.Descriptor.TheVariants as on
 use Rattle.iol_core.specs.declared.limits.TheConstants.{MAX_OPEN, MAX_PIPES}

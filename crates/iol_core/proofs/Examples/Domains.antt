@@ -2,7 +2,8 @@
 use Rattle.std.proofs.Common.{◌≡◌, [], ◌∷◌, replicate, refl, true, false, None}
 use Rattle.std.specs.Prelude.{codes, Ok, Err}
 use Rattle.iol_core.specs.Text.{Text, bytes_of}
-use Rattle.iol_core.specs.State.{new_domain, domain, is_live, pool, aggregate, descriptor, file, content, pipe_at, conn_at, with_domain, with_pipe, with_conn, with_content}
+use Rattle.iol_core.specs.State.{new_domain, domain, is_live, pool, aggregate, descriptor, file, content, pipe_at}
+use Rattle.iol_core.specs.State.{conn_at, with_domain, with_pipe, with_conn, with_content}
 use Rattle.iol_core.specs.declared.refusals.Refusal.TheVariants.{NoDomain, TooMany}
 use Rattle.iol_core.proofs.Examples.World.{answered, world}
 use Rattle.iol_core.specs.Calls.Domains.{domain_new, exit}

@@ -2,8 +2,10 @@
 use Rattle.std.proofs.Common.{◌≡◌, ℕ, ◌+◌, List, [], ◌∷◌, length, replicate, refl, Some}
 use Rattle.std.specs.Prelude.{codes, Ok, Err}
 use Rattle.iol_core.specs.Text.{Text}
-use Rattle.iol_core.specs.State.{Domain, new_domain, domain, pool, descriptor, file, content, pipe_at, conn_at, with_domain, with_pipe, with_conn, with_content}
-use Rattle.iol_core.specs.declared.refusals.Refusal.TheVariants.{NoDomain, BadFd, NoPool, NoFile, WrongMode, BadRange, TooLong, TooMany, Denied, PoolClosed}
+use Rattle.iol_core.specs.State.{Domain, new_domain, domain, pool, descriptor, file, content, pipe_at, conn_at}
+use Rattle.iol_core.specs.State.{with_domain, with_pipe, with_conn, with_content}
+use Rattle.iol_core.specs.declared.refusals.Refusal.TheVariants.{NoDomain, BadFd, NoPool, NoFile, WrongMode, BadRange}
+use Rattle.iol_core.specs.declared.refusals.Refusal.TheVariants.{TooLong, TooMany, Denied, PoolClosed}
 use Rattle.iol_core.specs.declared.descriptors.Descriptor.TheVariants as on
 use Rattle.iol_core.specs.declared.descriptors.Mode.TheVariants as mode
 use Rattle.iol_core.specs.declared.limits.TheConstants.{MAX_FILE_BYTES, MAX_OPEN}
@@ -13,7 +15,8 @@ use Rattle.iol_core.specs.Calls.Files.{file_new, open_file, seek, file_length, f
 abbrev crowded : Domain Text
 crowded = record (new_domain {A = Text}) { fds = replicate MAX_OPEN (Some (on.WriteEnd 0)) }
 
-file_new_too_long : (bytes : List ℕ) → length bytes ≡ MAX_FILE_BYTES + 1 → answered (file_new (record world { files = []; slots = bytes ∷ [] }) 1 (codes "n") 1) ≡ Err TooLong
+file_new_too_long : (bytes : List ℕ) → length bytes ≡ MAX_FILE_BYTES + 1
+    → answered (file_new (record world { files = []; slots = bytes ∷ [] }) 1 (codes "n") 1) ≡ Err TooLong
 unfolding domain pool file content pipe_at conn_at with_domain with_pipe with_conn with_content
 file_new_too_long bytes long = rw long refl
 
@@ -31,7 +34,8 @@ file_new_refused :
     × (answered (file_new world 1 (codes "f") 1) ≡ Err WrongMode)
     × (answered (file_new world 1 [] 1) ≡ Err BadRange)
     × (answered (file_new world 1 (replicate 256 97) 1) ≡ Err BadRange)
-    × (answered (file_new (record world { files = replicate 1024 (record { name = codes "f"; pool = 1 }) }) 1 (codes "n") 1) ≡ Err TooMany)
+    × (answered (file_new (record world { files = replicate 1024 (record { name = codes "f"; pool = 1 }) }) 1
+    (codes "n") 1) ≡ Err TooMany)
     × (answered (file_new world 1 (codes "n") 3) ≡ Err (Denied 3))
     × (answered (file_new world 1 (codes "n") 4) ≡ Err (PoolClosed 4))
 unfolding domain pool file content pipe_at conn_at with_domain with_pipe with_conn with_content

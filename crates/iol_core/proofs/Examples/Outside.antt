@@ -2,8 +2,10 @@
 use Rattle.std.proofs.Common.{◌≡◌, ◌+◌, [], ◌∷◌, length, replicate, refl, Some}
 use Rattle.std.specs.Prelude.{codes, Ok, Err}
 use Rattle.iol_core.specs.Text.{Text, labelled, bytes_of}
-use Rattle.iol_core.specs.State.{new_conn, domain, pool, file, content, pipe_at, conn_at, with_domain, with_pipe, with_conn, with_content}
-use Rattle.iol_core.specs.declared.refusals.Refusal.TheVariants.{BadFd, NoPool, BadRange, TooMany, PoolClosed, BrokenPipe, WouldBlock}
+use Rattle.iol_core.specs.State.{new_conn, domain, pool, file, content, pipe_at, conn_at, with_domain, with_pipe}
+use Rattle.iol_core.specs.State.{with_conn, with_content}
+use Rattle.iol_core.specs.declared.refusals.Refusal.TheVariants.{BadFd, NoPool, BadRange, TooMany, PoolClosed}
+use Rattle.iol_core.specs.declared.refusals.Refusal.TheVariants.{BrokenPipe, WouldBlock}
 use Rattle.iol_core.specs.declared.descriptors.How.TheVariants as how
 use Rattle.iol_core.specs.declared.limits.TheConstants.{MAX_QUEUE_BYTES, LAST_CONNECTION}
 use Rattle.iol_core.proofs.Examples.World.{answered, world}
@@ -12,7 +14,9 @@ use Rattle.iol_core.specs.Calls.Descriptors.{close}
 use Rattle.iol_core.specs.Checksum.{checksum, folded, word_sum}
 
 -- a full queue
-arrive_full : (q : Text) → length q ≡ MAX_QUEUE_BYTES → answered (arrive (record world { conns = (1, record (new_conn 1) { incoming = q }) ∷ [] }) 1 (codes "!")) ≡ Err WouldBlock
+arrive_full : (q : Text) → length q ≡ MAX_QUEUE_BYTES
+    → answered (arrive (record world { conns = (1, record (new_conn 1) { incoming = q }) ∷ [] }) 1 (codes "!"))
+    ≡ Err WouldBlock
 unfolding domain pool file content pipe_at conn_at with_domain with_pipe with_conn with_content
 arrive_full q long = rw long refl
 

@@ -2,8 +2,10 @@
 use Rattle.std.proofs.Common.{◌≡◌, [], ◌∷◌, replicate, refl, true, false, Some}
 use Rattle.std.specs.Prelude.{Ok, Err}
 use Rattle.iol_core.specs.Text.{Text}
-use Rattle.iol_core.specs.State.{State, new_domain, domain, pool, file, content, pipe_at, conn_at, with_domain, with_pipe, with_conn, with_content}
-use Rattle.iol_core.specs.declared.refusals.Refusal.TheVariants.{NoDomain, NoPool, BadRange, TooMany, Denied, PoolClosed, PoolBusy}
+use Rattle.iol_core.specs.State.{State, new_domain, domain, pool, file, content, pipe_at, conn_at, with_domain}
+use Rattle.iol_core.specs.State.{with_pipe, with_conn, with_content}
+use Rattle.iol_core.specs.declared.refusals.Refusal.TheVariants.{NoDomain, NoPool, BadRange, TooMany, Denied}
+use Rattle.iol_core.specs.declared.refusals.Refusal.TheVariants.{PoolClosed, PoolBusy}
 use Rattle.iol_core.specs.declared.limits.TheConstants.{MAX_POOLS}
 use Rattle.iol_core.proofs.Examples.World.{answered, world}
 use Rattle.iol_core.specs.Calls.Pools.{pool_create, pool_close, pool_admit, set_pool}
@@ -33,8 +35,10 @@ pool_create_refused :
     × (answered (pool_create empty 1 1 []) ≡ Err BadRange)
     × (answered (pool_create empty 1 0 (1 ∷ [])) ≡ Err BadRange)
     × (answered (pool_create empty 1 257 (1 ∷ [])) ≡ Err BadRange)
-    × (answered (pool_create many 1 1 (1 ∷ 2 ∷ 3 ∷ 4 ∷ 5 ∷ 6 ∷ 7 ∷ 8 ∷ 9 ∷ 10 ∷ 11 ∷ 12 ∷ 13 ∷ 14 ∷ 15 ∷ 16 ∷ 17 ∷ [])) ≡ Err TooMany)
-    × (answered (pool_create many 1 1 (1 ∷ 2 ∷ 3 ∷ 4 ∷ 5 ∷ 6 ∷ 7 ∷ 8 ∷ 9 ∷ 10 ∷ 11 ∷ 12 ∷ 13 ∷ 14 ∷ 15 ∷ 16 ∷ 16 ∷ [])) ≡ Ok 1)
+    × (answered (pool_create many 1 1 (1 ∷ 2 ∷ 3 ∷ 4 ∷ 5 ∷ 6 ∷ 7 ∷ 8 ∷ 9 ∷ 10 ∷ 11 ∷ 12 ∷ 13 ∷ 14 ∷ 15 ∷ 16 ∷ 17 ∷ []))
+    ≡ Err TooMany)
+    × (answered (pool_create many 1 1 (1 ∷ 2 ∷ 3 ∷ 4 ∷ 5 ∷ 6 ∷ 7 ∷ 8 ∷ 9 ∷ 10 ∷ 11 ∷ 12 ∷ 13 ∷ 14 ∷ 15 ∷ 16 ∷ 16 ∷ []))
+    ≡ Ok 1)
     × (answered (pool_create full 1 1 (1 ∷ [])) ≡ Err TooMany)
 unfolding domain pool file content pipe_at conn_at with_domain with_pipe with_conn with_content
 pool_create_refused = (refl, refl, refl, refl, refl, refl, refl, refl)

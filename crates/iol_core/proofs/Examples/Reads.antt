@@ -2,8 +2,10 @@
 use Rattle.std.proofs.Common.{◌≡◌, ◌+◌, [], ◌∷◌, ◌++◌, refl, true, false, Some}
 use Rattle.std.specs.Prelude.{codes, Ok, Err}
 use Rattle.iol_core.specs.Text.{Text, labelled, bytes_of}
-use Rattle.iol_core.specs.State.{State, new_domain, no_domain, domain, pool, text, descriptor, file, content, pipe_at, conn_at, with_domain, with_pipe, with_conn, with_content}
-use Rattle.iol_core.specs.declared.refusals.Refusal.TheVariants.{NoDomain, BadFd, WrongMode, TooMany, Denied, WouldBlock}
+use Rattle.iol_core.specs.State.{State, new_domain, no_domain, domain, pool, text, descriptor, file, content, pipe_at}
+use Rattle.iol_core.specs.State.{conn_at, with_domain, with_pipe, with_conn, with_content}
+use Rattle.iol_core.specs.declared.refusals.Refusal.TheVariants.{NoDomain, BadFd, WrongMode, TooMany, Denied}
+use Rattle.iol_core.specs.declared.refusals.Refusal.TheVariants.{WouldBlock}
 use Rattle.iol_core.specs.declared.descriptors.Descriptor.TheVariants as on
 use Rattle.iol_core.specs.declared.descriptors.Mode.TheVariants as mode
 use Rattle.iol_core.specs.declared.limits.TheConstants.{LAST_AGGREGATE}
@@ -22,7 +24,8 @@ abbrev ended : State
 ended = record world { pipes = Some (record { queue = []; reading = true; writing = false }) ∷ [] }
 
 abbrev writing : State
-writing = record world { domains = record caller { fds = Some (on.File 1 0 mode.Write) ∷ [] } ∷ new_domain ∷ no_domain ∷ [] }
+writing =
+    record world { domains = record caller { fds = Some (on.File 1 0 mode.Write) ∷ [] } ∷ new_domain ∷ no_domain ∷ [] }
 
 abbrev tired : State
 tired = record world { domains = record caller { next_agg = LAST_AGGREGATE + 1 } ∷ new_domain ∷ no_domain ∷ [] }

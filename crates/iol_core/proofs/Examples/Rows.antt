@@ -1,9 +1,10 @@
--- Whole runs: "hello" through a pipe, a reader that the pool does not list, a closed pool, aggregates split and joined, pipes
--- whose ends are closed, and lists that grow.
+-- Whole runs: "hello" through a pipe, a reader that the pool does not list, a closed pool, aggregates split and joined,
+-- pipes whose ends are closed, and lists that grow.
 use Rattle.std.proofs.Common.{◌≡◌, ℕ, List, [], ◌∷◌, ◌++◌, map, refl}
 use Rattle.std.specs.List.{range_with_len}
 use Rattle.std.specs.Prelude.{codes, is_some, unwrap_or, option_map, if◌then◌else◌}
-use Rattle.iol_core.specs.State.{State, new_state, no_slots, domain, pool, file, content, pipe_at, conn_at, with_domain, with_pipe, with_conn, with_content}
+use Rattle.iol_core.specs.State.{State, new_state, no_slots, domain, pool, file, content, pipe_at, conn_at, with_domain}
+use Rattle.iol_core.specs.State.{with_pipe, with_conn, with_content}
 use Rattle.iol_core.specs.Meaning.{Meaning, first}
 use Rattle.iol_core.specs.Run.{meaning}
 use Rattle.iol_core.specs.declared.events.Event.{Event}
@@ -153,8 +154,10 @@ admitted_then_given = refl
 -- a list of sixteen names takes no more, and one that it has already changes nothing
 list_of_sixteen :
     Answers (
-    new_domains 16 ++
-    (event.Call 1 (call.PoolCreate 1 (1 ∷ 2 ∷ 3 ∷ 4 ∷ 5 ∷ 6 ∷ 7 ∷ 8 ∷ 9 ∷ 10 ∷ 11 ∷ 12 ∷ 13 ∷ 14 ∷ 15 ∷ 16 ∷ [])), reply.Pool 1) ∷
+    new_domains 16 ++ (
+      event.Call 1 (call.PoolCreate 1 (1 ∷ 2 ∷ 3 ∷ 4 ∷ 5 ∷ 6 ∷ 7 ∷ 8 ∷ 9 ∷ 10 ∷ 11 ∷ 12 ∷ 13 ∷ 14 ∷ 15 ∷ 16 ∷ [])),
+      reply.Pool 1,
+    ) ∷
     (event.Call 1 (call.PoolAdmit 1 17), reply.Refused refusal.TooMany) ∷
     (event.Call 1 (call.PoolAdmit 1 16), reply.Done) ∷ [])
 unfolding domain pool file content pipe_at conn_at with_domain with_pipe with_conn with_content

@@ -1,7 +1,8 @@
 -- Sharing: examples on a layout, whose texts are the addresses of the bytes.
 use Rattle.std.proofs.Common.{◌≡◌, [], ◌∷◌, ◌++◌, refl}
 use Rattle.iol_core.specs.Text.{labelled}
-use Rattle.iol_core.specs.State.{State, new_domain, domain, pool, text, file, content, pipe_at, conn_at, with_domain, with_pipe, with_conn, with_content}
+use Rattle.iol_core.specs.State.{State, new_domain, domain, pool, text, file, content, pipe_at, conn_at, with_domain}
+use Rattle.iol_core.specs.State.{with_pipe, with_conn, with_content}
 use Rattle.iol_core.specs.Run.{called}
 use Rattle.iol_core.specs.SharingCalls.{LaysOut}
 use Rattle.iol_core.specs.declared.events.Call.TheVariants as call
@@ -11,7 +12,11 @@ use Rattle.iol_core.proofs.Examples.World.{caller, world}
 
 -- aggregate 1 lies in the places 7 and 8, aggregate 2 in the place 3
 abbrev layout : State
-layout = record world { domains = record caller { aggs = (1, labelled 1 (7 ∷ 8 ∷ [])) ∷ (2, labelled 2 (3 ∷ [])) ∷ [] } ∷ new_domain ∷ [] }
+layout =
+    record world {
+      domains = record caller { aggs = (1, labelled 1 (7 ∷ 8 ∷ [])) ∷ (2, labelled 2 (3 ∷ [])) ∷ [] }
+          ∷ new_domain ∷ [];
+    }
 
 -- the joined one lies where its two parts do, and the piece cut out where it was
 shared_places :

@@ -20,7 +20,8 @@ caller = record {
   live = true;
   aggs = (1, labelled 1 (codes "ab")) ∷ (2, labelled 2 (codes "cd")) ∷ [];
   next_agg = 3;
-  fds = Some (on.File 1 1 mode.Both) ∷ Some (on.ReadEnd 0) ∷ None ∷ Some (on.WriteEnd 0) ∷ Some (on.Connection 1) ∷ Some (on.File 2 0 mode.Read) ∷ Some (on.WriteEnd 2) ∷ [];
+  fds = Some (on.File 1 1 mode.Both) ∷ Some (on.ReadEnd 0) ∷ None ∷ Some (on.WriteEnd 0) ∷ Some (on.Connection 1)
+      ∷ Some (on.File 2 0 mode.Read) ∷ Some (on.WriteEnd 2) ∷ [];
   default = Some 1;
 }
 
@@ -34,11 +35,23 @@ world = record {
       record { domains = 1 ∷ []; closed = false } ∷
       record { domains = 2 ∷ []; closed = false } ∷
       record { domains = 1 ∷ 2 ∷ []; closed = true } ∷ [];
-  files = record { name = codes "f"; pool = 1 } ∷ record { name = codes "g"; pool = 2 } ∷ record { name = codes "h"; pool = 3 } ∷ [];
+  files = record { name = codes "f"; pool = 1 } ∷ record { name = codes "g"; pool = 2 }
+      ∷ record { name = codes "h"; pool = 3 } ∷ [];
   slots = codes "abcdef" ∷ codes "xyz" ∷ [] ∷ codes "new" ∷ [];
-  pipes = Some (record { queue = labelled 1 (codes "ab") ++ labelled 2 (codes "cd"); reading = true; writing = true }) ∷ None ∷ Some (record { queue = []; reading = false; writing = true }) ∷ [];
-  conns =
-      (1, record { pool = 1; incoming = labelled 1 (codes "in"); outgoing = labelled 1 (codes "out"); accepted = true; closed = false; peer = None }) ∷
+  pipes = Some (record { queue = labelled 1 (codes "ab") ++ labelled 2 (codes "cd"); reading = true; writing = true })
+      ∷ None ∷ Some (record { queue = []; reading = false; writing = true }) ∷ [];
+  conns = (
+    1,
+    record {
+      pool = 1;
+      incoming = labelled 1 (codes "in");
+      outgoing = labelled 1 (codes "out");
+      accepted =
+          true;
+      closed = false;
+      peer = None;
+    },
+  ) ∷
       (2, new_conn 3) ∷
       (3, new_conn 1) ∷ [];
   next_conn = 4;

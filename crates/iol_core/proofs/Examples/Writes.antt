@@ -2,8 +2,10 @@
 use Rattle.std.proofs.Common.{◌≡◌, ℕ, ◌-◌, [], ◌∷◌, ◌++◌, length, refl, true, Some}
 use Rattle.std.specs.Prelude.{codes, Ok, Err}
 use Rattle.iol_core.specs.Text.{Text, labelled, bytes_of}
-use Rattle.iol_core.specs.State.{State, new_domain, no_domain, domain, pool, text, descriptor, file, content, pipe_at, conn_at, with_domain, with_pipe, with_conn, with_content}
-use Rattle.iol_core.specs.declared.refusals.Refusal.TheVariants.{NoDomain, BadFd, BadAgg, NoPool, WrongMode, TooLong, PoolClosed, BrokenPipe, WouldBlock}
+use Rattle.iol_core.specs.State.{State, new_domain, no_domain, domain, pool, text, descriptor, file, content, pipe_at}
+use Rattle.iol_core.specs.State.{conn_at, with_domain, with_pipe, with_conn, with_content}
+use Rattle.iol_core.specs.declared.refusals.Refusal.TheVariants.{NoDomain, BadFd, BadAgg, NoPool, WrongMode, TooLong}
+use Rattle.iol_core.specs.declared.refusals.Refusal.TheVariants.{PoolClosed, BrokenPipe, WouldBlock}
 use Rattle.iol_core.specs.declared.descriptors.Descriptor.TheVariants as on
 use Rattle.iol_core.specs.declared.descriptors.Mode.TheVariants as mode
 use Rattle.iol_core.specs.declared.limits.TheConstants.{MAX_FILE_BYTES, MAX_QUEUE_BYTES}
@@ -12,7 +14,8 @@ use Rattle.iol_core.specs.Calls.Writes.{iol_write, write}
 
 -- the file's position at its end, and where no second byte fits; a closed pool to place in
 abbrev at_position : ℕ → State
-at_position at = record world { domains = record caller { fds = Some (on.File 1 at mode.Both) ∷ [] } ∷ new_domain ∷ no_domain ∷ [] }
+at_position at =
+    record world { domains = record caller { fds = Some (on.File 1 at mode.Both) ∷ [] } ∷ new_domain ∷ no_domain ∷ [] }
 
 abbrev at_the_end : State
 at_the_end = at_position 6
@@ -50,7 +53,8 @@ iol_write_over_a_file = (refl, refl, refl, refl, refl)
 
 iol_write_to_a_queue :
     (answered (iol_write world 1 3 1) ≡ Ok 2)
-    × ((pipe_at (iol_write world 1 3 1).after 0).queue ≡ labelled 1 (codes "ab") ++ labelled 2 (codes "cd") ++ labelled 1 (codes "ab"))
+    × ((pipe_at (iol_write world 1 3 1).after 0).queue ≡ labelled 1 (codes "ab") ++ labelled 2 (codes "cd")
+    ++ labelled 1 (codes "ab"))
     × (bytes_of (conn_at (iol_write world 1 4 2).after 1).outgoing ≡ codes "outcd")
 unfolding domain pool file content pipe_at conn_at with_domain with_pipe with_conn with_content
 iol_write_to_a_queue = (refl, refl, refl)
@@ -77,7 +81,8 @@ write_copies = (refl, refl, refl, refl)
 write_refused :
     (answered (write world 3 0 []) ≡ Err NoDomain)
     × (answered (write world 1 2 []) ≡ Err BadFd)
-    × (answered (write (with_receiver world (record (new_domain {A = Text}) { fds = Some (on.WriteEnd 0) ∷ [] })) 2 0 []) ≡ Err NoPool)
+    × (answered (write (with_receiver world (record (new_domain {A = Text}) { fds = Some (on.WriteEnd 0) ∷ [] })) 2 0
+    []) ≡ Err NoPool)
     × (answered (write world 1 1 []) ≡ Err WrongMode)
     × (answered (write far 1 0 (codes "XY")) ≡ Err TooLong)
     × (answered (write placing_in_closed 1 3 []) ≡ Err (PoolClosed 4))

@@ -1,6 +1,7 @@
 -- A domain gets an aggregate of bytes that lie there already: for the machine, for the layout, and that all stays
 -- sound.
-use Rattle.std.proofs.Common.{[], refl, ◌≡◌, ℕ, ◌-◌, ◌<◌, ◌≤◌, List, ◌++◌, length, length-append, take, drop, slice_range, ap, ◌∙◌, sym, arith, true}
+use Rattle.std.proofs.Common.{[], refl, ◌≡◌, ℕ, ◌-◌, ◌<◌, ◌≤◌, List, ◌++◌, length, length-append, take, drop}
+use Rattle.std.proofs.Common.{slice_range, ap, ◌∙◌, sym, arith, true}
 use Rattle.std.proofs.lemmas.List.Elements.{All-append, All-take, All-drop, All-same}
 use Rattle.std.proofs.lemmas.List.{take_all, length-take, length-drop}
 use Rattle.iol_core.specs.Text.{Text}
@@ -32,51 +33,84 @@ use Rattle.iol_kernel.proofs.AggregateCalls.Slices.{agg_live, slices_readable, s
 use Rattle.iol_core.specs.declared.limits.TheConstants.{MAX_AGGREGATES, MAX_AGGREGATE_BYTES}
 use Rattle.iol_kernel.specs.Calls.{Answers}
 
-module _ (h : KernelState) (t : Stored) (ds : List (Domain (List Slice))) (d : ℕ) (bytes : List Place) (adds : AddsShared h.store t h.domains ds d bytes) where
-  added-read : (f : Reading) → read_of f (record h { store = t; domains = ds }) ≡ aggs.with_agg (read_of f h) d (read f adds.slices)
+module _ (h : KernelState) (t : Stored) (ds : List (Domain (List Slice))) (d : ℕ) (bytes : List Place)
+    (adds : AddsShared h.store t h.domains ds d bytes) where
+  added-read : (f : Reading)
+      → read_of f (record h { store = t; domains = ds }) ≡ aggs.with_agg (read_of f h) d (read f adds.slices)
   unfolding read_of
   added-read f =
       ap (λ (xs : List (Domain (List Slice))). state_view f xs t.pools (objects_of h)) adds.added
       ∙ with_agg-view f h.domains t.pools (objects_of h) d adds.slices
-      ∙ ap (λ (ps : List Pool). aggs.with_agg (state_view f h.domains ps (objects_of h)) d (read f adds.slices)) adds.shares.pools
+      ∙ ap (λ (ps : List Pool). aggs.with_agg (state_view f h.domains ps (objects_of h)) d (read f adds.slices))
+      adds.shares.pools
 
-  added-sound : IsSound h → (domain_in h.domains d).live ≡ true → live_aggs_in h.domains < MAX_AGGREGATES → AllReadable h.store adds.slices → byte_len adds.slices ≤ MAX_AGGREGATE_BYTES → IsSound (record h { store = t; domains = ds })
+  added-sound : IsSound h → (domain_in h.domains d).live ≡ true → live_aggs_in h.domains < MAX_AGGREGATES
+      → AllReadable h.store adds.slices → byte_len adds.slices ≤ MAX_AGGREGATE_BYTES
+      → IsSound (record h { store = t; domains = ds })
   added-sound sound live few readable small =
-      gained-sound h t ds d adds.slices sound live few small (readable_stays adds.slices (shares_move adds.shares).stays (covers_given adds.shares.counts) readable) (shares_move adds.shares)
-      (all_reclaimed_same h.store t adds.shares.arena adds.shares.pools sound.reclaimed) adds.shares.pools (ap page_count adds.shares.arena) adds.added
+      gained-sound h t ds d adds.slices sound live few small
+      (readable_stays adds.slices (shares_move adds.shares).stays (covers_given adds.shares.counts) readable)
+      (shares_move adds.shares)
+      (all_reclaimed_same h.store t adds.shares.arena adds.shares.pools sound.reclaimed) adds.shares.pools
+      (ap page_count adds.shares.arena) adds.added
 
   -- a call that adds these bytes and does nothing else is answered
-  added_answers : (m : State → Meaning ℕ) (n : ℕ) → ((f : Reading) → n ≡ (m (read_of f h)).answer) → ((f : Reading) → aggs.with_agg (read_of f h) d (read f adds.slices) ≡ (m (read_of f h)).after) → IsSound (record h { store = t; domains = ds }) → Answers m h n (record h { store = t; domains = ds })
-  added_answers m n number after sound = answers_shared m h (record h { store = t; domains = ds }) n sound refl refl number adds.shares (λ f keeps. added-read f ∙ after f)
+  added_answers : (m : State → Meaning ℕ) (n : ℕ) → ((f : Reading) → n ≡ (m (read_of f h)).answer)
+      → ((f : Reading) → aggs.with_agg (read_of f h) d (read f adds.slices) ≡ (m (read_of f h)).after)
+      → IsSound (record h { store = t; domains = ds }) → Answers m h n (record h { store = t; domains = ds })
+  added_answers m n number after sound =
+      answers_shared m h (record h { store = t; domains = ds }) n sound refl refl number adds.shares
+      (λ f keeps. added-read f ∙ after f)
 
 -- Part of an aggregate.
 
 few_cut : {h : KernelState} {d a from to : ℕ} → MayCut d a from to h → live_aggs_in h.domains < MAX_AGGREGATES
 few_cut {h} {d} may = omega (arith, few_aggs (bytes_over [] h.store) h d 1 0 may.few)
 
-module _ (h : KernelState) (t : Stored) (ds : List (Domain (List Slice))) (d a from to n : ℕ) (adds : AddsShared h.store t h.domains ds d (slice_range (places (slices_in h.domains d a)) from to)) (may : MayCut d a from to h) (number : n ≡ (domain_in h.domains d).next_agg) where
+module _ (h : KernelState) (t : Stored) (ds : List (Domain (List Slice))) (d a from to n : ℕ)
+    (adds : AddsShared h.store t h.domains ds d (slice_range (places (slices_in h.domains d a)) from to))
+    (may : MayCut d a from to h) (number : n ≡ (domain_in h.domains d).next_agg) where
   cut-sound : IsSound (record h { store = t; domains = ds })
   cut-sound =
       let sound = may.has.lives.sound in
       let xs : List Slice = slices_in h.domains d a in
       added-sound h t ds d _ adds sound (agg_live may.has) (few_cut may)
-      (record { each = All-same (IsThere h.store) _ _ adds.is_there (All-take (IsThere h.store) (to - from) (drop from (places xs)) (All-drop (IsThere h.store) from (places xs) (slices_readable h d a sound).each)) })
-      (omega (arith, slices_small h d a sound, ap length adds.is_there, length-take (to - from) (drop from (places xs)), length-drop from (places xs)))
+      (record {
+        each =
+            All-same (IsThere h.store) _ _ adds.is_there
+            (All-take (IsThere h.store) (to - from) (drop from (places xs))
+            (All-drop (IsThere h.store) from (places xs) (slices_readable h d a sound).each));
+      })
+      (omega (
+        arith,
+        slices_small h d a sound,
+        ap length adds.is_there,
+        length-take (to - from) (drop from (places xs)),
+        length-drop from (places xs),
+      ))
 
   pub cut_answers : Answers (λ s. aggs.agg_cut s d a from to) h n (record h { store = t; domains = ds })
-  cut_answers = added_answers h t ds d _ adds (λ s. aggs.agg_cut s d a from to) n (λ f. number ∙ sym (next_agg-read_of f h d))
-      (λ f. ap (aggs.with_agg (read_of f h) d) (read_cut f.at adds.slices (slices_in h.domains d a) from to adds.is_there ∙ ap (λ (u : Text). slice_range u from to) (sym (text-read_of f h d a)))) cut-sound
+  cut_answers =
+      added_answers h t ds d _ adds (λ s. aggs.agg_cut s d a from to) n (λ f. number ∙ sym (next_agg-read_of f h d))
+      (λ f. ap (aggs.with_agg (read_of f h) d)
+      (read_cut f.at adds.slices (slices_in h.domains d a) from to adds.is_there
+      ∙ ap (λ (u : Text). slice_range u from to) (sym (text-read_of f h d a)))) cut-sound
 
 -- all of it, once more
-pub dup_answers : (h k : KernelState) (d a len n : ℕ) → ((f : Reading) → len ≡ length (machine.text (read_of f h) d a)) → Answers (λ s. aggs.agg_cut s d a 0 len) h n k → Answers (λ s. aggs.agg_dup s d a) h n k
-dup_answers h k d a len n all cut = answers_as (λ s. aggs.agg_cut s d a 0 len) (λ s. aggs.agg_dup s d a) h k n (λ f. refl) (λ f. ap (aggs.with_agg (read_of f h) d) (whole (machine.text (read_of f h) d a) len (all f))) cut
+pub dup_answers : (h k : KernelState) (d a len n : ℕ) → ((f : Reading) → len ≡ length (machine.text (read_of f h) d a))
+    → Answers (λ s. aggs.agg_cut s d a 0 len) h n k → Answers (λ s. aggs.agg_dup s d a) h n k
+dup_answers h k d a len n all cut =
+    answers_as (λ s. aggs.agg_cut s d a 0 len) (λ s. aggs.agg_dup s d a) h k n (λ f. refl)
+    (λ f. ap (aggs.with_agg (read_of f h) d) (whole (machine.text (read_of f h) d a) len (all f))) cut
   where
     whole : (u : Text) (n : ℕ) → n ≡ length u → slice_range u 0 n ≡ u
     whole u n is = rw is (take_all (length u - 0) u (omega arith))
 
 -- An aggregate with another in place of a range.
 
-module _ (h : KernelState) (t : Stored) (ds : List (Domain (List Slice))) (d a from to b n : ℕ) (adds : AddsShared h.store t h.domains ds d (replaced (places (slices_in h.domains d a)) from to (places (slices_in h.domains d b))))
+module _ (h : KernelState) (t : Stored) (ds : List (Domain (List Slice))) (d a from to b n : ℕ)
+    (adds : AddsShared h.store t h.domains ds d
+    (replaced (places (slices_in h.domains d a)) from to (places (slices_in h.domains d b))))
     (may : MayReplace d a from to b h) (number : n ≡ (domain_in h.domains d).next_agg) where
   replaced-sound : IsSound (record h { store = t; domains = ds })
   replaced-sound =
@@ -88,11 +122,14 @@ module _ (h : KernelState) (t : Stored) (ds : List (Domain (List Slice))) (d a f
       added-sound h t ds d _ adds sound (agg_live may.other) (few_cut may.cuts)
       (record {
         each = All-same P _ _ adds.is_there
-            (All-append P (take from xs ++ ys) (drop to xs) (All-append P (take from xs) ys (All-take P from xs good) (slices_readable h d b sound).each) (All-drop P to xs good));
+            (All-append P (take from xs ++ ys) (drop to xs)
+            (All-append P (take from xs) ys (All-take P from xs good) (slices_readable h d b sound).each)
+            (All-drop P to xs good));
       })
       (omega (arith, may.small, ap length adds.is_there, as_long))
     where
-      as_long : length (replaced (places (slices_in h.domains d a)) from to (places (slices_in h.domains d b))) ≡ length (replaced (machine.text (machine_of [] h) d a) from to (machine.text (machine_of [] h) d b))
+      as_long : length (replaced (places (slices_in h.domains d a)) from to (places (slices_in h.domains d b)))
+          ≡ length (replaced (machine.text (machine_of [] h) d a) from to (machine.text (machine_of [] h) d b))
       as_long =
           let x : List Place = places (slices_in h.domains d a) in
           let y : List Place = places (slices_in h.domains d b) in
@@ -113,8 +150,11 @@ module _ (h : KernelState) (t : Stored) (ds : List (Domain (List Slice))) (d a f
           )
 
   pub replaced_answers : Answers (λ s. aggs.agg_replace s d a from to b) h n (record h { store = t; domains = ds })
-  replaced_answers = added_answers h t ds d _ adds (λ s. aggs.agg_replace s d a from to b) n (λ f. number ∙ sym (next_agg-read_of f h d))
+  replaced_answers =
+      added_answers h t ds d _ adds (λ s. aggs.agg_replace s d a from to b) n (λ f. number
+      ∙ sym (next_agg-read_of f h d))
       (λ f. ap (aggs.with_agg (read_of f h) d)
       (read_replaced f.at adds.slices (slices_in h.domains d a) (slices_in h.domains d b) from to adds.is_there
       ∙ ap (λ (u : Text). replaced u from to (read f (slices_in h.domains d b))) (sym (text-read_of f h d a))
-      ∙ ap (λ (u : Text). replaced (machine.text (read_of f h) d a) from to u) (sym (text-read_of f h d b)))) replaced-sound
+      ∙ ap (λ (u : Text). replaced (machine.text (read_of f h) d a) from to u) (sym (text-read_of f h d b))))
+      replaced-sound

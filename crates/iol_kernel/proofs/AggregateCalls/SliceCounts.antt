@@ -23,14 +23,37 @@ length-run a (suc n) = let r = length-run (a + 1) n in omega (arith, r)
 
 parts_few : (low : ℕ) (ps : List Part) → AreApart low ps → length ps ≤ length (part_pages ps)
 parts_few low [] h = omega arith
-parts_few low (p ∷ ps) h = omega (arith, parts_few (p.first + p.count) ps h.1, h.0.some, length-append (range_with_len p.first p.count) (part_pages ps), length-run p.first p.count)
+parts_few low (p ∷ ps) h =
+    omega (
+      arith,
+      parts_few (p.first + p.count) ps h.1,
+      h.0.some,
+      length-append (range_with_len p.first p.count) (part_pages ps),
+      length-run p.first p.count,
+    )
 
 -- at most one slice per page of n bytes
-pub few_made : (s : Stored) (old new : State) (slices : List Slice) (pool n : ℕ) → MadeOn old new (bufs_of slices) (lowest_of s pool n) → length slices ≤ pages_for n
+pub few_made : (s : Stored) (old new : State) (slices : List Slice) (pool n : ℕ)
+    → MadeOn old new (bufs_of slices) (lowest_of s pool n) → length slices ≤ pages_for n
 few_made s old new slices pool n made =
-    omega (arith, length-map slices (λ (x : Slice). x.hold.buf), ap length made.begun, length-map made.runs (begun_on old), parts_few 0 made.runs made.apart, ap length made.cover, length-take (pages_for n) (free_of s pool))
+    omega (
+      arith,
+      length-map slices (λ (x : Slice). x.hold.buf),
+      ap length made.begun,
+      length-map made.runs (begun_on old),
+      parts_few 0 made.runs made.apart,
+      ap length made.cover,
+      length-take (pages_for n) (free_of s pool),
+    )
 
 -- room was made before
-pub few_after : (pool pages d n : ℕ) (h k l : KernelState) (r : Result ℕ Refusal) → MakesRoom pool pages h k → OnOk r (AddsFew d n k l) → OnOk r (AddsFew d n h l)
-few_after pool pages d n h k l (Ok a) room x = record { slices = x.slices; few = x.few; added = x.added ∙ ap (λ (w : KernelState). with_agg_in w.domains d x.slices) room.rest }
+pub few_after : (pool pages d n : ℕ) (h k l : KernelState) (r : Result ℕ Refusal) → MakesRoom pool pages h k
+    → OnOk r (AddsFew d n k l) → OnOk r (AddsFew d n h l)
+few_after pool pages d n h k l (Ok a) room x =
+    record {
+      slices = x.slices;
+      few = x.few;
+      added =
+          x.added ∙ ap (λ (w : KernelState). with_agg_in w.domains d x.slices) room.rest;
+    }
 few_after pool pages d n h k l (Err y) room x = tt

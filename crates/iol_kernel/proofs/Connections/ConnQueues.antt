@@ -1,5 +1,6 @@
 -- A connection on which a descriptor is open, as the machine sees it.
-use Rattle.std.proofs.Common.{[], ◌≡◌, ◌≢◌, ℕ, ◌&&◌, ◌||◌, Bool, not, List, ap, ◌∙◌, refl, sym, Option, Some, None, true, false}
+use Rattle.std.proofs.Common.{[], ◌≡◌, ◌≢◌, ℕ, ◌&&◌, ◌||◌, Bool, not, List, ap, ◌∙◌, refl, sym, Option, Some, None}
+use Rattle.std.proofs.Common.{true, false}
 use Rattle.std.specs.Prelude.{◌==◌, unwrap_or, option_map, length}
 use Rattle.iol_core.specs.NumberedLists.{lookup, changed}
 use Rattle.iol_core.specs.State as machine
@@ -18,15 +19,20 @@ use Rattle.iol_kernel.proofs.State.Views.{lookup-map}
 
 -- as the machine sees it, also where there is none
 
-pub conn_at-read_of : (f : Reading) (h : KernelState) (c : ℕ) → machine.conn_at (read_of f h) c ≡ conn_view (read f) (conn_in h.conns c)
+pub conn_at-read_of : (f : Reading) (h : KernelState) (c : ℕ)
+    → machine.conn_at (read_of f h) c ≡ conn_view (read f) (conn_in h.conns c)
 unfolding read_of state_view machine.conn_at conn_in
-conn_at-read_of f h c = ap (λ (o : Option Connection). unwrap_or o machine.no_conn) (lookup-map (conn_view (read f)) h.conns c) ∙ of (lookup h.conns c)
+conn_at-read_of f h c =
+    ap (λ (o : Option Connection). unwrap_or o machine.no_conn) (lookup-map (conn_view (read f)) h.conns c)
+    ∙ of (lookup h.conns c)
   where
-    of : (o : Option (Conn (List Slice))) → unwrap_or (option_map (conn_view (read f)) o) machine.no_conn ≡ conn_view (read f) (unwrap_or o no_conn)
+    of : (o : Option (Conn (List Slice))) → unwrap_or (option_map (conn_view (read f)) o) machine.no_conn
+        ≡ conn_view (read f) (unwrap_or o no_conn)
     of None = refl
     of (Some x) = refl
 
-pub incoming-read_of : (f : Reading) (h : KernelState) (c : ℕ) → (machine.conn_at (read_of f h) c).incoming ≡ read f (conn_in h.conns c).incoming
+pub incoming-read_of : (f : Reading) (h : KernelState) (c : ℕ)
+    → (machine.conn_at (read_of f h) c).incoming ≡ read f (conn_in h.conns c).incoming
 incoming-read_of f h c = ap (λ (x : Connection). x.incoming) (conn_at-read_of f h c)
 
 -- one that is not there
@@ -37,7 +43,8 @@ conn_in-none cs c none = ap (λ (o : Option (Conn (List Slice))). unwrap_or o no
 
 -- a descriptor is open on it
 
-module _ (h : KernelState) (d fd c : ℕ) (sound : IsSound h) (at : (f : Reading) → machine.descriptor (read_of f h) d fd ≡ Some (on.Connection c)) where
+module _ (h : KernelState) (d fd c : ℕ) (sound : IsSound h) (at : (f : Reading)
+    → machine.descriptor (read_of f h) d fd ≡ Some (on.Connection c)) where
   pub open_held : IsOpenConn (conn_in h.conns c)
   open_held = end_held (bytes_over [] h.store) h d fd (on.Connection c) sound (at (bytes_over [] h.store))
 
@@ -52,11 +59,13 @@ module _ (h : KernelState) (d fd c : ℕ) (sound : IsSound h) (at : (f : Reading
 is_on : (y : Connection) → y.accepted ≡ true → y.closed ≡ false → machine.is_over y ≡ false
 is_on y accepted' closed' = of (length y.outgoing == 0) y.accepted y.closed (machine.is_gone y.peer) accepted' closed'
   where
-    of : (empty accepted closed gone : Bool) → accepted ≡ true → closed ≡ false → (empty && (closed || (not accepted && gone))) ≡ false
+    of : (empty accepted closed gone : Bool) → accepted ≡ true → closed ≡ false
+        → (empty && (closed || (not accepted && gone))) ≡ false
     of true true false gone a b = refl
     of false true false gone a b = refl
     of empty false closed gone a b = absurd (cc a)
     of empty true true gone a b = absurd (cc b)
 
-pub with_on : (s : State) (c : ℕ) (y : Connection) → y.accepted ≡ true → y.closed ≡ false → machine.with_conn s c y ≡ record s { conns = changed s.conns c y }
+pub with_on : (s : State) (c : ℕ) (y : Connection) → y.accepted ≡ true → y.closed ≡ false
+    → machine.with_conn s c y ≡ record s { conns = changed s.conns c y }
 with_on s c y accepted' closed' = changed_on s c y (is_on y accepted' closed')

@@ -1,5 +1,6 @@
 -- The extents of files change as the cache goes on: a system stays sound, and all but the bytes of its files stays.
-use Rattle.std.proofs.Common.{◌≡◌, ℕ, suc, ◌+◌, List, [], ◌∷◌, length, get_or, map, refl, sym, ap, ◌∙◌, subst, arith, Option, Some, None}
+use Rattle.std.proofs.Common.{◌≡◌, ℕ, suc, ◌+◌, List, [], ◌∷◌, length, get_or, map, refl, sym, ap, ◌∙◌, subst, arith}
+use Rattle.std.proofs.Common.{Option, Some, None}
 use Rattle.iol_core.specs.State.{State}
 use Rattle.iol_core.specs.declared.descriptors.Descriptor.{Descriptor}
 use Rattle.iol_core.specs.declared.descriptors.Descriptor.TheVariants as on
@@ -14,7 +15,8 @@ use Rattle.iol_cache.specs.declared.files.CachedFile.{CachedFile}
 use Rattle.iol_cache.proofs.Evictions.Ready.{at_index}
 use Rattle.iol_kernel.specs.FileCalls.{with_slots}
 use Rattle.iol_kernel.specs.HoldCounts.{IsCounted}
-use Rattle.iol_kernel.specs.KernelState.{KernelState, objects_of, machine_of, read_of, Each, ArePooled, AreReadable, IsCached, IsFile, IsOpenEnd, IsSound}
+use Rattle.iol_kernel.specs.KernelState.{KernelState, objects_of, machine_of, read_of, Each, ArePooled, AreReadable}
+use Rattle.iol_kernel.specs.KernelState.{IsCached, IsFile, IsOpenEnd, IsSound}
 use Rattle.iol_kernel.specs.Readings.{bytes_over, slots_read}
 use Rattle.iol_kernel.specs.Views.{Objects, state_view}
 use Rattle.iol_kernel.proofs.State.Pools.{same_pooled}
@@ -40,20 +42,29 @@ each_indexed P [] h = tt
 each_indexed P (x ∷ fs) h = (h 0, each_indexed P fs (λ i. h (suc i)))
 
 all_apart : (t : Stored) (fs : List CachedFile) → ((f : ℕ) → cache.IsFiled t (file_in fs f)) → Each IsFile fs
-all_apart t fs filed = each_indexed IsFile fs (λ i. (let x = subst (cache.IsFiled t) (at_index fs i) (filed (i + 1)) in record { apart = x.apart; short = x.short }))
+all_apart t fs filed =
+    each_indexed IsFile fs (λ i. (let x = subst (cache.IsFiled t) (at_index fs i) (filed (i + 1)) in
+    record { apart = x.apart; short = x.short }))
 
-pools_indexed : (fs gs : List CachedFile) → length gs ≡ length fs → ((i : ℕ) → (get_or gs i no_file).pool ≡ (get_or fs i no_file).pool) → map (λ (x : CachedFile). x.pool) gs ≡ map (λ (x : CachedFile). x.pool) fs
+pools_indexed : (fs gs : List CachedFile) → length gs ≡ length fs
+    → ((i : ℕ) → (get_or gs i no_file).pool ≡ (get_or fs i no_file).pool)
+    → map (λ (x : CachedFile). x.pool) gs ≡ map (λ (x : CachedFile). x.pool) fs
 pools_indexed [] [] long same = refl
 pools_indexed [] (y ∷ gs) long same = absurd (omega (arith, long))
 pools_indexed (x ∷ fs) [] long same = absurd (omega (arith, long))
 pools_indexed (x ∷ fs) (y ∷ gs) long same =
-    ap (λ p. p ∷ map (λ (z : CachedFile). z.pool) gs) (same 0) ∙ ap (λ l. x.pool ∷ l) (pools_indexed fs gs (omega (arith, long)) (λ i. same (suc i)))
+    ap (λ p. p ∷ map (λ (z : CachedFile). z.pool) gs) (same 0)
+    ∙ ap (λ l. x.pool ∷ l) (pools_indexed fs gs (omega (arith, long)) (λ i. same (suc i)))
 
-same_pools : (fs gs : List CachedFile) → length gs ≡ length fs → ((f : ℕ) → (file_in gs f).pool ≡ (file_in fs f).pool) → map (λ (x : CachedFile). x.pool) gs ≡ map (λ (x : CachedFile). x.pool) fs
-same_pools fs gs long same = pools_indexed fs gs long (λ i. ap (λ (x : CachedFile). x.pool) (sym (at_index gs i)) ∙ same (i + 1) ∙ ap (λ (x : CachedFile). x.pool) (at_index fs i))
+same_pools : (fs gs : List CachedFile) → length gs ≡ length fs → ((f : ℕ) → (file_in gs f).pool ≡ (file_in fs f).pool)
+    → map (λ (x : CachedFile). x.pool) gs ≡ map (λ (x : CachedFile). x.pool) fs
+same_pools fs gs long same =
+    pools_indexed fs gs long (λ i. ap (λ (x : CachedFile). x.pool) (sym (at_index gs i)) ∙ same (i + 1)
+    ∙ ap (λ (x : CachedFile). x.pool) (at_index fs i))
 
 -- what a descriptor is open on is there, whatever is in memory of files
-ends_recached : (qs : Objects (List Slice)) (fs : List CachedFile) (x : Option Descriptor) → IsOpenEnd qs x → IsOpenEnd (record qs { cached = fs }) x
+ends_recached : (qs : Objects (List Slice)) (fs : List CachedFile) (x : Option Descriptor) → IsOpenEnd qs x
+    → IsOpenEnd (record qs { cached = fs }) x
 ends_recached qs fs None e = tt
 ends_recached qs fs (Some (on.ReadEnd p)) e = e
 ends_recached qs fs (Some (on.WriteEnd p)) e = e
@@ -93,14 +104,26 @@ module _ (h : KernelState) (t : Stored) (d : Cached) (sound : IsSound h) (m : Re
   recached_sound =
       record {
         domains = domains_stay h.store t m.moves.stays h.domains bare bare_held sound.domains;
-        objects = record { pipes = bare_good.pipes; conns = bare_good.conns; files = λ n. record { laid = (m.sound.files n).laid } };
+        objects =
+            record {
+              pipes = bare_good.pipes;
+              conns = bare_good.conns;
+              files =
+                  λ n. record { laid = (m.sound.files n).laid };
+            };
         fds = ends_weaker (objects_of h) (objects_of next) h.domains (ends_recached (objects_of h) d.files) sound.fds;
         once = sound.once;
         counted = recounted;
         tidy = m.moves.tidy sound.tidy;
         still = m.moves.still sound.still;
         reclaimed = m.reclaims sound.reclaimed;
-        limits = record { aggs = sound.limits.aggs; few = sound.limits.few; objects = with_files _ _ sound.limits.objects (all_apart t d.files m.sound.files) m.sound.few_files };
+        limits =
+            record {
+              aggs = sound.limits.aggs;
+              few = sound.limits.few;
+              objects =
+                  with_files _ _ sound.limits.objects (all_apart t d.files m.sound.files) m.sound.few_files;
+            };
         pooled = repooled;
         sums = IsRight-keeps h.store.arena t.arena h.sums m.moves.stays.keeps sound.sums;
         filed = same_pools h.cache.files d.files m.files m.pools ∙ sound.filed;
@@ -112,16 +135,22 @@ module _ (h : KernelState) (t : Stored) (d : Cached) (sound : IsSound h) (m : Re
   unfolding with_slots read_of state_view
   recached_beside slots =
       ap (λ (s : State). record s { slots = slots })
-      (pools-view (bytes_over [] t) h.domains h.store.pools t.pools bare m.lists ∙ view-stays h.store t m.moves.stays h.domains bare bare_held h.store.pools sound.domains bare_there [])
+      (pools-view (bytes_over [] t) h.domains h.store.pools t.pools bare m.lists
+      ∙ view-stays h.store t m.moves.stays h.domains bare bare_held h.store.pools sound.domains bare_there [])
 
 -- The bytes of files are what is read of them.
 
-pub machine-slots : (stored : List (List ℕ)) (h : KernelState) → machine_of stored h ≡ with_slots (slots_read (bytes_over stored h.store) h.cache.files) h
+pub machine-slots : (stored : List (List ℕ)) (h : KernelState)
+    → machine_of stored h ≡ with_slots (slots_read (bytes_over stored h.store) h.cache.files) h
 unfolding with_slots read_of state_view
 machine-slots stored h = refl
 
 -- where these stay, all does
-pub recached_same : (h : KernelState) (t : Stored) (d : Cached) (stored new : List (List ℕ)) → IsSound h → Recaches h.store t h.cache d → slots_read (bytes_over new t) d.files ≡ slots_read (bytes_over stored h.store) h.cache.files → machine_of new (record h { store = t; cache = d }) ≡ machine_of stored h
+pub recached_same : (h : KernelState) (t : Stored) (d : Cached) (stored new : List (List ℕ)) → IsSound h
+    → Recaches h.store t h.cache d
+    → slots_read (bytes_over new t) d.files ≡ slots_read (bytes_over stored h.store) h.cache.files
+    → machine_of new (record h { store = t; cache = d }) ≡ machine_of stored h
 recached_same h t d stored new sound m same =
     let next : KernelState = record h { store = t; cache = d } in
-    machine-slots new next ∙ recached_beside h t d sound m (slots_read (bytes_over new t) d.files) ∙ ap (λ z. with_slots z h) same ∙ sym (machine-slots stored h)
+    machine-slots new next ∙ recached_beside h t d sound m (slots_read (bytes_over new t) d.files)
+    ∙ ap (λ z. with_slots z h) same ∙ sym (machine-slots stored h)

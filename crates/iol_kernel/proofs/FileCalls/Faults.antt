@@ -28,21 +28,33 @@ use Rattle.iol_kernel.proofs.FileCalls.WriteBack.{back_serves, dirty_there, flus
 
 -- of one file
 
-pub fault_counted : (f : ℕ) (x y : Disk) (r : Result (Unit {0}) Refusal) → OnErr r (y.failures ≡ raised x.failures) → OnOk r (y.failures ≡ x.failures) → IfErr r (FaultOf f) → FaultCounts x y r
+pub fault_counted : (f : ℕ) (x y : Disk) (r : Result (Unit {0}) Refusal) → OnErr r (y.failures ≡ raised x.failures)
+    → OnOk r (y.failures ≡ x.failures) → IfErr r (FaultOf f) → FaultCounts x y r
 fault_counted f x y (Ok u) fails succeeds late = succeeds
 fault_counted f x y (Err (Fault g)) fails succeeds late = fails
 fault_counted f x y (Err z) fails succeeds late = absurd late
 
-pub sync_steps : (s : State) (by fd f : ℕ) (r : Result (Unit {0}) Refusal) → first (calls.fsync s by fd).refusals ≡ None → f ≡ file_on s by fd → IfErr r (FaultOf f) → Step (calls.fsync s by fd) s r s
+pub sync_steps : (s : State) (by fd f : ℕ) (r : Result (Unit {0}) Refusal) → first (calls.fsync s by fd).refusals ≡ None
+    → f ≡ file_on s by fd → IfErr r (FaultOf f) → Step (calls.fsync s by fd) s r s
 sync_steps s by fd f (Ok u) passed is late = (passed, refl, refl)
 sync_steps s by fd f (Err x) passed is late = (
-  subst (λ (o : Option Refusal). MatchOption o (FaultOf (file_on s by fd) x) (λ y. x ≡ y)) (sym passed) (subst (λ n. FaultOf n x) is late),
+  subst (λ (o : Option Refusal). MatchOption o (FaultOf (file_on s by fd) x) (λ y. x ≡ y)) (sym passed)
+      (subst (λ n. FaultOf n x) is late),
   refl,
 )
 
 -- a refusal before the store was asked
-pub refused_sync : (f : ℕ) (disk : Disk) (h : KernelState) (x : Refusal) → ((g : ℕ) → x ≡ Fault g → ⊥) → SyncsFile {A = Unit {0}} f disk h (Err x) disk h
-refused_sync f disk h x other = record { syncs = syncs_none h.store f h.cache disk; clean = tt; writes = inr ((λ g e. other g (let y : x ≡ Fault g = cc in y)), refl, refl); counts = none x other; same = refl }
+pub refused_sync : (f : ℕ) (disk : Disk) (h : KernelState) (x : Refusal) → ((g : ℕ) → x ≡ Fault g → ⊥)
+    → SyncsFile {A = Unit {0}} f disk h (Err x) disk h
+refused_sync f disk h x other =
+    record {
+      syncs = syncs_none h.store f h.cache disk;
+      clean = tt;
+      writes =
+          inr ((λ g e. other g (let y : x ≡ Fault g = cc in y)), refl, refl);
+      counts = none x other;
+      same = refl;
+    }
   where
     none : (y : Refusal) → ((g : ℕ) → y ≡ Fault g → ⊥) → FaultCounts {A = Unit {0}} disk disk (Err y)
     none (Fault g) other = absurd (other g refl)
@@ -50,33 +62,42 @@ refused_sync f disk h x other = record { syncs = syncs_none h.store f h.cache di
 
 -- of the file whose extent is flushed
 
-flush_counted : (s : Stored) (c d : Cached) (x y : Disk) (r : Result Flushed Refusal) → Flushes s c d x y r → FaultCounts x y (done_of r)
+flush_counted : (s : Stored) (c d : Cached) (x y : Disk) (r : Result Flushed Refusal) → Flushes s c d x y r
+    → FaultCounts x y (done_of r)
 flush_counted s c d x y (Ok Nothing) m = ap (λ (z : Disk). z.failures) m.2
 flush_counted s c d x y (Ok (Wrote f)) m = m.1.counts.0
 flush_counted s c d x y (Err (Fault f)) m = m.1.counts
 flush_counted s c d x y (Err z) m = absurd m
 
 -- the machine has a file that is in the cache
-there : (h : KernelState) (f : ℕ) (stored : List (List ℕ)) → IsSound h → is_numbered h.cache.files f ≡ true → is_numbered (machine_of stored h).files f ≡ true
+there : (h : KernelState) (f : ℕ) (stored : List (List ℕ)) → IsSound h → is_numbered h.cache.files f ≡ true
+    → is_numbered (machine_of stored h).files f ≡ true
 there h f stored sound is =
     let b = numbered_bounds h.cache.files f is in
-    numbered_yes (machine_of stored h).files f b.0 (omega (arith, b.1, as_many h sound.filed, ap length (files-read_of (bytes_over stored h.store) h)))
+    numbered_yes (machine_of stored h).files f b.0
+    (omega (arith, b.1, as_many h sound.filed, ap length (files-read_of (bytes_over stored h.store) h)))
 
-flush_steps : (h : KernelState) (d : Cached) (x y : Disk) (r : Result Flushed Refusal) → IsSound h → Flushes h.store h.cache d x y r → (stored : List (List ℕ)) → Step (outside.flush (machine_of stored h)) (machine_of stored h) (done_of r) (machine_of stored h)
+flush_steps : (h : KernelState) (d : Cached) (x y : Disk) (r : Result Flushed Refusal) → IsSound h
+    → Flushes h.store h.cache d x y r → (stored : List (List ℕ))
+    → Step (outside.flush (machine_of stored h)) (machine_of stored h) (done_of r) (machine_of stored h)
 flush_steps h d x y (Ok z) sound m stored = (refl, refl, refl)
-flush_steps h d x y (Err (Fault f)) sound m stored = (there h f stored sound (dirty_there h.cache.files f m.1.extent m.1.first), refl)
+flush_steps h d x y (Err (Fault f)) sound m stored =
+    (there h f stored sound (dirty_there h.cache.files f m.1.extent m.1.first), refl)
 flush_steps h d x y (Err z) sound m stored = absurd m
 
 -- what was flushed, as the call answers it
-module _ (h : KernelState) (d : Cached) (x y : Disk) (r : Result Flushed Refusal) {q : Result (Unit {0}) Refusal} (is : done_of r ≡ q) (m : Flushes h.store h.cache d x y r) where
+module _ (h : KernelState) (d : Cached) (x y : Disk) (r : Result Flushed Refusal) {q : Result (Unit {0}) Refusal}
+    (is : done_of r ≡ q) (m : Flushes h.store h.cache d x y r) where
   abbrev next : KernelState
   next = record h { cache = d }
 
-  pub flush_serves : IsSound h → cache.IsSound h.store d → KeepsBytes h.store h.cache d x y → KeepsStored h.store h.cache d x y → Serves outside.flush x h q y next
+  pub flush_serves : IsSound h → cache.IsSound h.store d → KeepsBytes h.store h.cache d x y
+      → KeepsStored h.store h.cache d x y → Serves outside.flush x h q y next
   flush_serves sound after bytes stored =
       let parts = flush_parts h.store h.cache d x y r m in
       subst (λ (z : Result (Unit {0}) Refusal). Serves outside.flush x h z y next) is
-      (back_serves outside.flush h next d x y (done_of r) sound parts.0 after (flush_steps h d x y r sound m) parts.1 bytes stored (cache_sound h sound) refl)
+      (back_serves outside.flush h next d x y (done_of r) sound parts.0 after (flush_steps h d x y r sound m) parts.1
+      bytes stored (cache_sound h sound) refl)
 
   pub flushes_one : FlushesOne x h q y next
   flushes_one = record {

@@ -1,5 +1,6 @@
 -- The bytes of a file are copied out, and what was read is released.
-use Rattle.std.proofs.Common.{◌≡◌, ◌∙◌, ℕ, ◌+◌, ◌≤◌, List, [], ◌++◌, length, refl, sym, ap, subst, arith, Some, None, true, false}
+use Rattle.std.proofs.Common.{◌≡◌, ◌∙◌, ℕ, ◌+◌, ◌≤◌, List, [], ◌++◌, length, refl, sym, ap, subst, arith, Some, None}
+use Rattle.std.proofs.Common.{true, false}
 use Rattle.std.specs.Prelude.{Ok, Err}
 use Rattle.std.proofs.lemmas.List.{length-map}
 use Rattle.iol_core.specs.Text.{bytes_of, labelled}
@@ -27,7 +28,8 @@ use Rattle.iol_cache.specs.Sound as cache
 use Rattle.iol_cache.proofs.Extents.OtherCalls.{mirrors_stay, sound_beside}
 use Rattle.iol_cache.proofs.Extents.Steps.{covers_right, goes_covers, goes_store, goes_trans}
 use Rattle.iol_kernel.specs.FileCalls.{IsBackedBy, Serves, holding_of}
-use Rattle.iol_kernel.specs.FileReads.{CopiesFromFile, FileRead, IsBeforeRoom, IsOpenAt, moved_on, pool_read, read_tests}
+use Rattle.iol_kernel.specs.FileReads.{CopiesFromFile, FileRead, IsBeforeRoom, IsOpenAt, moved_on, pool_read}
+use Rattle.iol_kernel.specs.FileReads.{read_tests}
 use Rattle.iol_kernel.specs.KernelState.{KernelState, machine_of}
 use Rattle.iol_kernel.proofs.FileCalls.FileReads.{copied_serves, untouched_read}
 use Rattle.iol_kernel.proofs.FileCalls.ReadEffects.{copies_nothing}
@@ -41,21 +43,33 @@ Domains = List (Domain (List Slice))
 pub frees_here : (s : Stored) → FreesOnly s s
 frees_here s = frees_none s s refl refl refl
 
-module _ {x : FileRead} {h : KernelState} (disk : Disk) (m : Stored) (c : Cached) (xs : List Slice) (held : IsOpenAt h x) (kept : cache.IsSound m c) (goes : Goes disk [] (bufs_of xs) (holding_of h) (over m c)) where
+module _ {x : FileRead} {h : KernelState} (disk : Disk) (m : Stored) (c : Cached) (xs : List Slice)
+    (held : IsOpenAt h x) (kept : cache.IsSound m c) (goes : Goes disk [] (bufs_of xs) (holding_of h) (over m c)) where
   covers_all : Covers m (cached.held c.files ++ bufs_of xs)
   covers_all =
       goes_covers disk [] (bufs_of xs) (holding_of h) (over m c) goes
-      (record { each = λ b. omega (arith, (cache_sound h held.is.sound).covered.each b, tally-append b (cached.held h.cache.files) [], tally_none b) })
+      (record {
+        each =
+            λ b. omega (
+              arith,
+              (cache_sound h held.is.sound).covered.each b,
+              tally-append b (cached.held h.cache.files) [],
+              tally_none b,
+            );
+      })
 
   pub covers_read : Covers m (bufs_of xs)
   covers_read = covers_right m (cached.held c.files) (bufs_of xs) covers_all
 
-  module _ (after : Disk) (t : Stored) (moves : Moves m t (bufs_of xs) []) (lists : SameLists m t) (frees : FreesOnly m t) (reclaims : AllReclaimed m → AllReclaimed t) where
+  module _ (after : Disk) (t : Stored) (moves : Moves m t (bufs_of xs) []) (lists : SameLists m t)
+      (frees : FreesOnly m t) (reclaims : AllReclaimed m → AllReclaimed t) where
     pub kept_released : cache.IsSound t c
     kept_released = sound_beside (bufs_of xs) [] c kept covers_all moves lists frees.count
 
     pub goes_released : Goes disk [] [] (holding_of h) (over t c)
-    goes_released = goes_trans disk [] (bufs_of xs) [] (holding_of h) (over m c) (over t c) goes (goes_store disk (bufs_of xs) [] m t c kept moves kept_released.covered lists reclaims frees.count)
+    goes_released =
+        goes_trans disk [] (bufs_of xs) [] (holding_of h) (over m c) (over t c) goes
+        (goes_store disk (bufs_of xs) [] m t c kept moves kept_released.covered lists reclaims frees.count)
 
     pub backed_released : IsBacked after (over m c) → IsBacked after (over t c)
     backed_released backed = record {
@@ -65,24 +79,39 @@ module _ {x : FileRead} {h : KernelState} (disk : Disk) (m : Stored) (c : Cached
     }
 
     -- the bytes that were copied are what the machine reads
-    pub copied_as : first (reading.read (machine_of [] h) x.domain x.fd x.count).refusals ≡ None → after.honest ≡ disk.honest → (disk.honest ≡ true → after.slots ≡ disk.slots) → (IsBackedBy disk h → IsBacked after (over m c)) → (bytes : List ℕ) (ds : Domains) → bytes ≡ bytes_of (text_of m xs) → byte_len xs ≤ x.count → x.at + byte_len xs ≤ MAX_FILE_BYTES
-        → (IsBackedBy disk h → text_of m xs ≡ labelled (pool_read h x) (bytes_read h.store disk.slots h.cache x.file x.at x.count)) → ds ≡ moved_on h.domains x (byte_len xs) → Serves (λ s. reading.read s x.domain x.fd x.count) disk h (Ok bytes) after (record h { store = t; domains = ds; cache = c })
+    pub copied_as : first (reading.read (machine_of [] h) x.domain x.fd x.count).refusals ≡ None
+        → after.honest ≡ disk.honest → (disk.honest ≡ true → after.slots ≡ disk.slots)
+        → (IsBackedBy disk h → IsBacked after (over m c)) → (bytes : List ℕ) (ds : Domains)
+        → bytes ≡ bytes_of (text_of m xs) → byte_len xs ≤ x.count → x.at + byte_len xs ≤ MAX_FILE_BYTES
+        → (IsBackedBy disk h
+        → text_of m xs ≡ labelled (pool_read h x) (bytes_read h.store disk.slots h.cache x.file x.at x.count))
+        → ds ≡ moved_on h.domains x (byte_len xs)
+        → Serves (λ s. reading.read s x.domain x.fd x.count) disk h (Ok bytes) after
+        (record h { store = t; domains = ds; cache = c })
     copied_as passed honest slots backed bytes ds is short fits text moved =
-        let long : length bytes ≡ byte_len xs = ap length is ∙ length-map (text_of m xs) (λ (b : ℕ × ℕ). b.0) ∙ length-text_of m xs in
-        let done = copied_serves disk after t c held kept_released honest slots (λ b. backed_released (backed b)) bytes goes_released (omega (arith, long, short)) (omega (arith, long, fits)) passed
-        (λ b. is ∙ ap bytes_of (text b) ∙ bytes_of-labelled (pool_read h x) (bytes_read h.store disk.slots h.cache x.file x.at x.count)) in
-        subst (λ (ys : Domains). Serves (λ s. reading.read s x.domain x.fd x.count) disk h (Ok bytes) after (record h { store = t; domains = ys; cache = c })) (sym (moved ∙ ap (moved_on h.domains x) (sym long))) done
+        let long : length bytes ≡ byte_len xs = ap length is ∙ length-map (text_of m xs) (λ (b : ℕ × ℕ). b.0)
+        ∙ length-text_of m xs in
+        let done = copied_serves disk after t c held kept_released honest slots (λ b. backed_released (backed b)) bytes
+        goes_released (omega (arith, long, short)) (omega (arith, long, fits)) passed
+        (λ b. is ∙ ap bytes_of (text b)
+        ∙ bytes_of-labelled (pool_read h x) (bytes_read h.store disk.slots h.cache x.file x.at x.count)) in
+        subst (λ (ys : Domains). Serves (λ s. reading.read s x.domain x.fd x.count) disk h (Ok bytes) after
+        (record h { store = t; domains = ys; cache = c })) (sym (moved ∙ ap (moved_on h.domains x) (sym long))) done
 
 -- A read that was refused at once, or found no memory, has changed nothing.
 
-pub copies_refused : {x : FileRead} {h : KernelState} → IsOpenAt h x → (disk : Disk) (y : Refusal) → first (read_tests (machine_of [] h) x.domain x.file x.mode false) ≡ Some y → IsBeforeRoom y → CopiesFromFile x disk h (Err y) disk h
+pub copies_refused : {x : FileRead} {h : KernelState} → IsOpenAt h x → (disk : Disk) (y : Refusal)
+    → first (read_tests (machine_of [] h) x.domain x.file x.mode false) ≡ Some y → IsBeforeRoom y
+    → CopiesFromFile x disk h (Err y) disk h
 copies_refused {x} {h} held disk y is before = record {
   serves = refuses_read h h x.domain x.fd x.count y held.is.sound (read-first held ∙ is) refl disk;
   copies = copies_nothing x disk h y before;
   short = tt;
 }
 
-pub copies_unmade : {x : FileRead} {h : KernelState} → IsOpenAt h x → (disk : Disk) → first (reading.read (machine_of [] h) x.domain x.fd x.count).refusals ≡ None → CopiesFromFile x disk h (Err Memory) disk h
+pub copies_unmade : {x : FileRead} {h : KernelState} → IsOpenAt h x → (disk : Disk)
+    → first (reading.read (machine_of [] h) x.domain x.fd x.count).refusals ≡ None
+    → CopiesFromFile x disk h (Err Memory) disk h
 copies_unmade {x} {h} held disk passed = record {
   serves = untouched_read held h Memory passed tt refl disk;
   copies = copies_nothing x disk h Memory tt;

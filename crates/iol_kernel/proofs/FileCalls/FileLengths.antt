@@ -1,5 +1,6 @@
 -- Where a file ends for the calls that ask for a length, over any store.
-use Rattle.std.proofs.Common.{◌≡◌, ℕ, ◌+◌, ◌<◌, ◌≤◌, Bool, true, false, [], length, Option, Some, None, sym, ap, subst, arith, ◌∙◌}
+use Rattle.std.proofs.Common.{◌≡◌, ℕ, ◌+◌, ◌<◌, ◌≤◌, Bool, true, false, [], length, Option, Some, None, sym, ap, subst}
+use Rattle.std.proofs.Common.{arith, ◌∙◌}
 use Rattle.std.specs.Prelude.{Result, nat_lt, if◌then◌else◌}
 use Rattle.std.proofs.lemmas.Bool.Decides.{nat_tests}
 use Rattle.iol_core.specs.State as machine
@@ -32,33 +33,47 @@ held_as h d fd live o P is there p =
 
 module _ (disk : Disk) (h : KernelState) (d fd : ℕ) where
   -- a position in what is no file
-  seeks_none : {A : Type 0} (o : Option Descriptor) (at : ℕ) (r : Result A Refusal) → open_on o ≡ None → SeeksOn o at disk h r
+  seeks_none : {A : Type 0} (o : Option Descriptor) (at : ℕ) (r : Result A Refusal) → open_on o ≡ None
+      → SeeksOn o at disk h r
   seeks_none None at r none = tt
   seeks_none (Some (on.File f was mode)) at r none = absurd (cc none)
   seeks_none (Some (on.ReadEnd p)) at r none = tt
   seeks_none (Some (on.WriteEnd p)) at r none = tt
   seeks_none (Some (on.Connection c)) at r none = tt
 
-  pub seeks_nothing : {A : Type 0} (at : ℕ) (r : Result A Refusal) → open_on (held_by (machine_of [] h) d fd) ≡ None → SeeksAt d fd at disk h r
+  pub seeks_nothing : {A : Type 0} (at : ℕ) (r : Result A Refusal) → open_on (held_by (machine_of [] h) d fd) ≡ None
+      → SeeksAt d fd at disk h r
   seeks_nothing at r none = seeks_none (held_by (machine_of [] h) d fd) at r none
 
   module _ (f was : ℕ) (mode : Mode) (held : IsOpenOn h d fd (on.File f was mode)) where
-    pub seeks_file : {A : Type 0} (at : ℕ) (r : Result A Refusal) → SeeksTo f at disk h.cache r → SeeksAt d fd at disk h r
-    seeks_file at r seeks = held_as h d fd true (Some (on.File f was mode)) (λ x. SeeksOn x at disk h r) (held.live (bytes_over [] h.store)) (held.from (bytes_over [] h.store)) seeks
+    pub seeks_file : {A : Type 0} (at : ℕ) (r : Result A Refusal) → SeeksTo f at disk h.cache r
+        → SeeksAt d fd at disk h r
+    seeks_file at r seeks =
+        held_as h d fd true (Some (on.File f was mode)) (λ x. SeeksOn x at disk h r) (held.live (bytes_over [] h.store))
+        (held.from (bytes_over [] h.store)) seeks
 
     pub ends_file : (end : ℕ) → IsEnd disk h.cache f end → EndsAt d fd end disk h
-    ends_file end ends = held_as h d fd true (Some (on.File f was mode)) (λ x. EndsOn x end disk h) (held.live (bytes_over [] h.store)) (held.from (bytes_over [] h.store)) ends
+    ends_file end ends =
+        held_as h d fd true (Some (on.File f was mode)) (λ x. EndsOn x end disk h) (held.live (bytes_over [] h.store))
+        (held.from (bytes_over [] h.store)) ends
 
 -- Whether the next slot is told to be too long.
 
 pub no_next : (disk : Disk) (h : KernelState) → MAX_FILES ≤ length h.files → false ≡ is_next_long disk h
 no_next disk h full =
     let b : nat_lt (length h.files) MAX_FILES ≡ false = grind (arith, nat_tests, full) in
-    sym (ap (λ (x : Bool). if x then nat_lt MAX_FILE_BYTES (length_reported disk.reported (length h.files + 1)) else false) b)
+    sym
+    (ap
+    (λ (x : Bool). if x then nat_lt MAX_FILE_BYTES (length_reported disk.reported (length h.files + 1)) else false)
+    b)
 
-pub next_long : (disk : Disk) (h : KernelState) (n : ℕ) → length h.files < MAX_FILES → n ≡ length_reported disk.reported (length h.files + 1)
+pub next_long : (disk : Disk) (h : KernelState) (n : ℕ) → length h.files < MAX_FILES
+    → n ≡ length_reported disk.reported (length h.files + 1)
     → nat_lt MAX_FILE_BYTES n ≡ is_next_long disk h
 next_long disk h n few reported =
     let b : nat_lt (length h.files) MAX_FILES ≡ true = grind (arith, nat_tests, few) in
     ap (nat_lt MAX_FILE_BYTES) reported
-    ∙ sym (ap (λ (x : Bool). if x then nat_lt MAX_FILE_BYTES (length_reported disk.reported (length h.files + 1)) else false) b)
+    ∙ sym
+    (ap
+    (λ (x : Bool). if x then nat_lt MAX_FILE_BYTES (length_reported disk.reported (length h.files + 1)) else false)
+    b)

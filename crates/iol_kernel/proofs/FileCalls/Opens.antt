@@ -25,17 +25,22 @@ use Rattle.iol_kernel.proofs.State.ReadOf.{fds-read_of}
 use Rattle.iol_kernel.proofs.State.Sound.{each-placed, ends_open}
 use Rattle.iol_kernel.proofs.State.Uses.{Domains}
 
-pub file_called-read_of : (f : Reading) (h : KernelState) (name : List ℕ) → option_map (λ i. i + 1) (position (λ x. bytes_eq x.name name) h.files) ≡ calls.file_called (read_of f h) name
-file_called-read_of f h name = ap (λ (fs : List machine.File). option_map (λ i. i + 1) (position (λ x. bytes_eq x.name name) fs)) (sym (files-read_of f h))
+pub file_called-read_of : (f : Reading) (h : KernelState) (name : List ℕ)
+    → option_map (λ i. i + 1) (position (λ x. bytes_eq x.name name) h.files) ≡ calls.file_called (read_of f h) name
+file_called-read_of f h name =
+    ap (λ (fs : List machine.File). option_map (λ i. i + 1) (position (λ x. bytes_eq x.name name) fs))
+    (sym (files-read_of f h))
 
 -- the pool of a file
-pub file_pool-read_of : (f : Reading) (h : KernelState) (n : ℕ) → machine.file (read_of f h) n ≡ numbered_or h.files n machine.no_file
+pub file_pool-read_of : (f : Reading) (h : KernelState) (n : ℕ)
+    → machine.file (read_of f h) n ≡ numbered_or h.files n machine.no_file
 unfolding machine.file
 file_pool-read_of f h n = ap (λ (fs : List machine.File). numbered_or fs n machine.no_file) (files-read_of f h)
 
 -- files have the numbers of slots
 pub file_within : (h : KernelState) (n : ℕ) → IsSound h → is_numbered h.files n ≡ true → (0 < n) × (n ≤ MAX_FILES)
-file_within h n sound there = let bounds = numbered_bounds h.files n there in (bounds.0, omega (arith, bounds.1, as_many h sound.filed, sound.limits.objects.few_files))
+file_within h n sound there = let bounds = numbered_bounds h.files n there in
+    (bounds.0, omega (arith, bounds.1, as_many h sound.filed, sound.limits.objects.few_files))
 
 -- A number is open on a file: of a file no descriptor is counted.
 
@@ -45,23 +50,33 @@ same_end-file (on.ReadEnd p) f at mode = refl
 same_end-file (on.WriteEnd p) f at mode = refl
 same_end-file (on.Connection c) f at mode = refl
 
-pub once_opened : (ds : Domains) (d f at : ℕ) (mode : Mode) → (domain_in ds d).live ≡ true → IsOpenOnce ds → IsOpenOnce (with_fds_in ds d (with_next_fd (domain_in ds d).fds (on.File f at mode)))
+pub once_opened : (ds : Domains) (d f at : ℕ) (mode : Mode) → (domain_in ds d).live ≡ true → IsOpenOnce ds
+    → IsOpenOnce (with_fds_in ds d (with_next_fd (domain_in ds d).fds (on.File f at mode)))
 once_opened ds d f at mode live once =
     let xs : List (Option Descriptor) = (domain_in ds d).fds in
-    once_fewer ds d (record (domain_in ds d) { fds = placed xs (lowest xs) (on.File f at mode) }) live (λ e. omega (arith, ends-placed e (on.File f at mode) xs, same_end-file e f at mode)) once
+    once_fewer ds d (record (domain_in ds d) { fds = placed xs (lowest xs) (on.File f at mode) }) live
+    (λ e. omega (arith, ends-placed e (on.File f at mode) xs, same_end-file e f at mode)) once
 
 -- An open file: a domain's next descriptor.
 
-module _ (h : KernelState) (ds : Domains) (d f : ℕ) (mode : Mode) (sound : IsSound h) (live : (domain_in h.domains d).live ≡ true) (there : is_numbered h.files f ≡ true)
+module _ (h : KernelState) (ds : Domains) (d f : ℕ) (mode : Mode) (sound : IsSound h)
+    (live : (domain_in h.domains d).live ≡ true) (there : is_numbered h.files f ≡ true)
     (opened' : ds ≡ with_fds_in h.domains d (with_next_fd (domain_in h.domains d).fds (on.File f 0 mode))) where
   abbrev xs : List (Option Descriptor)
   xs = (domain_in h.domains d).fds
 
   opened-sound : IsSound (record h { domains = ds })
   opened-sound = fds-sound h ds d (placed xs (lowest xs) (on.File f 0 mode)) sound live opened'
-      (each-placed (IsOpenEnd (objects_of h)) xs (lowest xs) (on.File f 0 mode) (ends_open h d sound) (there, omega arith))
+      (each-placed (IsOpenEnd (objects_of h)) xs (lowest xs) (on.File f 0 mode) (ends_open h d sound)
+      (there, omega arith))
       (once_opened h.domains d f 0 mode live sound.once)
 
-  pub opened_answers : (n : ℕ) → n ≡ lowest xs → Answers (λ s. opens s d (on.File f 0 mode)) h n (record h { domains = ds })
-  opened_answers n number = answers_here (λ s. opens s d (on.File f 0 mode)) h (record h { domains = ds }) n opened-sound refl refl (λ g. number ∙ sym (ap lowest (fds-read_of g h d))) refl
-      (λ g. fds-changed g h ds d (placed xs (lowest xs) (on.File f 0 mode)) opened' ∙ ap (λ (ys : List (Option Descriptor)). fds.with_fds (read_of g h) d (placed ys (lowest ys) (on.File f 0 mode))) (sym (fds-read_of g h d)))
+  pub opened_answers : (n : ℕ) → n ≡ lowest xs
+      → Answers (λ s. opens s d (on.File f 0 mode)) h n (record h { domains = ds })
+  opened_answers n number =
+      answers_here (λ s. opens s d (on.File f 0 mode)) h (record h { domains = ds }) n opened-sound refl refl
+      (λ g. number ∙ sym (ap lowest (fds-read_of g h d))) refl
+      (λ g. fds-changed g h ds d (placed xs (lowest xs) (on.File f 0 mode)) opened'
+      ∙ ap
+      (λ (ys : List (Option Descriptor)). fds.with_fds (read_of g h) d (placed ys (lowest ys) (on.File f 0 mode)))
+      (sym (fds-read_of g h d)))

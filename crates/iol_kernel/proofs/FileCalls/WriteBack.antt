@@ -1,5 +1,6 @@
 -- What is dirty is written back, and what is clean goes: the machine stays as it is.
-use Rattle.std.proofs.Common.{inl, inr, ◌≡◌, ℕ, zero, suc, ◌+◌, ◌≤◌, ◌++◌, List, [], ◌∷◌, length, get_or, refl, sym, ap, ◌∙◌, subst, arith, Option, Some, None, true, false, Bool}
+use Rattle.std.proofs.Common.{inl, inr, ◌≡◌, ℕ, zero, suc, ◌+◌, ◌≤◌, ◌++◌, List, [], ◌∷◌, length, get_or, refl, sym, ap}
+use Rattle.std.proofs.Common.{◌∙◌, subst, arith, Option, Some, None, true, false, Bool}
 use Rattle.std.specs.Prelude.{Result, Ok, Err, cond, flat_map}
 use Rattle.std.proofs.lemmas.Bool.{cases_eq}
 use Rattle.std.proofs.lemmas.List.Concat.{flat_map-cons}
@@ -29,19 +30,23 @@ use Rattle.iol_cache.specs.declared.sync.Flushed.{Flushed}
 use Rattle.iol_cache.specs.declared.sync.Flushed.TheVariants.{Nothing, Wrote}
 use Rattle.iol_core.specs.declared.refusals.Refusal.TheVariants as because
 use Rattle.iol_cache.proofs.RangeWrites.CleanExtents.{parts-cleaned}
-use Rattle.iol_cache.proofs.Extents.FileEntries.{file_nowhere, file_other, file_same, length-with_file, numbered_bounds, numbered_yes}
+use Rattle.iol_cache.proofs.Extents.FileEntries.{file_nowhere, file_other, file_same, length-with_file, numbered_bounds}
+use Rattle.iol_cache.proofs.Extents.FileEntries.{numbered_yes}
 use Rattle.iol_cache.proofs.Evictions.Ready.{at_index}
 use Rattle.iol_kernel.specs.FileCalls.{IsBackedBy, Serves, holding_of, with_slots}
 use Rattle.iol_kernel.specs.KernelState.{KernelState, IsSound, machine_of}
 use Rattle.iol_kernel.specs.Readings.{bytes_over, slots_read}
 use Rattle.iol_kernel.proofs.FileCalls.FileWrites.{backed_kept}
 use Rattle.iol_kernel.proofs.FileCalls.WritesAtPosition.{slots_kept}
-use Rattle.iol_kernel.proofs.FileCalls.ExtentChanges.{Recaches, machine-slots, recached_beside, recached_same, recached_sound}
+use Rattle.iol_kernel.proofs.FileCalls.ExtentChanges.{Recaches, machine-slots, recached_beside, recached_same}
+use Rattle.iol_kernel.proofs.FileCalls.ExtentChanges.{recached_sound}
 use Rattle.iol_kernel.proofs.State.Stay.{stays_here}
 
 -- The same slices are held, clean or dirty.
 
-held_indexed : (fs gs : List CachedFile) → length gs ≡ length fs → ((i : ℕ) → all_parts (get_or gs i no_file).extents.extents ≡ all_parts (get_or fs i no_file).extents.extents) → held gs ≡ held fs
+held_indexed : (fs gs : List CachedFile) → length gs ≡ length fs
+    → ((i : ℕ) → all_parts (get_or gs i no_file).extents.extents ≡ all_parts (get_or fs i no_file).extents.extents)
+    → held gs ≡ held fs
 unfolding held
 held_indexed [] [] long same = refl
 held_indexed [] (y ∷ gs) long same = absurd (omega (arith, long))
@@ -58,9 +63,13 @@ parts-first zero es = refl
 parts-first (suc n) [] = refl
 parts-first (suc n) (e ∷ es) = of e.dirty (parts-first n es) (parts-first (suc n) es)
   where
-    of : (b : Bool) → all_parts (first_cleaned n es) ≡ all_parts es → all_parts (first_cleaned (suc n) es) ≡ all_parts es → all_parts (cond b (as_clean e ∷ first_cleaned n es) (e ∷ first_cleaned (suc n) es)) ≡ all_parts (e ∷ es)
-    of true less more = flat_map-cons (λ (x : Extent). x.parts) (as_clean e) (first_cleaned n es) ∙ ap (λ l. e.parts ++ l) less ∙ sym (flat_map-cons (λ (x : Extent). x.parts) e es)
-    of false less more = flat_map-cons (λ (x : Extent). x.parts) e (first_cleaned (suc n) es) ∙ ap (λ l. e.parts ++ l) more ∙ sym (flat_map-cons (λ (x : Extent). x.parts) e es)
+    of : (b : Bool) → all_parts (first_cleaned n es) ≡ all_parts es
+        → all_parts (first_cleaned (suc n) es) ≡ all_parts es
+        → all_parts (cond b (as_clean e ∷ first_cleaned n es) (e ∷ first_cleaned (suc n) es)) ≡ all_parts (e ∷ es)
+    of true less more = flat_map-cons (λ (x : Extent). x.parts) (as_clean e) (first_cleaned n es)
+        ∙ ap (λ l. e.parts ++ l) less ∙ sym (flat_map-cons (λ (x : Extent). x.parts) e es)
+    of false less more = flat_map-cons (λ (x : Extent). x.parts) e (first_cleaned (suc n) es)
+        ∙ ap (λ l. e.parts ++ l) more ∙ sym (flat_map-cons (λ (x : Extent). x.parts) e es)
 
 -- an extent more is clean, or some are
 pub record KeepsParts (c d : Cached) : Type 0 where
@@ -73,7 +82,8 @@ synced_parts s f c d x y m = record {
   files = m.files;
   pools = m.pools;
   parts = λ g. elim (cases_eq g f) [
-    | inl same ↦ ap (λ n. all_parts (extents_in d.files n)) same ∙ ap all_parts m.extents ∙ parts-first m.count (extents_in c.files f) ∙ ap (λ n. all_parts (extents_in c.files n)) (sym same)
+    | inl same ↦ ap (λ n. all_parts (extents_in d.files n)) same ∙ ap all_parts m.extents
+        ∙ parts-first m.count (extents_in c.files f) ∙ ap (λ n. all_parts (extents_in c.files n)) (sym same)
     | inr ne ↦ ap (λ (z : CachedFile). all_parts z.extents.extents) (m.others g ne)
   ];
 }
@@ -83,11 +93,15 @@ same_parts c = record { files = refl; pools = λ f. refl; parts = λ f. refl }
 
 parts_kept : (h : KernelState) (d : Cached) → KeepsParts h.cache d → held d.files ≡ held h.cache.files
 parts_kept h d m = held_indexed h.cache.files d.files m.files
-    (λ i. ap (λ (x : CachedFile). all_parts x.extents.extents) (sym (at_index d.files i)) ∙ m.parts (i + 1) ∙ ap (λ (x : CachedFile). all_parts x.extents.extents) (at_index h.cache.files i))
+    (λ i. ap (λ (x : CachedFile). all_parts x.extents.extents) (sym (at_index d.files i)) ∙ m.parts (i + 1)
+    ∙ ap (λ (x : CachedFile). all_parts x.extents.extents) (at_index h.cache.files i))
 
-pub cleaned_recaches : (h : KernelState) (d : Cached) → KeepsParts h.cache d → cache.IsSound h.store d → Recaches h.store h.store h.cache d
+pub cleaned_recaches : (h : KernelState) (d : Cached) → KeepsParts h.cache d → cache.IsSound h.store d
+    → Recaches h.store h.store h.cache d
 cleaned_recaches h d m sound = record {
-  moves = subst (Moves h.store h.store (held h.cache.files)) (sym (parts_kept h d m)) (record { counts = record { each = λ b. refl }; stays = stays_here h.store; still = λ x. x; tidy = λ x. x });
+  moves =
+      subst (Moves h.store h.store (held h.cache.files)) (sym (parts_kept h d m))
+      (record { counts = record { each = λ b. refl }; stays = stays_here h.store; still = λ x. x; tidy = λ x. x });
   lists = refl;
   reclaims = λ x. x;
   pages = refl;
@@ -98,7 +112,10 @@ cleaned_recaches h d m sound = record {
 
 -- The machine's state stays, with an honest store.
 
-longer : (s : Stored) (c d : Cached) (x y : Disk) (f : ℕ) → bytes_in_slot s y.slots d.files f ≡ bytes_in_slot s x.slots c.files f → length (content x.slots f) ≤ MAX_FILE_BYTES → last_end (extents_in c.files f) ≤ MAX_FILE_BYTES → length (content y.slots f) ≤ MAX_FILE_BYTES
+longer : (s : Stored) (c d : Cached) (x y : Disk) (f : ℕ)
+    → bytes_in_slot s y.slots d.files f ≡ bytes_in_slot s x.slots c.files f
+    → length (content x.slots f) ≤ MAX_FILE_BYTES → last_end (extents_in c.files f) ≤ MAX_FILE_BYTES
+    → length (content y.slots f) ≤ MAX_FILE_BYTES
 longer s c d x y f same short ends =
     let es = extents_in c.files f in
     let fs = extents_in d.files f in
@@ -111,56 +128,89 @@ longer s c d x y f same short ends =
       ends,
     )
 
-module _ (m : State → Meaning (Unit {0})) (h k : KernelState) (t : Stored) (d : Cached) (x y : Disk) (r : Result (Unit {0}) Refusal) (sound : IsSound h) (re : Recaches h.store t h.cache d) (steps : (stored : List (List ℕ)) → Step (m (machine_of stored h)) (machine_of stored h) r (machine_of stored h)) where
-  abbrev before : List (List ℕ)
-  before = slots_read (bytes_over [] h.store) h.cache.files
+module _ (m : State → Meaning (Unit {0})) (h k : KernelState) (t : Stored) (d : Cached) (x y : Disk)
+    (r : Result (Unit {0}) Refusal) (sound : IsSound h) (re : Recaches h.store t h.cache d)
+    (steps : (stored : List (List ℕ)) → Step (m (machine_of stored h)) (machine_of stored h) r (machine_of stored h))
+  where
+    abbrev before : List (List ℕ)
+    before = slots_read (bytes_over [] h.store) h.cache.files
 
-  abbrev next : KernelState
-  next = record h { store = t; cache = d }
+    abbrev next : KernelState
+    next = record h { store = t; cache = d }
 
-  beside_step : Step (m (with_slots before h)) (with_slots before h) r (with_slots before next)
-  beside_step = subst (λ (s : State). Step (m (with_slots before h)) (with_slots before h) r s) (sym (recached_beside h t d sound re before))
-      (subst (λ (s : State). Step (m s) s r s) (machine-slots [] h) (steps []))
+    beside_step : Step (m (with_slots before h)) (with_slots before h) r (with_slots before next)
+    beside_step =
+        subst (λ (s : State). Step (m (with_slots before h)) (with_slots before h) r s)
+        (sym (recached_beside h t d sound re before))
+        (subst (λ (s : State). Step (m s) s r s) (machine-slots [] h) (steps []))
 
-  same_step : slots_read (bytes_over y.slots t) d.files ≡ slots_read (bytes_over x.slots h.store) h.cache.files → Step (m (machine_of x.slots h)) (machine_of x.slots h) r (machine_of y.slots next)
-  same_step same = subst (λ (s : State). Step (m (machine_of x.slots h)) (machine_of x.slots h) r s) (sym (recached_same h t d x.slots y.slots sound re same)) (steps x.slots)
+    same_step : slots_read (bytes_over y.slots t) d.files ≡ slots_read (bytes_over x.slots h.store) h.cache.files
+        → Step (m (machine_of x.slots h)) (machine_of x.slots h) r (machine_of y.slots next)
+    same_step same =
+        subst (λ (s : State). Step (m (machine_of x.slots h)) (machine_of x.slots h) r s)
+        (sym (recached_same h t d x.slots y.slots sound re same)) (steps x.slots)
 
-  pub same_serves : y.honest ≡ x.honest → (IsBackedBy x h → (n : ℕ) → bytes_in_slot t y.slots d.files n ≡ bytes_in_slot h.store x.slots h.cache.files n) → (IsBackedBy x h → IsBacked y (record { store = t; cache = d })) → k ≡ next → Serves m x h r y k
-  same_serves honest bytes backed same = subst (λ (l : KernelState). Serves m x h r y l) (sym same) (record {
-    step = λ is placed. same_step (slots_kept (bytes_over x.slots h.store) (bytes_over y.slots t) h.cache.files d.files (bytes is));
-    backed = backed;
-    beside = record { before = before; after = before; step = beside_step };
-    honest = honest;
-    sums = refl;
-    sound = recached_sound h t d sound re;
-    stays = re.moves.stays;
-  })
+    pub same_serves : y.honest ≡ x.honest
+        → (IsBackedBy x h → (n : ℕ) → bytes_in_slot t y.slots d.files n ≡ bytes_in_slot h.store x.slots h.cache.files n)
+        → (IsBackedBy x h → IsBacked y (record { store = t; cache = d })) → k ≡ next → Serves m x h r y k
+    same_serves honest bytes backed same = subst (λ (l : KernelState). Serves m x h r y l) (sym same) (record {
+      step =
+          λ is placed. same_step (slots_kept (bytes_over x.slots h.store) (bytes_over y.slots t) h.cache.files d.files
+          (bytes is));
+      backed = backed;
+      beside = record { before = before; after = before; step = beside_step };
+      honest = honest;
+      sums = refl;
+      sound = recached_sound h t d sound re;
+      stays = re.moves.stays;
+    })
 
 -- what is dirty is written back
-pub back_serves : (m : State → Meaning (Unit {0})) (h k : KernelState) (d : Cached) (x y : Disk) (r : Result (Unit {0}) Refusal) → IsSound h → KeepsParts h.cache d → cache.IsSound h.store d → ((stored : List (List ℕ)) → Step (m (machine_of stored h)) (machine_of stored h) r (machine_of stored h))
-    → y.honest ≡ x.honest → KeepsBytes h.store h.cache d x y → KeepsStored h.store h.cache d x y → cache.IsSound h.store h.cache → k ≡ record h { cache = d } → Serves m x h r y k
+pub back_serves : (m : State → Meaning (Unit {0})) (h k : KernelState) (d : Cached) (x y : Disk)
+    (r : Result (Unit {0}) Refusal) → IsSound h → KeepsParts h.cache d → cache.IsSound h.store d
+    → ((stored : List (List ℕ)) → Step (m (machine_of stored h)) (machine_of stored h) r (machine_of stored h))
+    → y.honest ≡ x.honest → KeepsBytes h.store h.cache d x y → KeepsStored h.store h.cache d x y
+    → cache.IsSound h.store h.cache → k ≡ record h { cache = d } → Serves m x h r y k
 back_serves m h k d x y r sound parts after steps honest bytes stored was same =
-    same_serves m h k h.store d x y r sound (cleaned_recaches h d parts after) steps honest (λ is. (bytes is.honest).each)
+    same_serves m h k h.store d x y r sound (cleaned_recaches h d parts after) steps honest
+    (λ is. (bytes is.honest).each)
     (λ is. record {
       honest = honest ∙ is.honest;
       short = λ g there. (let b = numbered_bounds d.files g there in
           let filed = was.files g in
-          longer h.store h.cache d x y g ((bytes is.honest).each g) (is.short g (numbered_yes h.cache.files g b.0 (omega (arith, b.1, parts.files)))) filed.short);
+          longer h.store h.cache d x y g ((bytes is.honest).each g)
+          (is.short g (numbered_yes h.cache.files g b.0 (omega (arith, b.1, parts.files)))) filed.short);
       mirrors = stored is.honest is.mirrors;
     })
     same
 
 -- what is clean goes
-pub given_recaches : (h : KernelState) (new : Holding) → GivesUp (holding_of h) new → cache.IsSound new.store new.cache → Recaches h.store new.store h.cache new.cache
-given_recaches h new m sound = record { moves = m.moves; lists = m.lists; reclaims = m.reclaims; pages = (keeps_pages_frees m.frees).count; files = m.keeps.count; pools = m.keeps.pools; sound = sound }
+pub given_recaches : (h : KernelState) (new : Holding) → GivesUp (holding_of h) new → cache.IsSound new.store new.cache
+    → Recaches h.store new.store h.cache new.cache
+given_recaches h new m sound =
+    record {
+      moves = m.moves;
+      lists = m.lists;
+      reclaims = m.reclaims;
+      pages = (keeps_pages_frees m.frees).count;
+      files =
+          m.keeps.count;
+      pools = m.keeps.pools;
+      sound = sound;
+    }
 
-pub given_serves : (m : State → Meaning (Unit {0})) (h k : KernelState) (new : Holding) (r : Result (Unit {0}) Refusal) → IsSound h → GivesUp (holding_of h) new → cache.IsSound new.store new.cache → ((stored : List (List ℕ)) → Step (m (machine_of stored h)) (machine_of stored h) r (machine_of stored h)) → k ≡ record h { store = new.store; cache = new.cache } → (disk : Disk) → Serves m disk h r disk k
+pub given_serves : (m : State → Meaning (Unit {0})) (h k : KernelState) (new : Holding) (r : Result (Unit {0}) Refusal)
+    → IsSound h → GivesUp (holding_of h) new → cache.IsSound new.store new.cache
+    → ((stored : List (List ℕ)) → Step (m (machine_of stored h)) (machine_of stored h) r (machine_of stored h))
+    → k ≡ record h { store = new.store; cache = new.cache } → (disk : Disk) → Serves m disk h r disk k
 given_serves m h k new r sound gone after steps same disk =
-    same_serves m h k new.store new.cache disk disk r sound (given_recaches h new gone after) steps refl (λ is. (gone.files disk.slots is.mirrors).each)
+    same_serves m h k new.store new.cache disk disk r sound (given_recaches h new gone after) steps refl
+    (λ is. (gone.files disk.slots is.mirrors).each)
     (backed_kept disk (holding_of h) new gone.keeps.count (record { each = gone.mirrors })) same
 
 -- the extent of least file and offset
-pub flushed_parts : (s : Stored) (f : ℕ) (c d : Cached) (x y : Disk) → Cleans s f c d x y → is_numbered c.files f ≡ true → KeepsParts c d
+pub flushed_parts : (s : Stored) (f : ℕ) (c d : Cached) (x y : Disk) → Cleans s f c d x y → is_numbered c.files f ≡ true
+    → KeepsParts c d
 flushed_parts s f c d x y m there =
     let put : CachedFile = record { pool = (file_in c.files f).pool; extents = m.extents } in
     let b = numbered_bounds c.files f there in
@@ -168,7 +218,8 @@ flushed_parts s f c d x y m there =
     record {
       files = ap length m.files ∙ length-with_file c.files f put;
       pools = λ g. ap (λ (l : List CachedFile). (file_in l g).pool) m.files ∙ elim (cases_eq g f) [
-        | inl same ↦ ap (λ n. (file_in (with_file c.files f put) n).pool) same ∙ ap (λ (z : CachedFile). z.pool) here ∙ ap (λ n. (file_in c.files n).pool) (sym same)
+        | inl same ↦ ap (λ n. (file_in (with_file c.files f put) n).pool) same ∙ ap (λ (z : CachedFile). z.pool) here
+            ∙ ap (λ n. (file_in c.files n).pool) (sym same)
         | inr ne ↦ ap (λ (z : CachedFile). z.pool) (file_other c.files f g put ne)
       ];
       parts = λ g. ap (λ (l : List CachedFile). all_parts (extents_in l g)) m.files ∙ elim (cases_eq g f) [
@@ -182,7 +233,8 @@ flushed_parts s f c d x y m there =
     }
 
 -- a file that has a dirty extent is there
-pub dirty_there : (fs : List CachedFile) (f : ℕ) (e : Extent) → dirty_in (extents_in fs f) ≡ Some e → is_numbered fs f ≡ true
+pub dirty_there : (fs : List CachedFile) (f : ℕ) (e : Extent) → dirty_in (extents_in fs f) ≡ Some e
+    → is_numbered fs f ≡ true
 dirty_there fs f e is = pick (is_numbered fs f) refl
   where
     none_dirty : ◌≡◌ {A = Option Extent} None (Some e) → ⊥
@@ -190,13 +242,16 @@ dirty_there fs f e is = pick (is_numbered fs f) refl
 
     pick : (b : Bool) → is_numbered fs f ≡ b → is_numbered fs f ≡ true
     pick true there = there
-    pick false away = absurd (none_dirty (sym (ap (λ (z : CachedFile). dirty_in z.extents.extents) (file_nowhere fs f away)) ∙ is))
+    pick false away =
+        absurd (none_dirty (sym (ap (λ (z : CachedFile). dirty_in z.extents.extents) (file_nowhere fs f away)) ∙ is))
 
 pub kept_parts : (c d : Cached) → d ≡ c → KeepsParts c d
 kept_parts c d same = subst (KeepsParts c) (sym same) (same_parts c)
 
-pub flush_parts : (s : Stored) (c d : Cached) (x y : Disk) (r : Result Flushed Refusal) → Flushes s c d x y r → KeepsParts c d × (y.honest ≡ x.honest)
+pub flush_parts : (s : Stored) (c d : Cached) (x y : Disk) (r : Result Flushed Refusal) → Flushes s c d x y r
+    → KeepsParts c d × (y.honest ≡ x.honest)
 flush_parts s c d x y (Ok Nothing) m = (kept_parts c d m.1, ap (λ (z : Disk). z.honest) m.2)
-flush_parts s c d x y (Ok (Wrote f)) m = (flushed_parts s f c d x y m.1 (dirty_there c.files f m.1.extent m.1.first), m.1.honest)
+flush_parts s c d x y (Ok (Wrote f)) m =
+    (flushed_parts s f c d x y m.1 (dirty_there c.files f m.1.extent m.1.first), m.1.honest)
 flush_parts s c d x y (Err (because.Fault f)) m = (kept_parts c d m.1.same, m.1.honest)
 flush_parts s c d x y (Err z) m = absurd m

@@ -29,7 +29,8 @@ pools-fold s (o ∷ os) = pools-fold (fds.closed_on s o) os ∙ pools-closed_on 
 
 -- and domains
 
-pub closed_on-with_domain : (s : State) (d : ℕ) (x : Domain Text) (o : Option Descriptor) → fds.closed_on (machine.with_domain s d x) o ≡ machine.with_domain (fds.closed_on s o) d x
+pub closed_on-with_domain : (s : State) (d : ℕ) (x : Domain Text) (o : Option Descriptor)
+    → fds.closed_on (machine.with_domain s d x) o ≡ machine.with_domain (fds.closed_on s o) d x
 unfolding machine.with_domain machine.with_pipe machine.with_conn machine.pipe_at machine.conn_at
 closed_on-with_domain s d x None = refl
 closed_on-with_domain s d x (Some (on.File f at mode)) = refl
@@ -37,7 +38,8 @@ closed_on-with_domain s d x (Some (on.ReadEnd p)) = refl
 closed_on-with_domain s d x (Some (on.WriteEnd p)) = refl
 closed_on-with_domain s d x (Some (on.Connection c)) = refl
 
-pub domain-closed_on : (s : State) (d : ℕ) (o : Option Descriptor) → machine.domain (fds.closed_on s o) d ≡ machine.domain s d
+pub domain-closed_on : (s : State) (d : ℕ) (o : Option Descriptor)
+    → machine.domain (fds.closed_on s o) d ≡ machine.domain s d
 unfolding machine.domain machine.with_pipe machine.with_conn
 domain-closed_on s d None = refl
 domain-closed_on s d (Some (on.File f at mode)) = refl
@@ -45,19 +47,26 @@ domain-closed_on s d (Some (on.ReadEnd p)) = refl
 domain-closed_on s d (Some (on.WriteEnd p)) = refl
 domain-closed_on s d (Some (on.Connection c)) = refl
 
-pub closed_on-with_fds : (s : State) (d : ℕ) (xs : List (Option Descriptor)) (o : Option Descriptor) → fds.closed_on (fds.with_fds s d xs) o ≡ fds.with_fds (fds.closed_on s o) d xs
+pub closed_on-with_fds : (s : State) (d : ℕ) (xs : List (Option Descriptor)) (o : Option Descriptor)
+    → fds.closed_on (fds.with_fds s d xs) o ≡ fds.with_fds (fds.closed_on s o) d xs
 closed_on-with_fds s d xs o =
     closed_on-with_domain s d (record (machine.domain s d) { fds = xs }) o
-    ∙ ap (λ (y : Domain Text). machine.with_domain (fds.closed_on s o) d (record y { fds = xs })) (sym (domain-closed_on s d o))
+    ∙ ap (λ (y : Domain Text). machine.with_domain (fds.closed_on s o) d (record y { fds = xs }))
+    (sym (domain-closed_on s d o))
 
-pub fold-with_domain : (s : State) (d : ℕ) (x : Domain Text) (os : List (Option Descriptor)) → fold fds.closed_on (machine.with_domain s d x) os ≡ machine.with_domain (fold fds.closed_on s os) d x
+pub fold-with_domain : (s : State) (d : ℕ) (x : Domain Text) (os : List (Option Descriptor))
+    → fold fds.closed_on (machine.with_domain s d x) os ≡ machine.with_domain (fold fds.closed_on s os) d x
 fold-with_domain s d x [] = refl
-fold-with_domain s d x (o ∷ os) = ap (λ (u : State). fold fds.closed_on u os) (closed_on-with_domain s d x o) ∙ fold-with_domain (fds.closed_on s o) d x os
+fold-with_domain s d x (o ∷ os) = ap (λ (u : State). fold fds.closed_on u os) (closed_on-with_domain s d x o)
+    ∙ fold-with_domain (fds.closed_on s o) d x os
 
 -- nothing is left of a domain, so what it had before does not matter
-ended_after : (m s : State) (d : ℕ) (x : Domain Text) (os : List (Option Descriptor)) → s ≡ machine.with_domain m d x → machine.with_domain (fold fds.closed_on (fds.with_fds s d []) os) d no_domain ≡ machine.with_domain (fold fds.closed_on m os) d no_domain
+ended_after : (m s : State) (d : ℕ) (x : Domain Text) (os : List (Option Descriptor)) → s ≡ machine.with_domain m d x
+    → machine.with_domain (fold fds.closed_on (fds.with_fds s d []) os) d no_domain
+    ≡ machine.with_domain (fold fds.closed_on m os) d no_domain
 ended_after m s d x os is =
-    ap (λ (u : State). machine.with_domain u d no_domain) (fold-with_domain s d (record (machine.domain s d) { fds = [] }) os)
+    ap (λ (u : State). machine.with_domain u d no_domain)
+    (fold-with_domain s d (record (machine.domain s d) { fds = [] }) os)
     ∙ with_domain-twice (fold fds.closed_on s os) d (record (machine.domain s d) { fds = [] }) no_domain
     ∙ ap (λ (u : State). machine.with_domain (fold fds.closed_on u os) d no_domain) is
     ∙ ap (λ (u : State). machine.with_domain u d no_domain) (fold-with_domain m d x os)
@@ -65,9 +74,12 @@ ended_after m s d x os is =
 
 -- all at once: the aggregates are dropped, the descriptors closed, and the domain ended
 pub ended_all : (m : State) (d : ℕ) → machine.is_live m d ≡ true
-    → (let s : State = machine.with_domain m d (record (machine.domain m d) { aggs = [] }) in machine.with_domain (fold fds.closed_on (fds.with_fds s d []) (machine.domain s d).fds) d no_domain) ≡ machine.with_domain (fold fds.closed_on m (machine.domain m d).fds) d no_domain
+    → (let s : State = machine.with_domain m d (record (machine.domain m d) { aggs = [] }) in
+    machine.with_domain (fold fds.closed_on (fds.with_fds s d []) (machine.domain s d).fds) d no_domain)
+    ≡ machine.with_domain (fold fds.closed_on m (machine.domain m d).fds) d no_domain
 ended_all m d live =
     let x : Domain Text = record (machine.domain m d) { aggs = [] } in
     let s : State = machine.with_domain m d x in
-    ap (λ (os : List (Option Descriptor)). machine.with_domain (fold fds.closed_on (fds.with_fds s d []) os) d no_domain) (ap (λ (y : Domain Text). y.fds) (domain-with_same m d x live))
+    ap (λ (os : List (Option Descriptor)). machine.with_domain (fold fds.closed_on (fds.with_fds s d []) os) d
+    no_domain) (ap (λ (y : Domain Text). y.fds) (domain-with_same m d x live))
     ∙ ended_after m s d x (machine.domain m d).fds refl

@@ -1,5 +1,6 @@
 -- What holds where a write has passed its tests.
-use Rattle.std.proofs.Common.{◌≡◌, ℕ, zero, suc, ◌+◌, ◌≤◌, Bool, true, false, List, [], ◌∷◌, length, drop, Option, Some, None, inl, inr, refl, sym, ap, ◌∙◌, subst, arith}
+use Rattle.std.proofs.Common.{◌≡◌, ℕ, zero, suc, ◌+◌, ◌≤◌, Bool, true, false, List, [], ◌∷◌, length, drop, Option, Some}
+use Rattle.std.proofs.Common.{None, inl, inr, refl, sym, ap, ◌∙◌, subst, arith}
 use Rattle.std.specs.Prelude.{nat_lt, not}
 use Rattle.std.proofs.lemmas.Bool.{cases_lt}
 use Rattle.std.proofs.lemmas.Bool.Decides.{nat_tests}
@@ -42,14 +43,16 @@ negated : (b : Bool) → not b ≡ false → b ≡ true
 negated true e = refl
 negated false e = absurd (cc e)
 
-short_enough : (o : Option Descriptor) (f at n : ℕ) (mode : Mode) → o ≡ Some (on.File f at mode) → (TooLong when writing.is_too_long o n) ≡ None → at + n ≤ MAX_FILE_BYTES
+short_enough : (o : Option Descriptor) (f at n : ℕ) (mode : Mode) → o ≡ Some (on.File f at mode)
+    → (TooLong when writing.is_too_long o n) ≡ None → at + n ≤ MAX_FILE_BYTES
 short_enough o f at n mode is fits = elim (cases_lt MAX_FILE_BYTES (at + n)) [
   | inl k ↦ (let b : nat_lt MAX_FILE_BYTES (at + n) ≡ true = grind (arith, nat_tests, k) in absurd (cc (b, within)))
   | inr k ↦ omega (arith, k)
 ]
   where
     within : nat_lt MAX_FILE_BYTES (at + n) ≡ false
-    within = sym (ap (λ (p : Option Descriptor). writing.is_too_long p n) is) ∙ not_when TooLong (writing.is_too_long o n) fits
+    within = sym (ap (λ (p : Option Descriptor). writing.is_too_long p n) is)
+        ∙ not_when TooLong (writing.is_too_long o n) fits
 
 -- the tests of a queue, of what the descriptor is open on
 abbrev last_of : State → (n : ℕ) → Option Descriptor → Option Refusal
@@ -62,13 +65,16 @@ module _ (s : State) (d fd : ℕ) (bytes : List ℕ) (passed : first (writing.wr
   tests = (writing.write s d fd bytes).refusals
 
   pub passed_live : machine.is_live s d ≡ true
-  passed_live = negated (machine.is_live s d) (not_when NoDomain (not (machine.is_live s d)) (test_passed 0 tests passed))
+  passed_live =
+      negated (machine.is_live s d) (not_when NoDomain (not (machine.is_live s d)) (test_passed 0 tests passed))
 
-  pub passed_short : (f at : ℕ) (mode : Mode) → descriptor s d fd ≡ Some (on.File f at mode) → at + length bytes ≤ MAX_FILE_BYTES
+  pub passed_short : (f at : ℕ) (mode : Mode) → descriptor s d fd ≡ Some (on.File f at mode)
+      → at + length bytes ≤ MAX_FILE_BYTES
   passed_short f at mode is = short_enough (descriptor s d fd) f at (length bytes) mode is (test_passed 4 tests passed)
 
   pub passed_last : (o : Option Descriptor) → descriptor s d fd ≡ o → last_of s (length bytes) o ≡ None
-  passed_last o to = subst (λ (o : Option Descriptor). last_of s (length bytes) o ≡ None) to (rest_passed 6 tests passed)
+  passed_last o to =
+      subst (λ (o : Option Descriptor). last_of s (length bytes) o ≡ None) to (rest_passed 6 tests passed)
 
 -- an aggregate
 
@@ -76,8 +82,12 @@ module _ (s : State) (d fd a : ℕ) (passed : first (writing.iol_write s d fd a)
   abbrev agg_tests : List (Option Refusal)
   agg_tests = (writing.iol_write s d fd a).refusals
 
-  pub agg_short : (f at : ℕ) (mode : Mode) → descriptor s d fd ≡ Some (on.File f at mode) → at + length (machine.text s d a) ≤ MAX_FILE_BYTES
-  agg_short f at mode is = short_enough (descriptor s d fd) f at (length (machine.text s d a)) mode is (test_passed 4 agg_tests passed)
+  pub agg_short : (f at : ℕ) (mode : Mode) → descriptor s d fd ≡ Some (on.File f at mode)
+      → at + length (machine.text s d a) ≤ MAX_FILE_BYTES
+  agg_short f at mode is =
+      short_enough (descriptor s d fd) f at (length (machine.text s d a)) mode is (test_passed 4 agg_tests passed)
 
   pub agg_last : (o : Option Descriptor) → descriptor s d fd ≡ o → last_of s (length (machine.text s d a)) o ≡ None
-  agg_last o to = subst (λ (o : Option Descriptor). last_of s (length (machine.text s d a)) o ≡ None) to (rest_passed 5 agg_tests passed)
+  agg_last o to =
+      subst (λ (o : Option Descriptor). last_of s (length (machine.text s d a)) o ≡ None) to
+      (rest_passed 5 agg_tests passed)

@@ -1,5 +1,6 @@
 -- Ends that were taken from a domain, and are closed one after another.
-use Rattle.std.proofs.Common.{◌≡◌, ℕ, suc, ◌+◌, ◌<◌, ◌≤◌, List, [], ◌∷◌, length, drop, ap, ◌∙◌, sym, subst, arith, Option, Some, get_or, true}
+use Rattle.std.proofs.Common.{◌≡◌, ℕ, suc, ◌+◌, ◌<◌, ◌≤◌, List, [], ◌∷◌, length, drop, ap, ◌∙◌, sym, subst, arith}
+use Rattle.std.proofs.Common.{Option, Some, get_or, true}
 use Rattle.std.proofs.Math.Seq.{drop-cons}
 use Rattle.std.proofs.lemmas.List.Sums.{sum_by-cons}
 use Rattle.iol_core.specs.declared.descriptors.Descriptor.{Descriptor}
@@ -20,17 +21,36 @@ use Rattle.iol_hold.specs.declared.slices.Slice.{Slice}
 
 -- all numbers of a domain are taken
 
-taken-sound : (h : KernelState) (ds : Domains) (d : ℕ) → IsSound h → (domain_in h.domains d).live ≡ true → ds ≡ with_fds_in h.domains d [] → IsSound (record h { domains = ds })
-taken-sound h ds d sound live is = fds-sound h ds d [] sound live is tt (once_fewer h.domains d (record (domain_in h.domains d) { fds = [] }) live (λ e. omega arith) sound.once)
+taken-sound : (h : KernelState) (ds : Domains) (d : ℕ) → IsSound h → (domain_in h.domains d).live ≡ true
+    → ds ≡ with_fds_in h.domains d [] → IsSound (record h { domains = ds })
+taken-sound h ds d sound live is =
+    fds-sound h ds d [] sound live is tt (once_fewer h.domains d (record (domain_in h.domains d) { fds = [] }) live
+    (λ e. omega arith) sound.once)
 
-taken_ends : (h : KernelState) (ds : Domains) (d : ℕ) (ends : List (Option Descriptor)) → IsSound h → (domain_in h.domains d).live ≡ true → ends ≡ (domain_in h.domains d).fds → ds ≡ with_fds_in h.domains d [] → AreTaken ds (objects_of h) ends
+taken_ends : (h : KernelState) (ds : Domains) (d : ℕ) (ends : List (Option Descriptor)) → IsSound h
+    → (domain_in h.domains d).live ≡ true → ends ≡ (domain_in h.domains d).fds → ds ≡ with_fds_in h.domains d []
+    → AreTaken ds (objects_of h) ends
 taken_ends h ds d ends sound live is rest = record {
   opened = subst (λ (xs : List (Option Descriptor)). Each (IsOpenEnd (objects_of h)) xs) (sym is) (ends_open h d sound);
-  once = λ x. omega (arith, ap (ends_on x) is, ap (all_ends_on x) rest, sound.once.each x, ends-with_domain x h.domains d (record (domain_in h.domains d) { fds = [] }) live);
+  once =
+      λ x. omega (
+        arith,
+        ap (ends_on x) is,
+        ap (all_ends_on x) rest,
+        sound.once.each x,
+        ends-with_domain x h.domains d (record (domain_in h.domains d) { fds = [] }) live,
+      );
 }
 
-pub all_let_go : (h : KernelState) (ds : Domains) (d : ℕ) (ends : List (Option Descriptor)) → Lives h d → ends ≡ (domain_in h.domains d).fds → ds ≡ with_fds_in h.domains d [] → AreLetGo (record h { domains = ds }) ends
-all_let_go h ds d ends lives is rest = (let live = live_held (bytes_over [] h.store) h d lives.live in record { sound = taken-sound h ds d lives.sound live rest; taken = taken_ends h ds d ends lives.sound live is rest })
+pub all_let_go : (h : KernelState) (ds : Domains) (d : ℕ) (ends : List (Option Descriptor)) → Lives h d
+    → ends ≡ (domain_in h.domains d).fds → ds ≡ with_fds_in h.domains d [] → AreLetGo (record h { domains = ds }) ends
+all_let_go h ds d ends lives is rest =
+    (let live = live_held (bytes_over [] h.store) h d lives.live in
+    record {
+      sound = taken-sound h ds d lives.sound live rest;
+      taken =
+          taken_ends h ds d ends lives.sound live is rest;
+    })
 
 -- the first of them
 
@@ -40,16 +60,20 @@ drop_one xs i z lt = drop-cons xs i z lt ∙ ap (λ n. get_or xs i z ∷ drop n 
     one : suc i ≡ i + 1
     one = omega arith
 
-module _ (ds : Domains) (qs : Objects (List Slice)) (xs : List (Option Descriptor)) (i : ℕ) (z : Option Descriptor) (there : i < length xs) (is : z ≡ get_or xs i z) (taken : AreTaken ds qs (drop i xs)) where
+module _ (ds : Domains) (qs : Objects (List Slice)) (xs : List (Option Descriptor)) (i : ℕ) (z : Option Descriptor)
+    (there : i < length xs) (is : z ≡ get_or xs i z) (taken : AreTaken ds qs (drop i xs)) where
   firstly : AreTaken ds qs (z ∷ drop (i + 1) xs)
-  firstly = subst (λ (ys : List (Option Descriptor)). AreTaken ds qs ys) (drop_one xs i z there ∙ ap (λ (y : Option Descriptor). y ∷ drop (i + 1) xs) (sym is)) taken
+  firstly =
+      subst (λ (ys : List (Option Descriptor)). AreTaken ds qs ys) (drop_one xs i z there
+      ∙ ap (λ (y : Option Descriptor). y ∷ drop (i + 1) xs) (sym is)) taken
 
   pub first_open : IsOpenEnd qs z
   first_open = firstly.opened.0
 
   module _ (x : Descriptor) (some : z ≡ Some x) where
     first_once : all_ends_on x ds + (same_end x x + ends_on x (drop (i + 1) xs)) ≤ 1
-    first_once = let c = sum_by-cons (on_end x) z (drop (i + 1) xs) in omega (arith, c, ap (on_end x) some, firstly.once x)
+    first_once = let c = sum_by-cons (on_end x) z (drop (i + 1) xs) in
+        omega (arith, c, ap (on_end x) some, firstly.once x)
 
     pub first_alone : all_ends_on x ds ≡ 0
     first_alone = (end_alone x (drop (i + 1) xs) ds first_once).0

@@ -22,39 +22,48 @@ use Rattle.iol_kernel.specs.Views.{state_view}
 use Rattle.iol_kernel.proofs.State.Stay.{stays_here}
 
 -- it is what it stands for where files have the bytes that they have there
-pub with_slots-own : (stored : List (List ℕ)) (h : KernelState) → with_slots (machine_of stored h).slots h ≡ machine_of stored h
+pub with_slots-own : (stored : List (List ℕ)) (h : KernelState)
+    → with_slots (machine_of stored h).slots h ≡ machine_of stored h
 unfolding with_slots read_of state_view
 with_slots-own stored h = refl
 
 -- domains are the same, whatever is in files and whatever is read
 
-pub live-with_slots : (slots : List (List ℕ)) (h : KernelState) (d : ℕ) → machine.is_live (with_slots slots h) d ≡ machine.is_live (machine_of [] h) d
+pub live-with_slots : (slots : List (List ℕ)) (h : KernelState) (d : ℕ)
+    → machine.is_live (with_slots slots h) d ≡ machine.is_live (machine_of [] h) d
 unfolding with_slots machine.domain
 live-with_slots slots h d = refl
 
-pub descriptor-with_slots : (slots : List (List ℕ)) (h : KernelState) (d fd : ℕ) → machine.descriptor (with_slots slots h) d fd ≡ machine.descriptor (machine_of [] h) d fd
+pub descriptor-with_slots : (slots : List (List ℕ)) (h : KernelState) (d fd : ℕ)
+    → machine.descriptor (with_slots slots h) d fd ≡ machine.descriptor (machine_of [] h) d fd
 unfolding with_slots machine.domain
 descriptor-with_slots slots h d fd = refl
 
-pub open-with_slots : (slots : List (List ℕ)) (h : KernelState) (d : ℕ) → (machine.domain (with_slots slots h) d).fds ≡ (machine.domain (machine_of [] h) d).fds
+pub open-with_slots : (slots : List (List ℕ)) (h : KernelState) (d : ℕ)
+    → (machine.domain (with_slots slots h) d).fds ≡ (machine.domain (machine_of [] h) d).fds
 unfolding with_slots machine.domain
 open-with_slots slots h d = refl
 
-pub fds-with_slots : (slots : List (List ℕ)) (h k : KernelState) (d : ℕ) (xs : List (Option Descriptor)) → machine_of [] k ≡ fds.with_fds (machine_of [] h) d xs → with_slots slots k ≡ fds.with_fds (with_slots slots h) d xs
+pub fds-with_slots : (slots : List (List ℕ)) (h k : KernelState) (d : ℕ) (xs : List (Option Descriptor))
+    → machine_of [] k ≡ fds.with_fds (machine_of [] h) d xs
+    → with_slots slots k ≡ fds.with_fds (with_slots slots h) d xs
 unfolding with_slots machine.with_domain machine.domain
 fds-with_slots slots h k d xs is = ap (λ (s : State). record s { slots = slots }) is
 
-pub content-with_slots : (slots : List (List ℕ)) (h : KernelState) (f : ℕ) → machine.content (with_slots slots h) f ≡ numbered_or slots f []
+pub content-with_slots : (slots : List (List ℕ)) (h : KernelState) (f : ℕ)
+    → machine.content (with_slots slots h) f ≡ numbered_or slots f []
 unfolding with_slots machine.content
 content-with_slots slots h f = refl
 
 -- the bytes of the file in a slot
-pub content-machine_of : (stored : List (List ℕ)) (h : KernelState) (f : ℕ) → 0 < f → f ≤ MAX_FILES → machine.content (machine_of stored h) f ≡ bytes_in_slot h.store stored h.cache.files f
+pub content-machine_of : (stored : List (List ℕ)) (h : KernelState) (f : ℕ) → 0 < f → f ≤ MAX_FILES
+    → machine.content (machine_of stored h) f ≡ bytes_in_slot h.store stored h.cache.files f
 unfolding read_of state_view machine.content slots_read
 content-machine_of stored h f some within =
     let slots : List (List ℕ) = slots_read (bytes_over stored h.store) h.cache.files in
     let at : numbered_or slots f [] ≡ get_or slots (f - 1) [] = grind (arith, nat_tests, some) in
-    at ∙ get_or-map-range_with_len (slot_read (bytes_over stored h.store) h.cache.files) 1 MAX_FILES (f - 1) f [] (omega (arith, some, within)) (omega (arith, some))
+    at ∙ get_or-map-range_with_len (slot_read (bytes_over stored h.store) h.cache.files) 1 MAX_FILES (f - 1) f []
+    (omega (arith, some, within)) (omega (arith, some))
 
 -- slots of so many bytes each
 unfoldable pub even : (slots len : ℕ) → List (List ℕ)
@@ -63,25 +72,39 @@ even slots len = replicate slots (replicate len 0)
 pub length-even : (m len f : ℕ) → 0 < f → f ≤ m → length (numbered_or (even m len) f []) ≡ len
 unfolding even
 length-even m len f some within =
-    let at : numbered_or (replicate m (replicate len 0)) f [] ≡ get_or (replicate m (replicate len 0)) (f - 1) [] = grind (arith, nat_tests, some) in
+    let at : numbered_or (replicate m (replicate len 0)) f [] ≡ get_or (replicate m (replicate len 0)) (f - 1) [] =
+    grind (arith, nat_tests, some) in
     let below : f - 1 < m = omega (arith, some, within) in
     ap length (at ∙ get_or-replicate m (f - 1) (replicate len 0) [] below) ∙ length-replicate len 0
 
-pub length_content-even : (len : ℕ) (h : KernelState) (f : ℕ) → 0 < f → f ≤ MAX_FILES → length (machine.content (with_slots (even MAX_FILES len) h) f) ≡ len
-length_content-even len h f some within = ap length (content-with_slots (even MAX_FILES len) h f) ∙ length-even MAX_FILES len f some within
+pub length_content-even : (len : ℕ) (h : KernelState) (f : ℕ) → 0 < f → f ≤ MAX_FILES
+    → length (machine.content (with_slots (even MAX_FILES len) h) f) ≡ len
+length_content-even len h f some within = ap length (content-with_slots (even MAX_FILES len) h f)
+    ∙ length-even MAX_FILES len f some within
 
-at_own : {A : Type 0} (m : State → Meaning A) (disk : Disk) (h : KernelState) (ds : List (Domain (List Slice))) (r : Result A Refusal) → (let k : KernelState = record h { domains = ds } in let slots : List (List ℕ) = (machine_of disk.slots h).slots in
-    Step (m (with_slots slots h)) (with_slots slots h) r (with_slots slots k) → Step (m (machine_of disk.slots h)) (machine_of disk.slots h) r (machine_of disk.slots k))
+at_own : {A : Type 0} (m : State → Meaning A) (disk : Disk) (h : KernelState) (ds : List (Domain (List Slice)))
+    (r : Result A Refusal) → (let k : KernelState = record h { domains = ds } in let slots : List (List ℕ) =
+    (machine_of disk.slots h).slots in
+    Step (m (with_slots slots h)) (with_slots slots h) r (with_slots slots k)
+    → Step (m (machine_of disk.slots h)) (machine_of disk.slots h) r (machine_of disk.slots k))
 unfolding with_slots read_of state_view
 at_own m disk h ds r step = step
 
--- At most descriptors change. The call is the machine's step where the bytes of files meet P: those that files have over an
--- honest store do, and some do in any case.
-pub serves_where : {A : Type 0} (P : List (List ℕ) → Type 0) (m : State → Meaning A) (disk : Disk) (h : KernelState) (ds : List (Domain (List Slice))) (r : Result A Refusal) (before : List (List ℕ)) → (let k : KernelState = record h { domains = ds } in
-    ((slots : List (List ℕ)) → P slots → Step (m (with_slots slots h)) (with_slots slots h) r (with_slots slots k)) → (IsBackedBy disk h → P (machine_of disk.slots h).slots) → P before → IsSound k → Serves m disk h r disk k)
+-- At most descriptors change. The call is the machine's step where the bytes of files meet P: those that files have
+-- over an honest store do, and some do in any case.
+pub serves_where : {A : Type 0} (P : List (List ℕ) → Type 0) (m : State → Meaning A) (disk : Disk) (h : KernelState)
+    (ds : List (Domain (List Slice))) (r : Result A Refusal) (before : List (List ℕ))
+    → (let k : KernelState = record h { domains = ds } in
+    ((slots : List (List ℕ)) → P slots → Step (m (with_slots slots h)) (with_slots slots h) r (with_slots slots k))
+    → (IsBackedBy disk h → P (machine_of disk.slots h).slots) → P before → IsSound k → Serves m disk h r disk k)
 serves_where P m disk h ds r before steps own some sound = record {
   step = λ backed placed. at_own m disk h ds r (steps (machine_of disk.slots h).slots (own backed));
-  backed = λ backed. record { honest = backed.honest; short = backed.short; mirrors = record { each = backed.mirrors.each } };
+  backed = λ backed. record {
+    honest = backed.honest;
+    short = backed.short;
+    mirrors =
+        record { each = backed.mirrors.each };
+  };
   beside = record { before = before; after = before; step = steps before some };
   honest = refl;
   sums = refl;
@@ -90,5 +113,8 @@ serves_where P m disk h ds r before steps own some sound = record {
 }
 
 -- a call that is refused whatever files hold
-pub serves_refused : {A : Type 0} (m : State → Meaning A) (disk : Disk) (h : KernelState) (x : Refusal) → ((slots : List (List ℕ)) → Step (m (with_slots slots h)) (with_slots slots h) (Err x) (with_slots slots h)) → IsSound h → Serves m disk h (Err x) disk h
-serves_refused m disk h x steps sound = serves_where (λ slots. Unit {0}) m disk h h.domains (Err x) [] (λ slots any. steps slots) (λ backed. tt) tt sound
+pub serves_refused : {A : Type 0} (m : State → Meaning A) (disk : Disk) (h : KernelState) (x : Refusal)
+    → ((slots : List (List ℕ)) → Step (m (with_slots slots h)) (with_slots slots h) (Err x) (with_slots slots h))
+    → IsSound h → Serves m disk h (Err x) disk h
+serves_refused m disk h x steps sound =
+    serves_where (λ slots. Unit {0}) m disk h h.domains (Err x) [] (λ slots any. steps slots) (λ backed. tt) tt sound

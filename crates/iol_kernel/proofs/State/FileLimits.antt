@@ -11,8 +11,24 @@ use Rattle.iol_kernel.specs.Views.{Objects}
 use Rattle.iol_kernel.proofs.State.Sound.{each-weaker}
 
 -- what was open on an open end is so still
-pub ends_weaker : (o p : Objects (List Slice)) (ds : List (Domain (List Slice))) → ((x : Option Descriptor) → IsOpenEnd o x → IsOpenEnd p x) → Each (λ d. Each (IsOpenEnd o) d.fds) ds → Each (λ d. Each (IsOpenEnd p) d.fds) ds
-ends_weaker o p ds still = each-weaker (λ (d : Domain (List Slice)). Each (IsOpenEnd o) d.fds) (λ (d : Domain (List Slice)). Each (IsOpenEnd p) d.fds) ds (λ d e. each-weaker (IsOpenEnd o) (IsOpenEnd p) d.fds still e)
+pub ends_weaker : (o p : Objects (List Slice)) (ds : List (Domain (List Slice)))
+    → ((x : Option Descriptor) → IsOpenEnd o x → IsOpenEnd p x) → Each (λ d. Each (IsOpenEnd o) d.fds) ds
+    → Each (λ d. Each (IsOpenEnd p) d.fds) ds
+ends_weaker o p ds still =
+    each-weaker (λ (d : Domain (List Slice)). Each (IsOpenEnd o) d.fds)
+    (λ (d : Domain (List Slice)). Each (IsOpenEnd p) d.fds) ds
+    (λ d e. each-weaker (IsOpenEnd o) (IsOpenEnd p) d.fds still e)
 
-pub with_files : {o : Objects (List Slice)} (fs : List machine.File) (cs : List CachedFile) → AreLimited o → Each IsFile cs → length cs ≤ MAX_FILES → AreLimited (record o { files = fs; cached = cs })
-with_files fs cs limits each few = record { queues = limits.queues; few_pipes = limits.few_pipes; conns = limits.conns; few_conns = limits.few_conns; rising = limits.rising; last = limits.last; cached = each; few_files = few }
+pub with_files : {o : Objects (List Slice)} (fs : List machine.File) (cs : List CachedFile) → AreLimited o
+    → Each IsFile cs → length cs ≤ MAX_FILES → AreLimited (record o { files = fs; cached = cs })
+with_files fs cs limits each few =
+    record {
+      queues = limits.queues;
+      few_pipes = limits.few_pipes;
+      conns = limits.conns;
+      few_conns = limits.few_conns;
+      rising = limits.rising;
+      last = limits.last;
+      cached = each;
+      few_files = few;
+    }

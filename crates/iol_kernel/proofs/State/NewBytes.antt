@@ -17,7 +17,8 @@ use Rattle.iol_pipe.specs.Queue.{fitting}
 use Rattle.iol_sock.specs.Connections.{Conn}
 use Rattle.iol_sum.proofs.KeptSums.{IsRight-keeps}
 use Rattle.iol_kernel.specs.HoldCounts.{IsCounted, uses}
-use Rattle.iol_kernel.specs.KernelState.{AreReadable, ArePooled, Each, IsLimited, IsOpenEnd, IsSound, KernelState, machine_of, objects_of, read_of}
+use Rattle.iol_kernel.specs.KernelState.{AreReadable, ArePooled, Each, IsLimited, IsOpenEnd, IsSound, KernelState}
+use Rattle.iol_kernel.specs.KernelState.{machine_of, objects_of, read_of}
 use Rattle.iol_kernel.specs.Readings.{bytes_over}
 use Rattle.iol_kernel.specs.Views.{Objects, Pipe}
 use Rattle.iol_kernel.proofs.State.Effects.{adds_held}
@@ -25,10 +26,24 @@ use Rattle.iol_kernel.proofs.State.Slots.{cache_stays}
 use Rattle.iol_kernel.proofs.State.Sound.{AreHeld, domains_stay, files_held, objects_stay, view-stays}
 
 -- no more bytes than fit make no queue too long
-pub fitted_short : (s t : Stored) (old q : List Slice) (pool n m : ℕ) (bytes : List ℕ) (adds : AddsBytes s t old q pool (take n bytes)) → byte_len old ≤ MAX_QUEUE_BYTES → n ≡ fitting old m → byte_len q ≤ MAX_QUEUE_BYTES
-fitted_short s t old q pool n m bytes adds short number = omega (arith, short, number, ap byte_len adds.added, byte_len-append old adds.slices, ap length adds.is_text, length-text_of t adds.slices, length-map {B = ℕ × ℕ} (take n bytes) (λ b. (b, pool)), length-take n bytes)
+pub fitted_short : (s t : Stored) (old q : List Slice) (pool n m : ℕ) (bytes : List ℕ)
+    (adds : AddsBytes s t old q pool (take n bytes)) → byte_len old ≤ MAX_QUEUE_BYTES → n ≡ fitting old m
+    → byte_len q ≤ MAX_QUEUE_BYTES
+fitted_short s t old q pool n m bytes adds short number =
+    omega (
+      arith,
+      short,
+      number,
+      ap byte_len adds.added,
+      byte_len-append old adds.slices,
+      ap length adds.is_text,
+      length-text_of t adds.slices,
+      length-map {B = ℕ × ℕ} (take n bytes) (λ b. (b, pool)),
+      length-take n bytes,
+    )
 
-module _ (h : KernelState) (t : Stored) (old q : List Slice) (pool : ℕ) (bytes : List ℕ) (sound : IsSound h) (adds : AddsBytes h.store t old q pool bytes) where
+module _ (h : KernelState) (t : Stored) (old q : List Slice) (pool : ℕ) (bytes : List ℕ) (sound : IsSound h)
+    (adds : AddsBytes h.store t old q pool bytes) where
   pub added_held : AreHeld t h.domains (objects_of h)
   added_held = adds_held h.store t h.domains (objects_of h) adds.slices sound.counted adds.moves
 
@@ -51,13 +66,18 @@ module _ (h : KernelState) (t : Stored) (old q : List Slice) (pool : ℕ) (bytes
   -- what lay before is read as it was
   pub added-read : (stored : List (List ℕ)) → read_of (bytes_over stored t) h ≡ machine_of stored h
   unfolding read_of
-  added-read stored = view-stays h.store t adds.moves.stays h.domains (objects_of h) added_held h.store.pools sound.domains sound.objects stored
+  added-read stored =
+      view-stays h.store t adds.moves.stays h.domains (objects_of h) added_held h.store.pools sound.domains
+      sound.objects stored
 
   module _ (ps : List (Option (Pipe (List Slice)))) (cs : List (ℕ × Conn (List Slice))) where
     abbrev objects : Objects (List Slice)
     objects = record (objects_of h) { pipes = ps; conns = cs }
 
-    pub added-sound : AreReadable t objects → Each (λ (d : Domain (List Slice)). Each (IsOpenEnd objects) d.fds) h.domains → IsCounted t h.domains objects → IsLimited h.domains objects → ArePooled t.pools cs h.cache.files → IsSound (record h { store = t; pipes = ps; conns = cs })
+    pub added-sound : AreReadable t objects
+        → Each (λ (d : Domain (List Slice)). Each (IsOpenEnd objects) d.fds) h.domains → IsCounted t h.domains objects
+        → IsLimited h.domains objects → ArePooled t.pools cs h.cache.files
+        → IsSound (record h { store = t; pipes = ps; conns = cs })
     added-sound readable fds counted limits pooled = record {
       domains = domains_stay h.store t adds.moves.stays h.domains (objects_of h) added_held sound.domains;
       objects = readable;
@@ -71,5 +91,8 @@ module _ (h : KernelState) (t : Stored) (old q : List Slice) (pool : ℕ) (bytes
       pooled = pooled;
       sums = IsRight-keeps h.store.arena t.arena h.sums adds.moves.stays.keeps sound.sums;
       filed = sound.filed;
-      cached = cache_stays h.store t h.cache adds.moves.stays (files_held h.store t adds.moves.stays h.domains (objects_of h) added_held) adds.pages.count pooled.files_open (adds.moves.tidy sound.tidy) (adds.moves.still sound.still) sound.cached;
+      cached =
+          cache_stays h.store t h.cache adds.moves.stays
+          (files_held h.store t adds.moves.stays h.domains (objects_of h) added_held) adds.pages.count pooled.files_open
+          (adds.moves.tidy sound.tidy) (adds.moves.still sound.still) sound.cached;
     }

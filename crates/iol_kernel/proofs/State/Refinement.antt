@@ -21,11 +21,16 @@ use Rattle.iol_kernel.proofs.State.Stay.{pages_here, stays_here}
 pub byte_at-arena : (s t : Stored) → t.arena ≡ s.arena → byte_at t ≡ byte_at s
 byte_at-arena s t e = ap (λ (a : arena.State). byte_at (with_arena s a)) e
 
-pub carried_machine : {A : Type 0} (m : State → Meaning A) (old new : KernelState) (r : Result A Refusal) (stored : List (List ℕ)) → CarriesOut m old r new → Step (m (machine_of stored old)) (machine_of stored old) r (machine_of stored new)
+pub carried_machine : {A : Type 0} (m : State → Meaning A) (old new : KernelState) (r : Result A Refusal)
+    (stored : List (List ℕ)) → CarriesOut m old r new
+    → Step (m (machine_of stored old)) (machine_of stored old) r (machine_of stored new)
 carried_machine m old new r stored c =
-    subst (λ (at : Place → ℕ × ℕ). Step (m (machine_of stored old)) (machine_of stored old) r (read_of (record { at = at; stored = stored }) new)) (sym (byte_at-arena old.store new.store c.arena)) (c.step (bytes_over stored old.store) (keeps_bytes old.store))
+    subst (λ (at : Place → ℕ × ℕ). Step (m (machine_of stored old)) (machine_of stored old) r
+    (read_of (record { at = at; stored = stored }) new)) (sym (byte_at-arena old.store new.store c.arena))
+    (c.step (bytes_over stored old.store) (keeps_bytes old.store))
 
-pub carried_layout : {A : Type 0} (m : State → Meaning A) (old new : KernelState) (r : Result A Refusal) → CarriesOut m old r new → Step (m (layout_of old)) (layout_of old) r (layout_of new)
+pub carried_layout : {A : Type 0} (m : State → Meaning A) (old new : KernelState) (r : Result A Refusal)
+    → CarriesOut m old r new → Step (m (layout_of old)) (layout_of old) r (layout_of new)
 carried_layout m old new r c = c.step (record { at = number_at; stored = [] }) keeps_numbers
 
 -- A call that a test refused.
@@ -33,7 +38,8 @@ carried_layout m old new r c = c.step (record { at = number_at; stored = [] }) k
 refused_step : {A : Type 0} (m : Meaning A) (s : State) (x : Refusal) → first m.refusals ≡ Some x → Step m s (Err x) s
 refused_step m s x is = (subst (λ (o : Option Refusal). MatchOption o (m.Late x) (λ y. x ≡ y)) (sym is) refl, refl)
 
-module _ {A : Type 0} (m : State → Meaning A) (h : KernelState) (x : Refusal) (sound : IsSound h) (refused : (f : Reading) → first (m (read_of f h)).refusals ≡ Some x) where
+module _ {A : Type 0} (m : State → Meaning A) (h : KernelState) (x : Refusal) (sound : IsSound h)
+    (refused : (f : Reading) → first (m (read_of f h)).refusals ≡ Some x) where
   pub carried_refused : ((p : ℕ) → x ≡ NoRoom p → ⊥) → CarriesOut m h (Err x) h
   carried_refused roomy = record {
     step = λ f keeps. refused_step (m (read_of f h)) (read_of f h) x (refused f);
@@ -49,7 +55,8 @@ module _ {A : Type 0} (m : State → Meaning A) (h : KernelState) (x : Refusal) 
 
   pub kept_refused : KeepsPlaces m h (Err x) h
   kept_refused = record {
-    step = λ stored. refused_step (m (machine_of stored h)) (machine_of stored h) x (refused (bytes_over stored h.store));
+    step =
+        λ stored. refused_step (m (machine_of stored h)) (machine_of stored h) x (refused (bytes_over stored h.store));
     places = λ f keeps. refused_step (m (read_of f h)) (read_of f h) x (refused f);
     pages = pages_here h.store;
     refused = refl;
@@ -61,7 +68,8 @@ module _ {A : Type 0} (m : State → Meaning A) (h : KernelState) (x : Refusal) 
 
 -- A call that has passed its tests: done, or refused for want of memory, which changes nothing.
 
-module _ {A : Type 0} (m : State → Meaning A) (h k : KernelState) (passed : (f : Reading) → first (m (read_of f h)).refusals ≡ None) where
+module _ {A : Type 0} (m : State → Meaning A) (h k : KernelState) (passed : (f : Reading)
+    → first (m (read_of f h)).refusals ≡ None) where
   pub carried_done : (a : A) → Answers m h a k → CarriesOut m h (Ok a) k
   carried_done a done = record {
     step = λ f keeps. (passed f, done.answer f keeps, done.after f keeps);
@@ -75,9 +83,15 @@ module _ {A : Type 0} (m : State → Meaning A) (h k : KernelState) (passed : (f
     stays = done.stays;
   }
 
-  pub carried_late : (x : Refusal) → IsSound h → k ≡ h → ((f : Reading) → (m (read_of f h)).Late x) → ((p : ℕ) → x ≡ NoRoom p → ⊥) → CarriesOut m h (Err x) k
+  pub carried_late : (x : Refusal) → IsSound h → k ≡ h → ((f : Reading) → (m (read_of f h)).Late x)
+      → ((p : ℕ) → x ≡ NoRoom p → ⊥) → CarriesOut m h (Err x) k
   carried_late x sound same late roomy = subst (λ (l : KernelState). CarriesOut m h (Err x) l) (sym same) (record {
-    step = λ f keeps. (subst (λ (o : Option Refusal). MatchOption o ((m (read_of f h)).Late x) (λ y. x ≡ y)) (sym (passed f)) (late f), refl);
+    step =
+        λ f keeps. (
+          subst (λ (o : Option Refusal). MatchOption o ((m (read_of f h)).Late x) (λ y. x ≡ y))
+              (sym (passed f)) (late f),
+          refl,
+        );
     arena = refl;
     pools = refl;
     roomy = λ p e. roomy p (refusal_of x (NoRoom p) e);

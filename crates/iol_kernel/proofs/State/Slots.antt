@@ -1,5 +1,6 @@
 -- The files' extents as the store goes on.
-use Rattle.std.proofs.Common.{◌≡◌, ℕ, ◌-◌, ◌*◌, ◌≤◌, List, [], ◌∷◌, ◌++◌, length, map, refl, sym, ap, ◌∙◌, subst, arith, inl, inr, true, false}
+use Rattle.std.proofs.Common.{◌≡◌, ℕ, ◌-◌, ◌*◌, ◌≤◌, List, [], ◌∷◌, ◌++◌, length, map, refl, sym, ap, ◌∙◌, subst, arith}
+use Rattle.std.proofs.Common.{inl, inr, true, false}
 use Rattle.std.specs.Prelude.{slice_index, sum_by}
 use Rattle.std.proofs.lemmas.Bool.{cases_eq}
 use Rattle.std.proofs.lemmas.Bool.Decides.{nat_tests}
@@ -36,24 +37,31 @@ use Rattle.iol_kernel.specs.KernelState.{Each, IsFile, IsFileReadable, IsCached}
 use Rattle.iol_kernel.specs.Readings.{Reading, bytes_over, slot_read, slots_of, slots_read}
 
 -- what is held stays where it lies
-pub file_stays : (s t : Stored) (fs : List CachedFile) (n : ℕ) → Stays s t → Covers t (held fs) → IsFileReadable s fs n → IsFileReadable t fs n
-file_stays s t fs n stays covers there = record { laid = laid_stays (file_in fs n).pool (extents_in fs n) stays (covers_file fs n covers) there.laid }
+pub file_stays : (s t : Stored) (fs : List CachedFile) (n : ℕ) → Stays s t → Covers t (held fs) → IsFileReadable s fs n
+    → IsFileReadable t fs n
+file_stays s t fs n stays covers there =
+    record { laid = laid_stays (file_in fs n).pool (extents_in fs n) stays (covers_file fs n covers) there.laid }
 
 -- so each file has the bytes that it had
-pub slots_stay : (stored : List (List ℕ)) (s t : Stored) (fs : List CachedFile) → Stays s t → Covers t (held fs) → ((n : ℕ) → IsFileReadable s fs n) → slots_read (bytes_over stored t) fs ≡ slots_read (bytes_over stored s) fs
+pub slots_stay : (stored : List (List ℕ)) (s t : Stored) (fs : List CachedFile) → Stays s t → Covers t (held fs)
+    → ((n : ℕ) → IsFileReadable s fs n) → slots_read (bytes_over stored t) fs ≡ slots_read (bytes_over stored s) fs
 unfolding slots_read
 slots_stay stored s t fs stays covers there = λ i. map (λ n. each n i) (range_with_len 1 MAX_FILES)
   where
     each : (n : ℕ) → slot_read (bytes_over stored t) fs n ≡ slot_read (bytes_over stored s) fs n
     each n =
         bytes_same (byte_in t) (byte_in s) (content stored n) (extents_in fs n) (extents_in fs n)
-        (λ i. read_stays (file_in fs n).pool (extents_in fs n) (slice_index (content stored n) i) i stays (covers_file fs n covers) (there n).laid) refl
+        (λ i. read_stays (file_in fs n).pool (extents_in fs n) (slice_index (content stored n) i) i stays
+        (covers_file fs n covers) (there n).laid) refl
 
 -- and the cache stays sound
-pub cache_stays : (s t : Stored) (c : Cached) → Stays s t → Covers t (held c.files) → page_count t.arena ≡ page_count s.arena
-    → ((n : ℕ) → is_numbered c.files n ≡ true → (pool_in t.pools (file_in c.files n).pool).closed ≡ false) → IsTidy t → IsStill t.arena → IsCached s c → IsCached t c
+pub cache_stays : (s t : Stored) (c : Cached) → Stays s t → Covers t (held c.files)
+    → page_count t.arena ≡ page_count s.arena
+    → ((n : ℕ) → is_numbered c.files n ≡ true → (pool_in t.pools (file_in c.files n).pool).closed ≡ false) → IsTidy t
+    → IsStill t.arena → IsCached s c → IsCached t c
 unfolding IsCached
-cache_stays s t c stays covers count opened tidy still sound = sound_stays c sound stays covers (record { each = opened }) count tidy still
+cache_stays s t c stays covers count opened tidy still sound =
+    sound_stays c sound stays covers (record { each = opened }) count tidy still
 
 -- Where there are no files.
 
@@ -62,14 +70,19 @@ unfolding file_in
 file-none n = elim (cases_eq n 0) [ inl k ↦ grind (arith, nat_tests, k) | inr k ↦ grind (arith, nat_tests, k) ]
 
 pub none_readable : (s : Stored) (n : ℕ) → IsFileReadable s [] n
-none_readable s n = record { laid = subst (λ (x : CachedFile). cache.Each (cache.IsLaid s x.pool) x.extents.extents) (sym (file-none n)) tt }
+none_readable s n =
+    record {
+      laid = subst (λ (x : CachedFile). cache.Each (cache.IsLaid s x.pool) x.extents.extents) (sym (file-none n))
+          tt;
+    }
 
 pub held-none : (b : BufId) → tally b (held []) ≡ 0
 unfolding held tally
 held-none b = refl
 
 pub none_there : {A : Type 0} (xs : List A) (n : ℕ) → xs ≡ [] → is_numbered xs n ≡ true → ⊥
-none_there xs n is there = let bounds = numbered_bounds xs n there in absurd (omega (arith, bounds.0, bounds.1, ap length is))
+none_there xs n is there = let bounds = numbered_bounds xs n there in
+    absurd (omega (arith, bounds.0, bounds.1, ap length is))
 
 -- a file of which nothing is in memory has what is stored
 pub file_bytes-none : (g : Place → ℕ) (bytes : List ℕ) → file_bytes g bytes [] ≡ bytes
@@ -79,15 +92,19 @@ file_bytes-none g bytes = (λ i. map (slice_index bytes) (range_with_len 0 (len 
     len = omega arith
 
     all_of : (xs : List ℕ) → map (slice_index xs) (range_with_len 0 (length xs)) ≡ xs
-    all_of xs = ext_get_or 0 (map (slice_index xs) (range_with_len 0 (length xs))) xs (length-map-range_with_len (slice_index xs) 0 (length xs))
-        (λ i within. get_or-map-range_with_len (slice_index xs) 0 (length xs) i i 0 (omega (arith, within, length-map-range_with_len (slice_index xs) 0 (length xs))) (omega arith))
+    all_of xs =
+        ext_get_or 0 (map (slice_index xs) (range_with_len 0 (length xs))) xs
+        (length-map-range_with_len (slice_index xs) 0 (length xs))
+        (λ i within. get_or-map-range_with_len (slice_index xs) 0 (length xs) i i 0
+        (omega (arith, within, length-map-range_with_len (slice_index xs) 0 (length xs))) (omega arith))
 
 pub slots-none : (f : Reading) → slots_read f [] ≡ slots_of f.stored
 unfolding slots_read
 slots-none f = λ i. map (λ n. each n i) (range_with_len 1 MAX_FILES)
   where
     each : (n : ℕ) → slot_read f [] n ≡ content f.stored n
-    each n = ap (λ (x : CachedFile). file_bytes (λ p. (f.at p).0) (content f.stored n) x.extents.extents) (file-none n) ∙ file_bytes-none (λ p. (f.at p).0) (content f.stored n)
+    each n = ap (λ (x : CachedFile). file_bytes (λ p. (f.at p).0) (content f.stored n) x.extents.extents) (file-none n)
+        ∙ file_bytes-none (λ p. (f.at p).0) (content f.stored n)
 
 -- How many slices there can be.
 
@@ -96,7 +113,8 @@ unfolding tally
 uses_few b [] = omega arith
 uses_few b (x ∷ xs) = let r = uses_few b xs in omega (arith, r, byte_len-cons x xs, same_few b x.hold.buf, x.some)
 
-extents_few : (b : BufId) (low : ℕ) (es : List Extent) → IsApart low es → tally b (bufs_of (all_parts es)) ≤ last_end es - low
+extents_few : (b : BufId) (low : ℕ) (es : List Extent) → IsApart low es
+    → tally b (bufs_of (all_parts es)) ≤ last_end es - low
 unfolding tally
 extents_few b low [] apart = omega arith
 extents_few b low (e ∷ es) apart =
@@ -113,9 +131,15 @@ extents_few b low (e ∷ es) apart =
 
 pub files_few : (b : BufId) (fs : List CachedFile) → Each IsFile fs → tally b (held fs) ≤ MAX_FILE_BYTES * length fs
 unfolding held
-files_few b fs each = omega (arith, sum-flat (additive_tally b) (λ (x : CachedFile). bufs_of (all_parts x.extents.extents)) fs, few fs each)
+files_few b fs each =
+    omega (
+      arith,
+      sum-flat (additive_tally b) (λ (x : CachedFile). bufs_of (all_parts x.extents.extents)) fs,
+      few fs each,
+    )
   where
-    few : (gs : List CachedFile) → Each IsFile gs → sum_by (λ (x : CachedFile). tally b (bufs_of (all_parts x.extents.extents))) gs ≤ MAX_FILE_BYTES * length gs
+    few : (gs : List CachedFile) → Each IsFile gs
+        → sum_by (λ (x : CachedFile). tally b (bufs_of (all_parts x.extents.extents))) gs ≤ MAX_FILE_BYTES * length gs
     few [] each = omega arith
     few (x ∷ gs) each = omega (
       arith,

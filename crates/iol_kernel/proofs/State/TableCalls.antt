@@ -13,7 +13,8 @@ use Rattle.iol_kernel.specs.KernelState.{KernelState, IsSound, read_of}
 use Rattle.iol_kernel.specs.Readings.{Reading, KeepsPools}
 use Rattle.iol_kernel.proofs.State.Stay.{stays_equal}
 
-module _ {A : Type 0} (m : State → Meaning A) (h k : KernelState) (a : A) (sound : IsSound k) (sums : k.sums ≡ h.sums) (cache : k.cache ≡ h.cache) (answer : (f : Reading) → a ≡ (m (read_of f h)).answer) where
+module _ {A : Type 0} (m : State → Meaning A) (h k : KernelState) (a : A) (sound : IsSound k) (sums : k.sums ≡ h.sums)
+    (cache : k.cache ≡ h.cache) (answer : (f : Reading) → a ≡ (m (read_of f h)).answer) where
   -- the store stays
   pub answers_here : k.store ≡ h.store → ((f : Reading) → read_of f k ≡ (m (read_of f h)).after) → Answers m h a k
   answers_here store after = record {
@@ -28,7 +29,8 @@ module _ {A : Type 0} (m : State → Meaning A) (h k : KernelState) (a : A) (sou
   }
 
   -- holds change, and no page does
-  pub answers_shared : {taken given : List BufId} → Shares h.store k.store taken given → ((f : Reading) → KeepsPools f → read_of f k ≡ (m (read_of f h)).after) → Answers m h a k
+  pub answers_shared : {taken given : List BufId} → Shares h.store k.store taken given
+      → ((f : Reading) → KeepsPools f → read_of f k ≡ (m (read_of f h)).after) → Answers m h a k
   answers_shared shares after = record {
     answer = λ f keeps. answer f;
     after = after;
@@ -41,7 +43,9 @@ module _ {A : Type 0} (m : State → Meaning A) (h k : KernelState) (a : A) (sou
   }
 
 -- the same effect, as another call means it
-pub answers_as : {A : Type 0} (m n : State → Meaning A) (h k : KernelState) (a : A) → ((f : Reading) → (m (read_of f h)).answer ≡ (n (read_of f h)).answer) → ((f : Reading) → (m (read_of f h)).after ≡ (n (read_of f h)).after) → Answers m h a k → Answers n h a k
+pub answers_as : {A : Type 0} (m n : State → Meaning A) (h k : KernelState) (a : A)
+    → ((f : Reading) → (m (read_of f h)).answer ≡ (n (read_of f h)).answer)
+    → ((f : Reading) → (m (read_of f h)).after ≡ (n (read_of f h)).after) → Answers m h a k → Answers n h a k
 answers_as m n h k a answer after one = record {
   answer = λ f keeps. one.answer f keeps ∙ answer f;
   after = λ f keeps. one.after f keeps ∙ after f;
@@ -54,7 +58,8 @@ answers_as m n h k a answer after one = record {
 }
 
 -- an effect that may want memory, done
-pub attempted : {A E : Type 0} {m : State → Meaning A} {h k : KernelState} {a : A} → Answers m h a k → Attempts {E = E} m h (Ok a) k
+pub attempted : {A E : Type 0} {m : State → Meaning A} {h k : KernelState} {a : A} → Answers m h a k
+    → Attempts {E = E} m h (Ok a) k
 attempted done = record { done = done; err = tt }
 
 -- which refusal it is

@@ -1,5 +1,6 @@
 -- The lowest free index is at most the number of used ones.
-use Rattle.std.proofs.Common.{inl, inr, zero, suc, ◌≡◌, ◌≤◌, ℕ, List, [], ◌∷◌, ◌∙◌, refl, subst, arith, Option, Some, None}
+use Rattle.std.proofs.Common.{inl, inr, zero, suc, ◌≡◌, ◌≤◌, ℕ, List, [], ◌∷◌, ◌∙◌, refl, subst, arith, Option, Some}
+use Rattle.std.proofs.Common.{None}
 use Rattle.std.specs.Prelude.{slice_set}
 use Rattle.std.proofs.lemmas.Bool.{cases_eq}
 use Rattle.std.proofs.lemmas.Bool.Decides.{nat_tests}
@@ -15,8 +16,11 @@ module _ {A : Type 0} where
 
   pub lowest-taken : (xs : List (Option A)) → lowest xs ≤ taken xs
   lowest-taken [] = omega arith
-  lowest-taken (None ∷ xs) = (let e : lowest {A = A} (None ∷ xs) ≡ 0 = grind (arith, nat_tests, common_steps) in omega (arith, e))
-  lowest-taken (Some x ∷ xs) = (let e = lowest-cons x xs in let r = lowest-taken xs in let t : taken (Some x ∷ xs) ≡ suc (taken xs) = refl in omega (arith, e, r, t))
+  lowest-taken (None ∷ xs) = (let e : lowest {A = A} (None ∷ xs) ≡ 0 = grind (arith, nat_tests, common_steps) in
+      omega (arith, e))
+  lowest-taken (Some x ∷ xs) =
+      (let e = lowest-cons x xs in let r = lowest-taken xs in let t : taken (Some x ∷ xs) ≡ suc (taken xs) = refl in
+      omega (arith, e, r, t))
 
   pub taken-placed : (xs : List (Option A)) (x : A) → taken (placed xs (lowest xs) x) ≡ suc (taken xs)
   taken-placed [] x = refl
@@ -26,9 +30,13 @@ module _ {A : Type 0} where
   -- a place that was freed is not before the lowest
   pub lowest-freed : (xs : List (Option A)) (n : ℕ) (x : A) → in_place xs n ≡ Some x → lowest (slice_set xs n None) ≤ n
   lowest-freed [] n x is = absurd (cc)
-  lowest-freed (z ∷ xs) zero x is = (let e : lowest {A = A} (None ∷ xs) ≡ 0 = grind (arith, nat_tests, common_steps) in omega (arith, e))
-  lowest-freed (None ∷ xs) (suc n) x is = (let e : lowest {A = A} (None ∷ slice_set xs n None) ≡ 0 = grind (arith, nat_tests, common_steps) in omega (arith, e))
-  lowest-freed (Some z ∷ xs) (suc n) x is = (let e = lowest-cons z (slice_set xs n None) in let r = lowest-freed xs n x is in omega (arith, e, r))
+  lowest-freed (z ∷ xs) zero x is = (let e : lowest {A = A} (None ∷ xs) ≡ 0 = grind (arith, nat_tests, common_steps) in
+      omega (arith, e))
+  lowest-freed (None ∷ xs) (suc n) x is =
+      (let e : lowest {A = A} (None ∷ slice_set xs n None) ≡ 0 = grind (arith, nat_tests, common_steps) in
+      omega (arith, e))
+  lowest-freed (Some z ∷ xs) (suc n) x is =
+      (let e = lowest-cons z (slice_set xs n None) in let r = lowest-freed xs n x is in omega (arith, e, r))
 
   -- a free place stays free where another is freed
   pub free-freed : (xs : List (Option A)) (n m : ℕ) → in_place xs m ≡ None → in_place (slice_set xs n None) m ≡ None

@@ -17,7 +17,8 @@ use Rattle.iol_laws.proofs.ConnChanges.{Change, Closes, turned, all_turned, on_c
 use Rattle.iol_laws.proofs.Connections.{KeepsConns, conn-push, conns_conn, conns_same}
 use Rattle.iol_laws.proofs.Tests.{apart, left-false, right-false}
 
-conns_all : (s : State) (es : List (ℕ × Change)) (c : ℕ) → list_any (λ e. e.0 == c) es ≡ false → conn_at (all_turned s es) c ≡ conn_at s c
+conns_all : (s : State) (es : List (ℕ × Change)) (c : ℕ) → list_any (λ e. e.0 == c) es ≡ false
+    → conn_at (all_turned s es) c ≡ conn_at s c
 conns_all s [] c un = refl
 conns_all s (e ∷ es) c un =
     conns_all (turned s e) es c (right-false (e.0 == c) (list_any (λ x. x.0 == c) es) (first-none un))
@@ -26,11 +27,13 @@ conns_all s (e ∷ es) c un =
     first-none : list_any (λ x. x.0 == c) (e ∷ es) ≡ false → ((e.0 == c) || list_any (λ x. x.0 == c) es) ≡ false
     first-none un = grind (arith, common_steps, un)
 
-none_on : (c : ℕ) (o : Option Descriptor) (x : Change) → is_conn c o ≡ false → list_any (λ e. e.0 == c) (on_conn o x) ≡ false
+none_on : (c : ℕ) (o : Option Descriptor) (x : Change) → is_conn c o ≡ false
+    → list_any (λ e. e.0 == c) (on_conn o x) ≡ false
 none_on c (Some (on.Connection e)) x un = grind (arith, common_steps, un)
 none_on c o x un = refl
 
-none_closed : (c : ℕ) (list : List (Option Descriptor)) → list_any (is_conn c) list ≡ false → list_any (λ e. e.0 == c) (closings list) ≡ false
+none_closed : (c : ℕ) (list : List (Option Descriptor)) → list_any (is_conn c) list ≡ false
+    → list_any (λ e. e.0 == c) (closings list) ≡ false
 none_closed c [] un = refl
 none_closed c (o ∷ list) un =
     let both : (is_conn c o || list_any (is_conn c) list) ≡ false = grind (arith, common_steps, un) in
@@ -39,22 +42,29 @@ none_closed c (o ∷ list) un =
     list_any-append (λ e. e.0 == c) (on_conn o Closes) (closings list) ∙ grind (arith, here, rest)
 
 -- the one descriptor that a call uses
-conn-operand : (c : ℕ) (o : Option Descriptor) (named : Bool) → (list_any (is_conn c) (o ∷ []) || named) ≡ false → is_conn c o ≡ false
+conn-operand : (c : ℕ) (o : Option Descriptor) (named : Bool) → (list_any (is_conn c) (o ∷ []) || named) ≡ false
+    → is_conn c o ≡ false
 conn-operand c o named un = grind (arith, common_steps, un)
 
 -- what a call does not touch it does not change
-none_changed : (s : State) (by : ℕ) (k : Call) (c : ℕ) → touches_conn s (event.Call by k) c ≡ false → list_any (λ e. e.0 == c) (changes s by k) ≡ false
+none_changed : (s : State) (by : ℕ) (k : Call) (c : ℕ) → touches_conn s (event.Call by k) c ≡ false
+    → list_any (λ e. e.0 == c) (changes s by k) ≡ false
 none_changed s by call.Exit c un = none_closed c (domain s by).fds (left-false _ _ un)
 none_changed s by (call.Close f) c un = none_on c (descriptor s by f) _ (conn-operand c (descriptor s by f) false un)
-none_changed s by (call.IolRead f n) c un = none_on c (descriptor s by f) _ (conn-operand c (descriptor s by f) false un)
-none_changed s by (call.IolWrite f a) c un = none_on c (descriptor s by f) _ (conn-operand c (descriptor s by f) false un)
+none_changed s by (call.IolRead f n) c un =
+    none_on c (descriptor s by f) _ (conn-operand c (descriptor s by f) false un)
+none_changed s by (call.IolWrite f a) c un =
+    none_on c (descriptor s by f) _ (conn-operand c (descriptor s by f) false un)
 none_changed s by (call.Read f n) c un = none_on c (descriptor s by f) _ (conn-operand c (descriptor s by f) false un)
-none_changed s by (call.Write f bytes) c un = none_on c (descriptor s by f) _ (conn-operand c (descriptor s by f) false un)
+none_changed s by (call.Write f bytes) c un =
+    none_on c (descriptor s by f) _ (conn-operand c (descriptor s by f) false un)
 none_changed s by call.Accept c un = grind (arith, common_steps, un)
 none_changed s by k c un = refl
 
 conns_called : (s : State) (by : ℕ) (k : Call) → KeepsConns s (called s by k).after (touches_conn s (event.Call by k))
-conns_called s by k c un = conns_same (all_turned s (changes s by k)) (called s by k).after (λ n. false) (conns_turned s by k).conns c refl ∙ conns_all s (changes s by k) c (none_changed s by k c un)
+conns_called s by k c un =
+    conns_same (all_turned s (changes s by k)) (called s by k).after (λ n. false) (conns_turned s by k).conns c refl
+    ∙ conns_all s (changes s by k) c (none_changed s by k c un)
 
 pub conns_meant : (s : State) (e : Event) → KeepsConns s (meaning s e).after (touches_conn s e)
 conns_meant s (event.Call by k) = conns_called s by k

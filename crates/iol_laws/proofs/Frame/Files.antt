@@ -1,5 +1,6 @@
 -- The files and pools that each event leaves unchanged.
-use Rattle.std.proofs.Common.{inl, inr, ◌≡◌, ◌≢◌, ℕ, ◌+◌, ◌==◌, List, [], ◌∷◌, ◌++◌, length, take, drop, ap, ◌∙◌, refl, sym, subst, arith, Option, Some, None, true, false, Bool}
+use Rattle.std.proofs.Common.{inl, inr, ◌≡◌, ◌≢◌, ℕ, ◌+◌, ◌==◌, List, [], ◌∷◌, ◌++◌, length, take, drop, ap, ◌∙◌, refl}
+use Rattle.std.proofs.Common.{sym, subst, arith, Option, Some, None, true, false, Bool}
 use Rattle.std.specs.Prelude.{if◌then◌else◌, fold, option_map, position, bytes_eq}
 use Rattle.std.specs.List.{list_any}
 use Rattle.std.specs.Option.{option_map_or}
@@ -9,7 +10,8 @@ use Rattle.std.proofs.lemmas.Bool.Decides.{nat_tests}
 use Rattle.std.proofs.lemmas.Grind.{common_steps}
 use Rattle.iol_core.specs.Text.{Text, bytes_of}
 use Rattle.iol_core.specs.NumberedLists.{is_numbered, numbered_or, with_numbered}
-use Rattle.iol_core.specs.State.{State, Domain, Pool, File, domain, pool, is_pool, no_pool, file, no_file, content, descriptor, no_domain, with_domain, with_pipe, with_conn, with_content}
+use Rattle.iol_core.specs.State.{State, Domain, Pool, File, domain, pool, is_pool, no_pool, file, no_file, content}
+use Rattle.iol_core.specs.State.{descriptor, no_domain, with_domain, with_pipe, with_conn, with_content}
 use Rattle.iol_core.specs.Run.{called, meaning}
 use Rattle.iol_core.specs.Calls.Domains.{exit}
 use Rattle.iol_core.specs.Calls.Pools.{admitting, with_name}
@@ -48,12 +50,14 @@ store_all_closed s (o ∷ list) =
     let rest = store_all_closed (fds.closed_on s o) list in
     record { files = rest.files ∙ one.files; slots = rest.slots ∙ one.slots; pools = rest.pools ∙ one.pools }
 
-store_read_on : (s : State) (by fd : ℕ) (from : Option Descriptor) (count : ℕ) → SameStore s (reading.read_on s by fd from count)
+store_read_on : (s : State) (by fd : ℕ) (from : Option Descriptor) (count : ℕ)
+    → SameStore s (reading.read_on s by fd from count)
 unfolding with_domain with_pipe with_conn
 store_read_on s by fd (Some (on.File f at mode)) count = record { files = refl; slots = refl; pools = refl }
 store_read_on s by fd o count = record { files = refl; slots = refl; pools = refl }
 
-pub files_written : (s : State) (by fd : ℕ) (to : Option Descriptor) (w : Text) → writing.is_file to ≡ false → ((writing.written s by fd to w).files ≡ s.files) × ((writing.written s by fd to w).slots ≡ s.slots)
+pub files_written : (s : State) (by fd : ℕ) (to : Option Descriptor) (w : Text) → writing.is_file to ≡ false
+    → ((writing.written s by fd to w).files ≡ s.files) × ((writing.written s by fd to w).slots ≡ s.slots)
 unfolding with_pipe with_conn
 files_written s by fd (Some (on.File f at mode)) w un = absurd (cc)
 files_written s by fd o w un = (refl, refl)
@@ -70,7 +74,8 @@ content-same s t f same = ap (λ (ss : List (List ℕ)). numbered_or ss f []) sa
 
 content-other : (s : State) (g : ℕ) (bytes : List ℕ) (f : ℕ) → g ≢ f → content (with_content s g bytes) f ≡ content s f
 unfolding content with_content
-content-other s g bytes f differ = elim (numbered_or-with s.slots g f bytes []) [ inl both ↦ absurd (differ both.0) | inr same ↦ same ]
+content-other s g bytes f differ =
+    elim (numbered_or-with s.slots g f bytes []) [ inl both ↦ absurd (differ both.0) | inr same ↦ same ]
 
 store_written : (s : State) (by fd : ℕ) (to : Option Descriptor) (w : Text) → Wrote s to (writing.written s by fd to w)
 unfolding with_domain with_pipe with_conn with_content
@@ -78,25 +83,45 @@ store_written s by fd (Some (on.File g at mode)) w = record {
   files = refl;
   pools = refl;
   contents = λ f un.
-      let filled : State = with_content s g (take at (content s g) ++ bytes_of w ++ drop (at + length w) (content s g)) in
-      content-same filled (writing.written s by fd (Some (on.File g at mode)) w) f refl ∙ content-other s g (take at (content s g) ++ bytes_of w ++ drop (at + length w) (content s g)) f (apart g f un);
+      let filled : State =
+      with_content s g (take at (content s g) ++ bytes_of w ++ drop (at + length w) (content s g)) in
+      content-same filled (writing.written s by fd (Some (on.File g at mode)) w) f refl
+      ∙ content-other s g (take at (content s g) ++ bytes_of w ++ drop (at + length w) (content s g)) f
+      (apart g f un);
 }
-store_written s by fd (Some (on.WriteEnd q)) w = record { files = refl; pools = refl; contents = λ f un. content-same s (writing.written s by fd (Some (on.WriteEnd q)) w) f refl }
-store_written s by fd (Some (on.Connection e)) w = record { files = refl; pools = refl; contents = λ f un. content-same s (writing.written s by fd (Some (on.Connection e)) w) f refl }
+store_written s by fd (Some (on.WriteEnd q)) w =
+    record {
+      files = refl;
+      pools = refl;
+      contents =
+          λ f un. content-same s (writing.written s by fd (Some (on.WriteEnd q)) w) f refl;
+    }
+store_written s by fd (Some (on.Connection e)) w =
+    record {
+      files = refl;
+      pools = refl;
+      contents =
+          λ f un. content-same s (writing.written s by fd (Some (on.Connection e)) w) f refl;
+    }
 store_written s by fd o w = record { files = refl; pools = refl; contents = λ f un. refl }
 
 store_then_domain : (s t : State) (d : ℕ) (x : Domain Text) → SameStore s t → SameStore s (with_domain t d x)
 unfolding with_domain
 store_then_domain s t d x same = record { files = same.files; slots = same.slots; pools = same.pools }
 
-store_given : (s : State) (by fd to : ℕ) (o : Option Descriptor) → SameStore s (option_map_or (fds.given_to s by fd to) o s)
+store_given : (s : State) (by fd to : ℕ) (o : Option Descriptor)
+    → SameStore s (option_map_or (fds.given_to s by fd to) o s)
 unfolding with_domain
 store_given s by fd to None = record { files = refl; slots = refl; pools = refl }
-store_given s by fd to (Some x) = fd_given (λ t. SameStore s t) s by fd to x (λ same. record { files = refl; slots = refl; pools = refl }) (λ other. record { files = refl; slots = refl; pools = refl })
+store_given s by fd to (Some x) =
+    fd_given (λ t. SameStore s t) s by fd to x (λ same. record { files = refl; slots = refl; pools = refl })
+    (λ other. record { files = refl; slots = refl; pools = refl })
 
 store_agg_give : (s : State) (by a to : ℕ) → SameStore s (aggs.agg_give s by a to).after
 unfolding with_domain
-store_agg_give s by a to = agg_given (λ t. SameStore s t) s by a to (λ same. record { files = refl; slots = refl; pools = refl }) (λ other. record { files = refl; slots = refl; pools = refl })
+store_agg_give s by a to =
+    agg_given (λ t. SameStore s t) s by a to (λ same. record { files = refl; slots = refl; pools = refl })
+    (λ other. record { files = refl; slots = refl; pools = refl })
 
 -- whether it makes or changes a pool
 abbrev pub changes_pools : Event → Bool
@@ -112,7 +137,8 @@ there-same s t p same is = ap (λ (ps : List Pool). is_numbered ps p) same ∙ i
 there-push : (xs : List Pool) (x : Pool) (p : ℕ) → is_numbered xs p ≡ true → is_numbered (xs ++ x ∷ []) p ≡ true
 there-push xs x p is = grind (arith, nat_tests, common_steps, is)
 
-there-with : (xs : List Pool) (q : ℕ) (x : Pool) (p : ℕ) → is_numbered xs p ≡ true → is_numbered (with_numbered xs q x) p ≡ true
+there-with : (xs : List Pool) (q : ℕ) (x : Pool) (p : ℕ) → is_numbered xs p ≡ true
+    → is_numbered (with_numbered xs q x) p ≡ true
 there-with xs q x p is = elim (cases_eq q 0) [
   | inl k ↦ grind (arith, nat_tests, common_steps, k, is)
   | inr k ↦ grind (arith, nat_tests, common_steps, k, is)
@@ -134,8 +160,10 @@ pool-same : (s t : State) (p : ℕ) → t.pools ≡ s.pools → pool t p ≡ poo
 unfolding pool
 pool-same s t p same = ap (λ (ps : List Pool). numbered_or ps p no_pool) same
 
-called-same : (s t : State) (name : List ℕ) (f : ℕ) → t.files ≡ s.files → file_called s name ≡ Some f → file_called t name ≡ Some f
-called-same s t name f same is = ap (λ (fs : List File). option_map (λ i. i + 1) (position (λ x. bytes_eq x.name name) fs)) same ∙ is
+called-same : (s t : State) (name : List ℕ) (f : ℕ) → t.files ≡ s.files → file_called s name ≡ Some f
+    → file_called t name ≡ Some f
+called-same s t name f same is =
+    ap (λ (fs : List File). option_map (λ i. i + 1) (position (λ x. bytes_eq x.name name) fs)) same ∙ is
 
 grows_same : (xs ys : List ℕ) → ys ≡ xs → Grows xs ys
 grows_same xs ys same = record { more = []; few = omega arith; is = same ∙ sym (append-nil xs) }
@@ -147,7 +175,9 @@ grows_named xs d = elim (list_any (λ e. e == d) xs) as (λ b. Grows xs (if b th
 ]
 
 -- the same files by name, and the same pools
-store_of : (s t : State) (e : Event) → t.files ≡ s.files → t.pools ≡ s.pools → (changes_files s e ≡ false → t.slots ≡ s.slots) → ((f : ℕ) → writes_file s e f ≡ false → content t f ≡ content s f) → KeepsStore s e t
+store_of : (s t : State) (e : Event) → t.files ≡ s.files → t.pools ≡ s.pools
+    → (changes_files s e ≡ false → t.slots ≡ s.slots)
+    → ((f : ℕ) → writes_file s e f ≡ false → content t f ≡ content s f) → KeepsStore s e t
 store_of s t e files pools slots contents = record {
   files = λ un. (files, slots un);
   contents = contents;
@@ -164,20 +194,26 @@ pub store_kept : (s t : State) (e : Event) → SameStore s t → KeepsStore s e 
 store_kept s t e same = store_of s t e same.files same.pools (λ un. same.slots) (λ f un. content-same s t f same.slots)
 
 -- a call that writes what a descriptor is open on
-store_wrote : (s : State) (e : Event) (by fd : ℕ) (to : Option Descriptor) (w : Text) → changes_files s e ≡ writing.is_file to → ((f : ℕ) → writes_file s e f ≡ is_on_file f to) → KeepsStore s e (writing.written s by fd to w)
+store_wrote : (s : State) (e : Event) (by fd : ℕ) (to : Option Descriptor) (w : Text)
+    → changes_files s e ≡ writing.is_file to → ((f : ℕ) → writes_file s e f ≡ is_on_file f to)
+    → KeepsStore s e (writing.written s by fd to w)
 store_wrote s e by fd to w changes writes =
     let wrote = store_written s by fd to w in
-    store_of s (writing.written s by fd to w) e wrote.files wrote.pools (λ un. (files_written s by fd to w (sym changes ∙ un)).1) (λ f un. wrote.contents f (sym (writes f) ∙ un))
+    store_of s (writing.written s by fd to w) e wrote.files wrote.pools
+    (λ un. (files_written s by fd to w (sym changes ∙ un)).1) (λ f un. wrote.contents f (sym (writes f) ∙ un))
 
 -- one more of a list
-numbered-push : {A : Type 0} (xs : List A) (x z : A) (n : ℕ) → is_numbered xs n ≡ true → numbered_or (xs ++ x ∷ []) n z ≡ numbered_or xs n z
+numbered-push : {A : Type 0} (xs : List A) (x z : A) (n : ℕ) → is_numbered xs n ≡ true
+    → numbered_or (xs ++ x ∷ []) n z ≡ numbered_or xs n z
 numbered-push xs x z n is = grind (arith, nat_tests, common_steps, is)
 
-pool-push : (s : State) (x : Pool) (p : ℕ) → is_pool s p ≡ true → pool (record s { pools = s.pools ++ x ∷ [] }) p ≡ pool s p
+pool-push : (s : State) (x : Pool) (p : ℕ) → is_pool s p ≡ true
+    → pool (record s { pools = s.pools ++ x ∷ [] }) p ≡ pool s p
 unfolding pool
 pool-push s x p is = numbered-push s.pools x no_pool p is
 
-file-more : (s : State) (x : File) (f : ℕ) → is_numbered s.files f ≡ true → file (record s { files = s.files ++ x ∷ [] }) f ≡ file s f
+file-more : (s : State) (x : File) (f : ℕ) → is_numbered s.files f ≡ true
+    → file (record s { files = s.files ++ x ∷ [] }) f ≡ file s f
 unfolding file
 file-more s x f is = numbered-push s.files x no_file f is
 
@@ -185,33 +221,44 @@ position-more : (p : File → Bool) (xs ys : List File) (i : ℕ) → position p
 position-more p [] ys i is = absurd (cc)
 position-more p (x ∷ xs) ys i is = by (p x) refl (position-more p xs ys)
   where
-    by : (b : Bool) → p x ≡ b → ((i : ℕ) → position p xs ≡ Some i → position p (xs ++ ys) ≡ Some i) → position p ((x ∷ xs) ++ ys) ≡ Some i
+    by : (b : Bool) → p x ≡ b → ((i : ℕ) → position p xs ≡ Some i → position p (xs ++ ys) ≡ Some i)
+        → position p ((x ∷ xs) ++ ys) ≡ Some i
     by true here rest = grind (arith, common_steps, here, is)
     by false there rest = later (position p xs) refl
       where
         later : (o : Option ℕ) → position p xs ≡ o → position p ((x ∷ xs) ++ ys) ≡ Some i
-        later None none = absurd (let e : position p (x ∷ xs) ≡ None = grind (arith, common_steps, there, none) in cc (e, is))
+        later None none = absurd (let e : position p (x ∷ xs) ≡ None = grind (arith, common_steps, there, none) in
+            cc (e, is))
         later (Some j) some = (let r = rest j some in grind (arith, common_steps, there, some, is, r))
 
-called-more : (s : State) (x : File) (name : List ℕ) (f : ℕ) → file_called s name ≡ Some f → file_called (record s { files = s.files ++ x ∷ [] }) name ≡ Some f
+called-more : (s : State) (x : File) (name : List ℕ) (f : ℕ) → file_called s name ≡ Some f
+    → file_called (record s { files = s.files ++ x ∷ [] }) name ≡ Some f
 called-more s x name f is = by (position (λ (y : File). bytes_eq y.name name) s.files) refl
   where
-    by : (o : Option ℕ) → position (λ (y : File). bytes_eq y.name name) s.files ≡ o → file_called (record s { files = s.files ++ x ∷ [] }) name ≡ Some f
+    by : (o : Option ℕ) → position (λ (y : File). bytes_eq y.name name) s.files ≡ o
+        → file_called (record s { files = s.files ++ x ∷ [] }) name ≡ Some f
     by None none = absurd (let e = ap (λ (o : Option ℕ). option_map (λ i. i + 1) o) none in cc (e, is))
-    by (Some i) some = ap (λ (o : Option ℕ). option_map (λ i. i + 1) o) (position-more (λ (y : File). bytes_eq y.name name) s.files (x ∷ []) i some ∙ sym some) ∙ is
+    by (Some i) some =
+        ap (λ (o : Option ℕ). option_map (λ i. i + 1) o)
+        (position-more (λ (y : File). bytes_eq y.name name) s.files (x ∷ []) i some ∙ sym some) ∙ is
 
-pool-other : (s : State) (q p : ℕ) (x : Pool) → q ≢ p → pool (record s { pools = with_numbered s.pools q x }) p ≡ pool s p
+pool-other : (s : State) (q p : ℕ) (x : Pool) → q ≢ p
+    → pool (record s { pools = with_numbered s.pools q x }) p ≡ pool s p
 unfolding pool
-pool-other s q p x differ = elim (numbered_or-with s.pools q p x no_pool) [ inl both ↦ absurd (differ both.0) | inr same ↦ same ]
+pool-other s q p x differ =
+    elim (numbered_or-with s.pools q p x no_pool) [ inl both ↦ absurd (differ both.0) | inr same ↦ same ]
 
-pub list-closed : (s : State) (q p : ℕ) → (pool (record s { pools = with_numbered s.pools q (record (pool s q) { closed = true }) }) p).domains ≡ (pool s p).domains
+pub list-closed : (s : State) (q p : ℕ)
+    → (pool (record s { pools = with_numbered s.pools q (record (pool s q) { closed = true }) }) p).domains
+    ≡ (pool s p).domains
 unfolding pool
 list-closed s q p = elim (numbered_or-with s.pools q p (record (pool s q) { closed = true }) no_pool) [
   | inl both ↦ ap (λ (x : Pool). x.domains) both.1 ∙ ap (λ n. (pool s n).domains) both.0
   | inr same ↦ ap (λ (x : Pool). x.domains) same
 ]
 
-list-admitted : (s : State) (q d p : ℕ) → Grows (pool s p).domains (pool (record s { pools = with_numbered s.pools q (admitting (pool s q) d) }) p).domains
+list-admitted : (s : State) (q d p : ℕ)
+    → Grows (pool s p).domains (pool (record s { pools = with_numbered s.pools q (admitting (pool s q) d) }) p).domains
 unfolding pool
 list-admitted s q d p = elim (numbered_or-with s.pools q p (admitting (pool s q) d) no_pool) [
   | inl both ↦ subst (λ (x : Pool). Grows (pool s p).domains x.domains) (sym both.1)
@@ -220,8 +267,13 @@ list-admitted s q d p = elim (numbered_or-with s.pools q p (admitting (pool s q)
 ]
 
 -- a call that makes or changes pools, and leaves the files
-store_pools : (s : State) (e : Event) (ps : List Pool) → changes_pools e ≡ true → ((p : ℕ) → is_pool s p ≡ true → is_numbered ps p ≡ true) → ((p : ℕ) → is_pool s p ≡ true → Grows (pool s p).domains (numbered_or ps p no_pool).domains)
-    → ((p : ℕ) → is_pool s p ≡ true → closes_pool e p ≡ false → admits_to e p ≡ false → numbered_or ps p no_pool ≡ pool s p) → ((p : ℕ) → is_pool s p ≡ true → admits_to e p ≡ false → (numbered_or ps p no_pool).domains ≡ (pool s p).domains)
+store_pools : (s : State) (e : Event) (ps : List Pool) → changes_pools e ≡ true
+    → ((p : ℕ) → is_pool s p ≡ true → is_numbered ps p ≡ true)
+    → ((p : ℕ) → is_pool s p ≡ true → Grows (pool s p).domains (numbered_or ps p no_pool).domains)
+    → ((p : ℕ) → is_pool s p ≡ true → closes_pool e p ≡ false → admits_to e p ≡ false
+    → numbered_or ps p no_pool ≡ pool s p)
+    → ((p : ℕ) → is_pool s p ≡ true → admits_to e p ≡ false
+    → (numbered_or ps p no_pool).domains ≡ (pool s p).domains)
     → KeepsStore s e (record s { pools = ps })
 unfolding pool
 store_pools s e ps changes numbered lists same listed =
@@ -238,24 +290,32 @@ store_pools s e ps changes numbered lists same listed =
       table = λ un. absurd (cc (changes, un));
     }
 
-store_pooled : (s : State) (by chunks : ℕ) (list : List ℕ) → KeepsStore s (event.Call by (call.PoolCreate chunks list)) (called s by (call.PoolCreate chunks list)).after
+store_pooled : (s : State) (by chunks : ℕ) (list : List ℕ)
+    → KeepsStore s (event.Call by (call.PoolCreate chunks list)) (called s by (call.PoolCreate chunks list)).after
 unfolding pool
 store_pooled s by chunks list =
-    store_pools s _ _ refl (λ p is. there-push s.pools _ p is) (λ p is. grows_same _ _ (ap (λ (x : Pool). x.domains) (pool-push s _ p is))) (λ p is un none. pool-push s _ p is)
+    store_pools s _ _ refl (λ p is. there-push s.pools _ p is)
+    (λ p is. grows_same _ _ (ap (λ (x : Pool). x.domains) (pool-push s _ p is)))
+    (λ p is un none. pool-push s _ p is)
     (λ p is none. ap (λ (x : Pool). x.domains) (pool-push s _ p is))
 
-store_unpooled : (s : State) (by q : ℕ) → KeepsStore s (event.Call by (call.PoolClose q)) (called s by (call.PoolClose q)).after
+store_unpooled : (s : State) (by q : ℕ)
+    → KeepsStore s (event.Call by (call.PoolClose q)) (called s by (call.PoolClose q)).after
 unfolding pool
 store_unpooled s by q =
-    store_pools s _ _ refl (λ p is. there-with s.pools q _ p is) (λ p is. grows_same _ _ (list-closed s q p)) (λ p is un none. pool-other s q p _ (apart q p un)) (λ p is none. list-closed s q p)
+    store_pools s _ _ refl (λ p is. there-with s.pools q _ p is) (λ p is. grows_same _ _ (list-closed s q p))
+    (λ p is un none. pool-other s q p _ (apart q p un)) (λ p is none. list-closed s q p)
 
-store_listed : (s : State) (by q d : ℕ) → KeepsStore s (event.Call by (call.PoolAdmit q d)) (called s by (call.PoolAdmit q d)).after
+store_listed : (s : State) (by q d : ℕ)
+    → KeepsStore s (event.Call by (call.PoolAdmit q d)) (called s by (call.PoolAdmit q d)).after
 unfolding pool
 store_listed s by q d =
-    store_pools s _ _ refl (λ p is. there-with s.pools q _ p is) (λ p is. list-admitted s q d p) (λ p is un none. pool-other s q p _ (apart q p none))
+    store_pools s _ _ refl (λ p is. there-with s.pools q _ p is) (λ p is. list-admitted s q d p)
+    (λ p is un none. pool-other s q p _ (apart q p none))
     (λ p is none. ap (λ (x : Pool). x.domains) (pool-other s q p _ (apart q p none)))
 
-store_filed : (s : State) (by : ℕ) (name : List ℕ) (p : ℕ) → KeepsStore s (event.Call by (call.FileNew name p)) (called s by (call.FileNew name p)).after
+store_filed : (s : State) (by : ℕ) (name : List ℕ) (p : ℕ)
+    → KeepsStore s (event.Call by (call.FileNew name p)) (called s by (call.FileNew name p)).after
 store_filed s by name p =
     let t : State = (called s by (call.FileNew name p)).after in
     record {
@@ -272,21 +332,30 @@ store_filed s by name p =
 
 store_called : (s : State) (by : ℕ) (k : Call) → KeepsStore s (event.Call by k) (called s by k).after
 unfolding with_domain with_conn
-store_called s by call.Exit = store_kept s (exit s by).after _ (store_then_domain s (fold fds.closed_on s (domain s by).fds) by no_domain (store_all_closed s (domain s by).fds))
+store_called s by call.Exit =
+    store_kept s (exit s by).after _ (store_then_domain s (fold fds.closed_on s (domain s by).fds) by no_domain
+    (store_all_closed s (domain s by).fds))
 store_called s by (call.PoolCreate chunks list) = store_pooled s by chunks list
 store_called s by (call.PoolClose p) = store_unpooled s by p
 store_called s by (call.PoolAdmit p d) = store_listed s by p d
 store_called s by (call.FileNew name p) = store_filed s by name p
 store_called s by (call.AggGive a to) = store_kept s (aggs.agg_give s by a to).after _ (store_agg_give s by a to)
-store_called s by (call.GiveFd fd to) = store_kept s (fds.give_fd s by fd to).after _ (store_given s by fd to (descriptor s by fd))
-store_called s by (call.Close fd) = store_kept s (fds.close s by fd).after _ (store_then_domain s (fds.closed_on s (descriptor s by fd)) by _ (store_closed_on s (descriptor s by fd)))
+store_called s by (call.GiveFd fd to) =
+    store_kept s (fds.give_fd s by fd to).after _ (store_given s by fd to (descriptor s by fd))
+store_called s by (call.Close fd) =
+    store_kept s (fds.close s by fd).after _
+    (store_then_domain s (fds.closed_on s (descriptor s by fd)) by _ (store_closed_on s (descriptor s by fd)))
 store_called s by (call.IolRead fd n) =
     let from : Option Descriptor = descriptor s by fd in
     let count = length (reading.read_text s by from n) in
-    store_kept s (reading.iol_read s by fd n).after _ (store_then_domain s (reading.read_on s by fd from count) by _ (store_read_on s by fd from count))
-store_called s by (call.IolWrite fd a) = store_wrote s (event.Call by (call.IolWrite fd a)) by fd (descriptor s by fd) _ refl (λ f. refl)
-store_called s by (call.Read fd n) = store_kept s (reading.read s by fd n).after _ (store_read_on s by fd (descriptor s by fd) _)
-store_called s by (call.Write fd bytes) = store_wrote s (event.Call by (call.Write fd bytes)) by fd (descriptor s by fd) _ refl (λ f. refl)
+    store_kept s (reading.iol_read s by fd n).after _
+    (store_then_domain s (reading.read_on s by fd from count) by _ (store_read_on s by fd from count))
+store_called s by (call.IolWrite fd a) =
+    store_wrote s (event.Call by (call.IolWrite fd a)) by fd (descriptor s by fd) _ refl (λ f. refl)
+store_called s by (call.Read fd n) =
+    store_kept s (reading.read s by fd n).after _ (store_read_on s by fd (descriptor s by fd) _)
+store_called s by (call.Write fd bytes) =
+    store_wrote s (event.Call by (call.Write fd bytes)) by fd (descriptor s by fd) _ refl (λ f. refl)
 store_called s by k = store_kept s (called s by k).after _ (record { files = refl; slots = refl; pools = refl })
 
 pub store_meant : (s : State) (e : Event) → KeepsStore s e (meaning s e).after

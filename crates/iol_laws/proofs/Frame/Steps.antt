@@ -31,13 +31,18 @@ readable s d p may = by (is_pool s p) refl
   where
     by : (b : Bool) → is_pool s p ≡ b → b ≡ true
     by true is = refl
-    by false is = absurd (let e = unnumbered s.pools p no_pool is in let f = ap (λ (x : Pool). list_any (λ e. e == d) x.domains) e in cc (f, may))
+    by false is =
+        absurd (let e = unnumbered s.pools p no_pool is in let f =
+        ap (λ (x : Pool). list_any (λ e. e == d) x.domains) e in cc (f, may))
 
 -- whom a list names it goes on to name
-names_left : (old new : List ℕ) (d : ℕ) → Grows old new → list_any (λ e. e == d) old ≡ true → list_any (λ e. e == d) new ≡ true
-names_left old new d grows may = ap (λ (l : List ℕ). list_any (λ e. e == d) l) grows.is ∙ (list_any-append (λ e. e == d) old grows.more ∙ left-true _ _ may)
+names_left : (old new : List ℕ) (d : ℕ) → Grows old new → list_any (λ e. e == d) old ≡ true
+    → list_any (λ e. e == d) new ≡ true
+names_left old new d grows may = ap (λ (l : List ℕ). list_any (λ e. e == d) l) grows.is
+    ∙ (list_any-append (λ e. e == d) old grows.more ∙ left-true _ _ may)
 
-readers_left : (s t : State) → ((p : ℕ) → is_pool s p ≡ true → Grows (pool s p).domains (pool t p).domains) → (d p : ℕ) → may_read s d p ≡ true → may_read t d p ≡ true
+readers_left : (s t : State) → ((p : ℕ) → is_pool s p ≡ true → Grows (pool s p).domains (pool t p).domains) → (d p : ℕ)
+    → may_read s d p ≡ true → may_read t d p ≡ true
 readers_left s t lists d p may = names_left (pool s p).domains (pool t p).domains d (lists p (readable s d p may)) may
 
 leaves_meant : (s : State) (e : Event) → Leaves s e (meaning s e).after
@@ -79,9 +84,11 @@ leaves_nothing s e = record {
   defaults = λ d live un. refl;
 }
 
-leaves_outcome : (m : Meaning Reply) (old new : State) (e : Event) (r : Result Reply Refusal) → Leaves old e m.after → Step m old r new → Leaves old e new
+leaves_outcome : (m : Meaning Reply) (old new : State) (e : Event) (r : Result Reply Refusal) → Leaves old e m.after
+    → Step m old r new → Leaves old e new
 leaves_outcome m old new e (Ok a) leaves step = subst (λ (s : State). Leaves old e s) (sym step.2) leaves
-leaves_outcome m old new e (Err x) leaves step = subst (λ (s : State). Leaves old e s) (sym step.1) (leaves_nothing old e)
+leaves_outcome m old new e (Err x) leaves step =
+    subst (λ (s : State). Leaves old e s) (sym step.1) (leaves_nothing old e)
 
 pub leaves_step : (old new : State) (e : Event) (r : Reply) → StepsTo old e r new → Leaves old e new
 leaves_step old new e r step = leaves_outcome (meaning old e) old new e (outcome r) (leaves_meant old e) step

@@ -1,5 +1,5 @@
--- If no domain is live, nothing that was accepted or made in one is left: no aggregate, no descriptor and no pipe; a remaining
--- connection was closed, or never accepted.
+-- If no domain is live, nothing that was accepted or made in one is left: no aggregate, no descriptor and no pipe; a
+-- remaining connection was closed, or never accepted.
 use Rattle.std.proofs.Common.{◌≡◌, ◌∙◌, ℕ, ap, refl, Option, Some, None, true, false, Bool}
 use Rattle.std.specs.Prelude.{unwrap_or, ◌||◌}
 use Rattle.iol_core.specs.NumberedLists.{in_place}
@@ -16,8 +16,10 @@ pub domain-none : (s : State) → IsOrderly s → NoneLive s → (d : ℕ) → d
 domain-none s order dead d = order.gone d (dead d)
 
 -- what stands is open in a domain that lives
-pub none-stands : (s : State) → IsOrderly s → NoneLive s → (x : Descriptor) → is_file (Some x) ≡ false → stands s x ≡ true → ⊥
-none-stands s order dead x end is = (let it = order.held x end is in let live = it.live in let off = dead it.by in cc (live, off))
+pub none-stands : (s : State) → IsOrderly s → NoneLive s → (x : Descriptor) → is_file (Some x) ≡ false
+    → stands s x ≡ true → ⊥
+none-stands s order dead x end is = (let it = order.held x end is in let live = it.live in let off = dead it.by in
+    cc (live, off))
 
 pipe-there : (s : State) (p : ℕ) (x : Pipe) → in_place s.pipes p ≡ Some x → pipe_at s p ≡ x
 unfolding pipe_at
@@ -27,8 +29,10 @@ pub pipe-none : (s : State) → IsOrderly s → NoneLive s → (p : ℕ) → in_
 pipe-none s order dead p = by (in_place s.pipes p) refl
   where
     ended : (x : Pipe) (a b : Bool) → x.reading ≡ a → x.writing ≡ b → pipe_at s p ≡ x → (a || b) ≡ true → ⊥
-    ended x true b reads writes there some = none-stands s order dead (on.ReadEnd p) refl (ap (λ (k : Pipe). k.reading) there ∙ reads)
-    ended x false true reads writes there some = none-stands s order dead (on.WriteEnd p) refl (ap (λ (k : Pipe). k.writing) there ∙ writes)
+    ended x true b reads writes there some =
+        none-stands s order dead (on.ReadEnd p) refl (ap (λ (k : Pipe). k.reading) there ∙ reads)
+    ended x false true reads writes there some =
+        none-stands s order dead (on.WriteEnd p) refl (ap (λ (k : Pipe). k.writing) there ∙ writes)
     ended x false false reads writes there some = cc
 
     by : (o : Option Pipe) → in_place s.pipes p ≡ o → in_place s.pipes p ≡ None

@@ -28,10 +28,15 @@ stays_below : IsOfAggs IsBelow Any
 stays_below = record {
   none = λ d n. record { below = λ a more. refl; once = tt };
   added = λ d n kept t brings was. record {
-    below = λ a more. lookup-push_other kept n a t (λ same. omega (arith, same, more)) ∙ was.below a (omega (arith, more));
+    below = λ a more. lookup-push_other kept n a t (λ same. omega (arith, same, more))
+        ∙ was.below a (omega (arith, more));
     once = once-push kept n t (was.below n (omega arith)) was.once;
   };
-  gone = λ d n kept a was. record { below = λ b more. lookup-without_none kept a b (was.below b more); once = once-without kept a was.once };
+  gone = λ d n kept a was. record {
+    below = λ b more. lookup-without_none kept a b (was.below b more);
+    once =
+        once-without kept a was.once;
+  };
 }
 
 any_call : (s : State) (by : ℕ) (k : Call) → Brings Any s by k

@@ -1,9 +1,11 @@
 -- A new state is orderly, and each step preserves this.
-use Rattle.std.proofs.Common.{inl, inr, ◌≡◌, ◌≤◌, ◌∙◌, ℕ, List, length, ap, refl, sym, subst, arith, Option, Some, None, true, false}
+use Rattle.std.proofs.Common.{inl, inr, ◌≡◌, ◌≤◌, ◌∙◌, ℕ, List, length, ap, refl, sym, subst, arith, Option, Some, None}
+use Rattle.std.proofs.Common.{true, false}
 use Rattle.std.specs.Prelude.{Result, Ok, Err, unwrap_or, not}
 use Rattle.iol_core.specs.Text.{Text}
 use Rattle.iol_core.specs.NumberedLists.{lookup, in_place}
-use Rattle.iol_core.specs.State.{State, Domain, Pool, Pipe, Connection, domain, descriptor, pool, pipe_at, conn_at, no_pipe, new_state}
+use Rattle.iol_core.specs.State.{State, Domain, Pool, Pipe, Connection, domain, descriptor, pool, pipe_at, conn_at}
+use Rattle.iol_core.specs.State.{no_pipe, new_state}
 use Rattle.iol_core.specs.Meaning.{Step, first}
 use Rattle.iol_core.specs.Run.{meaning, StepsTo, outcome}
 use Rattle.iol_core.specs.declared.limits.TheConstants.{MAX_LISTED}
@@ -29,7 +31,8 @@ pipe-unmade : (s : State) (p : ℕ) → in_place s.pipes p ≡ None → pipe_at 
 unfolding pipe_at
 pipe-unmade s p none = ap (λ (o : Option Pipe). unwrap_or o no_pipe) none
 
-orderly_meant : (s : State) (e : Event) → IsOrderly s → first (meaning s e).refusals ≡ None → IsOrderly (meaning s e).after
+orderly_meant : (s : State) (e : Event) → IsOrderly s → first (meaning s e).refusals ≡ None
+    → IsOrderly (meaning s e).after
 orderly_meant s e order unrefused =
     let sole = sole_meant s e order unrefused in
     let q = quiet_meant s e order in
@@ -51,8 +54,10 @@ orderly_meant s e order unrefused =
       aggs = λ d. (below d).below;
     }
 
-orderly_outcome : (s t : State) (e : Event) (r : Result Reply Refusal) → IsOrderly s → Step (meaning s e) s r t → IsOrderly t
-orderly_outcome s t e (Ok a) order step = subst (λ (u : State). IsOrderly u) (sym step.2) (orderly_meant s e order step.0)
+orderly_outcome : (s t : State) (e : Event) (r : Result Reply Refusal) → IsOrderly s → Step (meaning s e) s r t
+    → IsOrderly t
+orderly_outcome s t e (Ok a) order step =
+    subst (λ (u : State). IsOrderly u) (sym step.2) (orderly_meant s e order step.0)
 orderly_outcome s t e (Err x) order step = subst (λ (u : State). IsOrderly u) (sym step.1) order
 
 pub orderly_step : (s t : State) (e : Event) (r : Reply) → IsOrderly s → StepsTo s e r t → IsOrderly t
@@ -64,13 +69,16 @@ orderly_new slots = record {
   all_stand = λ d f x is. absurd (none d f x is);
   held = λ x end is. absurd (nothing x end is);
   ends = λ p x is. absurd (cc);
-  listed = λ p. subst (λ (x : Pool). length x.domains ≤ MAX_LISTED) (sym (pool-unmade (new_state slots) p refl)) (omega arith);
+  listed = λ p. subst (λ (x : Pool). length x.domains ≤ MAX_LISTED) (sym (pool-unmade (new_state slots) p refl))
+      (omega arith);
   gone = λ d dead. elim (domain-new_state slots d) [
     | inl is ↦ absurd (let e = ap (λ (x : Domain Text). x.live) is in cc (e, dead))
     | inr is ↦ is
   ];
-  waits = λ c is. absurd (let e = ap (λ (k : Connection). k.accepted) (conn-unmade (new_state slots) c refl) in cc (e, is));
-  silent = λ c is. absurd (let e = ap (λ (k : Connection). k.accepted) (conn-unmade (new_state slots) c refl) in cc (e, is));
+  waits = λ c is. absurd (let e = ap (λ (k : Connection). k.accepted) (conn-unmade (new_state slots) c refl) in
+      cc (e, is));
+  silent = λ c is. absurd (let e = ap (λ (k : Connection). k.accepted) (conn-unmade (new_state slots) c refl) in
+      cc (e, is));
   once = tt;
   conns = λ c more. refl;
   aggs_once = λ d. elim (domain-new_state slots d) [
@@ -91,9 +99,14 @@ orderly_new slots = record {
 
     nothing : (x : Descriptor) → is_file (Some x) ≡ false → stands (new_state slots) x ≡ true → ⊥
     nothing (on.File f at mode) end is = cc
-    nothing (on.ReadEnd p) end is = (let e = ap (λ (k : Pipe). k.reading) (pipe-unmade (new_state slots) p refl) in cc (e, is))
-    nothing (on.WriteEnd p) end is = (let e = ap (λ (k : Pipe). k.writing) (pipe-unmade (new_state slots) p refl) in cc (e, is))
-    nothing (on.Connection c) end is = (let e = ap (λ (k : Connection). k.closed) (conn-unmade (new_state slots) c refl) in let f = both-true (conn_at (new_state slots) c).accepted (not (conn_at (new_state slots) c).closed) is in let g = f.1 in cc (e, g))
+    nothing (on.ReadEnd p) end is = (let e = ap (λ (k : Pipe). k.reading) (pipe-unmade (new_state slots) p refl) in
+        cc (e, is))
+    nothing (on.WriteEnd p) end is = (let e = ap (λ (k : Pipe). k.writing) (pipe-unmade (new_state slots) p refl) in
+        cc (e, is))
+    nothing (on.Connection c) end is =
+        (let e = ap (λ (k : Connection). k.closed) (conn-unmade (new_state slots) c refl) in let f =
+        both-true (conn_at (new_state slots) c).accepted (not (conn_at (new_state slots) c).closed) is in let g = f.1 in
+        cc (e, g))
 
 -- whatever bytes files have
 pub orderly-slots : (s : State) (slots : List (List ℕ)) → IsOrderly s → IsOrderly (record s { slots = slots })
@@ -101,7 +114,8 @@ unfolding domain pool pipe_at conn_at
 orderly-slots s slots order = record {
   one = order.one;
   all_stand = λ d f x is. stands-same s (record s { slots = slots }) x refl refl ∙ order.all_stand d f x is;
-  held = λ x end is. (let it = order.held x end (sym (stands-same s (record s { slots = slots }) x refl refl) ∙ is) in record { by = it.by; fd = it.fd; live = it.live; there = it.there });
+  held = λ x end is. (let it = order.held x end (sym (stands-same s (record s { slots = slots }) x refl refl) ∙ is) in
+      record { by = it.by; fd = it.fd; live = it.live; there = it.there });
   ends = order.ends;
   listed = order.listed;
   gone = order.gone;

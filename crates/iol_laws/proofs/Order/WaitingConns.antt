@@ -1,5 +1,6 @@
 -- A connection that is not accepted is open, and has nothing to send; numbers of connections are new.
-use Rattle.std.proofs.Common.{inl, inr, zero, suc, ◌≡◌, ℕ, ◌≤◌, List, [], ◌∷◌, drop, ap, ◌∙◌, refl, sym, subst, arith, None, true, false}
+use Rattle.std.proofs.Common.{inl, inr, zero, suc, ◌≡◌, ℕ, ◌≤◌, List, [], ◌∷◌, drop, ap, ◌∙◌, refl, sym, subst, arith}
+use Rattle.std.proofs.Common.{None, true, false}
 use Rattle.std.proofs.lemmas.Bool.{cases_eq}
 use Rattle.iol_core.specs.Text.{Text}
 use Rattle.iol_core.specs.NumberedLists.{lookup}
@@ -12,8 +13,10 @@ use Rattle.iol_core.specs.declared.events.Event.{Event}
 use Rattle.iol_core.specs.declared.events.Event.TheVariants as event
 use Rattle.iol_laws.specs.Order.{Once, IsOrderly}
 use Rattle.iol_laws.proofs.Streams.Accept.{allowed_called}
-use Rattle.iol_laws.proofs.ConnChanges.{Change, Reads, Writes, Closes, Takes, changed_by, turned, all_turned, changes, conns_turned, IsAllowed, AllAllowed}
-use Rattle.iol_laws.proofs.Connections.{after-with_conn, conn-made, conn-push, conns_conn, conns_same, next-with_conn, none-with_conn, once-push, once-with_conn}
+use Rattle.iol_laws.proofs.ConnChanges.{Change, Reads, Writes, Closes, Takes, changed_by, turned, all_turned, changes}
+use Rattle.iol_laws.proofs.ConnChanges.{conns_turned, IsAllowed, AllAllowed}
+use Rattle.iol_laws.proofs.Connections.{after-with_conn, conn-made, conn-push, conns_conn, conns_same, next-with_conn}
+use Rattle.iol_laws.proofs.Connections.{none-with_conn, once-push, once-with_conn}
 use Rattle.iol_laws.proofs.Places.{lookup-push_other}
 
 pub record AllQuiet (s : State) : Type 0 where
@@ -27,8 +30,10 @@ quiet_of s order = record { waits = order.waits; silent = order.silent; once = o
 
 pub quiet_same : (s t : State) → t.conns ≡ s.conns → t.next_conn ≡ s.next_conn → AllQuiet s → AllQuiet t
 quiet_same s t same next q = record {
-  waits = λ c is. ap (λ (k : Connection). k.closed) (at c) ∙ q.waits c (sym (ap (λ (k : Connection). k.accepted) (at c)) ∙ is);
-  silent = λ c is. ap (λ (k : Connection). k.outgoing) (at c) ∙ q.silent c (sym (ap (λ (k : Connection). k.accepted) (at c)) ∙ is);
+  waits = λ c is. ap (λ (k : Connection). k.closed) (at c)
+      ∙ q.waits c (sym (ap (λ (k : Connection). k.accepted) (at c)) ∙ is);
+  silent = λ c is. ap (λ (k : Connection). k.outgoing) (at c)
+      ∙ q.silent c (sym (ap (λ (k : Connection). k.accepted) (at c)) ∙ is);
   once = subst (λ (l : List (ℕ × Connection)). Once l) (sym same) q.once;
   conns = λ c more. ap (λ (l : List (ℕ × Connection)). lookup l c) same ∙ q.conns c (subst (λ n. n ≤ c) next more);
 }
@@ -73,20 +78,26 @@ quiet_all s (e ∷ es) may q = quiet_all (turned s e) es may.1 (quiet_turned s e
 quiet_called : (s : State) (by : ℕ) (k : Call) → IsOrderly s → AllQuiet (called s by k).after
 quiet_called s by k order =
     let same = conns_turned s by k in
-    quiet_same (all_turned s (changes s by k)) (called s by k).after same.conns same.next (quiet_all s (changes s by k) (allowed_called s by k order) (quiet_of s order))
+    quiet_same (all_turned s (changes s by k)) (called s by k).after same.conns same.next
+    (quiet_all s (changes s by k) (allowed_called s by k order) (quiet_of s order))
 
 quiet_conn_new : (s : State) (p : ℕ) → AllQuiet s → AllQuiet (conn_new s p).after
 quiet_conn_new s p q = record {
   waits = λ c is. elim (cases_eq s.next_conn c) [
-    | inl same ↦ subst (λ n. (conn_at (conn_new s p).after n).closed ≡ false) same (ap (λ (k : Connection). k.closed) made)
-    | inr differ ↦ ap (λ (k : Connection). k.closed) (conn-push s p c differ) ∙ q.waits c (sym (ap (λ (k : Connection). k.accepted) (conn-push s p c differ)) ∙ is)
+    | inl same ↦
+        subst (λ n. (conn_at (conn_new s p).after n).closed ≡ false) same (ap (λ (k : Connection). k.closed) made)
+    | inr differ ↦ ap (λ (k : Connection). k.closed) (conn-push s p c differ)
+        ∙ q.waits c (sym (ap (λ (k : Connection). k.accepted) (conn-push s p c differ)) ∙ is)
   ];
   silent = λ c is. elim (cases_eq s.next_conn c) [
-    | inl same ↦ subst (λ n. (conn_at (conn_new s p).after n).outgoing ≡ []) same (ap (λ (k : Connection). k.outgoing) made)
-    | inr differ ↦ ap (λ (k : Connection). k.outgoing) (conn-push s p c differ) ∙ q.silent c (sym (ap (λ (k : Connection). k.accepted) (conn-push s p c differ)) ∙ is)
+    | inl same ↦
+        subst (λ n. (conn_at (conn_new s p).after n).outgoing ≡ []) same (ap (λ (k : Connection). k.outgoing) made)
+    | inr differ ↦ ap (λ (k : Connection). k.outgoing) (conn-push s p c differ)
+        ∙ q.silent c (sym (ap (λ (k : Connection). k.accepted) (conn-push s p c differ)) ∙ is)
   ];
   once = once-push s.conns s.next_conn (new_conn p) none q.once;
-  conns = λ c more. lookup-push_other s.conns s.next_conn c (new_conn p) (λ same. omega (arith, same, more)) ∙ q.conns c (omega (arith, more));
+  conns = λ c more. lookup-push_other s.conns s.next_conn c (new_conn p) (λ same. omega (arith, same, more))
+      ∙ q.conns c (omega (arith, more));
 }
   where
     none : lookup s.conns s.next_conn ≡ None
@@ -101,7 +112,9 @@ quiet_meant s (event.ConnNew p) order = quiet_conn_new s p (quiet_of s order)
 quiet_meant s (event.Arrive c bytes) order = quiet_conn s c _ (order.waits c, order.silent c) (quiet_of s order)
 quiet_meant s (event.PeerClosed c ways.Done) order = quiet_conn s c _ (order.waits c, order.silent c) (quiet_of s order)
 quiet_meant s (event.PeerClosed c ways.Gone) order = quiet_conn s c _ (order.waits c, λ is. refl) (quiet_of s order)
-quiet_meant s (event.Transmit c max) order = quiet_conn s c _ (order.waits c, λ is. ap (λ (t : Text). drop max t) (order.silent c is) ∙ none max) (quiet_of s order)
+quiet_meant s (event.Transmit c max) order =
+    quiet_conn s c _ (order.waits c, λ is. ap (λ (t : Text). drop max t) (order.silent c is) ∙ none max)
+    (quiet_of s order)
   where
     none : (n : ℕ) → drop {A = ℕ × ℕ} n [] ≡ []
     none zero = refl

@@ -20,30 +20,62 @@ use Rattle.iol_laws.proofs.Refusals.Calls.{left, may}
 use Rattle.iol_laws.proofs.Streams.Labels.{IsOther, barred-none}
 
 -- what may be read, at most so much of it
-seen : (pools : ℕ → Bool) (s : State) (d n : ℕ) (t : Text) → MayReadAll s d pools → lie_in pools t ≡ true → list_all (λ b. may_read s d b.1) (take n t) ≡ true
-seen pools s d n t all lies = list_all-take (λ b. may_read s d b.1) n t (list_all-weaker (λ b. pools b.1) (λ b. may_read s d b.1) t (λ b is. all b.1 is) lies)
+seen : (pools : ℕ → Bool) (s : State) (d n : ℕ) (t : Text) → MayReadAll s d pools → lie_in pools t ≡ true
+    → list_all (λ b. may_read s d b.1) (take n t) ≡ true
+seen pools s d n t all lies =
+    list_all-take (λ b. may_read s d b.1) n t
+    (list_all-weaker (λ b. pools b.1) (λ b. may_read s d b.1) t (λ b is. all b.1 is) lies)
 
-undenied : (pools : ℕ → Bool) (s : State) (d n p : ℕ) (o : Option Descriptor) → MayReadAll s d pools → lie_in pools (pipe_at s p).queue ≡ true → o ≡ Some (on.ReadEnd p) → MatchOption (reading.read_denied s d o n) ⊤ IsOther
+undenied : (pools : ℕ → Bool) (s : State) (d n p : ℕ) (o : Option Descriptor) → MayReadAll s d pools
+    → lie_in pools (pipe_at s p).queue ≡ true → o ≡ Some (on.ReadEnd p)
+    → MatchOption (reading.read_denied s d o n) ⊤ IsOther
 undenied pools s d n p o all lies is =
     let t : Text = (pipe_at s p).queue in
     let none = barred-none (may_read s d) (take (min n 1) t) (seen pools s d (min n 1) t all lies) in
     subst (λ (z : Option Descriptor). MatchOption (reading.read_denied s d z n) ⊤ IsOther) (sym is)
     (subst (λ (z : Option ℕ). MatchOption (option_map refuse.Denied z) ⊤ IsOther) (sym none) tt)
 
-not-late : (s : State) (p q : ℕ) (o : Option Descriptor) → o ≡ Some (on.ReadEnd p) → reading.read_late s o (refuse.Denied q) → IsOther (refuse.Denied q)
+not-late : (s : State) (p q : ℕ) (o : Option Descriptor) → o ≡ Some (on.ReadEnd p)
+    → reading.read_late s o (refuse.Denied q) → IsOther (refuse.Denied q)
 not-late s p q o is late = absurd (subst (λ (z : Option Descriptor). reading.read_late s z (refuse.Denied q)) is late)
 
-pub pipe_reads : (pools : ℕ → Bool) (s t : State) (d fd p n q : ℕ) → MayReadAll s d pools → lie_in pools (pipe_at s p).queue ≡ true → descriptor s d fd ≡ Some (on.ReadEnd p) → StepsTo s (event.Call d (call.IolRead fd n)) (reply.Refused (refuse.Denied q)) t → ⊥
+pub pipe_reads : (pools : ℕ → Bool) (s t : State) (d fd p n q : ℕ) → MayReadAll s d pools
+    → lie_in pools (pipe_at s p).queue ≡ true → descriptor s d fd ≡ Some (on.ReadEnd p)
+    → StepsTo s (event.Call d (call.IolRead fd n)) (reply.Refused (refuse.Denied q)) t → ⊥
 pipe_reads pools s t d fd p n q all lies is step =
-    let other : IsOther (refuse.Denied q) = left IsOther (reading.read_late s (descriptor s d fd)) (called s d (call.IolRead fd n)).refusals (refuse.Denied q)
-    (may IsOther refuse.NoDomain _ refl, (may IsOther refuse.BadFd _ refl, (may IsOther refuse.WrongMode _ refl, (may IsOther refuse.TooMany _ refl, (undenied pools s d n p (descriptor s d fd) all lies is, (may IsOther refuse.WouldBlock _ refl, tt))))))
+    let other : IsOther (refuse.Denied q) =
+    left IsOther (reading.read_late s (descriptor s d fd)) (called s d (call.IolRead fd n)).refusals
+    (refuse.Denied q) (
+      may IsOther refuse.NoDomain _ refl,
+      (
+        may IsOther refuse.BadFd _ refl,
+        (
+          may IsOther refuse.WrongMode _ refl,
+          (
+            may IsOther refuse.TooMany _ refl,
+            (undenied pools s d n p (descriptor s d fd) all lies is, (may IsOther refuse.WouldBlock _ refl, tt)),
+          ),
+        ),
+      ),
+    )
     (not-late s p q (descriptor s d fd) is) step.0 in
     cc (other)
 
-pub pipe_copies : (pools : ℕ → Bool) (s t : State) (d fd p n q : ℕ) → MayReadAll s d pools → lie_in pools (pipe_at s p).queue ≡ true → descriptor s d fd ≡ Some (on.ReadEnd p) → StepsTo s (event.Call d (call.Read fd n)) (reply.Refused (refuse.Denied q)) t → ⊥
+pub pipe_copies : (pools : ℕ → Bool) (s t : State) (d fd p n q : ℕ) → MayReadAll s d pools
+    → lie_in pools (pipe_at s p).queue ≡ true → descriptor s d fd ≡ Some (on.ReadEnd p)
+    → StepsTo s (event.Call d (call.Read fd n)) (reply.Refused (refuse.Denied q)) t → ⊥
 pipe_copies pools s t d fd p n q all lies is step =
-    let other : IsOther (refuse.Denied q) = left IsOther (reading.read_late s (descriptor s d fd)) (called s d (call.Read fd n)).refusals (refuse.Denied q)
-    (may IsOther refuse.NoDomain _ refl, (may IsOther refuse.BadFd _ refl, (may IsOther refuse.WrongMode _ refl, (undenied pools s d n p (descriptor s d fd) all lies is, (may IsOther refuse.WouldBlock _ refl, tt)))))
+    let other : IsOther (refuse.Denied q) =
+    left IsOther (reading.read_late s (descriptor s d fd)) (called s d (call.Read fd n)).refusals (refuse.Denied q) (
+      may IsOther refuse.NoDomain _ refl,
+      (
+        may IsOther refuse.BadFd _ refl,
+        (
+          may IsOther refuse.WrongMode _ refl,
+          (undenied pools s d n p (descriptor s d fd) all lies is, (may IsOther refuse.WouldBlock _ refl, tt)),
+        ),
+      ),
+    )
     (not-late s p q (descriptor s d fd) is) step.0 in
     cc (other)
 
@@ -54,5 +86,8 @@ admitted-all sees (b ∷ t) all =
     let r = admitted-all sees t in
     grind (arith, common_steps, e, r, all)
 
-pub pipe_whole : (pools : ℕ → Bool) (s : State) (d p n : ℕ) → MayReadAll s d pools → lie_in pools (pipe_at s p).queue ≡ true → admitted (may_read s d) (take n (pipe_at s p).queue) ≡ take n (pipe_at s p).queue
-pipe_whole pools s d p n all lies = admitted-all (may_read s d) (take n (pipe_at s p).queue) (seen pools s d n (pipe_at s p).queue all lies)
+pub pipe_whole : (pools : ℕ → Bool) (s : State) (d p n : ℕ) → MayReadAll s d pools
+    → lie_in pools (pipe_at s p).queue ≡ true
+    → admitted (may_read s d) (take n (pipe_at s p).queue) ≡ take n (pipe_at s p).queue
+pipe_whole pools s d p n all lies =
+    admitted-all (may_read s d) (take n (pipe_at s p).queue) (seen pools s d n (pipe_at s p).queue all lies)

@@ -1,5 +1,6 @@
 -- The input of a connection is in its pool.
-use Rattle.std.proofs.Common.{◌≡◌, ℕ, ◌==◌, List, [], ◌∷◌, ◌++◌, length, take, refl, sym, subst, arith, Option, Some, None, true, false, Bool}
+use Rattle.std.proofs.Common.{◌≡◌, ℕ, ◌==◌, List, [], ◌∷◌, ◌++◌, length, take, refl, sym, subst, arith, Option, Some}
+use Rattle.std.proofs.Common.{None, true, false, Bool}
 use Rattle.std.specs.Prelude.{⊤, option_map, min, ◌-◌, MatchOption}
 use Rattle.std.specs.List.{list_all}
 use Rattle.std.proofs.lemmas.Bool.Decides.{nat_tests}
@@ -22,7 +23,8 @@ use Rattle.iol_core.specs.declared.events.Event.{Event}
 use Rattle.iol_core.specs.declared.events.Event.TheVariants as event
 use Rattle.iol_core.specs.declared.events.Reply.{Reply}
 use Rattle.iol_core.specs.declared.events.Reply.TheVariants as reply
-use Rattle.iol_core.proofs.TestedLists.{list_all-both, list_all-drop, list_all-labelled, list_all-lookup, list_all-push, list_all-take, list_all-weaker}
+use Rattle.iol_core.proofs.TestedLists.{list_all-both, list_all-drop, list_all-labelled, list_all-lookup, list_all-push}
+use Rattle.iol_core.proofs.TestedLists.{list_all-take, list_all-weaker}
 use Rattle.iol_laws.proofs.Runs.{run_keeps}
 use Rattle.iol_laws.specs.Labels.{AreInOwnPool, lies_in}
 use Rattle.iol_laws.proofs.ConnChanges.{Change, Reads, Closes, all_turned, changed_by, changes, conns_turned, turned}
@@ -47,25 +49,31 @@ home_changed x k home = home
 
 home_all : (s : State) (es : List (ℕ × Change)) → AreInOwnPool s → AreInOwnPool (all_turned s es)
 home_all s [] home = home
-home_all s (e ∷ es) home = home_all (turned s e) es (home_conn s e.0 _ (home_changed e.1 (conn_at s e.0) (home_each s e.0 home)) home)
+home_all s (e ∷ es) home =
+    home_all (turned s e) es (home_conn s e.0 _ (home_changed e.1 (conn_at s e.0) (home_each s e.0 home)) home)
 
 home_called : (s : State) (by : ℕ) (k : Call) → AreInOwnPool s → AreInOwnPool (called s by k).after
-home_called s by k home = subst (λ (l : List (ℕ × Connection)). list_all (λ e. is_in_pool e.1) l ≡ true) (sym (conns_turned s by k).conns) (home_all s (changes s by k) home)
+home_called s by k home =
+    subst (λ (l : List (ℕ × Connection)). list_all (λ e. is_in_pool e.1) l ≡ true) (sym (conns_turned s by k).conns)
+    (home_all s (changes s by k) home)
 
 itself : (p : ℕ) → (p == p) ≡ true
 itself p = grind (arith, nat_tests)
 
 -- bytes come in behind the others
 home-more : (p : ℕ) (t : Text) (bytes : List ℕ) → lies_in p t ≡ true → lies_in p (t ++ labelled p bytes) ≡ true
-home-more p t bytes home = list_all-both (λ b. b.1 == p) t (labelled p bytes) home (list_all-labelled (λ q. q == p) p bytes (itself p))
+home-more p t bytes home =
+    list_all-both (λ b. b.1 == p) t (labelled p bytes) home (list_all-labelled (λ q. q == p) p bytes (itself p))
 
-home_ended : (s : State) (c : ℕ) (how : How) → AreInOwnPool s → AreInOwnPool (with_conn s c (closed_by (conn_at s c) how))
+home_ended : (s : State) (c : ℕ) (how : How) → AreInOwnPool s
+    → AreInOwnPool (with_conn s c (closed_by (conn_at s c) how))
 home_ended s c ways.Done home = home_conn s c _ (home_each s c home) home
 home_ended s c ways.Gone home = home_conn s c _ (home_each s c home) home
 
 home_meant : (s : State) (e : Event) → AreInOwnPool s → AreInOwnPool (meaning s e).after
 home_meant s (event.Call by k) home = home_called s by k home
-home_meant s (event.ConnNew p) home = list_all-push {A = ℕ × Connection} (λ e. is_in_pool e.1) s.conns (s.next_conn, new_conn p) home refl
+home_meant s (event.ConnNew p) home =
+    list_all-push {A = ℕ × Connection} (λ e. is_in_pool e.1) s.conns (s.next_conn, new_conn p) home refl
 home_meant s (event.Arrive c bytes) home =
     let count : ℕ = min (length bytes) (MAX_QUEUE_BYTES - length (conn_at s c).incoming) in
     home_conn s c _ (home-more (conn_at s c).pool (conn_at s c).incoming (take count bytes) (home_each s c home)) home
@@ -80,8 +88,10 @@ pub home_step : (s t : State) (e : Event) (r : Reply) → AreInOwnPool s → Ste
 home_step s t e (reply.Refused x) home step = subst (λ (u : State). AreInOwnPool u) (sym step.1) home
 home_step s t e r home step = subst (λ (u : State). AreInOwnPool u) (sym step.2) (home_meant s e home)
 
-pub home_reached : (slots : List (List ℕ)) (t : State) (es : List Event) (rs : List Reply) → Run (new_state slots) es rs t → AreInOwnPool t
-home_reached slots t es rs run = run_keeps (λ s. AreInOwnPool s) home_step (new_state slots) t es rs (home_new slots) run
+pub home_reached : (slots : List (List ℕ)) (t : State) (es : List Event) (rs : List Reply)
+    → Run (new_state slots) es rs t → AreInOwnPool t
+home_reached slots t es rs run =
+    run_keeps (λ s. AreInOwnPool s) home_step (new_state slots) t es rs (home_new slots) run
 
 -- Who may read the pool is never denied.
 
@@ -98,33 +108,65 @@ barred-none may (b ∷ t) all = by (may b.1) refl (barred-none may t)
   where
     by : (m : Bool) → may b.1 ≡ m → (list_all (λ x. may x.1) t ≡ true → barred may t ≡ None) → barred may (b ∷ t) ≡ None
     by true is rest = grind (arith, common_steps, is, rest, all)
-    by false is rest = absurd (let e : list_all (λ x. may x.1) (b ∷ t) ≡ false = grind (arith, common_steps, is) in cc (e, all))
+    by false is rest = absurd (let e : list_all (λ x. may x.1) (b ∷ t) ≡ false = grind (arith, common_steps, is) in
+        cc (e, all))
 
 -- a byte of a pool that it may read
 read-of : (s : State) (d p q : ℕ) → may_read s d p ≡ true → (q == p) ≡ true → may_read s d q ≡ true
-read-of s d p q may_see is = (let same : p ≡ q = grind (arith, nat_tests, is) in subst (λ n. may_read s d n ≡ true) same may_see)
+read-of s d p q may_see is =
+    (let same : p ≡ q = grind (arith, nat_tests, is) in subst (λ n. may_read s d n ≡ true) same may_see)
 
-undenied : (s : State) (d n c : ℕ) (o : Option Descriptor) → AreInOwnPool s → may_read s d (conn_at s c).pool ≡ true → o ≡ Some (on.Connection c) → MatchOption (reading.read_denied s d o n) ⊤ IsOther
+undenied : (s : State) (d n c : ℕ) (o : Option Descriptor) → AreInOwnPool s → may_read s d (conn_at s c).pool ≡ true
+    → o ≡ Some (on.Connection c) → MatchOption (reading.read_denied s d o n) ⊤ IsOther
 undenied s d n c o home may_see is =
     let t : Text = (conn_at s c).incoming in
-    let all = list_all-weaker (λ b. b.1 == (conn_at s c).pool) (λ b. may_read s d b.1) t (λ b. read-of s d (conn_at s c).pool b.1 may_see) (home_each s c home) in
+    let all =
+    list_all-weaker (λ b. b.1 == (conn_at s c).pool) (λ b. may_read s d b.1) t
+    (λ b. read-of s d (conn_at s c).pool b.1 may_see) (home_each s c home) in
     let none = barred-none (may_read s d) (take (min n 1) t) (list_all-take (λ b. may_read s d b.1) (min n 1) t all) in
     subst (λ (z : Option Descriptor). MatchOption (reading.read_denied s d z n) ⊤ IsOther) (sym is)
     (subst (λ (z : Option ℕ). MatchOption (option_map refuse.Denied z) ⊤ IsOther) (sym none) tt)
 
-not-late : (s : State) (c p : ℕ) (o : Option Descriptor) → o ≡ Some (on.Connection c) → reading.read_late s o (refuse.Denied p) → IsOther (refuse.Denied p)
+not-late : (s : State) (c p : ℕ) (o : Option Descriptor) → o ≡ Some (on.Connection c)
+    → reading.read_late s o (refuse.Denied p) → IsOther (refuse.Denied p)
 not-late s c p o is late = absurd (subst (λ (z : Option Descriptor). reading.read_late s z (refuse.Denied p)) is late)
 
-pub home_reads : (s t : State) (d fd c n p : ℕ) → AreInOwnPool s → descriptor s d fd ≡ Some (on.Connection c) → may_read s d (conn_at s c).pool ≡ true → StepsTo s (event.Call d (call.IolRead fd n)) (reply.Refused (refuse.Denied p)) t → ⊥
+pub home_reads : (s t : State) (d fd c n p : ℕ) → AreInOwnPool s → descriptor s d fd ≡ Some (on.Connection c)
+    → may_read s d (conn_at s c).pool ≡ true
+    → StepsTo s (event.Call d (call.IolRead fd n)) (reply.Refused (refuse.Denied p)) t → ⊥
 home_reads s t d fd c n p home is may_see step =
-    let other : IsOther (refuse.Denied p) = left IsOther (reading.read_late s (descriptor s d fd)) (called s d (call.IolRead fd n)).refusals (refuse.Denied p)
-    (may IsOther refuse.NoDomain _ refl, (may IsOther refuse.BadFd _ refl, (may IsOther refuse.WrongMode _ refl, (may IsOther refuse.TooMany _ refl, (undenied s d n c (descriptor s d fd) home may_see is, (may IsOther refuse.WouldBlock _ refl, tt))))))
+    let other : IsOther (refuse.Denied p) =
+    left IsOther (reading.read_late s (descriptor s d fd)) (called s d (call.IolRead fd n)).refusals
+    (refuse.Denied p) (
+      may IsOther refuse.NoDomain _ refl,
+      (
+        may IsOther refuse.BadFd _ refl,
+        (
+          may IsOther refuse.WrongMode _ refl,
+          (
+            may IsOther refuse.TooMany _ refl,
+            (undenied s d n c (descriptor s d fd) home may_see is, (may IsOther refuse.WouldBlock _ refl, tt)),
+          ),
+        ),
+      ),
+    )
     (not-late s c p (descriptor s d fd) is) step.0 in
     cc (other)
 
-pub home_copies : (s t : State) (d fd c n p : ℕ) → AreInOwnPool s → descriptor s d fd ≡ Some (on.Connection c) → may_read s d (conn_at s c).pool ≡ true → StepsTo s (event.Call d (call.Read fd n)) (reply.Refused (refuse.Denied p)) t → ⊥
+pub home_copies : (s t : State) (d fd c n p : ℕ) → AreInOwnPool s → descriptor s d fd ≡ Some (on.Connection c)
+    → may_read s d (conn_at s c).pool ≡ true
+    → StepsTo s (event.Call d (call.Read fd n)) (reply.Refused (refuse.Denied p)) t → ⊥
 home_copies s t d fd c n p home is may_see step =
-    let other : IsOther (refuse.Denied p) = left IsOther (reading.read_late s (descriptor s d fd)) (called s d (call.Read fd n)).refusals (refuse.Denied p)
-    (may IsOther refuse.NoDomain _ refl, (may IsOther refuse.BadFd _ refl, (may IsOther refuse.WrongMode _ refl, (undenied s d n c (descriptor s d fd) home may_see is, (may IsOther refuse.WouldBlock _ refl, tt)))))
+    let other : IsOther (refuse.Denied p) =
+    left IsOther (reading.read_late s (descriptor s d fd)) (called s d (call.Read fd n)).refusals (refuse.Denied p) (
+      may IsOther refuse.NoDomain _ refl,
+      (
+        may IsOther refuse.BadFd _ refl,
+        (
+          may IsOther refuse.WrongMode _ refl,
+          (undenied s d n c (descriptor s d fd) home may_see is, (may IsOther refuse.WouldBlock _ refl, tt)),
+        ),
+      ),
+    )
     (not-late s c p (descriptor s d fd) is) step.0 in
     cc (other)

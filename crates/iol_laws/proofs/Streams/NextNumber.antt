@@ -25,7 +25,8 @@ unfolding with_conn
 next_meant s (event.Call d k) = let same = next_called s d k in omega (arith, same)
 next_meant s e = omega arith
 
-next_outcome : (m : Meaning Reply) (old new : State) (r : Result Reply Refusal) → old.next_conn ≤ m.after.next_conn → Step m old r new → old.next_conn ≤ new.next_conn
+next_outcome : (m : Meaning Reply) (old new : State) (r : Result Reply Refusal) → old.next_conn ≤ m.after.next_conn
+    → Step m old r new → old.next_conn ≤ new.next_conn
 next_outcome m old new (Ok a) more step = subst (λ (s : State). old.next_conn ≤ s.next_conn) (sym step.2) more
 next_outcome m old new (Err x) more step = subst (λ (s : State). old.next_conn ≤ s.next_conn) (sym step.1) (omega arith)
 

@@ -1,5 +1,6 @@
 -- Consequences for the rest of a connection: it is unchanged, or it was over, and is removed.
-use Rattle.std.proofs.Common.{inl, inr, ◌≡◌, ℕ, ◌⊎◌, List, [], ◌++◌, take, drop, ap, ◌∙◌, refl, sym, true, false, Bool, if◌then◌else◌}
+use Rattle.std.proofs.Common.{inl, inr, ◌≡◌, ℕ, ◌⊎◌, List, [], ◌++◌, take, drop, ap, ◌∙◌, refl, sym, true, false, Bool}
+use Rattle.std.proofs.Common.{if◌then◌else◌}
 use Rattle.std.specs.Prelude.{not, ◌&&◌, ◌||◌}
 use Rattle.std.proofs.lemmas.List.{take-append-drop}
 use Rattle.iol_core.specs.Text.{Text, bytes_of}
@@ -17,7 +18,8 @@ use Rattle.iol_laws.proofs.Texts.{bytes-append}
 remains-either : (x : Connection) → (remains x ≡ x) ⊎ ((is_over x ≡ true) × (remains x ≡ no_conn))
 remains-either x = by (is_over x) refl
   where
-    by : (b : Bool) → is_over x ≡ b → ((if b then no_conn else x) ≡ x) ⊎ ((is_over x ≡ true) × ((if b then no_conn else x) ≡ no_conn))
+    by : (b : Bool) → is_over x ≡ b → ((if b then no_conn else x) ≡ x)
+        ⊎ ((is_over x ≡ true) × ((if b then no_conn else x) ≡ no_conn))
     by false over = inl refl
     by true over = inr (over, refl)
 
@@ -40,7 +42,11 @@ pub closed-then : (s t : State) (c : ℕ) → ClosesConn s c reply.Done t
     → ((conn_at t c).closed ≡ true) × ((conn_at t c).outgoing ≡ (conn_at s c).outgoing)
 closed-then s t c did = elim (remains-either x) [
   | inl is ↦ (ap (λ (z : Connection). z.closed) (did ∙ is), ap (λ (z : Connection). z.outgoing) (did ∙ is))
-  | inr over ↦ (ap (λ (z : Connection). z.closed) (did ∙ over.1), ap (λ (z : Connection). z.outgoing) (did ∙ over.1) ∙ sym (none-over x over.0))
+  | inr over ↦ (
+    ap (λ (z : Connection). z.closed) (did ∙ over.1),
+    ap (λ (z : Connection). z.outgoing) (did ∙ over.1)
+        ∙ sym (none-over x over.0),
+  )
 ]
   where
     x : Connection
@@ -62,7 +68,9 @@ went-out s t c max bytes order did = by (remains-either x)
     x = record (conn_at s c) { outgoing = drop max (conn_at s c).outgoing }
 
     parts : bytes_of (conn_at s c).outgoing ≡ bytes ++ bytes_of (drop max (conn_at s c).outgoing)
-    parts = ap (λ (l : Text). bytes_of l) (sym (take-append-drop max (conn_at s c).outgoing)) ∙ (bytes-append (take max (conn_at s c).outgoing) (drop max (conn_at s c).outgoing) ∙ ap (λ (l : List ℕ). l ++ bytes_of (drop max (conn_at s c).outgoing)) (sym did.bytes_are))
+    parts = ap (λ (l : Text). bytes_of l) (sym (take-append-drop max (conn_at s c).outgoing))
+        ∙ (bytes-append (take max (conn_at s c).outgoing) (drop max (conn_at s c).outgoing)
+        ∙ ap (λ (l : List ℕ). l ++ bytes_of (drop max (conn_at s c).outgoing)) (sym did.bytes_are))
 
     was-closed : (x.closed ≡ true) ⊎ (x.accepted ≡ false) → (conn_at s c).closed ≡ true
     was-closed (inl is) = is
@@ -77,7 +85,10 @@ went-out s t c max bytes order did = by (remains-either x)
         }
     by (inr over) =
         let e : conn_at t c ≡ no_conn = did.conn ∙ over.1 in record {
-          bytes_were = parts ∙ (ap (λ (l : Text). bytes ++ bytes_of l) (none-over x over.0) ∙ ap (λ (k : Connection). bytes ++ bytes_of k.outgoing) (sym e));
+          bytes_were =
+              parts
+              ∙ (ap (λ (l : Text). bytes ++ bytes_of l) (none-over x over.0)
+              ∙ ap (λ (k : Connection). bytes ++ bytes_of k.outgoing) (sym e));
           some = did.some;
           conn = inr (was-closed (over-closed x over.0), ap (λ (k : Connection). k.closed) e);
         }
@@ -101,7 +112,8 @@ peer-left s t c how order did = by (remains-either x)
     x : Connection
     x = closed_by (conn_at s c) how
 
-    kept : (k : Connection) (how : How) → ((closed_by k how).accepted ≡ k.accepted) × ((closed_by k how).closed ≡ k.closed)
+    kept : (k : Connection) (how : How) → ((closed_by k how).accepted ≡ k.accepted)
+        × ((closed_by k how).closed ≡ k.closed)
     kept k ways.Done = (refl, refl)
     kept k ways.Gone = (refl, refl)
 
@@ -115,6 +127,8 @@ peer-left s t c how order did = by (remains-either x)
         gone : IsForgotten c t
         gone = record { closed = ap (λ (k : Connection). k.closed) e; none = ap (λ (k : Connection). k.outgoing) e }
 
-        cases : (x.closed ≡ true) ⊎ (x.accepted ≡ false) → (((conn_at s c).accepted ≡ false) × ((conn_at s c).outgoing ≡ []) × IsForgotten c t) ⊎ (((conn_at s c).closed ≡ true) × IsForgotten c t)
+        cases : (x.closed ≡ true) ⊎ (x.accepted ≡ false)
+            → (((conn_at s c).accepted ≡ false) × ((conn_at s c).outgoing ≡ []) × IsForgotten c t)
+            ⊎ (((conn_at s c).closed ≡ true) × IsForgotten c t)
         cases (inl closed) = inr (sym (kept (conn_at s c) how).1 ∙ closed, gone)
         cases (inr waits) = (let was = sym (kept (conn_at s c) how).0 ∙ waits in inl (was, order.silent c was, gone))

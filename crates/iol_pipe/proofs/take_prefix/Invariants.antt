@@ -11,7 +11,8 @@ invariant-loop-left l = record {
   room : vec_len l.out + min (length l.queue.items) l.left ≤ vec_capacity l.out;
   few : length l.out.items + length l.queue.items ≤ length l.fn.queue.items + 1;
   fewer : 0 < l.left → length l.out.items + length l.queue.items ≤ length l.fn.queue.items;
-  unsplit : 0 < l.left → (b : BufId) → tally b (bufs_of l.out.items) + tally b (bufs_of l.queue.items) ≤ tally b (bufs_of l.fn.queue.items);
+  unsplit : 0 < l.left → (b : BufId)
+      → tally b (bufs_of l.out.items) + tally b (bufs_of l.queue.items) ≤ tally b (bufs_of l.fn.queue.items);
 }
 
 abbrev pub decreases-loop-left : goal.decreases-loop-left

@@ -10,5 +10,6 @@ returns-in_default-2-clause-file c =
 pub returns-clause-file : goal.returns-clause-file
 returns-clause-file c =
     let named = rw c.in-Some-2.is at c.in_ok-name.ensures in
-    file_named c.args.target.now c.in-Some.uri c.path.result.now _ _ (rw c.in-Some.is at c.in_ok-uri.ensures.uri) c.path.ensures.value named.0 named.1
+    file_named c.args.target.now c.in-Some.uri c.path.result.now _ _ (rw c.in-Some.is at c.in_ok-uri.ensures.uri)
+    c.path.ensures.value named.0 named.1
     (c.in_ok-query.ensures.ok ∙ c.query_of.ensures)

@@ -7,5 +7,6 @@ use Rattle.flash_http.proofs.targets.has_dot_segment.Goals as goal
 pub returns : goal.returns
 returns c =
     any_from_yields_List is_dot_segment _ _ _ c.any.ensures.ran
-    (YieldsList-from_slice_split _ (λ b. b == 47) c.args.path.now c.split.ensures.rest c.split.ensures.done c.split.ensures.closure (λ x b q k. search (rules, tests)))
+    (YieldsList-from_slice_split _ (λ b. b == 47) c.args.path.now c.split.ensures.rest c.split.ensures.done
+    c.split.ensures.closure (λ x b q k. search (rules, tests)))
     (λ x b q k. search (rules, tests))

@@ -1,5 +1,6 @@
 -- The invariant of a client without running script, from one phase to the next.
-use Rattle.std.proofs.Common.{inl, inr, ◌≡◌, ℕ, List, [], ◌∷◌, ◌++◌, take, drop, ap, ◌∙◌, refl, sym, subst, None, true, false, append-nil}
+use Rattle.std.proofs.Common.{inl, inr, ◌≡◌, ℕ, List, [], ◌∷◌, ◌++◌, take, drop, ap, ◌∙◌, refl, sym, subst, None, true}
+use Rattle.std.proofs.Common.{false, append-nil}
 use Rattle.std.proofs.lemmas.List.{take-append-drop}
 use Rattle.iol_core.specs.Text.{bytes_of}
 use Rattle.iol_core.specs.State.{State, Connection}
@@ -20,7 +21,8 @@ abbrev pub alone : (kept script : List ℕ) → Answer → Phase → Client
 alone kept script q d = record { conn = record { kept = kept; q = q; phase = d }; run = None; script = script }
 
 -- it fits in a state of the machine
-abbrev pub FitsAt : SiteContents → (came sent : List ℕ) (fd c : ℕ) (kept script : List ℕ) → State → Answer → Phase → Type 0
+abbrev pub FitsAt : SiteContents → (came sent : List ℕ) (fd c : ℕ) (kept script : List ℕ) → State → Answer → Phase
+    → Type 0
 FitsAt site_contents came sent fd c kept script s q d = FitsAlone site_contents s came sent fd c (alone kept script q d)
 
 -- what is given of the response to the request in progress
@@ -34,10 +36,13 @@ Stands expected q part e = (asked q e ≡ q ∷ []) × (part_of expected e ≡ p
 module _ (site_contents : SiteContents) (kept script : List ℕ) where
   -- what ties it before ties it after, with the one response and the other
   abbrev pub ConsistenciesOn : (expected later : List ℕ) → Answer → (d e : Phase) → Type 0
-  ConsistenciesOn expected later q d e = (k : Connection) (took sent : List ℕ) → ConsistencyAlone site_contents expected k took sent (alone kept script q d) → ConsistencyAlone site_contents later k took sent (alone kept script q e)
+  ConsistenciesOn expected later q d e = (k : Connection) (took sent : List ℕ)
+      → ConsistencyAlone site_contents expected k took sent (alone kept script q d)
+      → ConsistencyAlone site_contents later k took sent (alone kept script q e)
 
   -- where as much is asked and given
-  pub consistency_on : (expected later : List ℕ) (q : Answer) (d e : Phase) → asked q e ≡ asked q d → part_of later e ≡ part_of expected d → quits d ≡ false → quits e ≡ false → ConsistenciesOn expected later q d e
+  pub consistency_on : (expected later : List ℕ) (q : Answer) (d e : Phase) → asked q e ≡ asked q d
+      → part_of later e ≡ part_of expected d → quits d ≡ false → quits e ≡ false → ConsistenciesOn expected later q d e
   consistency_on expected later q d e same_asked same_given busy busy_e k took sent (inl o) = inl (
     busy_e,
     record {
@@ -49,13 +54,16 @@ module _ (site_contents : SiteContents) (kept script : List ℕ) where
       out_is = o.1.out_is ∙ ap (λ (l : List ℕ). o.1.before ++ l) (sym same_given);
     },
   )
-  consistency_on expected later q d e same_asked same_given busy busy_e k took sent (inr (inl h)) = absurd (clash (quits d) h.quits busy)
+  consistency_on expected later q d e same_asked same_given busy busy_e k took sent (inr (inl h)) =
+      absurd (clash (quits d) h.quits busy)
   consistency_on expected later q d e same_asked same_given busy busy_e k took sent (inr (inr g)) = inr (inr g)
 
   -- where nothing more is sent
-  pub hush : (expected later : List ℕ) (q : Answer) (d e : Phase) → quits d ≡ true → quits e ≡ true → ConsistenciesOn expected later q d e
+  pub hush : (expected later : List ℕ) (q : Answer) (d e : Phase) → quits d ≡ true → quits e ≡ true
+      → ConsistenciesOn expected later q d e
   hush expected later q d e quit quit_e k took sent (inl o) = absurd (clash (quits d) quit o.0)
-  hush expected later q d e quit quit_e k took sent (inr (inl h)) = inr (inl (record { quits = quit_e; finished = h.finished; begins = h.begins }))
+  hush expected later q d e quit quit_e k took sent (inr (inl h)) =
+      inr (inl (record { quits = quit_e; finished = h.finished; begins = h.begins }))
   hush expected later q d e quit quit_e k took sent (inr (inr g)) = inr (inr g)
 
   module _ (expected : List ℕ) (q : Answer) (may : MayBeExpected site_contents q expected) where
@@ -64,10 +72,12 @@ module _ (site_contents : SiteContents) (kept script : List ℕ) where
         → drop taken expected ≡ [] → out ≡ before ++ take taken expected → Responds site_contents (done ++ q ∷ []) out
     taken-whole taken done before out were none is =
         subst (λ (l : List ℕ). Responds site_contents (done ++ q ∷ []) l) (sym (is ∙ ap (λ (l : List ℕ). before ++ l)
-        (sym (append-nil (take taken expected)) ∙ (ap (λ (l : List ℕ). take taken expected ++ l) (sym none) ∙ take-append-drop taken expected))))
+        (sym (append-nil (take taken expected))
+        ∙ (ap (λ (l : List ℕ). take taken expected ++ l) (sym none) ∙ take-append-drop taken expected))))
         (responds-more site_contents done q before expected were may)
 
-    pub ends : (a taken : ℕ) → keeps q ≡ true → drop taken expected ≡ [] → ConsistenciesOn expected expected q (Sent a taken None) Rests
+    pub ends : (a taken : ℕ) → keeps q ≡ true → drop taken expected ≡ []
+        → ConsistenciesOn expected expected q (Sent a taken None) Rests
     ends a taken keep none k took sent (inl o) = inl (
       refl,
       record {
@@ -83,11 +93,23 @@ module _ (site_contents : SiteContents) (kept script : List ℕ) where
     ends a taken keep none k took sent (inr (inr g)) = inr (inr g)
 
     -- and is the last one
-    pub ends-last : (a taken : ℕ) → keeps q ≡ false → drop taken expected ≡ [] → ConsistenciesOn expected expected q (Sent a taken None) Closes
+    pub ends-last : (a taken : ℕ) → keeps q ≡ false → drop taken expected ≡ []
+        → ConsistenciesOn expected expected q (Sent a taken None) Closes
     ends-last a taken last none k took sent (inl o) = inr (inl (record {
       quits = refl;
-      finished = record { qs = o.1.done ++ q ∷ []; rest = kept; reads = o.1.reads; order = order-more o.1.done q o.1.open_yet; responds = taken-whole taken o.1.done o.1.before (sent ++ bytes_of k.outgoing) o.1.responds none o.1.out_is; no_more = inl (last-more o.1.done q last) };
-      begins = begins-consistency site_contents k took sent (alone kept script q (Sent a taken None)) expected may (inl o);
+      finished = record {
+        qs = o.1.done ++ q ∷ [];
+        rest = kept;
+        reads = o.1.reads;
+        order =
+            order-more o.1.done q o.1.open_yet;
+        responds =
+            taken-whole taken o.1.done o.1.before (sent ++ bytes_of k.outgoing) o.1.responds none o.1.out_is;
+        no_more =
+            inl (last-more o.1.done q last);
+      };
+      begins = begins-consistency site_contents k took sent (alone kept script q (Sent a taken None)) expected may
+          (inl o);
     }))
     ends-last a taken last none k took sent (inr (inl h)) = absurd (let bad = h.quits in cc (bad))
     ends-last a taken last none k took sent (inr (inr g)) = inr (inr g)

@@ -1,5 +1,6 @@
 -- Each phase of a client without running script, from its next call to its state after the reply.
-use Rattle.std.proofs.Common.{inl, inr, ◌≡◌, ℕ, ◌+◌, ◌==◌, List, [], ◌∷◌, ◌++◌, take, drop, ap, ◌∙◌, refl, sym, subst, Option, Some, None, true, false, Bool, if◌then◌else◌}
+use Rattle.std.proofs.Common.{inl, inr, ◌≡◌, ℕ, ◌+◌, ◌==◌, List, [], ◌∷◌, ◌++◌, take, drop, ap, ◌∙◌, refl, sym, subst}
+use Rattle.std.proofs.Common.{Option, Some, None, true, false, Bool, if◌then◌else◌}
 use Rattle.std.specs.Prelude.{nat_lt, nat_le, ◌||◌, is_some}
 use Rattle.std.specs.List.{list_any}
 use Rattle.iol_core.specs.Text.{bytes_of}
@@ -26,9 +27,12 @@ use Rattle.flash_cgi.specs.declared.line.Line.{Line}
 use Rattle.flash_laws.specs.Answers.{Failed, keeps}
 use Rattle.flash_laws.specs.Client as client
 use Rattle.flash_laws.specs.Client.{is_for_script, conn_wants, conn_after_reply, script_after_reply, file_after_reply}
-use Rattle.flash_laws.specs.Client.Fits.{ConsistencyAlone, expected_in, HasText, Finds, FitsAlone, ConsistencyRun, FitsRun, Fits, made_of, response_to}
+use Rattle.flash_laws.specs.Client.Fits.{ConsistencyAlone, expected_in, HasText, Finds, FitsAlone, ConsistencyRun}
+use Rattle.flash_laws.specs.Client.Fits.{FitsRun, Fits, made_of, response_to}
 use Rattle.flash_laws.specs.Conn as conn
-use Rattle.flash_laws.specs.Conn.{Following, Conn, piece_end, count_of, text_of, sends_of, resolved, after_close_file, after_slice, after_drop_whole, following, headed, after_head, after_join, after_cut, after_swap, proceeds, after_taken, after_break, drops_next, after_drop, after_discard}
+use Rattle.flash_laws.specs.Conn.{Following, Conn, piece_end, count_of, text_of, sends_of, resolved, after_close_file}
+use Rattle.flash_laws.specs.Conn.{after_slice, after_drop_whole, following, headed, after_head, after_join, after_cut}
+use Rattle.flash_laws.specs.Conn.{after_swap, proceeds, after_taken, after_break, drops_next, after_drop, after_discard}
 use Rattle.flash_laws.specs.Workers.WorkerSet.{WorkerSet}
 use Rattle.flash_laws.specs.Conn.Fits.{Has, quits, is_closing, HoldsMore, Names}
 use Rattle.flash_laws.specs.Client.ResponseState as known
@@ -43,7 +47,9 @@ use Rattle.flash_laws.specs.declared.phase.FileResult.TheVariants.{File, Text as
 use Rattle.flash_laws.specs.declared.phase.Payload.{Payload}
 use Rattle.flash_laws.specs.declared.phase.Payload.TheVariants.{Script}
 use Rattle.flash_laws.specs.declared.phase.Phase.{Phase}
-use Rattle.flash_laws.specs.declared.phase.Phase.TheVariants.{Rests, Got, Opens, Reads as Reading, Shuts, Picks, Spares, Heads, Joins, Sends, Cuts, Offers, Swaps, Sent, Breaks, Drops, Closes, Over}
+use Rattle.flash_laws.specs.declared.phase.Phase.TheVariants.{Rests, Got, Opens, Reads as Reading, Shuts, Picks, Spares}
+use Rattle.flash_laws.specs.declared.phase.Phase.TheVariants.{Heads, Joins, Sends, Cuts, Offers, Swaps, Sent, Breaks}
+use Rattle.flash_laws.specs.declared.phase.Phase.TheVariants.{Drops, Closes, Over}
 use Rattle.flash_laws.specs.declared.script_run.Running.TheVariants.{Awaits}
 use Rattle.flash_laws.proofs.Forms.{at}
 use Rattle.flash_laws.proofs.Conn.AnswerParts as having
@@ -51,23 +57,28 @@ use Rattle.flash_laws.proofs.Lists.{clash}
 use Rattle.flash_laws.proofs.World.AllLaws.{AllLaws}
 use Rattle.flash_laws.proofs.World.Alone.Files as files
 use Rattle.flash_laws.proofs.World.Alone.Sends.{sends, offers, rests}
-use Rattle.flash_laws.proofs.World.Alone.Consistencies.{alone, FitsAt, Stands, ConsistenciesOn, consistency_on, hush, ends, ends-last}
+use Rattle.flash_laws.proofs.World.Alone.Consistencies.{alone, FitsAt, Stands, ConsistenciesOn, consistency_on, hush}
+use Rattle.flash_laws.proofs.World.Alone.Consistencies.{ends, ends-last}
 
 some-lines : (o : Option (List Line)) → is_some o ≡ true → (lines : List Line) × (o ≡ Some lines)
 some-lines None is = absurd (cc (is))
 some-lines (Some lines) is = (lines, refl)
 
-module _ (site_contents : SiteContents) (worker_set : WorkerSet) (laws : AllLaws worker_set) (m n : State) (came sent : List ℕ) (fd c : ℕ) (kept script : List ℕ)
+module _ (site_contents : SiteContents) (worker_set : WorkerSet) (laws : AllLaws worker_set) (m n : State)
+    (came sent : List ℕ) (fd c : ℕ) (kept script : List ℕ)
     (order : IsOrderly m) where
   abbrev Fitting : State → Answer → Phase → Type 0
   Fitting = FitsAt site_contents came sent fd c kept script
 
   -- ---- what the phases rest on, of these states
 
-  moves_to : (text : List ℕ) (q : Answer) (d e : Phase) (k : Call) (r : Reply) (later : List ℕ) → MayBeExpected site_contents q later → (f : Fitting m q d)
+  moves_to : (text : List ℕ) (q : Answer) (d e : Phase) (k : Call) (r : Reply) (later : List ℕ)
+      → MayBeExpected site_contents q later → (f : Fitting m q d)
       → StepsTo m (event.Call server k) r n → touches_conn m (event.Call server k) c ≡ false
-      → touches_fd m (event.Call server k) server fd ≡ false → ConsistenciesOn site_contents kept script f.expected later q d e
-      → Has n q (expected_in later q e) e → Finds site_contents n q text e → FitsAlone site_contents n came sent fd c (alone kept text q e)
+      → touches_fd m (event.Call server k) server fd ≡ false
+      → ConsistenciesOn site_contents kept script f.expected later q d e
+      → Has n q (expected_in later q e) e → Finds site_contents n q text e
+      → FitsAlone site_contents n came sent fd c (alone kept text q e)
   moves_to = files.moves_to site_contents worker_set laws m n came sent fd c kept script order
 
   same : (q : Answer) (d : Phase) → Fitting m q d → n ≡ m → Fitting n q d
@@ -76,16 +87,22 @@ module _ (site_contents : SiteContents) (worker_set : WorkerSet) (laws : AllLaws
   goes : (q : Answer) (part : List ℕ) (d e : Phase) (k : Call) (r : Reply) (f : Fitting m q d)
       → StepsTo m (event.Call server k) r n → touches_conn m (event.Call server k) c ≡ false
       → touches_fd m (event.Call server k) server fd ≡ false
-      → Stands f.expected q part d → Stands f.expected q part e → Has n q (expected_in f.expected q e) e → Finds site_contents n q script e → Fitting n q e
-  goes q part d e k r f = files.goes site_contents worker_set laws m n came sent fd c kept script order q part d e k r f.expected f.may f
+      → Stands f.expected q part d → Stands f.expected q part e → Has n q (expected_in f.expected q e) e
+      → Finds site_contents n q script e → Fitting n q e
+  goes q part d e k r f = files.goes site_contents worker_set laws m n came sent fd c kept script order q part d e k r
+      f.expected f.may f
 
-  has_after_reply : (q : Answer) (d : Phase) (r : Reply) (received : List ℕ) → (f : Fitting m q d) → is_opening d ≡ false → is_closing d ≡ false → is_read d ≡ false
+  has_after_reply : (q : Answer) (d : Phase) (r : Reply) (received : List ℕ) → (f : Fitting m q d)
+      → is_opening d ≡ false → is_closing d ≡ false → is_read d ≡ false
       → StepsTo m (event.Call server (conn.wants fd (at kept q d))) r n → Names n r received
-      → Has n q (expected_in f.expected q (conn.after_reply (at kept q d) r received).phase) (conn.after_reply (at kept q d) r received).phase
+      → Has n q (expected_in f.expected q (conn.after_reply (at kept q d) r received).phase)
+      (conn.after_reply (at kept q d) r received).phase
   has_after_reply = files.has_after_reply site_contents worker_set laws m n came sent fd c kept script order
 
-  finds_after_reply : (q : Answer) (d : Phase) (r : Reply) (received : List ℕ) → is_opening d ≡ false → is_read d ≡ false
-      → Finds site_contents m q script d → Finds site_contents n q script (conn.after_reply (at kept q d) r received).phase
+  finds_after_reply : (q : Answer) (d : Phase) (r : Reply) (received : List ℕ) → is_opening d ≡ false
+      → is_read d ≡ false
+      → Finds site_contents m q script d
+      → Finds site_contents n q script (conn.after_reply (at kept q d) r received).phase
   finds_after_reply = files.finds_after_reply site_contents worker_set laws m n came sent fd c kept script order
 
   differ-fds : (g f pos : ℕ) → descriptor m server g ≡ Some (on.File f pos modes.Read)
@@ -98,14 +115,20 @@ module _ (site_contents : SiteContents) (worker_set : WorkerSet) (laws : AllLaws
 
   -- ---- each phase that opens and reads no file
 
-  got : (q : Answer) (a : ℕ) (r : Reply) (received : List ℕ) → Fitting m q (Got a) → StepsTo m (event.Call server (call.AggDrop a)) r n → Names n r received
+  got : (q : Answer) (a : ℕ) (r : Reply) (received : List ℕ) → Fitting m q (Got a)
+      → StepsTo m (event.Call server (call.AggDrop a)) r n → Names n r received
       → Fitting n q (after_discard a r)
   got q a r received f step names =
-      moves_to script q (Got a) (after_discard a r) (call.AggDrop a) r f.expected f.may f step refl refl (consistencies r) (has_after_reply q (Got a) r received f refl refl refl step names) (finds_after_reply q (Got a) r received refl refl f.finds)
+      moves_to script q (Got a) (after_discard a r) (call.AggDrop a) r f.expected f.may f step refl refl
+      (consistencies r) (has_after_reply q (Got a) r received f refl refl refl step names)
+      (finds_after_reply q (Got a) r received refl refl f.finds)
     where
-      consistencies : (r : Reply) → ConsistenciesOn site_contents kept script f.expected f.expected q (Got a) (after_discard a r)
-      consistencies reply.Done = consistency_on site_contents kept script f.expected f.expected q (Got a) Rests refl refl refl refl
-      consistencies r = consistency_on site_contents kept script f.expected f.expected q (Got a) (Got a) refl refl refl refl
+      consistencies : (r : Reply)
+          → ConsistenciesOn site_contents kept script f.expected f.expected q (Got a) (after_discard a r)
+      consistencies reply.Done =
+          consistency_on site_contents kept script f.expected f.expected q (Got a) Rests refl refl refl refl
+      consistencies r = consistency_on site_contents kept script f.expected f.expected q (Got a) (Got a) refl refl refl
+          refl
 
   resolved-stands : (expected : List ℕ) (q : Answer) (k : FileResult) → Stands expected q [] (resolved q k)
   resolved-stands expected (serve w) (File a len) = by (selected w.range len)
@@ -116,71 +139,103 @@ module _ (site_contents : SiteContents) (worker_set : WorkerSet) (laws : AllLaws
   resolved-stands expected (refuse status head_only close) (File a len) = (refl, refl, refl)
   resolved-stands expected q k = (refl, refl, refl)
 
-  shuts-stands : (expected : List ℕ) (q : Answer) (g : ℕ) (k : FileResult) (r : Reply) → Stands expected q [] (after_close_file q g k r)
+  shuts-stands : (expected : List ℕ) (q : Answer) (g : ℕ) (k : FileResult) (r : Reply)
+      → Stands expected q [] (after_close_file q g k r)
   shuts-stands expected q g k reply.Done = resolved-stands expected q k
   shuts-stands expected q g k r = (refl, refl, refl)
 
-  shuts : (q : Answer) (g : ℕ) (k : FileResult) (r : Reply) (received : List ℕ) → is_read (Shuts g k) ≡ false → Fitting m q (Shuts g k)
+  shuts : (q : Answer) (g : ℕ) (k : FileResult) (r : Reply) (received : List ℕ) → is_read (Shuts g k) ≡ false
+      → Fitting m q (Shuts g k)
       → StepsTo m (event.Call server (call.Close g)) r n → Names n r received → Fitting n q (after_close_file q g k r)
   shuts q g k r received unread f step names =
-      goes q [] (Shuts g k) (after_close_file q g k r) (call.Close g) r f step (unused g f.has.0.0 f.has.0.1 f.has.0.2) (differ-fds g f.has.0.0 f.has.0.1 f.has.0.2 f.open_on) (refl, refl, refl) (shuts-stands f.expected q g k r)
-      (has_after_reply q (Shuts g k) r received f refl refl unread step names) (finds_after_reply q (Shuts g k) r received refl unread f.finds)
+      goes q [] (Shuts g k) (after_close_file q g k r) (call.Close g) r f step (unused g f.has.0.0 f.has.0.1 f.has.0.2)
+      (differ-fds g f.has.0.0 f.has.0.1 f.has.0.2 f.open_on) (refl, refl, refl) (shuts-stands f.expected q g k r)
+      (has_after_reply q (Shuts g k) r received f refl refl unread step names)
+      (finds_after_reply q (Shuts g k) r received refl unread f.finds)
 
   -- the text of a script was read
-  shuts_text : (q : Answer) (g a : ℕ) (r : Reply) → Fitting m q (Shuts g (TextOf a true)) → StepsTo m (event.Call server (call.Close g)) r n
+  shuts_text : (q : Answer) (g a : ℕ) (r : Reply) → Fitting m q (Shuts g (TextOf a true))
+      → StepsTo m (event.Call server (call.Close g)) r n
       → Fitting n q (after_close_file q g (TextOf a true) r)
   shuts_text q g a r f step =
-      let on = still q r (having.shuts laws.the.steps laws.the.own m n order q g (TextOf a true) (text_of q Script) r f.has step) f.finds in
-      goes q [] (Shuts g (TextOf a true)) (after_close_file q g (TextOf a true) r) (call.Close g) r f step (unused g f.has.0.0 f.has.0.1 f.has.0.2) (differ-fds g f.has.0.0 f.has.0.1 f.has.0.2 f.open_on) (refl, refl, refl) (shuts-stands f.expected q g (TextOf a true) r)
+      let on =
+      still q r (having.shuts laws.the.steps laws.the.own m n order q g (TextOf a true) (text_of q Script) r f.has
+      step) f.finds in
+      goes q [] (Shuts g (TextOf a true)) (after_close_file q g (TextOf a true) r) (call.Close g) r f step
+      (unused g f.has.0.0 f.has.0.1 f.has.0.2) (differ-fds g f.has.0.0 f.has.0.1 f.has.0.2 f.open_on)
+      (refl, refl, refl) (shuts-stands f.expected q g (TextOf a true) r)
       on.0 on.1
     where
-      still : (q : Answer) (r : Reply) → Has n q (text_of q Script) (after_close_file q g (TextOf a true) r) → HasText site_contents q script
-          → Has n q (expected_in f.expected q (after_close_file q g (TextOf a true) r)) (after_close_file q g (TextOf a true) r) × Finds site_contents n q script (after_close_file q g (TextOf a true) r)
+      still : (q : Answer) (r : Reply) → Has n q (text_of q Script) (after_close_file q g (TextOf a true) r)
+          → HasText site_contents q script
+          → Has n q (expected_in f.expected q (after_close_file q g (TextOf a true) r))
+          (after_close_file q g (TextOf a true) r)
+          × Finds site_contents n q script (after_close_file q g (TextOf a true) r)
       still (serve w) reply.Done has text = (has, text)
       still (refuse status head_only close) reply.Done has text = (has, text)
       still q r has text = (has, text)
 
   picks : (q : Answer) (a first to len : ℕ) (r : Reply) (received : List ℕ) → Fitting m q (Picks a first to len)
-      → StepsTo m (event.Call server (call.AggCut a first to)) r n → Names n r received → Fitting n q (after_slice a first to len r)
+      → StepsTo m (event.Call server (call.AggCut a first to)) r n → Names n r received
+      → Fitting n q (after_slice a first to len r)
   picks q a first to len r received f step names =
-      goes q [] (Picks a first to len) (after_slice a first to len r) (call.AggCut a first to) r f step refl refl (refl, refl, refl) (stands r)
-      (has_after_reply q (Picks a first to len) r received f refl refl refl step names) (finds_after_reply q (Picks a first to len) r received refl refl f.finds)
+      goes q [] (Picks a first to len) (after_slice a first to len r) (call.AggCut a first to) r f step refl refl
+      (refl, refl, refl) (stands r)
+      (has_after_reply q (Picks a first to len) r received f refl refl refl step names)
+      (finds_after_reply q (Picks a first to len) r received refl refl f.finds)
     where
       stands : (r : Reply) → Stands f.expected q [] (after_slice a first to len r)
       stands (reply.Agg x) = (refl, refl, refl)
       stands r = (refl, refl, refl)
 
-  spares : (q : Answer) (a : ℕ) (k : Payload) (r : Reply) (received : List ℕ) → is_read (Spares a k) ≡ false → Fitting m q (Spares a k)
+  spares : (q : Answer) (a : ℕ) (k : Payload) (r : Reply) (received : List ℕ) → is_read (Spares a k) ≡ false
+      → Fitting m q (Spares a k)
       → StepsTo m (event.Call server (call.AggDrop a)) r n → Names n r received → Fitting n q (after_drop_whole a k r)
   spares q a k r received unread f step names =
       goes q [] (Spares a k) (after_drop_whole a k r) (call.AggDrop a) r f step refl refl (refl, refl, refl) (stands r)
-      (has_after_reply q (Spares a k) r received f refl refl unread step names) (finds_after_reply q (Spares a k) r received refl unread f.finds)
+      (has_after_reply q (Spares a k) r received f refl refl unread step names)
+      (finds_after_reply q (Spares a k) r received refl unread f.finds)
     where
       stands : (r : Reply) → Stands f.expected q [] (after_drop_whole a k r)
       stands reply.Done = (refl, refl, refl)
       stands r = (refl, refl, refl)
 
   -- the text that was read is dropped: but for HEAD the script begins to run
-  runs : (process_slots : List (ProcessSlot worker_set.Worker)) (q : Answer) (a : ℕ) (r : Reply) (received : List ℕ) → Fitting m q (Spares a Script)
-      → StepsTo m (event.Call server (call.AggDrop a)) r n → Fits site_contents worker_set n came sent fd c (script_after_reply (alone kept script q (Spares a Script)) r received) process_slots
+  runs : (process_slots : List (ProcessSlot worker_set.Worker)) (q : Answer) (a : ℕ) (r : Reply) (received : List ℕ)
+      → Fitting m q (Spares a Script)
+      → StepsTo m (event.Call server (call.AggDrop a)) r n
+      → Fits site_contents worker_set n came sent fd c
+      (script_after_reply (alone kept script q (Spares a Script)) r received) process_slots
   runs process_slots (refuse status head_only close) a r received f step = absurd (let bad = f.finds.asks in cc (bad))
-  runs process_slots (serve w) a r received f step = by w.head_only r refl (laws.the.own.drops m n server a r order step) step
+  runs process_slots (serve w) a r received f step =
+      by w.head_only r refl (laws.the.own.drops m n server a r order step) step
     where
       may : MayPutOut w.head_only w nothing_yet (expected_to site_contents (serve w))
-      may = subst (λ (t : Bool). known.MayAnswer (serve w) (if t then OfScript f.finds.text nothing_yet else OfFile (Failed 500)) (expected_to site_contents (serve w))) f.finds.runs
-          (laws.expected.read site_contents.scripts site_contents.finds site_contents.shows w f.finds.text f.finds.asks f.finds.found)
+      may =
+          subst
+          (λ (t : Bool). known.MayAnswer (serve w)
+          (if t then OfScript f.finds.text nothing_yet else OfFile (Failed 500)) (expected_to site_contents (serve w)))
+          f.finds.runs
+          (laws.expected.read site_contents.scripts site_contents.finds site_contents.shows w f.finds.text f.finds.asks
+          f.finds.found)
 
       may_be : (b : Bool) → w.head_only ≡ b → MayPutOut b w nothing_yet (expected_to site_contents (serve w))
       may_be b is = subst (λ (t : Bool). MayPutOut t w nothing_yet (expected_to site_contents (serve w))) is may
 
-      consistencies : (k : Connection) (took sent : List ℕ) → w.head_only ≡ false → ConsistencyAlone site_contents f.expected k took sent (alone kept script (serve w) (Spares a Script))
+      consistencies : (k : Connection) (took sent : List ℕ) → w.head_only ≡ false
+          → ConsistencyAlone site_contents f.expected k took sent (alone kept script (serve w) (Spares a Script))
           → ConsistencyRun site_contents (expected_to site_contents (serve w)) k took sent kept w nothing_yet Awaits
       consistencies k took sent get (inl owes) = inl (record { answers = owes.1; may = may_be false get; whole = refl })
       consistencies k took sent get (inr (inl finished)) = absurd (let bad = finished.quits in cc (bad))
       consistencies k took sent get (inr (inr gone)) = inr gone
 
       begins : w.head_only ≡ false → StepsTo m (event.Call server (call.AggDrop a)) reply.Done n
-          → FitsRun site_contents worker_set n came sent fd c (record { conn = at kept (serve w) (Heads Script); run = Some Awaits; script = script }) Awaits process_slots
+          → FitsRun site_contents worker_set n came sent fd c (record {
+            conn = at kept (serve w) (Heads Script);
+            run =
+                Some Awaits;
+            script = script;
+          }) Awaits process_slots
       begins get step =
           let leaves = laws.the.steps.leaves m n (event.Call server (call.AggDrop a)) reply.Done step in
           let conn = leaves.conns c refl in
@@ -193,7 +248,18 @@ module _ (site_contents : SiteContents) (worker_set : WorkerSet) (laws : AllLaws
             took = f.took;
             came_is = f.came_is ∙ ap (λ (x : Connection). f.took ++ bytes_of x.incoming) (sym conn);
             wanted = w;
-            script = record { asks = refl; stands = refl; get = get; is_for = f.finds.asks; text = f.finds.text; found = f.finds.found; lines = lines.0; is_script = lines.1; proper = f.proper };
+            script = record {
+              asks = refl;
+              stands = refl;
+              get = get;
+              is_for = f.finds.asks;
+              text = f.finds.text;
+              found =
+                  f.finds.found;
+              lines = lines.0;
+              is_script = lines.1;
+              proper = f.proper;
+            };
             shown = shown;
             may_show = all-show site_contents shown;
             fresh = λ starts. refl;
@@ -201,20 +267,34 @@ module _ (site_contents : SiteContents) (worker_set : WorkerSet) (laws : AllLaws
             so_far = nothing_yet;
             has = refl;
             ongoing = refl;
-            consistency = subst (λ (l : List ℕ). ConsistencyRun site_contents l (conn_at n c) f.took sent kept w nothing_yet Awaits) is_expected
-                (subst (λ (x : Connection). ConsistencyRun site_contents (expected_to site_contents (serve w)) x f.took sent kept w nothing_yet Awaits) (sym conn) (consistencies (conn_at m c) f.took sent get f.consistency));
+            consistency =
+                subst (λ (l : List ℕ). ConsistencyRun site_contents l (conn_at n c) f.took sent kept w nothing_yet
+                Awaits) is_expected
+                (subst (λ (x : Connection). ConsistencyRun site_contents (expected_to site_contents (serve w)) x f.took
+                sent kept w nothing_yet Awaits) (sym conn)
+                (consistencies (conn_at m c) f.took sent get f.consistency));
             job_queue = tt;
           }
 
-      by : (b : Bool) (r : Reply) → w.head_only ≡ b → o.Drops m server a r n → StepsTo m (event.Call server (call.AggDrop a)) r n
-          → Fits site_contents worker_set n came sent fd c (record { conn = at kept (serve w) (after_drop_whole a Script r); run = client.after_drop_whole b r; script = script }) process_slots
+      by : (b : Bool) (r : Reply) → w.head_only ≡ b → o.Drops m server a r n
+          → StepsTo m (event.Call server (call.AggDrop a)) r n
+          → Fits site_contents worker_set n came sent fd c
+          (record {
+            conn = at kept (serve w) (after_drop_whole a Script r);
+            run = client.after_drop_whole b r;
+            script = script;
+          }) process_slots
       by true reply.Done is did step =
-          files.goes site_contents worker_set laws m n came sent fd c kept script order (serve w) [] (Spares a Script) (Heads Script) (call.AggDrop a) reply.Done (expected_to site_contents (serve w)) (expected-may site_contents (serve w)) f step refl refl (refl, refl, refl) (refl, refl, refl) (may_be true is) tt
+          files.goes site_contents worker_set laws m n came sent fd c kept script order (serve w) [] (Spares a Script)
+          (Heads Script) (call.AggDrop a) reply.Done (expected_to site_contents (serve w))
+          (expected-may site_contents (serve w)) f step refl refl (refl, refl, refl) (refl, refl, refl)
+          (may_be true is) tt
       by false reply.Done is did step = begins is step
       by other (reply.Refused y) is did step = same (serve w) (Spares a Script) f did
       by b r is did step = absurd did
 
-  headed-stands : (expected : List ℕ) (q : Answer) (a size : ℕ) (more : Following) → Stands expected q [] (headed a size more)
+  headed-stands : (expected : List ℕ) (q : Answer) (a size : ℕ) (more : Following)
+      → Stands expected q [] (headed a size more)
   headed-stands expected q a size None = (refl, refl, refl)
   headed-stands expected q a size (Some x) = by (nat_le (size + x.1) MAX_AGGREGATE_BYTES)
     where
@@ -223,54 +303,75 @@ module _ (site_contents : SiteContents) (worker_set : WorkerSet) (laws : AllLaws
       by false = (refl, refl, refl)
 
   heads : (q : Answer) (k : Payload) (r : Reply) (received : List ℕ) → Fitting m q (Heads k)
-      → StepsTo m (event.Call server (call.AggMake (text_of q k))) r n → Names n r received → Fitting n q (after_head k r received)
+      → StepsTo m (event.Call server (call.AggMake (text_of q k))) r n → Names n r received
+      → Fitting n q (after_head k r received)
   heads q k r received f step names =
-      goes q [] (Heads k) (after_head k r received) (call.AggMake (text_of q k)) r f step refl refl (refl, refl, refl) (stands r)
-      (has_after_reply q (Heads k) r received f refl refl refl step names) (finds_after_reply q (Heads k) r received refl refl f.finds)
+      goes q [] (Heads k) (after_head k r received) (call.AggMake (text_of q k)) r f step refl refl (refl, refl, refl)
+      (stands r)
+      (has_after_reply q (Heads k) r received f refl refl refl step names)
+      (finds_after_reply q (Heads k) r received refl refl f.finds)
     where
       stands : (r : Reply) → Stands f.expected q [] (after_head k r received)
       stands (reply.Agg x) = headed-stands f.expected q x (count_of received) (following k)
       stands r = (refl, refl, refl)
 
   joins : (q : Answer) (a size b len : ℕ) (r : Reply) (received : List ℕ) → Fitting m q (Joins a size b len)
-      → StepsTo m (event.Call server (call.AggJoin a b)) r n → Names n r received → Fitting n q (after_join a size b len r)
+      → StepsTo m (event.Call server (call.AggJoin a b)) r n → Names n r received
+      → Fitting n q (after_join a size b len r)
   joins q a size b len r received f step names =
-      goes q [] (Joins a size b len) (after_join a size b len r) (call.AggJoin a b) r f step refl refl (refl, refl, refl) (stands r)
-      (has_after_reply q (Joins a size b len) r received f refl refl refl step names) (finds_after_reply q (Joins a size b len) r received refl refl f.finds)
+      goes q [] (Joins a size b len) (after_join a size b len r) (call.AggJoin a b) r f step refl refl
+      (refl, refl, refl) (stands r)
+      (has_after_reply q (Joins a size b len) r received f refl refl refl step names)
+      (finds_after_reply q (Joins a size b len) r received refl refl f.finds)
     where
       stands : (r : Reply) → Stands f.expected q [] (after_join a size b len r)
       stands (reply.Agg x) = (refl, refl, refl)
       stands r = (refl, refl, refl)
 
-  cuts : (q : Answer) (a from len taken : ℕ) (more : Following) (r : Reply) (received : List ℕ) → Fitting m q (Cuts a from len taken more)
-      → StepsTo m (event.Call server (call.AggCut a from (piece_end from len))) r n → Names n r received → Fitting n q (after_cut a from len taken more r)
+  cuts : (q : Answer) (a from len taken : ℕ) (more : Following) (r : Reply) (received : List ℕ)
+      → Fitting m q (Cuts a from len taken more)
+      → StepsTo m (event.Call server (call.AggCut a from (piece_end from len))) r n → Names n r received
+      → Fitting n q (after_cut a from len taken more r)
   cuts q a from len taken more r received f step names =
-      goes q (take taken f.expected) (Cuts a from len taken more) (after_cut a from len taken more r) (call.AggCut a from (piece_end from len)) r f step refl refl (refl, refl, refl) (stands r)
-      (has_after_reply q (Cuts a from len taken more) r received f refl refl refl step names) (finds_after_reply q (Cuts a from len taken more) r received refl refl f.finds)
+      goes q (take taken f.expected) (Cuts a from len taken more) (after_cut a from len taken more r)
+      (call.AggCut a from (piece_end from len)) r f step refl refl (refl, refl, refl) (stands r)
+      (has_after_reply q (Cuts a from len taken more) r received f refl refl refl step names)
+      (finds_after_reply q (Cuts a from len taken more) r received refl refl f.finds)
     where
       stands : (r : Reply) → Stands f.expected q (take taken f.expected) (after_cut a from len taken more r)
       stands (reply.Agg x) = (refl, refl, refl)
       stands r = (refl, refl, refl)
 
-  swaps : (q : Answer) (a from len piece taken : ℕ) (more : Following) (r : Reply) (received : List ℕ) → Fitting m q (Swaps a from len piece taken more)
-      → StepsTo m (event.Call server (call.AggDrop piece)) r n → Names n r received → Fitting n q (after_swap a from len piece taken more r)
+  swaps : (q : Answer) (a from len piece taken : ℕ) (more : Following) (r : Reply) (received : List ℕ)
+      → Fitting m q (Swaps a from len piece taken more)
+      → StepsTo m (event.Call server (call.AggDrop piece)) r n → Names n r received
+      → Fitting n q (after_swap a from len piece taken more r)
   swaps q a from len piece taken more r received f step names =
-      goes q (take taken f.expected) (Swaps a from len piece taken more) (after_swap a from len piece taken more r) (call.AggDrop piece) r f step refl refl (refl, refl, refl) (stands r)
-      (has_after_reply q (Swaps a from len piece taken more) r received f refl refl refl step names) (finds_after_reply q (Swaps a from len piece taken more) r received refl refl f.finds)
+      goes q (take taken f.expected) (Swaps a from len piece taken more) (after_swap a from len piece taken more r)
+      (call.AggDrop piece) r f step refl refl (refl, refl, refl) (stands r)
+      (has_after_reply q (Swaps a from len piece taken more) r received f refl refl refl step names)
+      (finds_after_reply q (Swaps a from len piece taken more) r received refl refl f.finds)
     where
       stands : (r : Reply) → Stands f.expected q (take taken f.expected) (after_swap a from len piece taken more r)
       stands reply.Done = by (nat_lt from len)
         where
-          by : (b : Bool) → Stands f.expected q (take taken f.expected) (if b then Cuts a from len taken more else Sent a taken more)
+          by : (b : Bool)
+              → Stands f.expected q (take taken f.expected)
+              (if b then Cuts a from len taken more else Sent a taken more)
           by true = (refl, refl, refl)
           by false = (refl, refl, refl)
       stands r = (refl, refl, refl)
 
-  breaks : (q : Answer) (piece a : ℕ) (more : Following) (r : Reply) (received : List ℕ) → Fitting m q (Breaks piece a more)
-      → StepsTo m (event.Call server (call.AggDrop piece)) r n → Names n r received → Fitting n q (after_break piece a more r)
+  breaks : (q : Answer) (piece a : ℕ) (more : Following) (r : Reply) (received : List ℕ)
+      → Fitting m q (Breaks piece a more)
+      → StepsTo m (event.Call server (call.AggDrop piece)) r n → Names n r received
+      → Fitting n q (after_break piece a more r)
   breaks q piece a more r received f step names =
-      moves_to script q (Breaks piece a more) (after_break piece a more r) (call.AggDrop piece) r f.expected f.may f step refl refl (hush site_contents kept script f.expected f.expected q (Breaks piece a more) (after_break piece a more r) refl (ending r))
-      (has_after_reply q (Breaks piece a more) r received f refl refl refl step names) (finds_after_reply q (Breaks piece a more) r received refl refl f.finds)
+      moves_to script q (Breaks piece a more) (after_break piece a more r) (call.AggDrop piece) r f.expected f.may f
+      step refl refl (hush site_contents kept script f.expected f.expected q (Breaks piece a more)
+      (after_break piece a more r) refl (ending r))
+      (has_after_reply q (Breaks piece a more) r received f refl refl refl step names)
+      (finds_after_reply q (Breaks piece a more) r received refl refl f.finds)
     where
       ending : (r : Reply) → quits (after_break piece a more r) ≡ true
       ending reply.Done = refl
@@ -279,8 +380,10 @@ module _ (site_contents : SiteContents) (worker_set : WorkerSet) (laws : AllLaws
   drops : (q : Answer) (a : ℕ) (more : Following) (r : Reply) (received : List ℕ) → Fitting m q (Drops a more)
       → StepsTo m (event.Call server (call.AggDrop a)) r n → Names n r received → Fitting n q (after_drop a more r)
   drops q a more r received f step names =
-      moves_to script q (Drops a more) (after_drop a more r) (call.AggDrop a) r f.expected f.may f step refl refl (hush site_contents kept script f.expected f.expected q (Drops a more) (after_drop a more r) refl (ending r))
-      (has_after_reply q (Drops a more) r received f refl refl refl step names) (finds_after_reply q (Drops a more) r received refl refl f.finds)
+      moves_to script q (Drops a more) (after_drop a more r) (call.AggDrop a) r f.expected f.may f step refl refl
+      (hush site_contents kept script f.expected f.expected q (Drops a more) (after_drop a more r) refl (ending r))
+      (has_after_reply q (Drops a more) r received f refl refl refl step names)
+      (finds_after_reply q (Drops a more) r received refl refl f.finds)
     where
       next : (more : Following) → quits (drops_next more) ≡ true
       next None = refl
@@ -290,23 +393,36 @@ module _ (site_contents : SiteContents) (worker_set : WorkerSet) (laws : AllLaws
       ending reply.Done = next more
       ending r = refl
 
-  sent_all : (q : Answer) (a taken : ℕ) (more : Following) (r : Reply) (received : List ℕ) → Fitting m q (Sent a taken more)
-      → StepsTo m (event.Call server (call.AggDrop a)) r n → Names n r received → Fitting n q (after_taken q a taken more r)
+  sent_all : (q : Answer) (a taken : ℕ) (more : Following) (r : Reply) (received : List ℕ)
+      → Fitting m q (Sent a taken more)
+      → StepsTo m (event.Call server (call.AggDrop a)) r n → Names n r received
+      → Fitting n q (after_taken q a taken more r)
   sent_all q a taken more r received f step names =
-      moves_to script q (Sent a taken more) (after_taken q a taken more r) (call.AggDrop a) r f.expected f.may f step refl refl (consistencies r)
-      (has_after_reply q (Sent a taken more) r received f refl refl refl step names) (finds_after_reply q (Sent a taken more) r received refl refl f.finds)
+      moves_to script q (Sent a taken more) (after_taken q a taken more r) (call.AggDrop a) r f.expected f.may f step
+      refl refl (consistencies r)
+      (has_after_reply q (Sent a taken more) r received f refl refl refl step names)
+      (finds_after_reply q (Sent a taken more) r received refl refl f.finds)
     where
-      ended : (b : Bool) → keeps q ≡ b → drop taken f.expected ≡ [] → ConsistenciesOn site_contents kept script f.expected f.expected q (Sent a taken None) (if b then Rests else Closes)
+      ended : (b : Bool) → keeps q ≡ b → drop taken f.expected ≡ []
+          → ConsistenciesOn site_contents kept script f.expected f.expected q (Sent a taken None)
+          (if b then Rests else Closes)
       ended true keep none = ends site_contents kept script f.expected q f.may a taken keep none
       ended false keep none = ends-last site_contents kept script f.expected q f.may a taken keep none
 
-      after : (more : Following) → HoldsMore m f.expected a taken more → ConsistenciesOn site_contents kept script f.expected f.expected q (Sent a taken more) (proceeds q taken more)
-      after (Some x) h = consistency_on site_contents kept script f.expected f.expected q (Sent a taken (Some x)) (Sends x.0 x.1 taken None) refl refl refl refl
+      after : (more : Following) → HoldsMore m f.expected a taken more
+          → ConsistenciesOn site_contents kept script f.expected f.expected q (Sent a taken more)
+          (proceeds q taken more)
+      after (Some x) h = consistency_on site_contents kept script f.expected f.expected q (Sent a taken (Some x))
+          (Sends x.0 x.1 taken None) refl refl refl refl
       after None h = ended (keeps q) refl (sym h.next ∙ h.follows)
 
-      consistencies : (r : Reply) → ConsistenciesOn site_contents kept script f.expected f.expected q (Sent a taken more) (after_taken q a taken more r)
+      consistencies : (r : Reply)
+          → ConsistenciesOn site_contents kept script f.expected f.expected q (Sent a taken more)
+          (after_taken q a taken more r)
       consistencies reply.Done = after more f.has
-      consistencies r = consistency_on site_contents kept script f.expected f.expected q (Sent a taken more) (Sent a taken more) refl refl refl refl
+      consistencies r =
+          consistency_on site_contents kept script f.expected f.expected q (Sent a taken more) (Sent a taken more) refl
+          refl refl refl
 
   -- ---- any call of it but the last
 
@@ -316,39 +432,67 @@ module _ (site_contents : SiteContents) (worker_set : WorkerSet) (laws : AllLaws
   is_of_text (Spares a Script) = true
   is_of_text d = false
 
-  phase : (q : Answer) (d : Phase) (r : Reply) (received : List ℕ) → is_of_text d ≡ false → IsFixed site_contents.finds m → Fitting m q d
+  phase : (q : Answer) (d : Phase) (r : Reply) (received : List ℕ) → is_of_text d ≡ false
+      → IsFixed site_contents.finds m → Fitting m q d
       → conn.IsAwaiting (at kept q d) → is_closing d ≡ false → IsAmong site_contents.refuses.of_server r
-      → StepsTo m (event.Call server (conn.wants fd (at kept q d))) r n → Names n r received → FitsAlone site_contents n came sent fd c (conn_after_reply (alone kept script q d) r received)
-  phase q Rests r received plain fixed f waits busy undisturbed step names = rests site_contents laws.the m n came sent fd c kept script order q r received f waits step names
+      → StepsTo m (event.Call server (conn.wants fd (at kept q d))) r n → Names n r received
+      → FitsAlone site_contents n came sent fd c (conn_after_reply (alone kept script q d) r received)
+  phase q Rests r received plain fixed f waits busy undisturbed step names =
+      rests site_contents laws.the m n came sent fd c kept script order q r received f waits step names
   phase q (Got a) r received plain fixed f waits busy undisturbed step names = got q a r received f step names
-  phase q Opens r received plain fixed f waits busy undisturbed step names = files.opens site_contents worker_set laws m n came sent fd c kept script order q r received fixed f undisturbed step
+  phase q Opens r received plain fixed f waits busy undisturbed step names =
+      files.opens site_contents worker_set laws m n came sent fd c kept script order q r received fixed f undisturbed
+      step
   phase q (Reading g) r received plain fixed f waits busy undisturbed step names = absurd (cc (plain))
-  phase q (Shuts g (TextOf a true)) r received plain fixed f waits busy undisturbed step names = shuts_text q g a r f step
-  phase q (Shuts g k) r received plain fixed f waits busy undisturbed step names = shuts q g k r received refl f step names
-  phase q (Picks a first last len) r received plain fixed f waits busy undisturbed step names = picks q a first last len r received f step names
+  phase q (Shuts g (TextOf a true)) r received plain fixed f waits busy undisturbed step names =
+      shuts_text q g a r f step
+  phase q (Shuts g k) r received plain fixed f waits busy undisturbed step names =
+      shuts q g k r received refl f step names
+  phase q (Picks a first last len) r received plain fixed f waits busy undisturbed step names =
+      picks q a first last len r received f step names
   phase q (Spares a Script) r received plain fixed f waits busy undisturbed step names = absurd (cc (plain))
-  phase q (Spares a k) r received plain fixed f waits busy undisturbed step names = spares q a k r received refl f step names
+  phase q (Spares a k) r received plain fixed f waits busy undisturbed step names =
+      spares q a k r received refl f step names
   phase q (Heads k) r received plain fixed f waits busy undisturbed step names = heads q k r received f step names
-  phase q (Joins a size body len) r received plain fixed f waits busy undisturbed step names = joins q a size body len r received f step names
+  phase q (Joins a size body len) r received plain fixed f waits busy undisturbed step names =
+      joins q a size body len r received f step names
   phase q (Sends a len taken more) r received plain fixed f waits busy undisturbed step names =
-      sends site_contents laws.the m n came sent fd c kept script order q a len taken more r f step (has_after_reply q (Sends a len taken more) r received f refl refl refl step names) (finds_after_reply q (Sends a len taken more) r received refl refl f.finds)
-  phase q (Cuts a from len taken more) r received plain fixed f waits busy undisturbed step names = cuts q a from len taken more r received f step names
+      sends site_contents laws.the m n came sent fd c kept script order q a len taken more r f step
+      (has_after_reply q (Sends a len taken more) r received f refl refl refl step names)
+      (finds_after_reply q (Sends a len taken more) r received refl refl f.finds)
+  phase q (Cuts a from len taken more) r received plain fixed f waits busy undisturbed step names =
+      cuts q a from len taken more r received f step names
   phase q (Offers a from len piece taken more) r received plain fixed f waits busy undisturbed step names =
-      offers site_contents laws.the m n came sent fd c kept script order q a from len piece taken more r f step (has_after_reply q (Offers a from len piece taken more) r received f refl refl refl step names) (finds_after_reply q (Offers a from len piece taken more) r received refl refl f.finds)
-  phase q (Swaps a from len piece taken more) r received plain fixed f waits busy undisturbed step names = swaps q a from len piece taken more r received f step names
-  phase q (Sent a taken more) r received plain fixed f waits busy undisturbed step names = sent_all q a taken more r received f step names
-  phase q (Breaks piece a more) r received plain fixed f waits busy undisturbed step names = breaks q piece a more r received f step names
-  phase q (Drops a more) r received plain fixed f waits busy undisturbed step names = drops q a more r received f step names
+      offers site_contents laws.the m n came sent fd c kept script order q a from len piece taken more r f step
+      (has_after_reply q (Offers a from len piece taken more) r received f refl refl refl step names)
+      (finds_after_reply q (Offers a from len piece taken more) r received refl refl f.finds)
+  phase q (Swaps a from len piece taken more) r received plain fixed f waits busy undisturbed step names =
+      swaps q a from len piece taken more r received f step names
+  phase q (Sent a taken more) r received plain fixed f waits busy undisturbed step names =
+      sent_all q a taken more r received f step names
+  phase q (Breaks piece a more) r received plain fixed f waits busy undisturbed step names =
+      breaks q piece a more r received f step names
+  phase q (Drops a more) r received plain fixed f waits busy undisturbed step names =
+      drops q a more r received f step names
   phase q Closes r received plain fixed f waits busy undisturbed step names = absurd (cc (busy))
   phase q Over r received plain fixed f waits busy undisturbed step names = absurd (cc (busy))
 
-  pub alone_phase : (process_slots : List (ProcessSlot worker_set.Worker)) (b : Bool) (q : Answer) (d : Phase) (r : Reply) (received : List ℕ)
+  pub alone_phase : (process_slots : List (ProcessSlot worker_set.Worker)) (b : Bool) (q : Answer) (d : Phase)
+      (r : Reply) (received : List ℕ)
       → is_for_script site_contents.scripts q ≡ b → IsFixed site_contents.finds m → Fitting m q d
       → conn.IsAwaiting (at kept q d) → is_closing d ≡ false → IsAmong site_contents.refuses.of_server r
       → StepsTo m (event.Call server (conn_wants b fd (at kept q d))) r n → Names n r received
-      → Fits site_contents worker_set n came sent fd c (file_after_reply b (alone kept script q d) r received) process_slots
-  alone_phase process_slots false q (Reading g) r received is fixed f waits busy undisturbed step names = files.reads site_contents worker_set laws m n came sent fd c kept script order q g r received is fixed f undisturbed step names
-  alone_phase process_slots false q (Spares a Script) r received is fixed f waits busy undisturbed step names = absurd (clash (is_for_script site_contents.scripts q) f.finds.asks is)
-  alone_phase process_slots true q (Reading g) r received is fixed f waits busy undisturbed step names = files.reads_text site_contents worker_set laws m n came sent fd c kept script order q g r received is fixed f undisturbed step names
-  alone_phase process_slots true q (Spares a Script) r received is fixed f waits busy undisturbed step names = runs process_slots q a r received f step
-  alone_phase process_slots b q d r received is fixed f waits busy undisturbed step names = phase q d r received refl fixed f waits busy undisturbed step names
+      → Fits site_contents worker_set n came sent fd c (file_after_reply b (alone kept script q d) r received)
+      process_slots
+  alone_phase process_slots false q (Reading g) r received is fixed f waits busy undisturbed step names =
+      files.reads site_contents worker_set laws m n came sent fd c kept script order q g r received is fixed f
+      undisturbed step names
+  alone_phase process_slots false q (Spares a Script) r received is fixed f waits busy undisturbed step names =
+      absurd (clash (is_for_script site_contents.scripts q) f.finds.asks is)
+  alone_phase process_slots true q (Reading g) r received is fixed f waits busy undisturbed step names =
+      files.reads_text site_contents worker_set laws m n came sent fd c kept script order q g r received is fixed f
+      undisturbed step names
+  alone_phase process_slots true q (Spares a Script) r received is fixed f waits busy undisturbed step names =
+      runs process_slots q a r received f step
+  alone_phase process_slots b q d r received is fixed f waits busy undisturbed step names =
+      phase q d r received refl fixed f waits busy undisturbed step names

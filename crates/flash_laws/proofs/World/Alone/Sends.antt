@@ -1,5 +1,7 @@
 -- Writes and reads of a client without running script.
-use Rattle.std.proofs.Common.{inl, inr, ◌≡◌, ℕ, ◌+◌, ◌-◌, ◌==◌, ◌<◌, ◌≤◌, List, [], ◌∷◌, ◌++◌, length, take, drop, ap, ◌∙◌, refl, sym, subst, arith, Some, None, true, false, Bool, append_assoc, append-nil, if◌then◌else◌}
+use Rattle.std.proofs.Common.{inl, inr, ◌≡◌, ℕ, ◌+◌, ◌-◌, ◌==◌, ◌<◌, ◌≤◌, List, [], ◌∷◌, ◌++◌, length, take, drop, ap}
+use Rattle.std.proofs.Common.{◌∙◌, refl, sym, subst, arith, Some, None, true, false, Bool, append_assoc, append-nil}
+use Rattle.std.proofs.Common.{if◌then◌else◌}
 use Rattle.std.specs.Prelude.{min, nat_lt, ◌&&◌, slice_range}
 use Rattle.std.proofs.lemmas.Bool.Decides.{nat_tests}
 use Rattle.iol_core.specs.Text.{Text, bytes_of}
@@ -37,7 +39,8 @@ use Rattle.flash_laws.proofs.TheLaws.{TheLaws}
 use Rattle.flash_laws.proofs.World.Alone.Consistencies.{alone, FitsAt, part_of, Stands}
 use Rattle.flash_laws.proofs.World.Responses.{begins-append, begins-consistency}
 
-module _ (site_contents : SiteContents) (the : TheLaws) (m n : State) (came sent : List ℕ) (fd c : ℕ) (kept script : List ℕ) (order : IsOrderly m) where
+module _ (site_contents : SiteContents) (the : TheLaws) (m n : State) (came sent : List ℕ) (fd c : ℕ)
+    (kept script : List ℕ) (order : IsOrderly m) where
   abbrev Fitting : State → Answer → Phase → Type 0
   Fitting = FitsAt site_contents came sent fd c kept script
 
@@ -49,7 +52,9 @@ module _ (site_contents : SiteContents) (the : TheLaws) (m n : State) (came sent
       → descriptor m server fd ≡ Some (on.Connection c)
       → touches_fd m (event.Call server k) server fd ≡ is_file (descriptor m server fd)
       → descriptor n server fd ≡ Some (on.Connection c)
-  open_still k r step open_on is = (the.steps.leaves m n (event.Call server k) r step).fds server fd (on.Connection c) open_on (is ∙ ap is_file open_on)
+  open_still k r step open_on is =
+      (the.steps.leaves m n (event.Call server k) r step).fds server fd (on.Connection c) open_on (is
+      ∙ ap is_file open_on)
 
   itself : (a : ℕ) (b : Bool) → ((a == a) && b) ≡ b
   itself a b = grind (arith, nat_tests)
@@ -61,12 +66,15 @@ module _ (site_contents : SiteContents) (the : TheLaws) (m n : State) (came sent
       → Stands f.expected q (take taken f.expected) d → Stands f.expected q (take (taken + k) f.expected) e
       → Has n q (expected_in f.expected q e) e → Finds site_contents n q script e → Fitting n q e
   took_on q d e a taken k bytes f step puts front was stands has finds = record {
-    open_on = open_still (call.IolWrite fd a) (reply.Count k) step f.open_on (itself fd (is_file (descriptor m server fd)));
+    open_on =
+        open_still (call.IolWrite fd a) (reply.Count k) step f.open_on (itself fd (is_file (descriptor m server fd)));
     took = f.took;
     expected = f.expected;
     may = f.may;
     came_is = f.came_is ∙ ap (λ (x : Connection). f.took ++ bytes_of x.incoming) (sym puts.conn);
-    consistency = subst (λ (x : Connection). ConsistencyAlone site_contents f.expected x f.took sent (alone kept script q e)) (sym puts.conn) (consistent f.consistency);
+    consistency =
+        subst (λ (x : Connection). ConsistencyAlone site_contents f.expected x f.took sent (alone kept script q e))
+        (sym puts.conn) (consistent f.consistency);
     has = has;
     finds = finds;
     proper = f.proper;
@@ -80,13 +88,16 @@ module _ (site_contents : SiteContents) (the : TheLaws) (m n : State) (came sent
           → sent ++ bytes_of (conn_at m c).outgoing ≡ before ++ take taken f.expected
           → sent ++ bytes_of ((conn_at m c).outgoing ++ puts.text) ≡ before ++ part_of f.expected e
       out before is =
-          ap (λ (l : List ℕ). sent ++ l) (bytes-append (conn_at m c).outgoing puts.text ∙ ap (λ (l : List ℕ). bytes_of (conn_at m c).outgoing ++ l) puts.text_is)
+          ap (λ (l : List ℕ). sent ++ l) (bytes-append (conn_at m c).outgoing puts.text
+          ∙ ap (λ (l : List ℕ). bytes_of (conn_at m c).outgoing ++ l) puts.text_is)
           ∙ (sym (append_assoc sent (bytes_of (conn_at m c).outgoing) (take k bytes))
           ∙ (ap (λ (l : List ℕ). l ++ take k bytes) is
           ∙ (append_assoc before (take taken f.expected) (take k bytes)
           ∙ ap (λ (l : List ℕ). before ++ l) (sym more_given ∙ sym stands.1))))
 
-      consistent : ConsistencyAlone site_contents f.expected (conn_at m c) f.took sent (alone kept script q d) → ConsistencyAlone site_contents f.expected (record (conn_at m c) { outgoing = (conn_at m c).outgoing ++ puts.text }) f.took sent (alone kept script q e)
+      consistent : ConsistencyAlone site_contents f.expected (conn_at m c) f.took sent (alone kept script q d)
+          → ConsistencyAlone site_contents f.expected
+          (record (conn_at m c) { outgoing = (conn_at m c).outgoing ++ puts.text }) f.took sent (alone kept script q e)
       consistent (inl owes) = inl (
         stands.2,
         record {
@@ -111,8 +122,16 @@ module _ (site_contents : SiteContents) (the : TheLaws) (m n : State) (came sent
     expected = f.expected;
     may = f.may;
     came_is = f.came_is ∙ ap (λ (s : State). f.took ++ bytes_of (conn_at s c).incoming) (sym same);
-    consistency = subst (λ (s : State). ConsistencyAlone site_contents f.expected (conn_at s c) f.took sent (alone kept script q e)) (sym same)
-        (inr (inr (record { gone = the.reasons.peer_is_gone m n server fd c a f.open_on step; begins = begins-consistency site_contents (conn_at m c) f.took sent (alone kept script q d) f.expected f.may f.consistency })));
+    consistency =
+        subst (λ (s : State). ConsistencyAlone site_contents f.expected (conn_at s c) f.took sent
+        (alone kept script q e)) (sym same)
+        (inr
+        (inr (record {
+          gone = the.reasons.peer_is_gone m n server fd c a f.open_on step;
+          begins =
+              begins-consistency site_contents (conn_at m c) f.took sent (alone kept script q d) f.expected f.may
+              f.consistency;
+        })));
     has = has;
     finds = finds;
     proper = f.proper;
@@ -121,8 +140,10 @@ module _ (site_contents : SiteContents) (the : TheLaws) (m n : State) (came sent
   pub sends : (q : Answer) (a len taken : ℕ) (more : Following) (r : Reply)
       → (f : Fitting m q (Sends a len taken more)) → StepsTo m (event.Call server (call.IolWrite fd a)) r n
       → Has n q (expected_in f.expected q (conn.after_send a len taken more r)) (conn.after_send a len taken more r)
-      → Finds site_contents n q script (conn.after_send a len taken more r) → Fitting n q (conn.after_send a len taken more r)
-  sends q a len taken more r f step has finds = by r (the.own.write_conn m n server fd c a f.has.bytes r order f.open_on f.has.is_readable step) step has finds
+      → Finds site_contents n q script (conn.after_send a len taken more r)
+      → Fitting n q (conn.after_send a len taken more r)
+  sends q a len taken more r f step has finds =
+      by r (the.own.write_conn m n server fd c a f.has.bytes r order f.open_on f.has.is_readable step) step has finds
     where
       by : (r : Reply) → o.WritesConn m c f.has.bytes r n
           → StepsTo m (event.Call server (call.IolWrite fd a)) r n
@@ -131,12 +152,20 @@ module _ (site_contents : SiteContents) (the : TheLaws) (m n : State) (came sent
           → Fitting n q (conn.after_send a len taken more r)
       by (reply.Count k) puts step has finds = cases (nat_lt k len) refl has finds
         where
-          took : (e : Phase) → Stands f.expected q (take (taken + k) f.expected) e → Has n q (expected_in f.expected q e) e → Finds site_contents n q script e → Fitting n q e
+          took : (e : Phase) → Stands f.expected q (take (taken + k) f.expected) e
+              → Has n q (expected_in f.expected q e) e → Finds site_contents n q script e → Fitting n q e
           took e stands has finds =
-              took_on q (Sends a len taken more) e a taken k f.has.bytes f step puts (next-front k f.has.bytes f.has.after (drop taken f.expected) f.has.next puts.within) (refl, refl, refl) stands has finds
+              took_on q (Sends a len taken more) e a taken k f.has.bytes f step puts
+              (next-front k f.has.bytes f.has.after (drop taken f.expected) f.has.next puts.within) (
+                refl,
+                refl,
+                refl,
+              ) stands has finds
 
           cases : (b : Bool) → nat_lt k len ≡ b
-              → Has n q (expected_in f.expected q (if b then Cuts a k len (taken + k) more else Sent a (taken + len) more)) (if b then Cuts a k len (taken + k) more else Sent a (taken + len) more)
+              → Has n q
+              (expected_in f.expected q (if b then Cuts a k len (taken + k) more else Sent a (taken + len) more))
+              (if b then Cuts a k len (taken + k) more else Sent a (taken + len) more)
               → Finds site_contents n q script (if b then Cuts a k len (taken + k) more else Sent a (taken + len) more)
               → Fitting n q (if b then Cuts a k len (taken + k) more else Sent a (taken + len) more)
           cases true is has finds = took (Cuts a k len (taken + k) more) (refl, refl, refl) has finds
@@ -146,30 +175,39 @@ module _ (site_contents : SiteContents) (the : TheLaws) (m n : State) (came sent
               let all : length f.has.bytes ≤ k = grind (arith, nat_tests, is, size) in
               let here : taken + len ≡ taken + k = omega (arith, all, within, size) in
               took (Sent a (taken + len) more) (refl, ap (λ z. take z f.expected) here, refl) has finds
-      by (reply.Refused no.BrokenPipe) did step has finds = broken_off q (Sends a len taken more) (Drops a more) a f step did has finds
+      by (reply.Refused no.BrokenPipe) did step has finds =
+          broken_off q (Sends a len taken more) (Drops a more) a f step did has finds
       by (reply.Refused y) did step has finds = same q (Sends a len taken more) f did
       by r did step has finds = absurd did
 
   pub offers : (q : Answer) (a from len piece taken : ℕ) (more : Following) (r : Reply)
-      → (f : Fitting m q (Offers a from len piece taken more)) → StepsTo m (event.Call server (call.IolWrite fd piece)) r n
-      → Has n q (expected_in f.expected q (conn.after_offer a from len piece taken more r)) (conn.after_offer a from len piece taken more r)
-      → Finds site_contents n q script (conn.after_offer a from len piece taken more r) → Fitting n q (conn.after_offer a from len piece taken more r)
+      → (f : Fitting m q (Offers a from len piece taken more))
+      → StepsTo m (event.Call server (call.IolWrite fd piece)) r n
+      → Has n q (expected_in f.expected q (conn.after_offer a from len piece taken more r))
+      (conn.after_offer a from len piece taken more r)
+      → Finds site_contents n q script (conn.after_offer a from len piece taken more r)
+      → Fitting n q (conn.after_offer a from len piece taken more r)
   offers q a from len piece taken more r f step has finds =
-      by r (the.own.write_conn m n server fd c piece (slice_range f.has.whole.bytes from (piece_end from len)) r order f.open_on f.has.is_readable step) step has finds
+      by r (the.own.write_conn m n server fd c piece (slice_range f.has.whole.bytes from (piece_end from len)) r order
+      f.open_on f.has.is_readable step) step has finds
     where
       by : (r : Reply) → o.WritesConn m c (slice_range f.has.whole.bytes from (piece_end from len)) r n
           → StepsTo m (event.Call server (call.IolWrite fd piece)) r n
-          → Has n q (expected_in f.expected q (conn.after_offer a from len piece taken more r)) (conn.after_offer a from len piece taken more r)
+          → Has n q (expected_in f.expected q (conn.after_offer a from len piece taken more r))
+          (conn.after_offer a from len piece taken more r)
           → Finds site_contents n q script (conn.after_offer a from len piece taken more r)
           → Fitting n q (conn.after_offer a from len piece taken more r)
       by (reply.Count k) puts step has finds =
-          took_on q (Offers a from len piece taken more) (moved_on a from len piece taken more (min k (len - from))) piece taken k (slice_range f.has.whole.bytes from (piece_end from len)) f step puts
-          (next-front k (drop from f.has.whole.bytes) f.has.whole.after (drop taken f.expected) f.has.whole.next few.0 ∙ take-slice k from (piece_end from len) f.has.whole.bytes puts.within)
+          took_on q (Offers a from len piece taken more) (moved_on a from len piece taken more (min k (len - from)))
+          piece taken k (slice_range f.has.whole.bytes from (piece_end from len)) f step puts
+          (next-front k (drop from f.has.whole.bytes) f.has.whole.after (drop taken f.expected) f.has.whole.next few.0
+          ∙ take-slice k from (piece_end from len) f.has.whole.bytes puts.within)
           (refl, refl, refl) (refl, ap (λ z. take (taken + z) f.expected) few.1, refl) has finds
         where
           few : (k ≤ length (drop from f.has.whole.bytes)) × (min k (len - from) ≡ k)
           few = few-taken k from len f.has.whole.bytes f.has.whole.size puts.within
-      by (reply.Refused no.BrokenPipe) did step has finds = broken_off q (Offers a from len piece taken more) (Breaks piece a more) piece f step did has finds
+      by (reply.Refused no.BrokenPipe) did step has finds =
+          broken_off q (Offers a from len piece taken more) (Breaks piece a more) piece f step did has finds
       by (reply.Refused y) did step has finds = same q (Offers a from len piece taken more) f did
       by r did step has finds = absurd did
 
@@ -177,28 +215,40 @@ module _ (site_contents : SiteContents) (the : TheLaws) (m n : State) (came sent
   pub rests : (q : Answer) (r : Reply) (received : List ℕ) → Fitting m q Rests → window_in kept ≡ Wait
       → StepsTo m (event.Call server (call.IolRead fd (most_kept - length kept))) r n → Names n r received
       → FitsAlone site_contents n came sent fd c (conn_after_reply (alone kept script q Rests) r received)
-  rests q r received f waits step names = by r (the.own.read_conn m n server fd c count r order f.open_on step) step names
+  rests q r received f waits step names =
+      by r (the.own.read_conn m n server fd c count r order f.open_on step) step names
     where
       count : ℕ
       count = most_kept - length kept
 
       some : 0 < most_kept - length kept
-      some = let fits : FitsIn (length kept) Wait = subst (λ (w : Window). FitsIn (length kept) w) waits (the.windows.fit kept) in omega (arith, fits)
+      some = let fits : FitsIn (length kept) Wait =
+          subst (λ (w : Window). FitsIn (length kept) w) waits (the.windows.fit kept) in omega (arith, fits)
 
       got_some : (a : ℕ) (takes : o.Takes m server c (most_kept - length kept) a n)
           → StepsTo m (event.Call server (call.IolRead fd (most_kept - length kept))) (reply.Agg a) n
           → (bytes : List ℕ) → readable_at n server a ≡ Some bytes → (after : List ℕ) (d : Phase)
           → (ConsistencyAlone site_contents f.expected (conn_at m c) f.took sent (alone kept script q Rests)
-          → ConsistencyAlone site_contents f.expected (record (conn_at m c) { incoming = takes.incoming }) (f.took ++ bytes) sent (alone after script q d))
-          → Has n q (expected_in f.expected q d) d → Finds site_contents n q script d → FitsAlone site_contents n came sent fd c (alone after script q d)
+          → ConsistencyAlone site_contents f.expected (record (conn_at m c) { incoming = takes.incoming })
+          (f.took ++ bytes) sent (alone after script q d))
+          → Has n q (expected_in f.expected q d) d → Finds site_contents n q script d
+          → FitsAlone site_contents n came sent fd c (alone after script q d)
       got_some a takes step bytes named after d consistencies has finds = record {
-        open_on = open_still (call.IolRead fd (most_kept - length kept)) (reply.Agg a) step f.open_on (itself fd (is_file (descriptor m server fd)));
+        open_on = open_still (call.IolRead fd (most_kept - length kept)) (reply.Agg a) step f.open_on
+            (itself fd (is_file (descriptor m server fd)));
         took = f.took ++ bytes;
         expected = f.expected;
         may = f.may;
-        came_is = f.came_is ∙ (ap (λ (x : Text). f.took ++ bytes_of x) takes.was ∙ (ap (λ (l : List ℕ). f.took ++ l) (bytes-append takes.text takes.incoming ∙ ap (λ (l : List ℕ). l ++ bytes_of takes.incoming) same_bytes)
-            ∙ (sym (append_assoc f.took bytes (bytes_of takes.incoming)) ∙ ap (λ (x : Connection). (f.took ++ bytes) ++ bytes_of x.incoming) (sym takes.conn))));
-        consistency = subst (λ (x : Connection). ConsistencyAlone site_contents f.expected x (f.took ++ bytes) sent (alone after script q d)) (sym takes.conn) (consistencies f.consistency);
+        came_is =
+            f.came_is
+            ∙ (ap (λ (x : Text). f.took ++ bytes_of x) takes.was
+            ∙ (ap (λ (l : List ℕ). f.took ++ l) (bytes-append takes.text takes.incoming
+            ∙ ap (λ (l : List ℕ). l ++ bytes_of takes.incoming) same_bytes)
+            ∙ (sym (append_assoc f.took bytes (bytes_of takes.incoming))
+            ∙ ap (λ (x : Connection). (f.took ++ bytes) ++ bytes_of x.incoming) (sym takes.conn))));
+        consistency =
+            subst (λ (x : Connection). ConsistencyAlone site_contents f.expected x (f.took ++ bytes) sent
+            (alone after script q d)) (sym takes.conn) (consistencies f.consistency);
         has = has;
         finds = finds;
         proper = f.proper;
@@ -209,40 +259,84 @@ module _ (site_contents : SiteContents) (the : TheLaws) (m n : State) (came sent
 
       by : (r : Reply) → o.ReadsConn m server c (most_kept - length kept) r n
           → StepsTo m (event.Call server (call.IolRead fd (most_kept - length kept))) r n
-          → Names n r received → FitsAlone site_contents n came sent fd c (conn_after_reply (alone kept script q Rests) r received)
+          → Names n r received
+          → FitsAlone site_contents n came sent fd c (conn_after_reply (alone kept script q Rests) r received)
       by (reply.Agg a) takes step names = ended received names
         where
-          ended : (l : List ℕ) → readable_at n server a ≡ Some l → FitsAlone site_contents n came sent fd c (conn_after_reply (alone kept script q Rests) (reply.Agg a) l)
-          ended [] names = got_some a takes step [] names kept (Drops a None) consistencies (record { after = []; readable = ([], names); follows = refl; apart = refl }) tt
+          ended : (l : List ℕ) → readable_at n server a ≡ Some l
+              → FitsAlone site_contents n came sent fd c (conn_after_reply (alone kept script q Rests) (reply.Agg a) l)
+          ended [] names =
+              got_some a takes step [] names kept (Drops a None) consistencies
+              (record { after = []; readable = ([], names); follows = refl; apart = refl }) tt
             where
               text_none : takes.text ≡ []
               text_none = none-bytes takes.text (some-inj _ _ (sym takes.is_readable ∙ names))
 
               rest_none : takes.incoming ≡ []
-              rest_none = ap (λ (t : Text). t ++ takes.incoming) (sym text_none) ∙ (sym takes.was ∙ (takes.ended some text_none).0)
+              rest_none = ap (λ (t : Text). t ++ takes.incoming) (sym text_none)
+                  ∙ (sym takes.was ∙ (takes.ended some text_none).0)
 
-              consistencies : ConsistencyAlone site_contents f.expected (conn_at m c) f.took sent (alone kept script q Rests)
-                  → ConsistencyAlone site_contents f.expected (record (conn_at m c) { incoming = takes.incoming }) (f.took ++ []) sent (alone kept script q (Drops a None))
+              consistencies : ConsistencyAlone site_contents f.expected (conn_at m c) f.took sent
+                  (alone kept script q Rests)
+                  → ConsistencyAlone site_contents f.expected (record (conn_at m c) { incoming = takes.incoming })
+                  (f.took ++ []) sent (alone kept script q (Drops a None))
               consistencies (inl owes) = inr (inl (record {
                 quits = refl;
                 finished = record {
                   qs = owes.1.done;
                   rest = kept;
-                  reads = subst (λ (l : List ℕ). Reads l owes.1.done kept) (sym (append-nil f.took)) (subst (λ (l : List Answer). Reads f.took l kept) (append-nil owes.1.done) owes.1.reads);
+                  reads =
+                      subst (λ (l : List ℕ). Reads l owes.1.done kept) (sym (append-nil f.took))
+                      (subst (λ (l : List Answer). Reads f.took l kept) (append-nil owes.1.done) owes.1.reads);
                   order = order-all owes.1.done owes.1.open_yet;
-                  responds = subst (λ (l : List ℕ). Responds site_contents owes.1.done l) (sym (owes.1.out_is ∙ append-nil owes.1.before)) owes.1.responds;
+                  responds =
+                      subst (λ (l : List ℕ). Responds site_contents owes.1.done l)
+                      (sym (owes.1.out_is ∙ append-nil owes.1.before)) owes.1.responds;
                   no_more = inr (waits, rest_none, (takes.ended some text_none).1);
                 };
-                begins = begins-append the.windows site_contents f.took [] (sent ++ bytes_of (conn_at m c).outgoing) (begins-consistency site_contents (conn_at m c) f.took sent (alone kept script q Rests) f.expected f.may f.consistency);
+                begins = begins-append the.windows site_contents f.took [] (sent ++ bytes_of (conn_at m c).outgoing)
+                    (begins-consistency site_contents (conn_at m c) f.took sent (alone kept script q Rests) f.expected
+                    f.may f.consistency);
               }))
               consistencies (inr (inl finished)) = absurd (let bad = finished.quits in cc (bad))
-              consistencies (inr (inr gone)) = inr (inr (record { gone = gone.gone; begins = begins-append the.windows site_contents f.took [] (sent ++ bytes_of (conn_at m c).outgoing) gone.begins }))
-          ended (b ∷ l) names = got_some a takes step (b ∷ l) names (kept ++ (b ∷ l)) (Got a) consistencies (b ∷ l, names) tt
+              consistencies (inr (inr gone)) =
+                  inr
+                  (inr
+                  (record {
+                    gone = gone.gone;
+                    begins =
+                        begins-append the.windows site_contents f.took [] (sent ++ bytes_of (conn_at m c).outgoing)
+                        gone.begins;
+                  }))
+          ended (b ∷ l) names =
+              got_some a takes step (b ∷ l) names (kept ++ (b ∷ l)) (Got a) consistencies (b ∷ l, names) tt
             where
-              consistencies : ConsistencyAlone site_contents f.expected (conn_at m c) f.took sent (alone kept script q Rests)
-                  → ConsistencyAlone site_contents f.expected (record (conn_at m c) { incoming = takes.incoming }) (f.took ++ (b ∷ l)) sent (alone (kept ++ (b ∷ l)) script q (Got a))
-              consistencies (inl owes) = inl (refl, record { done = owes.1.done; open_yet = owes.1.open_yet; reads = reads-append the.windows f.took (b ∷ l) (owes.1.done ++ []) kept owes.1.reads; before = owes.1.before; responds = owes.1.responds; out_is = owes.1.out_is })
+              consistencies : ConsistencyAlone site_contents f.expected (conn_at m c) f.took sent
+                  (alone kept script q Rests)
+                  → ConsistencyAlone site_contents f.expected (record (conn_at m c) { incoming = takes.incoming })
+                  (f.took ++ (b ∷ l)) sent (alone (kept ++ (b ∷ l)) script q (Got a))
+              consistencies (inl owes) =
+                  inl (
+                    refl,
+                    record {
+                      done = owes.1.done;
+                      open_yet = owes.1.open_yet;
+                      reads =
+                          reads-append the.windows f.took (b ∷ l) (owes.1.done ++ []) kept owes.1.reads;
+                      before = owes.1.before;
+                      responds = owes.1.responds;
+                      out_is = owes.1.out_is;
+                    },
+                  )
               consistencies (inr (inl finished)) = absurd (let bad = finished.quits in cc (bad))
-              consistencies (inr (inr gone)) = inr (inr (record { gone = gone.gone; begins = begins-append the.windows site_contents f.took (b ∷ l) (sent ++ bytes_of (conn_at m c).outgoing) gone.begins }))
+              consistencies (inr (inr gone)) =
+                  inr
+                  (inr
+                  (record {
+                    gone = gone.gone;
+                    begins =
+                        begins-append the.windows site_contents f.took (b ∷ l) (sent ++ bytes_of (conn_at m c).outgoing)
+                        gone.begins;
+                  }))
       by (reply.Refused y) did step names = same q Rests f did
       by r did step names = absurd did

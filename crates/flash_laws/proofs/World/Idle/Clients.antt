@@ -1,5 +1,6 @@
 -- The state of a client without running script whose call would block.
-use Rattle.std.proofs.Common.{inl, inr, ◌≡◌, ℕ, ◌-◌, ◌⊎◌, List, [], ◌++◌, length, ap, ◌∙◌, refl, sym, subst, Option, None, true, false, Bool, append-nil, if◌then◌else◌}
+use Rattle.std.proofs.Common.{inl, inr, ◌≡◌, ℕ, ◌-◌, ◌⊎◌, List, [], ◌++◌, length, ap, ◌∙◌, refl, sym, subst, Option}
+use Rattle.std.proofs.Common.{None, true, false, Bool, append-nil, if◌then◌else◌}
 use Rattle.iol_core.specs.Text.{Text, bytes_of}
 use Rattle.iol_core.specs.State.{State, conn_at, is_gone}
 use Rattle.iol_core.specs.declared.descriptors.How.{How}
@@ -22,7 +23,9 @@ use Rattle.flash_laws.specs.SiteContents.{SiteContents, Responds, IsAnswer}
 use Rattle.flash_laws.specs.Site.{server}
 use Rattle.flash_laws.specs.World.Done.{IsHeldUp}
 use Rattle.flash_laws.specs.declared.phase.Phase.{Phase}
-use Rattle.flash_laws.specs.declared.phase.Phase.TheVariants.{Rests, Got, Opens, Reads as Reading, Shuts, Picks, Spares, Heads, Joins, Sends, Cuts, Offers, Swaps, Sent, Breaks, Drops, Closes, Over}
+use Rattle.flash_laws.specs.declared.phase.Phase.TheVariants.{Rests, Got, Opens, Reads as Reading, Shuts, Picks, Spares}
+use Rattle.flash_laws.specs.declared.phase.Phase.TheVariants.{Heads, Joins, Sends, Cuts, Offers, Swaps, Sent, Breaks}
+use Rattle.flash_laws.specs.declared.phase.Phase.TheVariants.{Drops, Closes, Over}
 use Rattle.flash_laws.proofs.Forms.{at}
 use Rattle.flash_laws.proofs.Conn.Responses.{order-all}
 use Rattle.flash_laws.proofs.Lists.{clash}
@@ -36,19 +39,25 @@ pub record IsAnsweredSoFar (site_contents : SiteContents) (m : State) (came sent
   pub stays : StaysOpen came
 
 -- a call that may not be told to wait
-pub goes : (worker_set : WorkerSet) → AllLaws worker_set → (m : State) (k : Call) → may_wait k ≡ false → WouldWait m server k → ⊥
+pub goes : (worker_set : WorkerSet) → AllLaws worker_set → (m : State) (k : Call) → may_wait k ≡ false
+    → WouldWait m server k → ⊥
 goes worker_set laws m k never step = clash (may_wait k) (laws.left.waits m m server k step) never
 
-module _ (site_contents : SiteContents) (worker_set : WorkerSet) (laws : AllLaws worker_set) (m : State) (order : IsOrderly m) (fixed : IsFixedFor site_contents worker_set m) where
+module _ (site_contents : SiteContents) (worker_set : WorkerSet) (laws : AllLaws worker_set) (m : State)
+    (order : IsOrderly m) (fixed : IsFixedFor site_contents worker_set m) where
   -- a file is read at once
-  reads-on : (came sent : List ℕ) (fd c g : ℕ) (kept : List ℕ) (q : Answer) (script : List ℕ) → FitsAlone site_contents m came sent fd c (alone kept script q (Reading g))
+  reads-on : (came sent : List ℕ) (fd c g : ℕ) (kept : List ℕ) (q : Answer) (script : List ℕ)
+      → FitsAlone site_contents m came sent fd c (alone kept script q (Reading g))
       → WouldWait m server (call.IolRead g most_read) → ⊥
   reads-on came sent fd c g kept q script f step =
-      let bad = (laws.the.files.reads_file m m server g f.finds.number 0 most_read modes.Read (reply.Refused no.WouldBlock) order fixed.site.lives f.finds.may refl f.finds.open_on step).0 in
+      let bad =
+      (laws.the.files.reads_file m m server g f.finds.number 0 most_read modes.Read (reply.Refused no.WouldBlock)
+      order fixed.site.lives f.finds.may refl f.finds.open_on step).0 in
       cc (bad)
 
   -- a connection at rest whose bytes are all taken
-  rests : (came sent : List ℕ) (fd c : ℕ) (kept : List ℕ) (q : Answer) (script : List ℕ) → FitsAlone site_contents m came sent fd c (alone kept script q Rests)
+  rests : (came sent : List ℕ) (fd c : ℕ) (kept : List ℕ) (q : Answer) (script : List ℕ)
+      → FitsAlone site_contents m came sent fd c (alone kept script q Rests)
       → IsAwaiting (alone kept script q Rests) → ((conn_at m c).incoming ≡ []) × ((conn_at m c).peer ≡ None)
       → IsAnsweredSoFar site_contents m came sent c
   rests came sent fd c kept q script f waits empty = by f.consistency
@@ -56,60 +65,89 @@ module _ (site_contents : SiteContents) (worker_set : WorkerSet) (laws : AllLaws
       came-is : came ≡ f.took
       came-is = f.came_is ∙ (ap (λ (t : Text). f.took ++ bytes_of t) empty.0 ∙ append-nil f.took)
 
-      by : ConsistencyAlone site_contents f.expected (conn_at m c) f.took sent (alone kept script q Rests) → IsAnsweredSoFar site_contents m came sent c
+      by : ConsistencyAlone site_contents f.expected (conn_at m c) f.took sent (alone kept script q Rests)
+          → IsAnsweredSoFar site_contents m came sent c
       by (inl o) =
-          let reads : Reads f.took o.1.done kept = subst (λ (l : List Answer). Reads f.took l kept) (append-nil o.1.done) o.1.reads in
+          let reads : Reads f.took o.1.done kept =
+          subst (λ (l : List Answer). Reads f.took l kept) (append-nil o.1.done) o.1.reads in
           record {
-            whole = subst (λ (l : List ℕ). IsAnswer site_contents l (sent ++ bytes_of (conn_at m c).outgoing)) (sym came-is) (record {
-              qs = o.1.done;
-              rest = kept;
-              reads = reads;
-              order = order-all o.1.done o.1.open_yet;
-              responds = subst (λ (l : List ℕ). Responds site_contents o.1.done l) (sym (o.1.out_is ∙ append-nil o.1.before)) o.1.responds;
-              no_more = inl waits;
-            });
+            whole = subst (λ (l : List ℕ). IsAnswer site_contents l (sent ++ bytes_of (conn_at m c).outgoing))
+                (sym came-is) (record {
+                  qs = o.1.done;
+                  rest = kept;
+                  reads = reads;
+                  order = order-all o.1.done o.1.open_yet;
+                  responds =
+                      subst (λ (l : List ℕ). Responds site_contents o.1.done l)
+                      (sym (o.1.out_is ∙ append-nil o.1.before))
+                      o.1.responds;
+                  no_more = inl waits;
+                });
             peer = empty.1;
-            stays = subst (λ (l : List ℕ). StaysOpen l) (sym came-is) (record { qs = o.1.done; rest = kept; reads = reads; open_yet = o.1.open_yet; no_more = waits });
+            stays =
+                subst (λ (l : List ℕ). StaysOpen l) (sym came-is)
+                (record { qs = o.1.done; rest = kept; reads = reads; open_yet = o.1.open_yet; no_more = waits });
           }
       by (inr (inl finished)) = absurd (let bad = finished.quits in cc (bad))
-      by (inr (inr left)) = absurd (clash (is_gone (conn_at m c).peer) left.gone (ap (λ (w : Option How). is_gone w) empty.1))
+      by (inr (inr left)) =
+          absurd (clash (is_gone (conn_at m c).peer) left.gone (ap (λ (w : Option How). is_gone w) empty.1))
 
   -- a client alone is answered, and uses no aggregate, or is held up
   abbrev pub AloneLeft : (came sent : List ℕ) (c : ℕ) (kept script : List ℕ) → Answer → Phase → Type 0
   AloneLeft came sent c kept script q d =
-      (IsAnsweredSoFar site_contents m came sent c × ((a : ℕ) → uses_agg (alone kept script q d) a ≡ false)) ⊎ IsHeldUp m c
+      (IsAnsweredSoFar site_contents m came sent c × ((a : ℕ) → uses_agg (alone kept script q d) a ≡ false))
+      ⊎ IsHeldUp m c
 
-  by-phase : (came sent : List ℕ) (fd c : ℕ) (kept script : List ℕ) (q : Answer) (d : Phase) → FitsAlone site_contents m came sent fd c (alone kept script q d)
-      → IsAwaiting (alone kept script q d) → WouldWait m server (wants fd (at kept q d)) → AloneLeft came sent c kept script q d
+  by-phase : (came sent : List ℕ) (fd c : ℕ) (kept script : List ℕ) (q : Answer) (d : Phase)
+      → FitsAlone site_contents m came sent fd c (alone kept script q d)
+      → IsAwaiting (alone kept script q d) → WouldWait m server (wants fd (at kept q d))
+      → AloneLeft came sent c kept script q d
   by-phase came sent fd c kept script q Rests f waits step =
       let empty = laws.the.reasons.conn_is_empty m m server fd c (most_kept - length kept) f.open_on step in
       inl (rests came sent fd c kept q script f waits empty, λ a. refl)
-  by-phase came sent fd c kept script q (Sends a len taken more) f waits step = inr (laws.the.reasons.conn_is_full m m server fd c a f.open_on step)
-  by-phase came sent fd c kept script q (Offers a from len piece taken more) f waits step = inr (laws.the.reasons.conn_is_full m m server fd c piece f.open_on step)
-  by-phase came sent fd c kept script q (Got a) f waits step = absurd (goes worker_set laws m (call.AggDrop a) refl step)
-  by-phase came sent fd c kept script q Opens f waits step = absurd (goes worker_set laws m (call.OpenFile (name_of q) modes.Read) refl step)
+  by-phase came sent fd c kept script q (Sends a len taken more) f waits step =
+      inr (laws.the.reasons.conn_is_full m m server fd c a f.open_on step)
+  by-phase came sent fd c kept script q (Offers a from len piece taken more) f waits step =
+      inr (laws.the.reasons.conn_is_full m m server fd c piece f.open_on step)
+  by-phase came sent fd c kept script q (Got a) f waits step =
+      absurd (goes worker_set laws m (call.AggDrop a) refl step)
+  by-phase came sent fd c kept script q Opens f waits step =
+      absurd (goes worker_set laws m (call.OpenFile (name_of q) modes.Read) refl step)
   by-phase came sent fd c kept script q (Reading g) f waits step = absurd (by (is_head_only q) step)
     where
       by : (b : Bool) → WouldWait m server (if b then call.Length g else call.IolRead g most_read) → ⊥
       by true step = goes worker_set laws m (call.Length g) refl step
       by false step = reads-on came sent fd c g kept q script f step
-  by-phase came sent fd c kept script q (Shuts g k) f waits step = absurd (goes worker_set laws m (call.Close g) refl step)
-  by-phase came sent fd c kept script q (Picks a first last len) f waits step = absurd (goes worker_set laws m (call.AggCut a first last) refl step)
-  by-phase came sent fd c kept script q (Spares a k) f waits step = absurd (goes worker_set laws m (call.AggDrop a) refl step)
-  by-phase came sent fd c kept script q (Heads k) f waits step = absurd (goes worker_set laws m (call.AggMake (text_of q k)) refl step)
-  by-phase came sent fd c kept script q (Joins a size body len) f waits step = absurd (goes worker_set laws m (call.AggJoin a body) refl step)
-  by-phase came sent fd c kept script q (Cuts a from len taken more) f waits step = absurd (goes worker_set laws m (call.AggCut a from (piece_end from len)) refl step)
-  by-phase came sent fd c kept script q (Swaps a from len piece taken more) f waits step = absurd (goes worker_set laws m (call.AggDrop piece) refl step)
-  by-phase came sent fd c kept script q (Sent a taken more) f waits step = absurd (goes worker_set laws m (call.AggDrop a) refl step)
-  by-phase came sent fd c kept script q (Breaks piece a more) f waits step = absurd (goes worker_set laws m (call.AggDrop piece) refl step)
-  by-phase came sent fd c kept script q (Drops a more) f waits step = absurd (goes worker_set laws m (call.AggDrop a) refl step)
+  by-phase came sent fd c kept script q (Shuts g k) f waits step =
+      absurd (goes worker_set laws m (call.Close g) refl step)
+  by-phase came sent fd c kept script q (Picks a first last len) f waits step =
+      absurd (goes worker_set laws m (call.AggCut a first last) refl step)
+  by-phase came sent fd c kept script q (Spares a k) f waits step =
+      absurd (goes worker_set laws m (call.AggDrop a) refl step)
+  by-phase came sent fd c kept script q (Heads k) f waits step =
+      absurd (goes worker_set laws m (call.AggMake (text_of q k)) refl step)
+  by-phase came sent fd c kept script q (Joins a size body len) f waits step =
+      absurd (goes worker_set laws m (call.AggJoin a body) refl step)
+  by-phase came sent fd c kept script q (Cuts a from len taken more) f waits step =
+      absurd (goes worker_set laws m (call.AggCut a from (piece_end from len)) refl step)
+  by-phase came sent fd c kept script q (Swaps a from len piece taken more) f waits step =
+      absurd (goes worker_set laws m (call.AggDrop piece) refl step)
+  by-phase came sent fd c kept script q (Sent a taken more) f waits step =
+      absurd (goes worker_set laws m (call.AggDrop a) refl step)
+  by-phase came sent fd c kept script q (Breaks piece a more) f waits step =
+      absurd (goes worker_set laws m (call.AggDrop piece) refl step)
+  by-phase came sent fd c kept script q (Drops a more) f waits step =
+      absurd (goes worker_set laws m (call.AggDrop a) refl step)
   by-phase came sent fd c kept script q Closes f waits step = absurd (goes worker_set laws m (call.Close fd) refl step)
   by-phase came sent fd c kept script q Over f waits step = absurd f.has
 
   -- so it is of one whose request is for a script, whose text is read whole
-  for-script : (came sent : List ℕ) (fd c : ℕ) (kept script : List ℕ) (q : Answer) (d : Phase) → FitsAlone site_contents m came sent fd c (alone kept script q d)
-      → IsAwaiting (alone kept script q d) → WouldWait m server (script_wants fd (at kept q d)) → AloneLeft came sent c kept script q d
-  for-script came sent fd c kept script q (Reading g) f waits step = absurd (reads-on came sent fd c g kept q script f step)
+  for-script : (came sent : List ℕ) (fd c : ℕ) (kept script : List ℕ) (q : Answer) (d : Phase)
+      → FitsAlone site_contents m came sent fd c (alone kept script q d)
+      → IsAwaiting (alone kept script q d) → WouldWait m server (script_wants fd (at kept q d))
+      → AloneLeft came sent c kept script q d
+  for-script came sent fd c kept script q (Reading g) f waits step =
+      absurd (reads-on came sent fd c g kept q script f step)
   for-script came sent fd c kept script q d f waits step = by-phase came sent fd c kept script q d f waits step
 
   -- and so it is of each, whichever it is

@@ -1,6 +1,7 @@
 -- The state of a client with a running script whose call would block while its worker is idle: its output queue is
 -- full.
-use Rattle.std.proofs.Common.{inl, inr, ◌≡◌, ◌≤◌, ℕ, ◌-◌, List, [], length, ap, refl, arith, Option, Some, false, slice_get}
+use Rattle.std.proofs.Common.{inl, inr, ◌≡◌, ◌≤◌, ℕ, ◌-◌, List, [], length, ap, refl, arith, Option, Some, false}
+use Rattle.std.proofs.Common.{slice_get}
 use Rattle.iol_core.specs.Text.{Text}
 use Rattle.iol_core.specs.State.{State, descriptor, pipe_at}
 use Rattle.iol_core.specs.declared.descriptors.Descriptor.TheVariants as on
@@ -28,7 +29,10 @@ use Rattle.flash_laws.specs.declared.phase.Phase.TheVariants as phase
 use Rattle.flash_laws.specs.declared.script_run.TheConstants.{CHUNK_BYTES}
 use Rattle.flash_laws.specs.declared.script_run.Run.{Run}
 use Rattle.flash_laws.specs.declared.script_run.Step.{Step}
-use Rattle.flash_laws.specs.declared.script_run.Step.TheVariants.{Gives, Makes, Hands, Lets, Heads, Sending, Receives, Spills, Gathers, Frames, Wraps, Trims, Ended, Unholds, Unframes, Lasts, WrapsLast, TrimsLast, Unwraps, Returns, Lapses}
+use Rattle.flash_laws.specs.declared.script_run.Step.TheVariants.{Gives, Makes, Hands, Lets, Heads, Sending, Receives}
+use Rattle.flash_laws.specs.declared.script_run.Step.TheVariants.{Spills, Gathers, Frames, Wraps, Trims, Ended, Unholds}
+use Rattle.flash_laws.specs.declared.script_run.Step.TheVariants.{Unframes, Lasts, WrapsLast, TrimsLast, Unwraps}
+use Rattle.flash_laws.specs.declared.script_run.Step.TheVariants.{Returns, Lapses}
 use Rattle.flash_laws.specs.declared.script_run.Running.{Running}
 use Rattle.flash_laws.specs.declared.script_run.Running.TheVariants.{Awaits, Runs, Leaves, Closes}
 use Rattle.flash_laws.proofs.Lists.{clash}
@@ -37,7 +41,9 @@ use Rattle.flash_laws.proofs.World.Idle.Clients.{goes}
 
 -- each worker is as it is where all is idle
 abbrev pub WorkersAreQuiescent : (worker_set : WorkerSet) → State → List (ProcessSlot worker_set.Worker) → Type 0
-WorkersAreQuiescent worker_set m process_slots = (k : ℕ) (process_slot : ProcessSlot worker_set.Worker) → slice_get process_slots k ≡ Some process_slot → worker_set.quiescent 2 process_slot.by process_slot.process process_slot.last m
+WorkersAreQuiescent worker_set m process_slots = (k : ℕ) (process_slot : ProcessSlot worker_set.Worker)
+    → slice_get process_slots k ≡ Some process_slot
+    → worker_set.quiescent 2 process_slot.by process_slot.process process_slot.last m
 
 -- an empty queue is not full
 not-full : (t : Text) → t ≡ [] → MAX_QUEUE_BYTES ≤ length t → ⊥
@@ -59,79 +65,128 @@ only-left phase.Rests going = absurd (cc (going))
 only-left (phase.Reads f) going = absurd (cc (going))
 only-left d going = tt
 
-module _ (site_contents : SiteContents) (worker_set : WorkerSet) (laws : AllLaws worker_set) (m : State) (order : IsOrderly m) (fixed : IsFixedFor site_contents worker_set m) where
+module _ (site_contents : SiteContents) (worker_set : WorkerSet) (laws : AllLaws worker_set) (m : State)
+    (order : IsOrderly m) (fixed : IsFixedFor site_contents worker_set m) where
   -- a part of the response is offered
   sending : (fd c : ℕ) (w : Wanted) (d : Phase) → descriptor m server fd ≡ Some (on.Connection c) → OnlySends d
       → WouldWait m server (conn.wants fd (in_phase w d)) → IsHeldUp m c
-  sending fd c w (phase.Sends a len taken more) open_on may step = laws.the.reasons.conn_is_full m m server fd c a open_on step
-  sending fd c w (phase.Offers a from len piece taken more) open_on may step = laws.the.reasons.conn_is_full m m server fd c piece open_on step
+  sending fd c w (phase.Sends a len taken more) open_on may step =
+      laws.the.reasons.conn_is_full m m server fd c a open_on step
+  sending fd c w (phase.Offers a from len piece taken more) open_on may step =
+      laws.the.reasons.conn_is_full m m server fd c piece open_on step
   sending fd c w (phase.Got a) open_on may step = absurd (goes worker_set laws m (call.AggDrop a) refl step)
-  sending fd c w phase.Opens open_on may step = absurd (goes worker_set laws m (call.OpenFile (name_of (serve w)) modes.Read) refl step)
+  sending fd c w phase.Opens open_on may step =
+      absurd (goes worker_set laws m (call.OpenFile (name_of (serve w)) modes.Read) refl step)
   sending fd c w (phase.Shuts g k) open_on may step = absurd (goes worker_set laws m (call.Close g) refl step)
-  sending fd c w (phase.Picks a first last len) open_on may step = absurd (goes worker_set laws m (call.AggCut a first last) refl step)
+  sending fd c w (phase.Picks a first last len) open_on may step =
+      absurd (goes worker_set laws m (call.AggCut a first last) refl step)
   sending fd c w (phase.Spares a k) open_on may step = absurd (goes worker_set laws m (call.AggDrop a) refl step)
-  sending fd c w (phase.Heads k) open_on may step = absurd (goes worker_set laws m (call.AggMake (text_of (serve w) k)) refl step)
-  sending fd c w (phase.Joins a size body len) open_on may step = absurd (goes worker_set laws m (call.AggJoin a body) refl step)
-  sending fd c w (phase.Cuts a from len taken more) open_on may step = absurd (goes worker_set laws m (call.AggCut a from (piece_end from len)) refl step)
-  sending fd c w (phase.Swaps a from len piece taken more) open_on may step = absurd (goes worker_set laws m (call.AggDrop piece) refl step)
+  sending fd c w (phase.Heads k) open_on may step =
+      absurd (goes worker_set laws m (call.AggMake (text_of (serve w) k)) refl step)
+  sending fd c w (phase.Joins a size body len) open_on may step =
+      absurd (goes worker_set laws m (call.AggJoin a body) refl step)
+  sending fd c w (phase.Cuts a from len taken more) open_on may step =
+      absurd (goes worker_set laws m (call.AggCut a from (piece_end from len)) refl step)
+  sending fd c w (phase.Swaps a from len piece taken more) open_on may step =
+      absurd (goes worker_set laws m (call.AggDrop piece) refl step)
   sending fd c w (phase.Sent a taken more) open_on may step = absurd (goes worker_set laws m (call.AggDrop a) refl step)
-  sending fd c w (phase.Breaks piece a more) open_on may step = absurd (goes worker_set laws m (call.AggDrop piece) refl step)
+  sending fd c w (phase.Breaks piece a more) open_on may step =
+      absurd (goes worker_set laws m (call.AggDrop piece) refl step)
   sending fd c w (phase.Drops a more) open_on may step = absurd (goes worker_set laws m (call.AggDrop a) refl step)
   sending fd c w phase.Closes open_on may step = absurd (goes worker_set laws m (call.Close fd) refl step)
   sending fd c w phase.Over open_on may step = absurd (goes worker_set laws m (call.Close fd) refl step)
   sending fd c w x open_on may step = absurd may
 
-  module _ (process_slots : List (ProcessSlot worker_set.Worker)) (job_queues : AreAtJobQueues worker_set m process_slots) (quiescent : WorkersAreQuiescent worker_set m process_slots) (made : Made) (o : Progress) (run : Run) where
+  module _ (process_slots : List (ProcessSlot worker_set.Worker))
+      (job_queues : AreAtJobQueues worker_set m process_slots)
+      (quiescent : WorkersAreQuiescent worker_set m process_slots) (made : Made) (o : Progress) (run : Run) where
     -- the pipe of a job is empty while its worker is free
-    hands : (j f : ℕ) → AtJobQueue worker_set m process_slots run made o (Hands j f) → WouldWait m server (call.IolWrite (job_pipe run.worker) j) → ⊥
+    hands : (j f : ℕ) → AtJobQueue worker_set m process_slots run made o (Hands j f)
+        → WouldWait m server (call.IolWrite (job_pipe run.worker) j) → ⊥
     hands j f job_queue step =
         let among = (job_queues.by run.worker job_queue.process_slot job_queue.sits).0 in
-        let full = laws.the.reasons.pipe_is_full m m server (job_pipe run.worker) (worker_set.job_queue run.worker) j (job_queues.job_queues run.worker among) step in
-        let none = laws.workers.none m (worker_set.job_queue run.worker) job_queue.process_slot job_queue.stage.0.ready.free in
+        let full = laws.the.reasons.pipe_is_full m m server (job_pipe run.worker) (worker_set.job_queue run.worker) j
+        (job_queues.job_queues run.worker among) step in
+        let none =
+        laws.workers.none m (worker_set.job_queue run.worker) job_queue.process_slot job_queue.stage.0.ready.free in
         not-full (pipe_at m (worker_set.job_queue run.worker)).queue none.empty full
 
     -- while a worker puts out its pipe is full where all is idle, and once all is there its end is there, too
-    receives : (held : conn.Following) (frame : Option ℕ) (n : ℕ) → AtJobQueue worker_set m process_slots run made o (Receives held frame) → WouldWait m server (call.IolRead run.from n) → ⊥
+    receives : (held : conn.Following) (frame : Option ℕ) (n : ℕ)
+        → AtJobQueue worker_set m process_slots run made o (Receives held frame)
+        → WouldWait m server (call.IolRead run.from n) → ⊥
     receives held frame n job_queue step =
         let has = job_queue.stage.has in
         let empty = laws.the.reasons.pipe_is_empty m m server run.from has.pipe n has.reads step in
         elim job_queue.stage.puts_out [
           | inl expected ↦ not-full (pipe_at m has.pipe).queue empty.0
-              (laws.workers.full m (worker_set.job_queue run.worker) has.pipe job_queue.process_slot made job_queue.stage.more order fixed.access expected (quiescent run.worker job_queue.process_slot job_queue.sits))
+              (laws.workers.full m (worker_set.job_queue run.worker) has.pipe job_queue.process_slot made
+              job_queue.stage.more order fixed.access expected
+              (quiescent run.worker job_queue.process_slot job_queue.sits))
           | inr there ↦ clash (pipe_at m has.pipe).writing empty.1 there.closed
         ]
 
-    by-step : (job : ℕ → List ℕ) (fd c : ℕ) (w : Wanted) (s : Step) → descriptor m server fd ≡ Some (on.Connection c) → HasStep job m w o run s
-        → AtJobQueue worker_set m process_slots run made o s → WouldWait m server (step_wants job fd w run s) → IsHeldUp m c
-    by-step job fd c w (Sending d frame) open_on has job_queue step = sending fd c w d open_on (only-part m has.part d has.is_part) step
-    by-step job fd c w (Receives held frame) open_on has job_queue step = absurd (receives held frame (CHUNK_BYTES - held_size held) job_queue step)
+    by-step : (job : ℕ → List ℕ) (fd c : ℕ) (w : Wanted) (s : Step) → descriptor m server fd ≡ Some (on.Connection c)
+        → HasStep job m w o run s
+        → AtJobQueue worker_set m process_slots run made o s → WouldWait m server (step_wants job fd w run s)
+        → IsHeldUp m c
+    by-step job fd c w (Sending d frame) open_on has job_queue step =
+        sending fd c w d open_on (only-part m has.part d has.is_part) step
+    by-step job fd c w (Receives held frame) open_on has job_queue step =
+        absurd (receives held frame (CHUNK_BYTES - held_size held) job_queue step)
     by-step job fd c w (Hands j f) open_on has job_queue step = absurd (hands j f job_queue step)
-    by-step job fd c w (Gives write) open_on has job_queue step = absurd (goes worker_set laws m (call.GiveFd write (worker_domain run.worker)) refl step)
-    by-step job fd c w (Makes f) open_on has job_queue step = absurd (goes worker_set laws m (call.AggMake (job f)) refl step)
+    by-step job fd c w (Gives write) open_on has job_queue step =
+        absurd (goes worker_set laws m (call.GiveFd write (worker_domain run.worker)) refl step)
+    by-step job fd c w (Makes f) open_on has job_queue step =
+        absurd (goes worker_set laws m (call.AggMake (job f)) refl step)
     by-step job fd c w (Lets j) open_on has job_queue step = absurd (goes worker_set laws m (call.AggDrop j) refl step)
-    by-step job fd c w Heads open_on has job_queue step = absurd (goes worker_set laws m (call.AggMake (script_text w)) refl step)
-    by-step job fd c w (Spills a frame) open_on has job_queue step = absurd (goes worker_set laws m (call.AggDrop a) refl step)
-    by-step job fd c w (Gathers held size piece len frame) open_on has job_queue step = absurd (goes worker_set laws m (call.AggJoin held piece) refl step)
-    by-step job fd c w (Frames held) open_on has job_queue step = absurd (goes worker_set laws m (call.AggMake (frame_of CHUNK_BYTES)) refl step)
-    by-step job fd c w (Wraps held frame) open_on has job_queue step = absurd (goes worker_set laws m (call.AggReplace frame (place_in_frame CHUNK_BYTES) (place_in_frame CHUNK_BYTES) held) refl step)
-    by-step job fd c w (Trims held chunk len frame) open_on has job_queue step = absurd (goes worker_set laws m (call.AggDrop held) refl step)
-    by-step job fd c w (Ended a held frame) open_on has job_queue step = absurd (goes worker_set laws m (call.AggDrop a) refl step)
-    by-step job fd c w (Unholds held frame) open_on has job_queue step = absurd (goes worker_set laws m (call.AggDrop held) refl step)
-    by-step job fd c w (Unframes frame held) open_on has job_queue step = absurd (goes worker_set laws m (call.AggDrop frame) refl step)
-    by-step job fd c w (Lasts held) open_on has job_queue step = absurd (goes worker_set laws m (call.AggMake (end_around held)) refl step)
-    by-step job fd c w (WrapsLast held size frame) open_on has job_queue step = absurd (goes worker_set laws m (call.AggReplace frame (place_in_frame size) (place_in_frame size) held) refl step)
-    by-step job fd c w (TrimsLast held chunk len frame) open_on has job_queue step = absurd (goes worker_set laws m (call.AggDrop held) refl step)
-    by-step job fd c w (Unwraps frame chunk len) open_on has job_queue step = absurd (goes worker_set laws m (call.AggDrop frame) refl step)
-    by-step job fd c w (Returns write) open_on has job_queue step = absurd (goes worker_set laws m (call.Close write) refl step)
-    by-step job fd c w (Lapses j) open_on has job_queue step = absurd (goes worker_set laws m (call.AggDrop j) refl step)
+    by-step job fd c w Heads open_on has job_queue step =
+        absurd (goes worker_set laws m (call.AggMake (script_text w)) refl step)
+    by-step job fd c w (Spills a frame) open_on has job_queue step =
+        absurd (goes worker_set laws m (call.AggDrop a) refl step)
+    by-step job fd c w (Gathers held size piece len frame) open_on has job_queue step =
+        absurd (goes worker_set laws m (call.AggJoin held piece) refl step)
+    by-step job fd c w (Frames held) open_on has job_queue step =
+        absurd (goes worker_set laws m (call.AggMake (frame_of CHUNK_BYTES)) refl step)
+    by-step job fd c w (Wraps held frame) open_on has job_queue step =
+        absurd
+        (goes worker_set laws m (call.AggReplace frame (place_in_frame CHUNK_BYTES) (place_in_frame CHUNK_BYTES) held)
+        refl step)
+    by-step job fd c w (Trims held chunk len frame) open_on has job_queue step =
+        absurd (goes worker_set laws m (call.AggDrop held) refl step)
+    by-step job fd c w (Ended a held frame) open_on has job_queue step =
+        absurd (goes worker_set laws m (call.AggDrop a) refl step)
+    by-step job fd c w (Unholds held frame) open_on has job_queue step =
+        absurd (goes worker_set laws m (call.AggDrop held) refl step)
+    by-step job fd c w (Unframes frame held) open_on has job_queue step =
+        absurd (goes worker_set laws m (call.AggDrop frame) refl step)
+    by-step job fd c w (Lasts held) open_on has job_queue step =
+        absurd (goes worker_set laws m (call.AggMake (end_around held)) refl step)
+    by-step job fd c w (WrapsLast held size frame) open_on has job_queue step =
+        absurd (goes worker_set laws m (call.AggReplace frame (place_in_frame size) (place_in_frame size) held) refl
+        step)
+    by-step job fd c w (TrimsLast held chunk len frame) open_on has job_queue step =
+        absurd (goes worker_set laws m (call.AggDrop held) refl step)
+    by-step job fd c w (Unwraps frame chunk len) open_on has job_queue step =
+        absurd (goes worker_set laws m (call.AggDrop frame) refl step)
+    by-step job fd c w (Returns write) open_on has job_queue step =
+        absurd (goes worker_set laws m (call.Close write) refl step)
+    by-step job fd c w (Lapses j) open_on has job_queue step =
+        absurd (goes worker_set laws m (call.AggDrop j) refl step)
     by-step job fd c w x open_on has job_queue step = absurd (goes worker_set laws m (call.Close run.from) refl step)
 
   -- so is each client for which a script runs, or that waits for a worker
-  pub run-left : (fd c : ℕ) (w : Wanted) (job : ℕ → List ℕ) (y : Running) (process_slots : List (ProcessSlot worker_set.Worker)) (made : Made) (o : Progress)
-      → AreAtJobQueues worker_set m process_slots → WorkersAreQuiescent worker_set m process_slots → descriptor m server fd ≡ Some (on.Connection c) → is_over y ≡ false
-      → HasRun job m w o y → HasWorkerAt worker_set m process_slots made o y → WouldWait m server (wants job fd w y) → IsHeldUp m c
-  run-left fd c w job Awaits process_slots made o job_queues quiescent open_on going has job_queue step = absurd (goes worker_set laws m call.Pipe refl step)
+  pub run-left : (fd c : ℕ) (w : Wanted) (job : ℕ → List ℕ) (y : Running)
+      (process_slots : List (ProcessSlot worker_set.Worker)) (made : Made) (o : Progress)
+      → AreAtJobQueues worker_set m process_slots → WorkersAreQuiescent worker_set m process_slots
+      → descriptor m server fd ≡ Some (on.Connection c) → is_over y ≡ false
+      → HasRun job m w o y → HasWorkerAt worker_set m process_slots made o y → WouldWait m server (wants job fd w y)
+      → IsHeldUp m c
+  run-left fd c w job Awaits process_slots made o job_queues quiescent open_on going has job_queue step =
+      absurd (goes worker_set laws m call.Pipe refl step)
   run-left fd c w job (Runs run s) process_slots made o job_queues quiescent open_on going has job_queue step =
       by-step process_slots job_queues quiescent made o run job fd c w s open_on has.1 job_queue step
-  run-left fd c w job (Leaves d) process_slots made o job_queues quiescent open_on going has job_queue step = sending fd c w d open_on (only-left d going) step
-  run-left fd c w job Closes process_slots made o job_queues quiescent open_on going has job_queue step = absurd (goes worker_set laws m (call.Close fd) refl step)
+  run-left fd c w job (Leaves d) process_slots made o job_queues quiescent open_on going has job_queue step =
+      sending fd c w d open_on (only-left d going) step
+  run-left fd c w job Closes process_slots made o job_queues quiescent open_on going has job_queue step =
+      absurd (goes worker_set laws m (call.Close fd) refl step)

@@ -18,26 +18,31 @@ use Rattle.flash_laws.specs.declared.script_run.Running.TheVariants.{Runs}
 use Rattle.flash_laws.proofs.Lists.{clash}
 
 -- after the call
-pub record JobQueueAfter (worker_set : WorkerSet) (m n : State) (c : ℕ) (process_slots : List (ProcessSlot worker_set.Worker)) (w : Wanted)
+pub record JobQueueAfter (worker_set : WorkerSet) (m n : State) (c : ℕ)
+    (process_slots : List (ProcessSlot worker_set.Worker)) (w : Wanted)
     (made : Made) (y z : Running) (o after : Progress) : Type 0 where
   -- the worker of the run has what it is to have
   pub job_queue : HasWorkerAt worker_set n process_slots made after z
   -- one that ran it, and runs it no more, is free
-  pub freed : (k : ℕ) (process_slot : ProcessSlot worker_set.Worker) → slice_get process_slots k ≡ Some process_slot → has_worker y k ≡ true → has_worker z k ≡ false
+  pub freed : (k : ℕ) (process_slot : ProcessSlot worker_set.Worker) → slice_get process_slots k ≡ Some process_slot
+      → has_worker y k ≡ true → has_worker z k ≡ false
       → worker_set.Free n (worker_set.job_queue k) process_slot
   -- the response that is expected may still come, unless it was broken off, or is now, and that is only where the peer
   -- is gone
-  pub may : breaks_off y ≡ false → breaks_off z ≡ false → MayAnswer w o (response_to w made) → MayAnswer w after (response_to w made)
+  pub may : breaks_off y ≡ false → breaks_off z ≡ false → MayAnswer w o (response_to w made)
+      → MayAnswer w after (response_to w made)
   pub cut : breaks_off y ≡ false → breaks_off z ≡ true → is_gone (conn_at m c).peer ≡ true
 
 -- what may come, and why it does not, over a call
 abbrev pub MayOn : (expected : List ℕ) → Wanted → (y z : Running) → (o after : Progress) → Type 0
-MayOn expected w y z o after = breaks_off y ≡ false → breaks_off z ≡ false → MayAnswer w o expected → MayAnswer w after expected
+MayOn expected w y z o after = breaks_off y ≡ false → breaks_off z ≡ false → MayAnswer w o expected
+    → MayAnswer w after expected
 
 abbrev pub CutBy : State → (c : ℕ) → (y z : Running) → Type 0
 CutBy m c y z = breaks_off y ≡ false → breaks_off z ≡ true → is_gone (conn_at m c).peer ≡ true
 
-pub may_same : (expected : List ℕ) (w : Wanted) (y z : Running) (o after : Progress) → after ≡ o → MayOn expected w y z o after
+pub may_same : (expected : List ℕ) (w : Wanted) (y z : Running) (o after : Progress) → after ≡ o
+    → MayOn expected w y z o after
 may_same expected w y z o after same was now may = subst (λ (p : Progress). MayAnswer w p expected) (sym same) may
 
 pub cut_same : (m : State) (c : ℕ) (y z : Running) → breaks_off z ≡ breaks_off y → CutBy m c y z
@@ -46,13 +51,17 @@ cut_same m c y z same was now = absurd (clash (breaks_off z) now (same ∙ was))
 pub cut_whole : (m : State) (c : ℕ) (y z : Running) → breaks_off z ≡ false → CutBy m c y z
 cut_whole m c y z whole was now = absurd (clash (breaks_off z) now whole)
 
-module _ (worker_set : WorkerSet) (m n : State) (c : ℕ) (process_slots : List (ProcessSlot worker_set.Worker)) (w : Wanted) (made : Made) (o after : Progress) where
+module _ (worker_set : WorkerSet) (m n : State) (c : ℕ) (process_slots : List (ProcessSlot worker_set.Worker))
+    (w : Wanted) (made : Made) (o after : Progress) where
   abbrev After : Running → Running → Type 0
   After y z = JobQueueAfter worker_set m n c process_slots w made y z o after
 
   -- it goes on with its worker
-  pub proceeds : (run next : Run) (step later : Step) (process_slot : ProcessSlot worker_set.Worker) → next.worker ≡ run.worker → slice_get process_slots next.worker ≡ Some process_slot
-      → Stage worker_set n process_slot next made after later → MayOn (response_to w made) w (Runs run step) (Runs next later) o after → CutBy m c (Runs run step) (Runs next later)
+  pub proceeds : (run next : Run) (step later : Step) (process_slot : ProcessSlot worker_set.Worker)
+      → next.worker ≡ run.worker → slice_get process_slots next.worker ≡ Some process_slot
+      → Stage worker_set n process_slot next made after later
+      → MayOn (response_to w made) w (Runs run step) (Runs next later) o after
+      → CutBy m c (Runs run step) (Runs next later)
       → After (Runs run step) (Runs next later)
   proceeds run next step later process_slot same sits stage may cut = record {
     job_queue = record { process_slot = process_slot; sits = sits; stage = stage };
@@ -62,6 +71,9 @@ module _ (worker_set : WorkerSet) (m n : State) (c : ℕ) (process_slots : List 
   }
 
   -- with what its calls gave before
-  pub same_on : (run : Run) (step later : Step) (process_slot : ProcessSlot worker_set.Worker) → slice_get process_slots run.worker ≡ Some process_slot → after ≡ o → CutBy m c (Runs run step) (Runs run later)
+  pub same_on : (run : Run) (step later : Step) (process_slot : ProcessSlot worker_set.Worker)
+      → slice_get process_slots run.worker ≡ Some process_slot → after ≡ o → CutBy m c (Runs run step) (Runs run later)
       → Stage worker_set n process_slot run made after later → After (Runs run step) (Runs run later)
-  same_on run step later process_slot sits same cut stage = proceeds run run step later process_slot refl sits stage (may_same (response_to w made) w (Runs run step) (Runs run later) o after same) cut
+  same_on run step later process_slot sits same cut stage =
+      proceeds run run step later process_slot refl sits stage
+      (may_same (response_to w made) w (Runs run step) (Runs run later) o after same) cut

@@ -81,7 +81,8 @@ no_admit (call.PoolAdmit p d) q may = absurd (cc (may))
 no_admit k q may = refl
 
 -- a call of the server that makes and writes no file, and admits nobody
-pub record OwnCall (site_contents : SiteContents) (worker_set : WorkerSet) (m n : State) (k : Call) (r : Reply) (process_slots : List (ProcessSlot worker_set.Worker)) : Type 0 where
+pub record OwnCall (site_contents : SiteContents) (worker_set : WorkerSet) (m n : State) (k : Call) (r : Reply)
+    (process_slots : List (ProcessSlot worker_set.Worker)) : Type 0 where
   pub order : IsOrderly m
   pub fixed : IsFixedFor site_contents worker_set m
   pub job_queues : AreAtJobQueues worker_set m process_slots
@@ -89,8 +90,11 @@ pub record OwnCall (site_contents : SiteContents) (worker_set : WorkerSet) (m n 
   pub files : changes_files m (event.Call server k) ≡ false
   pub admits : (q : ℕ) → admits_to (event.Call server k) q ≡ false
 
-pub own_call : (site_contents : SiteContents) (worker_set : WorkerSet) (m n : State) (fd c : ℕ) (y : Running) (k : Call) (r : Reply) (process_slots : List (ProcessSlot worker_set.Worker)) → IsOrderly m
-    → IsFixedFor site_contents worker_set m → AreAtJobQueues worker_set m process_slots → StepsTo m (event.Call server k) r n → KeepsToItself m fd c y k → OwnCall site_contents worker_set m n k r process_slots
+pub own_call : (site_contents : SiteContents) (worker_set : WorkerSet) (m n : State) (fd c : ℕ) (y : Running) (k : Call)
+    (r : Reply) (process_slots : List (ProcessSlot worker_set.Worker)) → IsOrderly m
+    → IsFixedFor site_contents worker_set m → AreAtJobQueues worker_set m process_slots
+    → StepsTo m (event.Call server k) r n → KeepsToItself m fd c y k
+    → OwnCall site_contents worker_set m n k r process_slots
 own_call site_contents worker_set m n fd c y k r process_slots order fixed job_queues step keeps = record {
   order = order;
   fixed = fixed;
@@ -103,11 +107,14 @@ own_call site_contents worker_set m n fd c y k r process_slots order fixed job_q
 no_worker : (worker : ℕ) → (server == worker_domain worker) ≡ false
 no_worker worker = not-equal server (worker_domain worker) (λ e. omega (arith, e))
 
-module _ (site_contents : SiteContents) (worker_set : WorkerSet) (laws : AllLaws worker_set) (m n : State) (k : Call) (r : Reply) (process_slots : List (ProcessSlot worker_set.Worker)) (h : OwnCall site_contents worker_set m n k r process_slots) where
+module _ (site_contents : SiteContents) (worker_set : WorkerSet) (laws : AllLaws worker_set) (m n : State) (k : Call)
+    (r : Reply) (process_slots : List (ProcessSlot worker_set.Worker))
+    (h : OwnCall site_contents worker_set m n k r process_slots) where
   pub leaves : Leaves m (event.Call server k) n
   leaves = laws.the.steps.leaves m n (event.Call server k) r h.step
 
-  module _ (worker : ℕ) (process_slot : ProcessSlot worker_set.Worker) (sits : slice_get process_slots worker ≡ Some process_slot) where
+  module _ (worker : ℕ) (process_slot : ProcessSlot worker_set.Worker)
+      (sits : slice_get process_slots worker ≡ Some process_slot) where
     pub other : is_call_of (event.Call server k) process_slot.by ≡ false
     other = subst (λ d. (server == d) ≡ false) (sym (h.job_queues.by worker process_slot sits).1) (no_worker worker)
 
@@ -118,12 +125,17 @@ module _ (site_contents : SiteContents) (worker_set : WorkerSet) (laws : AllLaws
     own_files = laws.receive.files m n process_slot.by (event.Call server k) r h.fixed.files h.step h.files h.admits
 
     -- a worker that is free stays so, where its job queue's pipe does
-    pub free_on : pipe_at n (worker_set.job_queue worker) ≡ pipe_at m (worker_set.job_queue worker) → worker_set.Free m (worker_set.job_queue worker) process_slot → worker_set.Free n (worker_set.job_queue worker) process_slot
-    free_on same free = laws.workers.free_others m n (worker_set.job_queue worker) process_slot (event.Call server k) r h.fixed.placed h.step other same free
+    pub free_on : pipe_at n (worker_set.job_queue worker) ≡ pipe_at m (worker_set.job_queue worker)
+        → worker_set.Free m (worker_set.job_queue worker) process_slot
+        → worker_set.Free n (worker_set.job_queue worker) process_slot
+    free_on same free = laws.workers.free_others m n (worker_set.job_queue worker) process_slot (event.Call server k) r
+        h.fixed.placed h.step other same free
 
   -- so does all that the worker of a run has
-  module _ (run : Run) (process_slot : ProcessSlot worker_set.Worker) (sits : slice_get process_slots run.worker ≡ Some process_slot) where
-    pub ready_on : ((p : ℕ) → pipe_at n p ≡ pipe_at m p) → (ready : IsReadyFor worker_set m process_slot run) → descriptor n server run.from ≡ Some (on.ReadEnd ready.has.pipe)
+  module _ (run : Run) (process_slot : ProcessSlot worker_set.Worker)
+      (sits : slice_get process_slots run.worker ≡ Some process_slot) where
+    pub ready_on : ((p : ℕ) → pipe_at n p ≡ pipe_at m p) → (ready : IsReadyFor worker_set m process_slot run)
+        → descriptor n server run.from ≡ Some (on.ReadEnd ready.has.pipe)
         → IsReadyFor worker_set n process_slot run
     ready_on stay ready reads = record {
       free = free_on run.worker process_slot sits (stay (worker_set.job_queue run.worker)) ready.free;
@@ -131,26 +143,44 @@ module _ (site_contents : SiteContents) (worker_set : WorkerSet) (laws : AllLaws
       new = stay ready.has.pipe ∙ ready.new;
     }
 
-    pub given_on : Still m n → (f : ℕ) → IsGiven worker_set m process_slot run f → IsGiven worker_set n process_slot run f
+    pub given_on : Still m n → (f : ℕ) → IsGiven worker_set m process_slot run f
+        → IsGiven worker_set n process_slot run f
     given_on stays f given = record {
       ready = record {
         free = free_on run.worker process_slot sits (stays.pipes (worker_set.job_queue run.worker)) given.ready.free;
-        has = record { pipe = given.ready.has.pipe; reads = stays.fds run.from (on.ReadEnd given.ready.has.pipe) given.ready.has.reads; apart = given.ready.has.apart };
+        has =
+            record {
+              pipe = given.ready.has.pipe;
+              reads =
+                  stays.fds run.from (on.ReadEnd given.ready.has.pipe) given.ready.has.reads;
+              apart = given.ready.has.apart;
+            };
         new = stays.pipes given.ready.has.pipe ∙ given.ready.new;
       };
       writes = (own_things run.worker process_slot sits).fds f (on.WriteEnd given.ready.has.pipe) given.writes;
     }
 
-    pub putting_on : Still m n → (made : Made) (o after : Progress) → (was : IsPuttingOut worker_set m process_slot run made o) → IsToCome after (text_of made) was.more
+    pub putting_on : Still m n → (made : Made) (o after : Progress)
+        → (was : IsPuttingOut worker_set m process_slot run made o) → IsToCome after (text_of made) was.more
         → IsPuttingOut worker_set n process_slot run made after
     putting_on stays made o after was to_come = record {
-      has = record { pipe = was.has.pipe; reads = stays.fds run.from (on.ReadEnd was.has.pipe) was.has.reads; apart = was.has.apart };
+      has = record {
+        pipe = was.has.pipe;
+        reads = stays.fds run.from (on.ReadEnd was.has.pipe) was.has.reads;
+        apart =
+            was.has.apart;
+      };
       more = was.more;
-      puts_out = laws.texts.left m n (worker_set.job_queue run.worker) was.has.pipe process_slot (event.Call server k) r made was.more h.order h.fixed.placed h.step (other run.worker process_slot sits)
-          (own_files run.worker process_slot sits) (stays.pipes (worker_set.job_queue run.worker)) (stays.pipes was.has.pipe) was.puts_out;
+      puts_out = laws.texts.left m n (worker_set.job_queue run.worker) was.has.pipe process_slot (event.Call server k) r
+          made was.more h.order h.fixed.placed h.step (other run.worker process_slot sits)
+          (own_files run.worker process_slot sits) (stays.pipes (worker_set.job_queue run.worker))
+          (stays.pipes was.has.pipe) was.puts_out;
       to_come = to_come;
     }
 
-    pub put_on : pipe_at n (worker_set.job_queue run.worker) ≡ pipe_at m (worker_set.job_queue run.worker) → (made : Made) (o after : Progress) → after ≡ o
+    pub put_on : pipe_at n (worker_set.job_queue run.worker) ≡ pipe_at m (worker_set.job_queue run.worker)
+        → (made : Made) (o after : Progress) → after ≡ o
         → HasPutOut worker_set m process_slot run made o → HasPutOut worker_set n process_slot run made after
-    put_on same made o after stays was = subst (λ (p : Progress). HasPutOut worker_set n process_slot run made p) (sym stays) (record { free = free_on run.worker process_slot sits same was.free; whole = was.whole })
+    put_on same made o after stays was =
+        subst (λ (p : Progress). HasPutOut worker_set n process_slot run made p) (sym stays)
+        (record { free = free_on run.worker process_slot sits same was.free; whole = was.whole })

@@ -1,9 +1,11 @@
 -- The parts of a worker, and of the script that it runs, that others leave unchanged.
-use Rattle.std.proofs.Common.{◌≡◌, ◌≢◌, ◌<◌, ℕ, ◌==◌, List, [], ap, ◌∙◌, refl, sym, subst, Option, Some, None, true, false, if◌then◌else◌}
+use Rattle.std.proofs.Common.{◌≡◌, ◌≢◌, ◌<◌, ℕ, ◌==◌, List, [], ap, ◌∙◌, refl, sym, subst, Option, Some, None, true}
+use Rattle.std.proofs.Common.{false, if◌then◌else◌}
 use Rattle.std.specs.Prelude.{◌&&◌, ◌||◌, option_map, unwrap_or}
 use Rattle.iol_core.specs.Positions.{ArePlaced}
 use Rattle.iol_core.specs.Text.{Text, bytes_of}
-use Rattle.iol_core.specs.State.{State, File as FileEntry, aggregate, descriptor, text, file, content, may_read, pipe_at}
+use Rattle.iol_core.specs.State.{State, File as FileEntry, aggregate, descriptor, text, file, content, may_read}
+use Rattle.iol_core.specs.State.{pipe_at}
 use Rattle.iol_core.specs.Calls.Files.{file_called}
 use Rattle.iol_core.specs.Calls.Writes.{is_file}
 use Rattle.iol_core.specs.Run.{StepsTo}
@@ -35,7 +37,9 @@ use Rattle.flash_laws.specs.Site.{server, KeepsSite}
 use Rattle.flash_laws.specs.Run.Stages.{HasPipeOf, IsReadyFor, IsGiven, IsPuttingOut, HasPutOut, Stage}
 use Rattle.flash_laws.specs.declared.script_run.Run.{Run}
 use Rattle.flash_laws.specs.declared.script_run.Step.{Step}
-use Rattle.flash_laws.specs.declared.script_run.Step.TheVariants.{Gives, Makes, Hands, Ended, Unholds, Stops, Unframes, Lasts, WrapsLast, TrimsLast, Unwraps, Returns, Lapses, Fails}
+use Rattle.flash_laws.specs.declared.script_run.Step.TheVariants.{Gives, Makes, Hands, Ended, Unholds, Stops, Unframes}
+use Rattle.flash_laws.specs.declared.script_run.Step.TheVariants.{Lasts, WrapsLast, TrimsLast, Unwraps, Returns, Lapses}
+use Rattle.flash_laws.specs.declared.script_run.Step.TheVariants.{Fails}
 use Rattle.flash_laws.specs.declared.script_run.Running.TheVariants.{Runs}
 use Rattle.flash_laws.proofs.Conn.ReadableBytes.{file-same, content-same}
 use Rattle.flash_laws.proofs.Lists.{self}
@@ -44,19 +48,23 @@ use Rattle.flash_laws.proofs.Site.Others.{called-same}
 
 -- ---- the files
 
-outcome-same : (m n : State) (d : ℕ) (name : List ℕ) → KeepsSite m n → (o : Option ℕ) → file_called m name ≡ o → outcome_of n d o ≡ outcome_of m d o
+outcome-same : (m n : State) (d : ℕ) (name : List ℕ) → KeepsSite m n → (o : Option ℕ) → file_called m name ≡ o
+    → outcome_of n d o ≡ outcome_of m d o
 outcome-same m n d name site None is = refl
 outcome-same m n d name site (Some f) is =
     let same = file-same m n f site.files in
-    let may : may_read n d (file n f).pool ≡ may_read m d (file m f).pool = ap (λ (x : FileEntry). may_read n d x.pool) same ∙ site.readers name f d is in
+    let may : may_read n d (file n f).pool ≡ may_read m d (file m f).pool =
+    ap (λ (x : FileEntry). may_read n d x.pool) same ∙ site.readers name f d is in
     ap (λ b. if b then Found (content n f) else Failed (Denied (file n f).pool)) may
-    ∙ (ap (λ (l : List ℕ). if may_read m d (file m f).pool then Found l else Failed (Denied (file n f).pool)) (content-same m n f site.slots)
+    ∙ (ap (λ (l : List ℕ). if may_read m d (file m f).pool then Found l else Failed (Denied (file n f).pool))
+    (content-same m n f site.slots)
     ∙ ap (λ (x : FileEntry). if may_read m d (file m f).pool then Found (content m f) else Failed (Denied x.pool)) same)
 
 -- a site that stays leaves the outcomes of files for each domain
 pub files-left : (m n : State) (d : ℕ) → KeepsSite m n → LeavesFiles m d n
 files-left m n d site = record {
-  outcomes = λ name. ap (λ (o : Option ℕ). outcome_of n d o) (called-same m n name site.files) ∙ outcome-same m n d name site (file_called m name) refl;
+  outcomes = λ name. ap (λ (o : Option ℕ). outcome_of n d o) (called-same m n name site.files)
+      ∙ outcome-same m n d name site (file_called m name) refl;
   contents = λ f. content-same m n f site.slots;
 }
 
@@ -84,13 +92,15 @@ none-given (event.Call by (call.AggGive b to)) d a is = ap (λ t. t && (b == a))
 none-given e d a is = refl
 
 -- what is lent under a number that is not given up lies where it lay
-pub text-stays : (steps : EachStepLeavesTheRest) (m n : State) (e : Event) (r : Reply) → StepsTo m e r n → (a : ℕ) (bytes : List ℕ)
+pub text-stays : (steps : EachStepLeavesTheRest) (m n : State) (e : Event) (r : Reply) → StepsTo m e r n
+    → (a : ℕ) (bytes : List ℕ)
     → readable_at m server a ≡ Some bytes → gives_up e server a ≡ false → text n server a ≡ text m server a
 text-stays steps m n e r step a bytes is un = by (aggregate m server a) refl
   where
     by : (x : Option Text) → aggregate m server a ≡ x → text n server a ≡ text m server a
     by None none = (let e = sym (ap (λ (t : Option Text). option_map bytes_of t) none) ∙ is in absurd (cc))
-    by (Some t) some = ap (λ (y : Option Text). unwrap_or y []) ((steps.values m n e r step).each server a t some un ∙ sym some)
+    by (Some t) some = ap (λ (y : Option Text). unwrap_or y []) ((steps.values m n e r step).each server a t some un
+        ∙ sym some)
 
 -- ---- what one client has
 
@@ -101,57 +111,89 @@ pub record LeavesOne (worker_set : WorkerSet) (m n : State) (e : Event) (fd : �
   pub fds : (g : ℕ) → uses_fd x g ≡ true → touches_fd m e server g ≡ false
   pub site : KeepsSite m n
   pub others : (k : ℕ) → k < worker_set.count → is_run_by x k ≡ true → is_call_of e (worker_domain k) ≡ false
-  pub job_queues : (k : ℕ) → k < worker_set.count → is_run_by x k ≡ true → pipe_at n (worker_set.job_queue k) ≡ pipe_at m (worker_set.job_queue k)
-  pub pipe : (run : Run) (step : Step) (p : ℕ) → x.run ≡ Some (Runs run step) → descriptor m server run.from ≡ Some (on.ReadEnd p)
-      → has_fd x run.from ≡ true → ((k : ℕ) → k < worker_set.count → worker_set.job_queue k ≢ p) → is_stopping (Runs run step) ≡ false
+  pub job_queues : (k : ℕ) → k < worker_set.count → is_run_by x k ≡ true
+      → pipe_at n (worker_set.job_queue k) ≡ pipe_at m (worker_set.job_queue k)
+  pub pipe : (run : Run) (step : Step) (p : ℕ) → x.run ≡ Some (Runs run step)
+      → descriptor m server run.from ≡ Some (on.ReadEnd p)
+      → has_fd x run.from ≡ true → ((k : ℕ) → k < worker_set.count → worker_set.job_queue k ≢ p)
+      → is_stopping (Runs run step) ≡ false
       → pipe_at n p ≡ pipe_at m p
 
 -- ---- what its worker has
 
-module _ (worker_set : WorkerSet) (laws : AllLaws worker_set) (m n : State) (e : Event) (r : Reply) (order : IsOrderly m) (placed : ArePlaced m) (step : StepsTo m e r n) (site : KeepsSite m n) where
+module _ (worker_set : WorkerSet) (laws : AllLaws worker_set) (m n : State) (e : Event) (r : Reply)
+    (order : IsOrderly m) (placed : ArePlaced m) (step : StepsTo m e r n) (site : KeepsSite m n) where
   leaves : Leaving m e n
   leaves = laws.the.steps.leaves m n e r step
 
   -- the pipe of a run stays as it is
   abbrev SamePipe : Run → Type 0
-  SamePipe run = (p : ℕ) → descriptor m server run.from ≡ Some (on.ReadEnd p) → ((k : ℕ) → k < worker_set.count → worker_set.job_queue k ≢ p) → pipe_at n p ≡ pipe_at m p
+  SamePipe run = (p : ℕ) → descriptor m server run.from ≡ Some (on.ReadEnd p)
+      → ((k : ℕ) → k < worker_set.count → worker_set.job_queue k ≢ p) → pipe_at n p ≡ pipe_at m p
 
-  module _ (run : Run) (process_slot : ProcessSlot worker_set.Worker) (other : is_call_of e process_slot.by ≡ false) (job_queue : pipe_at n (worker_set.job_queue run.worker) ≡ pipe_at m (worker_set.job_queue run.worker)) where
-    free-on : worker_set.Free m (worker_set.job_queue run.worker) process_slot → worker_set.Free n (worker_set.job_queue run.worker) process_slot
-    free-on free = laws.workers.free_others m n (worker_set.job_queue run.worker) process_slot e r placed step other job_queue free
+  module _ (run : Run) (process_slot : ProcessSlot worker_set.Worker) (other : is_call_of e process_slot.by ≡ false)
+      (job_queue : pipe_at n (worker_set.job_queue run.worker) ≡ pipe_at m (worker_set.job_queue run.worker)) where
+    free-on : worker_set.Free m (worker_set.job_queue run.worker) process_slot
+        → worker_set.Free n (worker_set.job_queue run.worker) process_slot
+    free-on free = laws.workers.free_others m n (worker_set.job_queue run.worker) process_slot e r placed step other
+        job_queue free
 
     abbrev pipe-on : touches_fd m e server run.from ≡ false → HasPipeOf worker_set m run → HasPipeOf worker_set n run
-    pipe-on undisturbed h = record { pipe = h.pipe; reads = leaves.fds server run.from (on.ReadEnd h.pipe) h.reads undisturbed; apart = h.apart }
+    pipe-on undisturbed h =
+        record {
+          pipe = h.pipe;
+          reads = leaves.fds server run.from (on.ReadEnd h.pipe) h.reads undisturbed;
+          apart =
+              h.apart;
+        }
 
-    abbrev ready-on : touches_fd m e server run.from ≡ false → SamePipe run → IsReadyFor worker_set m process_slot run → IsReadyFor worker_set n process_slot run
-    ready-on undisturbed same h = record { free = free-on h.free; has = pipe-on undisturbed h.has; new = same h.has.pipe h.has.reads h.has.apart ∙ h.new }
+    abbrev ready-on : touches_fd m e server run.from ≡ false → SamePipe run → IsReadyFor worker_set m process_slot run
+        → IsReadyFor worker_set n process_slot run
+    ready-on undisturbed same h =
+        record {
+          free = free-on h.free;
+          has = pipe-on undisturbed h.has;
+          new = same h.has.pipe h.has.reads h.has.apart
+              ∙ h.new;
+        }
 
-    given-on : (fd : ℕ) → touches_fd m e server run.from ≡ false → SamePipe run → IsGiven worker_set m process_slot run fd → IsGiven worker_set n process_slot run fd
+    given-on : (fd : ℕ) → touches_fd m e server run.from ≡ false → SamePipe run
+        → IsGiven worker_set m process_slot run fd → IsGiven worker_set n process_slot run fd
     given-on fd undisturbed same h = record {
       ready = ready-on undisturbed same h.ready;
-      writes = leaves.fds process_slot.by fd (on.WriteEnd h.ready.has.pipe) h.writes (none-touched m e process_slot.by fd other);
+      writes =
+          leaves.fds process_slot.by fd (on.WriteEnd h.ready.has.pipe) h.writes
+          (none-touched m e process_slot.by fd other);
     }
 
-    putting-on : (made : Made) (o : Progress) → touches_fd m e server run.from ≡ false → SamePipe run → IsPuttingOut worker_set m process_slot run made o
+    putting-on : (made : Made) (o : Progress) → touches_fd m e server run.from ≡ false → SamePipe run
+        → IsPuttingOut worker_set m process_slot run made o
         → IsPuttingOut worker_set n process_slot run made o
     putting-on made o undisturbed same h = record {
       has = pipe-on undisturbed h.has;
       more = h.more;
-      puts_out = laws.texts.left m n (worker_set.job_queue run.worker) h.has.pipe process_slot e r made h.more order placed step other (files-left m n process_slot.by site) job_queue (same h.has.pipe h.has.reads h.has.apart) h.puts_out;
+      puts_out = laws.texts.left m n (worker_set.job_queue run.worker) h.has.pipe process_slot e r made h.more order
+          placed step other (files-left m n process_slot.by site) job_queue (same h.has.pipe h.has.reads h.has.apart)
+          h.puts_out;
       to_come = h.to_come;
     }
 
-    put-on : (made : Made) (o : Progress) → HasPutOut worker_set m process_slot run made o → HasPutOut worker_set n process_slot run made o
+    put-on : (made : Made) (o : Progress) → HasPutOut worker_set m process_slot run made o
+        → HasPutOut worker_set n process_slot run made o
     put-on made o h = record { free = free-on h.free; whole = h.whole }
 
-    pub stage-on : (job : ℕ → List ℕ) (w : Wanted) (made : Made) (o : Progress) (s : Step) → ((a : ℕ) → step_agg s a ≡ true → gives_up e server a ≡ false)
-        → (is_reading s ≡ true → touches_fd m e server run.from ≡ false) → (is_reading s ≡ true → is_stopping (Runs run s) ≡ false → SamePipe run)
-        → HasStep job m w o run s → Stage worker_set m process_slot run made o s → Stage worker_set n process_slot run made o s
+    pub stage-on : (job : ℕ → List ℕ) (w : Wanted) (made : Made) (o : Progress) (s : Step)
+        → ((a : ℕ) → step_agg s a ≡ true → gives_up e server a ≡ false)
+        → (is_reading s ≡ true → touches_fd m e server run.from ≡ false)
+        → (is_reading s ≡ true → is_stopping (Runs run s) ≡ false → SamePipe run)
+        → HasStep job m w o run s → Stage worker_set m process_slot run made o s
+        → Stage worker_set n process_slot run made o s
     stage-on job w made o (Gives write) un undisturbed same has h = ready-on (undisturbed refl) (same refl refl) h
     stage-on job w made o (Makes f) un undisturbed same has h = given-on f (undisturbed refl) (same refl refl) h
     stage-on job w made o (Hands j f) un undisturbed same has h = (
       given-on f (undisturbed refl) (same refl refl) h.0,
-      subst (λ (t : Text). lie_in worker_set.jobs t ≡ true) (sym (text-stays laws.the.steps m n e r step j (job f) has.1 (un j (self j)))) h.1,
+      subst (λ (t : Text). lie_in worker_set.jobs t ≡ true)
+          (sym (text-stays laws.the.steps m n e r step j (job f) has.1 (un j (self j)))) h.1,
     )
     stage-on job w made o (Ended a held frame) un undisturbed same has h = put-on made o h
     stage-on job w made o (Unholds held frame) un undisturbed same has h = put-on made o h

@@ -1,5 +1,6 @@
 -- Each worker reads its jobs, whether it is free or runs a script.
-use Rattle.std.proofs.Common.{inl, inr, ◌≡◌, ℕ, List, ap, ◌∙◌, refl, sym, subst, Option, Some, true, false, Bool, slice_get}
+use Rattle.std.proofs.Common.{inl, inr, ◌≡◌, ℕ, List, ap, ◌∙◌, refl, sym, subst, Option, Some, true, false, Bool}
+use Rattle.std.proofs.Common.{slice_get}
 use Rattle.iol_core.specs.State.{State, descriptor}
 use Rattle.iol_core.specs.declared.descriptors.Descriptor.TheVariants as on
 use Rattle.iol_proc.specs.declared.process_slot.ProcessSlot.{ProcessSlot}
@@ -17,7 +18,8 @@ use Rattle.flash_laws.specs.SiteContents.{SiteContents}
 use Rattle.flash_laws.specs.Run.Stages.{IsPuttingOut, Stage}
 use Rattle.flash_laws.specs.declared.script_run.Run.{Run}
 use Rattle.flash_laws.specs.declared.script_run.Step.{Step}
-use Rattle.flash_laws.specs.declared.script_run.Step.TheVariants.{Makes, Hands, Lets, Heads, Sending, Receives, Spills, Gathers, Frames, Wraps, Trims, Returns, Lapses, Fails}
+use Rattle.flash_laws.specs.declared.script_run.Step.TheVariants.{Makes, Hands, Lets, Heads, Sending, Receives, Spills}
+use Rattle.flash_laws.specs.declared.script_run.Step.TheVariants.{Gathers, Frames, Wraps, Trims, Returns, Lapses, Fails}
 use Rattle.flash_laws.specs.declared.script_run.Running.{Running}
 use Rattle.flash_laws.specs.declared.script_run.Running.TheVariants.{Runs}
 use Rattle.flash_laws.proofs.Forms.{of}
@@ -27,22 +29,29 @@ use Rattle.flash_laws.proofs.World.AllLaws.{AllLaws}
 use Rattle.flash_laws.proofs.Site.OwnWorkers.{runs-for}
 
 module _ (worker_set : WorkerSet) (laws : AllLaws worker_set) where
-  free-reads : (m : State) (j : ℕ) (process_slot : ProcessSlot worker_set.Worker) → worker_set.Free m j process_slot → descriptor m process_slot.by 0 ≡ Some (on.ReadEnd j)
+  free-reads : (m : State) (j : ℕ) (process_slot : ProcessSlot worker_set.Worker) → worker_set.Free m j process_slot
+      → descriptor m process_slot.by 0 ≡ Some (on.ReadEnd j)
   free-reads m j process_slot free = (laws.workers.none m j process_slot free).jobs
 
-  puts-reads : (m : State) (process_slot : ProcessSlot worker_set.Worker) (run : Run) (made : Made) (o : Progress) → IsPuttingOut worker_set m process_slot run made o
+  puts-reads : (m : State) (process_slot : ProcessSlot worker_set.Worker) (run : Run) (made : Made) (o : Progress)
+      → IsPuttingOut worker_set m process_slot run made o
       → descriptor m process_slot.by 0 ≡ Some (on.ReadEnd (worker_set.job_queue run.worker))
   puts-reads m process_slot run made o h = by h.puts_out
     where
-      by : PutsOut worker_set.turns worker_set.pools worker_set.Free worker_set.Expected m (worker_set.job_queue run.worker) h.has.pipe process_slot made h.more
+      by : PutsOut worker_set.turns worker_set.pools worker_set.Free worker_set.Expected m
+          (worker_set.job_queue run.worker) h.has.pipe process_slot made h.more
           → descriptor m process_slot.by 0 ≡ Some (on.ReadEnd (worker_set.job_queue run.worker))
-      by (inl expected) = laws.workers.reads m (worker_set.job_queue run.worker) h.has.pipe process_slot made h.more expected
+      by (inl expected) = laws.workers.reads m (worker_set.job_queue run.worker) h.has.pipe process_slot made h.more
+          expected
       by (inr there) = free-reads m (worker_set.job_queue run.worker) process_slot there.free
 
-  stage-reads : (m : State) (process_slot : ProcessSlot worker_set.Worker) (run : Run) (made : Made) (o : Progress) (s : Step) → Stage worker_set m process_slot run made o s
+  stage-reads : (m : State) (process_slot : ProcessSlot worker_set.Worker) (run : Run) (made : Made) (o : Progress)
+      (s : Step) → Stage worker_set m process_slot run made o s
       → descriptor m process_slot.by 0 ≡ Some (on.ReadEnd (worker_set.job_queue run.worker))
-  stage-reads m process_slot run made o (Makes f) h = free-reads m (worker_set.job_queue run.worker) process_slot h.ready.free
-  stage-reads m process_slot run made o (Hands j f) h = free-reads m (worker_set.job_queue run.worker) process_slot h.0.ready.free
+  stage-reads m process_slot run made o (Makes f) h =
+      free-reads m (worker_set.job_queue run.worker) process_slot h.ready.free
+  stage-reads m process_slot run made o (Hands j f) h =
+      free-reads m (worker_set.job_queue run.worker) process_slot h.0.ready.free
   stage-reads m process_slot run made o (Lets j) h = puts-reads m process_slot run made o h
   stage-reads m process_slot run made o Heads h = puts-reads m process_slot run made o h
   stage-reads m process_slot run made o (Sending d frame) h = puts-reads m process_slot run made o h
@@ -59,23 +68,35 @@ module _ (worker_set : WorkerSet) (laws : AllLaws worker_set) where
 
 module _ (site_contents : SiteContents) (worker_set : WorkerSet) (laws : AllLaws worker_set) where
   -- the worker of a client reads its jobs
-  run-reads : (m : State) (came sent : List ℕ) (fd c : ℕ) (x : Conn) (run : Option Running) (script : List ℕ) (process_slots : List (ProcessSlot worker_set.Worker)) (j : ℕ)
-      (process_slot : ProcessSlot worker_set.Worker) → is_run_by (of x run script) j ≡ true → Fits site_contents worker_set m came sent fd c (of x run script) process_slots → slice_get process_slots j ≡ Some process_slot
+  run-reads : (m : State) (came sent : List ℕ) (fd c : ℕ) (x : Conn) (run : Option Running) (script : List ℕ)
+      (process_slots : List (ProcessSlot worker_set.Worker)) (j : ℕ)
+      (process_slot : ProcessSlot worker_set.Worker) → is_run_by (of x run script) j ≡ true
+      → Fits site_contents worker_set m came sent fd c (of x run script) process_slots
+      → slice_get process_slots j ≡ Some process_slot
       → descriptor m process_slot.by 0 ≡ Some (on.ReadEnd (worker_set.job_queue j))
   run-reads m came sent fd c x (Some (Runs run s)) script process_slots j process_slot runs f sits =
       let here : run.worker ≡ j = same-number run.worker j runs in
-      let mine : f.job_queue.process_slot ≡ process_slot = some-inj f.job_queue.process_slot process_slot (sym f.job_queue.sits ∙ (ap (λ k. slice_get process_slots k) here ∙ sits)) in
+      let mine : f.job_queue.process_slot ≡ process_slot =
+      some-inj f.job_queue.process_slot process_slot (sym f.job_queue.sits
+      ∙ (ap (λ k. slice_get process_slots k) here ∙ sits)) in
       subst (λ k. descriptor m process_slot.by 0 ≡ Some (on.ReadEnd (worker_set.job_queue k))) here
-      (subst (λ (t : ProcessSlot worker_set.Worker). descriptor m t.by 0 ≡ Some (on.ReadEnd (worker_set.job_queue run.worker))) mine (stage-reads worker_set laws m f.job_queue.process_slot run _ f.so_far s f.job_queue.stage))
+      (subst (λ (t : ProcessSlot worker_set.Worker). descriptor m t.by 0
+      ≡ Some (on.ReadEnd (worker_set.job_queue run.worker))) mine
+      (stage-reads worker_set laws m f.job_queue.process_slot run _ f.so_far s f.job_queue.stage))
   run-reads m came sent fd c x run script process_slots j process_slot runs f sits = absurd (cc (runs))
 
-  pub reads-jobs : (m : State) (p : Past) (clients : List (Option Client)) (process_slots : List (ProcessSlot worker_set.Worker)) → AllFit site_contents worker_set m p clients process_slots
-      → (k : ℕ) (process_slot : ProcessSlot worker_set.Worker) → slice_get process_slots k ≡ Some process_slot → descriptor m process_slot.by 0 ≡ Some (on.ReadEnd (worker_set.job_queue k))
+  pub reads-jobs : (m : State) (p : Past) (clients : List (Option Client))
+      (process_slots : List (ProcessSlot worker_set.Worker)) → AllFit site_contents worker_set m p clients process_slots
+      → (k : ℕ) (process_slot : ProcessSlot worker_set.Worker) → slice_get process_slots k ≡ Some process_slot
+      → descriptor m process_slot.by 0 ≡ Some (on.ReadEnd (worker_set.job_queue k))
   reads-jobs m p clients process_slots all k process_slot sits = by (is_free clients k) refl
     where
-      by : (b : Bool) → is_free clients k ≡ b → descriptor m process_slot.by 0 ≡ Some (on.ReadEnd (worker_set.job_queue k))
-      by true free = free-reads worker_set laws m (worker_set.job_queue k) process_slot (all.free k process_slot sits free)
+      by : (b : Bool) → is_free clients k ≡ b
+          → descriptor m process_slot.by 0 ≡ Some (on.ReadEnd (worker_set.job_queue k))
+      by true free =
+          free-reads worker_set laws m (worker_set.job_queue k) process_slot (all.free k process_slot sits free)
       by false busy =
           let ran = runs-for clients k busy in
           let f = all.each ran.fd ran.client ran.at in
-          run-reads m (p.came f.conn) (p.sent f.conn) ran.fd f.conn ran.client.conn ran.client.run ran.client.script process_slots k process_slot ran.runs f.fits sits
+          run-reads m (p.came f.conn) (p.sent f.conn) ran.fd f.conn ran.client.conn ran.client.run ran.client.script
+          process_slots k process_slot ran.runs f.fits sits

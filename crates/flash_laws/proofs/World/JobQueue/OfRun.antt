@@ -25,7 +25,9 @@ use Rattle.flash_laws.specs.Site.{server}
 use Rattle.flash_laws.specs.Run.Stages.{HasWorkerAt, AtJobQueue, is_starting, IsPuttingOut, HasPutOut, IsToCome}
 use Rattle.flash_laws.specs.declared.script_run.Run.{Run}
 use Rattle.flash_laws.specs.declared.script_run.Step.{Step}
-use Rattle.flash_laws.specs.declared.script_run.Step.TheVariants.{Gives, Makes, Hands, Sending, Receives, Ended, Unholds, Stops, Unframes, Lasts, WrapsLast, TrimsLast, Unwraps, Returns, Lapses, Fails}
+use Rattle.flash_laws.specs.declared.script_run.Step.TheVariants.{Gives, Makes, Hands, Sending, Receives, Ended}
+use Rattle.flash_laws.specs.declared.script_run.Step.TheVariants.{Unholds, Stops, Unframes, Lasts, WrapsLast, TrimsLast}
+use Rattle.flash_laws.specs.declared.script_run.Step.TheVariants.{Unwraps, Returns, Lapses, Fails}
 use Rattle.flash_laws.specs.declared.script_run.Running.{Running}
 use Rattle.flash_laws.specs.declared.script_run.Running.TheVariants.{Awaits, Runs, Leaves as Left, Closes}
 use Rattle.flash_laws.proofs.Run.Rest.{part-sends}
@@ -35,12 +37,17 @@ pub use Rattle.flash_laws.proofs.World.JobQueue.After.{JobQueueAfter}
 use Rattle.flash_laws.proofs.World.JobQueue.After.{CutBy}
 use Rattle.flash_laws.proofs.World.JobQueue.Calls.{Quiet, Still, OwnCall, own_call, still, putting_on, put_on}
 use Rattle.flash_laws.proofs.World.JobQueue.Fresh.{awaits, gives, makes, hands, not_lost}
-use Rattle.flash_laws.proofs.World.JobQueue.Reads.{ReceivesNothing, part_to_come, quiet_part, not_cut, quiet_steps, sending, receives}
-use Rattle.flash_laws.proofs.World.JobQueue.Stops.{HasReceivedAll, apart_read, apart_write, shut_stays, last_steps, leaving}
+use Rattle.flash_laws.proofs.World.JobQueue.Reads.{ReceivesNothing, part_to_come, quiet_part, not_cut, quiet_steps}
+use Rattle.flash_laws.proofs.World.JobQueue.Reads.{sending, receives}
+use Rattle.flash_laws.proofs.World.JobQueue.Stops.{HasReceivedAll, apart_read, apart_write, shut_stays, last_steps}
+use Rattle.flash_laws.proofs.World.JobQueue.Stops.{leaving}
 
 module _ (site_contents : SiteContents) (worker_set : WorkerSet) (laws : AllLaws worker_set) where
-  module _ (m n : State) (fd c worker : ℕ) (x : Client) (w : Wanted) (s : IsScript site_contents x w) (r : Reply) (received : List ℕ) (o after : Progress) (process_slots : List (ProcessSlot worker_set.Worker))
-      (shown : List Outcome) (order : IsOrderly m) (now : IsOrderly n) (fixed : IsFixedFor site_contents worker_set m) (job_queues : AreAtJobQueues worker_set m process_slots) (open_on : descriptor m server fd ≡ Some (on.Connection c))
+  module _ (m n : State) (fd c worker : ℕ) (x : Client) (w : Wanted) (s : IsScript site_contents x w) (r : Reply)
+      (received : List ℕ) (o after : Progress) (process_slots : List (ProcessSlot worker_set.Worker))
+      (shown : List Outcome) (order : IsOrderly m) (now : IsOrderly n) (fixed : IsFixedFor site_contents worker_set m)
+      (job_queues : AreAtJobQueues worker_set m process_slots)
+      (open_on : descriptor m server fd ≡ Some (on.Connection c))
       (names : Names n r received) where
     abbrev job : ℕ → List ℕ
     job = job_of w s.text
@@ -54,117 +61,201 @@ module _ (site_contents : SiteContents) (worker_set : WorkerSet) (laws : AllLaws
     abbrev After : Running → Type 0
     After y = JobQueueAfter worker_set m n c process_slots w made y (after_reply worker w y r received) o after
 
-    own : (y : Running) → is_over y ≡ false → HasRun job m w o y → Done y → OwnCall site_contents worker_set m n (wants job fd w y) r process_slots
-    own y going has step = own_call site_contents worker_set m n fd c y (wants job fd w y) r process_slots order fixed job_queues step ((laws.run_keeps job).alone m fd c w y o open_on going has)
+    own : (y : Running) → is_over y ≡ false → HasRun job m w o y → Done y
+        → OwnCall site_contents worker_set m n (wants job fd w y) r process_slots
+    own y going has step = own_call site_contents worker_set m n fd c y (wants job fd w y) r process_slots order fixed
+        job_queues step ((laws.run_keeps job).alone m fd c w y o open_on going has)
 
     left : (y : Running) → Done y → Leaves m (event.Call server (wants job fd w y)) n
     left y step = laws.the.steps.leaves m n (event.Call server (wants job fd w y)) r step
 
     module _ (run : Run) where
       -- it is broken off only where the peer is gone
-      cut_off : (step : Step) (process_slot : ProcessSlot worker_set.Worker) → HasRun job m w o (Runs run step) → Done (Runs run step) → IsPuttingOut worker_set m process_slot run made o
+      cut_off : (step : Step) (process_slot : ProcessSlot worker_set.Worker) → HasRun job m w o (Runs run step)
+          → Done (Runs run step) → IsPuttingOut worker_set m process_slot run made o
           → CutBy m c (Runs run step) (after_step w run step r received)
       cut_off step process_slot has did was on gone =
-          not_cut site_contents worker_set laws m n c process_slots w o after made run step process_slot was fixed.wide ((laws.runs job).breaks m n fd c worker w (Runs run step) r received o open_on refl has did on gone)
+          not_cut site_contents worker_set laws m n c process_slots w o after made run step process_slot was fixed.wide
+          ((laws.runs job).breaks m n fd c worker w (Runs run step) r received o open_on refl has did on gone)
 
       -- the steps that touch no pipe
       undisturbed : (step : Step) → Quiet fd (step_wants job fd w run step) → Done (Runs run step) → Still m n
-      undisturbed step quiet did = still m fd c open_on n (step_wants job fd w run step) (left (Runs run step) did) quiet
+      undisturbed step quiet did =
+          still m fd c open_on n (step_wants job fd w run step) (left (Runs run step) did) quiet
 
-      putting : (step : Step) (process_slot : ProcessSlot worker_set.Worker) → slice_get process_slots run.worker ≡ Some process_slot → Quiet fd (step_wants job fd w run step) → HasRun job m w o (Runs run step)
-          → Done (Runs run step) → (was : IsPuttingOut worker_set m process_slot run made o) → IsToCome after (text_of made) was.more → IsPuttingOut worker_set n process_slot run made after
+      putting : (step : Step) (process_slot : ProcessSlot worker_set.Worker)
+          → slice_get process_slots run.worker ≡ Some process_slot → Quiet fd (step_wants job fd w run step)
+          → HasRun job m w o (Runs run step)
+          → Done (Runs run step) → (was : IsPuttingOut worker_set m process_slot run made o)
+          → IsToCome after (text_of made) was.more → IsPuttingOut worker_set n process_slot run made after
       putting step process_slot sits quiet has did was come =
-          putting_on site_contents worker_set laws m n (step_wants job fd w run step) r process_slots (own (Runs run step) refl has did) run process_slot sits (undisturbed step quiet did) made o after was come
+          putting_on site_contents worker_set laws m n (step_wants job fd w run step) r process_slots
+          (own (Runs run step) refl has did) run process_slot sits (undisturbed step quiet did) made o after was
+          come
 
-      reading_on : (step : Step) (process_slot : ProcessSlot worker_set.Worker) → slice_get process_slots run.worker ≡ Some process_slot → ReceivesNothing step → Quiet fd (step_wants job fd w run step)
-          → HasRun job m w o (Runs run step) → Done (Runs run step) → IsPuttingOut worker_set m process_slot run made o → after ≡ o → After (Runs run step)
+      reading_on : (step : Step) (process_slot : ProcessSlot worker_set.Worker)
+          → slice_get process_slots run.worker ≡ Some process_slot → ReceivesNothing step
+          → Quiet fd (step_wants job fd w run step)
+          → HasRun job m w o (Runs run step) → Done (Runs run step) → IsPuttingOut worker_set m process_slot run made o
+          → after ≡ o → After (Runs run step)
       reading_on step process_slot sits nothing quiet has did was same =
           quiet_steps site_contents worker_set laws m n c process_slots w o after made run process_slot sits
-          (putting step process_slot sits quiet has did was (subst (λ (p : Progress). IsToCome p (text_of made) was.more) (sym same) was.to_come)) same step r received nothing (cut_off step process_slot has did was)
+          (putting step process_slot sits quiet has did was
+          (subst (λ (p : Progress). IsToCome p (text_of made) was.more) (sym same) was.to_come)) same step r
+          received nothing (cut_off step process_slot has did was)
 
-      ending : (step : Step) (process_slot : ProcessSlot worker_set.Worker) → slice_get process_slots run.worker ≡ Some process_slot → HasReceivedAll step → HasRun job m w o (Runs run step) → Done (Runs run step)
-          → pipe_at n (worker_set.job_queue run.worker) ≡ pipe_at m (worker_set.job_queue run.worker) → HasPutOut worker_set m process_slot run made o → after ≡ o → After (Runs run step)
+      ending : (step : Step) (process_slot : ProcessSlot worker_set.Worker)
+          → slice_get process_slots run.worker ≡ Some process_slot → HasReceivedAll step
+          → HasRun job m w o (Runs run step) → Done (Runs run step)
+          → pipe_at n (worker_set.job_queue run.worker) ≡ pipe_at m (worker_set.job_queue run.worker)
+          → HasPutOut worker_set m process_slot run made o → after ≡ o → After (Runs run step)
       ending step process_slot sits all has did job_queue was same =
           last_steps site_contents worker_set laws m n c process_slots w o after made run process_slot sits
-          (put_on site_contents worker_set laws m n (step_wants job fd w run step) r process_slots (own (Runs run step) refl has did) run process_slot sits job_queue made o after same was) same step r received all
+          (put_on site_contents worker_set laws m n (step_wants job fd w run step) r process_slots
+          (own (Runs run step) refl has did) run process_slot sits job_queue made o after same was) same step r
+          received all
 
-      ending_undisturbed : (step : Step) (process_slot : ProcessSlot worker_set.Worker) → slice_get process_slots run.worker ≡ Some process_slot → HasReceivedAll step → Quiet fd (step_wants job fd w run step)
-          → HasRun job m w o (Runs run step) → Done (Runs run step) → HasPutOut worker_set m process_slot run made o → after ≡ o → After (Runs run step)
-      ending_undisturbed step process_slot sits all quiet has did was same = ending step process_slot sits all has did ((undisturbed step quiet did).pipes (worker_set.job_queue run.worker)) was same
+      ending_undisturbed : (step : Step) (process_slot : ProcessSlot worker_set.Worker)
+          → slice_get process_slots run.worker ≡ Some process_slot → HasReceivedAll step
+          → Quiet fd (step_wants job fd w run step)
+          → HasRun job m w o (Runs run step) → Done (Runs run step) → HasPutOut worker_set m process_slot run made o
+          → after ≡ o → After (Runs run step)
+      ending_undisturbed step process_slot sits all quiet has did was same =
+          ending step process_slot sits all has did
+          ((undisturbed step quiet did).pipes (worker_set.job_queue run.worker)) was same
 
       -- a script that is not given up
-      kept : (step : Step) (process_slot : ProcessSlot worker_set.Worker) → slice_get process_slots run.worker ≡ Some process_slot → is_failing (Runs run step) ≡ false → HasRun job m w o (Runs run step)
-          → Done (Runs run step) → worker_set.Free m (worker_set.job_queue run.worker) process_slot → is_failing (after_step w run step r received) ≡ true → ⊥
+      kept : (step : Step) (process_slot : ProcessSlot worker_set.Worker)
+          → slice_get process_slots run.worker ≡ Some process_slot → is_failing (Runs run step) ≡ false
+          → HasRun job m w o (Runs run step)
+          → Done (Runs run step) → worker_set.Free m (worker_set.job_queue run.worker) process_slot
+          → is_failing (after_step w run step r received) ≡ true → ⊥
       kept step process_slot sits going has did free fails =
-          not_lost site_contents worker_set laws m n c process_slots w o after order job_queues run step process_slot sits free ((laws.runs job).fails m n fd worker w (Runs run step) r received o fixed.site.lives has did going fails)
+          not_lost site_contents worker_set laws m n c process_slots w o after order job_queues run step process_slot
+          sits free ((laws.runs job).fails m n fd worker w (Runs run step) r received o fixed.site.lives has did
+          going fails)
 
-      running : (step : Step) → (is_starting (Runs run step) ≡ true → shown ≡ outcomes_by site_contents.shows s.lines) → HasRun job m w o (Runs run step) → AtJobQueue worker_set m process_slots run made o step → Done (Runs run step) → Learns m (Runs run step) r received o after
+      running : (step : Step) → (is_starting (Runs run step) ≡ true → shown ≡ outcomes_by site_contents.shows s.lines)
+          → HasRun job m w o (Runs run step) → AtJobQueue worker_set m process_slots run made o step
+          → Done (Runs run step) → Learns m (Runs run step) r received o after
           → After (Runs run step)
       running (Gives write) fresh has job_queue did learns =
-          gives site_contents worker_set laws m n c process_slots w o after made run write r job_queue.process_slot job_queue.sits job_queue.stage has.1.0 (own (Runs run (Gives write)) refl has did)
+          gives site_contents worker_set laws m n c process_slots w o after made run write r job_queue.process_slot
+          job_queue.sits job_queue.stage has.1.0 (own (Runs run (Gives write)) refl has did)
           (kept (Gives write) job_queue.process_slot job_queue.sits refl has did job_queue.stage.free) learns
       running (Makes f) fresh has job_queue did learns =
-          makes site_contents worker_set laws m n c process_slots w o after made (job f) run f r job_queue.process_slot job_queue.sits job_queue.stage (own (Runs run (Makes f)) refl has did) (undisturbed (Makes f) tt did) learns
+          makes site_contents worker_set laws m n c process_slots w o after made (job f) run f r job_queue.process_slot
+          job_queue.sits job_queue.stage (own (Runs run (Makes f)) refl has did) (undisturbed (Makes f) tt did)
+          learns
       running (Hands j f) fresh has job_queue did learns =
-          hands site_contents worker_set laws m n c process_slots w o after x s shown (fresh refl) run f j job_queue.process_slot job_queue.sits job_queue.stage.0 job_queue.stage.1 has.1.1 r (own (Runs run (Hands j f)) refl has did) stays from
-          (kept (Hands j f) job_queue.process_slot job_queue.sits refl has did job_queue.stage.0.ready.free) has.1.2.1 learns
+          hands site_contents worker_set laws m n c process_slots w o after x s shown (fresh refl) run f j
+          job_queue.process_slot job_queue.sits job_queue.stage.0 job_queue.stage.1 has.1.1 r
+          (own (Runs run (Hands j f)) refl has did) stays from
+          (kept (Hands j f) job_queue.process_slot job_queue.sits refl has did job_queue.stage.0.ready.free) has.1.2.1
+          learns
         where
           writes : descriptor m server (job_pipe run.worker) ≡ Some (on.WriteEnd (worker_set.job_queue run.worker))
           writes = job_queues.job_queues run.worker (job_queues.by run.worker job_queue.process_slot job_queue.sits).0
 
           stays : (p : ℕ) → p ≢ worker_set.job_queue run.worker → pipe_at n p ≡ pipe_at m p
-          stays p differ = (left (Runs run (Hands j f)) did).pipes p (apart_write (descriptor m server (job_pipe run.worker)) (worker_set.job_queue run.worker) p writes (λ e. differ (sym e)))
+          stays p differ =
+              (left (Runs run (Hands j f)) did).pipes p
+              (apart_write (descriptor m server (job_pipe run.worker)) (worker_set.job_queue run.worker) p writes
+              (λ e. differ (sym e)))
 
           from : descriptor n server run.from ≡ Some (on.ReadEnd job_queue.stage.0.ready.has.pipe)
-          from = (left (Runs run (Hands j f)) did).fds server run.from (on.ReadEnd job_queue.stage.0.ready.has.pipe) job_queue.stage.0.ready.has.reads
+          from = (left (Runs run (Hands j f)) did).fds server run.from (on.ReadEnd job_queue.stage.0.ready.has.pipe)
+              job_queue.stage.0.ready.has.reads
               (no-position m (job_pipe run.worker) run.from (on.WriteEnd (worker_set.job_queue run.worker)) writes refl)
       running (Sending d frame) fresh has job_queue did learns =
-          sending site_contents worker_set laws m n c process_slots w o after made run job_queue.process_slot job_queue.sits
-          (putting (Sending d frame) job_queue.process_slot job_queue.sits (quiet_part m fd w has.1.part d (part-sends m has.1.part d has.1.is_part has.1.within)) has did job_queue.stage
-          (part_to_come m d r o after (text_of made) job_queue.stage.more learns job_queue.stage.to_come)) d frame r learns (cut_off (Sending d frame) job_queue.process_slot has did job_queue.stage)
+          sending site_contents worker_set laws m n c process_slots w o after made run job_queue.process_slot
+          job_queue.sits
+          (putting (Sending d frame) job_queue.process_slot job_queue.sits
+          (quiet_part m fd w has.1.part d (part-sends m has.1.part d has.1.is_part has.1.within)) has did
+          job_queue.stage
+          (part_to_come m d r o after (text_of made) job_queue.stage.more learns job_queue.stage.to_come)) d frame r
+          learns (cut_off (Sending d frame) job_queue.process_slot has did job_queue.stage)
       running (Receives held frame) fresh has job_queue did learns =
-          receives site_contents worker_set laws m n c process_slots w o after made run held frame job_queue.process_slot job_queue.sits job_queue.stage ((laws.runs job).reads m w o run held frame has) r received
-          (own (Runs run (Receives held frame)) refl has did) names learns stays from (cut_off (Receives held frame) job_queue.process_slot has did job_queue.stage)
+          receives site_contents worker_set laws m n c process_slots w o after made run held frame
+          job_queue.process_slot job_queue.sits job_queue.stage ((laws.runs job).reads m w o run held frame has) r
+          received
+          (own (Runs run (Receives held frame)) refl has did) names learns stays from
+          (cut_off (Receives held frame) job_queue.process_slot has did job_queue.stage)
         where
           stays : pipe_at n (worker_set.job_queue run.worker) ≡ pipe_at m (worker_set.job_queue run.worker)
-          stays = (left (Runs run (Receives held frame)) did).pipes (worker_set.job_queue run.worker) (apart_read (descriptor m server run.from) job_queue.stage.has.pipe (worker_set.job_queue run.worker) job_queue.stage.has.reads
-              (λ e. job_queue.stage.has.apart run.worker (job_queues.by run.worker job_queue.process_slot job_queue.sits).0 (sym e)))
+          stays = (left (Runs run (Receives held frame)) did).pipes (worker_set.job_queue run.worker)
+              (apart_read (descriptor m server run.from) job_queue.stage.has.pipe (worker_set.job_queue run.worker)
+              job_queue.stage.has.reads
+              (λ e. job_queue.stage.has.apart run.worker
+              (job_queues.by run.worker job_queue.process_slot job_queue.sits).0 (sym e)))
 
           from : descriptor n server run.from ≡ Some (on.ReadEnd job_queue.stage.has.pipe)
-          from = (left (Runs run (Receives held frame)) did).fds server run.from (on.ReadEnd job_queue.stage.has.pipe) job_queue.stage.has.reads
+          from = (left (Runs run (Receives held frame)) did).fds server run.from (on.ReadEnd job_queue.stage.has.pipe)
+              job_queue.stage.has.reads
               (no-position m run.from run.from (on.ReadEnd job_queue.stage.has.pipe) job_queue.stage.has.reads refl)
-      running (Ended a held frame) fresh has job_queue did learns = ending_undisturbed (Ended a held frame) job_queue.process_slot job_queue.sits tt tt has did job_queue.stage learns
-      running (Unholds held frame) fresh has job_queue did learns = ending_undisturbed (Unholds held frame) job_queue.process_slot job_queue.sits tt tt has did job_queue.stage learns
-      running (Stops held frame) fresh has job_queue did learns = ending (Stops held frame) job_queue.process_slot job_queue.sits tt has did
-          (shut_stays site_contents worker_set laws m n c process_slots w o after run has.1.0.0 r job_queue.process_slot job_queue.sits (own (Runs run (Stops held frame)) refl has did) has.1.0.1 job_queue.stage.free) job_queue.stage learns
-      running (Unframes f held) fresh has job_queue did learns = ending_undisturbed (Unframes f held) job_queue.process_slot job_queue.sits tt tt has did job_queue.stage learns
-      running (Lasts held) fresh has job_queue did learns = ending_undisturbed (Lasts held) job_queue.process_slot job_queue.sits tt tt has did job_queue.stage learns
-      running (WrapsLast held size frame) fresh has job_queue did learns = ending_undisturbed (WrapsLast held size frame) job_queue.process_slot job_queue.sits tt tt has did job_queue.stage learns
-      running (TrimsLast held chunk len frame) fresh has job_queue did learns = ending_undisturbed (TrimsLast held chunk len frame) job_queue.process_slot job_queue.sits tt tt has did job_queue.stage learns
-      running (Unwraps frame chunk len) fresh has job_queue did learns = ending_undisturbed (Unwraps frame chunk len) job_queue.process_slot job_queue.sits tt tt has did job_queue.stage learns
+      running (Ended a held frame) fresh has job_queue did learns =
+          ending_undisturbed (Ended a held frame) job_queue.process_slot job_queue.sits tt tt has did job_queue.stage
+          learns
+      running (Unholds held frame) fresh has job_queue did learns =
+          ending_undisturbed (Unholds held frame) job_queue.process_slot job_queue.sits tt tt has did job_queue.stage
+          learns
+      running (Stops held frame) fresh has job_queue did learns =
+          ending (Stops held frame) job_queue.process_slot job_queue.sits tt has did
+          (shut_stays site_contents worker_set laws m n c process_slots w o after run has.1.0.0 r job_queue.process_slot
+          job_queue.sits (own (Runs run (Stops held frame)) refl has did) has.1.0.1 job_queue.stage.free)
+          job_queue.stage learns
+      running (Unframes f held) fresh has job_queue did learns =
+          ending_undisturbed (Unframes f held) job_queue.process_slot job_queue.sits tt tt has did job_queue.stage
+          learns
+      running (Lasts held) fresh has job_queue did learns =
+          ending_undisturbed (Lasts held) job_queue.process_slot job_queue.sits tt tt has did job_queue.stage learns
+      running (WrapsLast held size frame) fresh has job_queue did learns =
+          ending_undisturbed (WrapsLast held size frame) job_queue.process_slot job_queue.sits tt tt has did
+          job_queue.stage learns
+      running (TrimsLast held chunk len frame) fresh has job_queue did learns =
+          ending_undisturbed (TrimsLast held chunk len frame) job_queue.process_slot job_queue.sits tt tt has did
+          job_queue.stage learns
+      running (Unwraps frame chunk len) fresh has job_queue did learns =
+          ending_undisturbed (Unwraps frame chunk len) job_queue.process_slot job_queue.sits tt tt has did
+          job_queue.stage learns
       running (Returns write) fresh has job_queue did learns = absurd job_queue.stage
       running (Lapses j) fresh has job_queue did learns = absurd job_queue.stage
       running Fails fresh has job_queue did learns = absurd job_queue.stage
-      running step fresh has job_queue did learns = reading_on step job_queue.process_slot job_queue.sits tt tt has did job_queue.stage learns
+      running step fresh has job_queue did learns =
+          reading_on step job_queue.process_slot job_queue.sits tt tt has did job_queue.stage learns
 
-    by_step : (y : Running) → is_over y ≡ false → (is_starting y ≡ true → shown ≡ outcomes_by site_contents.shows s.lines) → HasRun job m w o y → HasWorkerAt worker_set m process_slots made o y
-        → (y ≡ Awaits → (worker < worker_set.count) × ((process_slot : ProcessSlot worker_set.Worker) → slice_get process_slots worker ≡ Some process_slot → worker_set.Free m (worker_set.job_queue worker) process_slot))
+    by_step : (y : Running) → is_over y ≡ false
+        → (is_starting y ≡ true → shown ≡ outcomes_by site_contents.shows s.lines) → HasRun job m w o y
+        → HasWorkerAt worker_set m process_slots made o y
+        → (y ≡ Awaits → (worker < worker_set.count) × ((process_slot : ProcessSlot worker_set.Worker)
+        → slice_get process_slots worker ≡ Some process_slot
+        → worker_set.Free m (worker_set.job_queue worker) process_slot))
         → Done y → Learns m y r received o after → After y
-    by_step Awaits going fresh has job_queue hired did learns = awaits site_contents worker_set laws m n c process_slots w o after made worker r (own Awaits refl has did) now (hired refl) learns
+    by_step Awaits going fresh has job_queue hired did learns =
+        awaits site_contents worker_set laws m n c process_slots w o after made worker r (own Awaits refl has did) now
+        (hired refl) learns
     by_step (Runs run step) going fresh has job_queue hired did learns = running run step fresh has job_queue did learns
     by_step (Left d) going fresh has job_queue hired did learns =
         leaving site_contents worker_set laws m n c process_slots w o after made d r received learns
         (λ on gone. (laws.runs job).breaks m n fd c worker w (Left d) r received o open_on going has did on gone)
     by_step Closes going fresh has job_queue hired did learns = absurd (cc (going))
 
-  pub job_queue_step : (m n : State) (fd c worker : ℕ) (x : Client) (w : Wanted) (s : IsScript site_contents x w) (y : Running) (r : Reply)
-      (received : List ℕ) (o after : Progress) (process_slots : List (ProcessSlot worker_set.Worker)) (shown : List Outcome) → IsOrderly m → IsOrderly n
-      → IsFixedFor site_contents worker_set m → AreAtJobQueues worker_set m process_slots → descriptor m server fd ≡ Some (on.Connection c)
-      → is_over y ≡ false → (is_starting y ≡ true → shown ≡ outcomes_by site_contents.shows s.lines) → HasRun (job_of w s.text) m w o y → HasWorkerAt worker_set m process_slots (made_of w s.lines shown) o y
+  pub job_queue_step : (m n : State) (fd c worker : ℕ) (x : Client) (w : Wanted) (s : IsScript site_contents x w)
+      (y : Running) (r : Reply)
+      (received : List ℕ) (o after : Progress) (process_slots : List (ProcessSlot worker_set.Worker))
+      (shown : List Outcome) → IsOrderly m → IsOrderly n
+      → IsFixedFor site_contents worker_set m → AreAtJobQueues worker_set m process_slots
+      → descriptor m server fd ≡ Some (on.Connection c)
+      → is_over y ≡ false → (is_starting y ≡ true → shown ≡ outcomes_by site_contents.shows s.lines)
+      → HasRun (job_of w s.text) m w o y → HasWorkerAt worker_set m process_slots (made_of w s.lines shown) o y
       → (y ≡ Awaits → (worker < worker_set.count)
-      × ((process_slot : ProcessSlot worker_set.Worker) → slice_get process_slots worker ≡ Some process_slot → worker_set.Free m (worker_set.job_queue worker) process_slot))
+      × ((process_slot : ProcessSlot worker_set.Worker) → slice_get process_slots worker ≡ Some process_slot
+      → worker_set.Free m (worker_set.job_queue worker) process_slot))
       → StepsTo m (event.Call server (wants (job_of w s.text) fd w y)) r n → Names n r received
       → Learns m y r received o after → HasRun (job_of w s.text) n w after (after_reply worker w y r received)
-      → JobQueueAfter worker_set m n c process_slots w (made_of w s.lines shown) y (after_reply worker w y r received) o after
-  job_queue_step m n fd c worker x w s y r received o after process_slots shown order now fixed job_queues open_on going fresh has job_queue hired did names learns later =
-      by_step m n fd c worker x w s r received o after process_slots shown order now fixed job_queues open_on names y going fresh has job_queue hired did learns
+      → JobQueueAfter worker_set m n c process_slots w (made_of w s.lines shown) y (after_reply worker w y r received) o
+      after
+  job_queue_step m n fd c worker x w s y r received o after process_slots shown order now fixed job_queues open_on going
+      fresh has job_queue hired did names learns later =
+      by_step m n fd c worker x w s r received o after process_slots shown order now fixed job_queues open_on names y
+      going fresh has job_queue hired did learns

@@ -1,5 +1,6 @@
 -- The worker of a run while its output is read: its further output is the rest.
-use Rattle.std.proofs.Common.{inl, inr, ◌≡◌, ◌<◌, ℕ, ◌-◌, List, [], ◌∷◌, ◌++◌, ap, ◌∙◌, refl, sym, subst, arith, Option, Some, None, true, false, Bool, slice_get, append-nil, append_assoc, if◌then◌else◌}
+use Rattle.std.proofs.Common.{inl, inr, ◌≡◌, ◌<◌, ℕ, ◌-◌, List, [], ◌∷◌, ◌++◌, ap, ◌∙◌, refl, sym, subst, arith, Option}
+use Rattle.std.proofs.Common.{Some, None, true, false, Bool, slice_get, append-nil, append_assoc, if◌then◌else◌}
 use Rattle.std.specs.Prelude.{◌&&◌, nat_lt}
 use Rattle.iol_core.specs.Text.{Text}
 use Rattle.iol_core.specs.State.{State, descriptor, may_read, pipe_at, conn_at, is_gone}
@@ -26,7 +27,8 @@ use Rattle.flash_laws.specs.Conn.OfferedBytes.{is_dropping}
 use Rattle.flash_laws.specs.Workers.PutsOut.{PutsOut}
 use Rattle.flash_laws.specs.Run.Fits.{Progress, Ran, Broken, NotRun, Follows, MayAnswer, IsSending}
 use Rattle.flash_laws.specs.Run.OfferedBytes.{receives_on, takes_on, PartLearns, StepLearns, IsCutOff}
-use Rattle.flash_laws.specs.Run.{in_phase, held_size, broken, both, after_part, after_sending, after_output, after_step, filled, holding, hearing}
+use Rattle.flash_laws.specs.Run.{in_phase, held_size, broken, both, after_part, after_sending, after_output, after_step}
+use Rattle.flash_laws.specs.Run.{filled, holding, hearing}
 use Rattle.flash_laws.specs.SiteContents.{SiteContents}
 use Rattle.flash_laws.specs.Site.{server}
 use Rattle.flash_laws.specs.Run.Stages.{IsPuttingOut, IsToCome, IsReceivedWhole, Stage}
@@ -36,7 +38,8 @@ use Rattle.flash_laws.specs.declared.phase.Phase.TheVariants as phase
 use Rattle.flash_laws.specs.declared.script_run.TheConstants.{CHUNK_BYTES}
 use Rattle.flash_laws.specs.declared.script_run.Run.{Run}
 use Rattle.flash_laws.specs.declared.script_run.Step.{Step}
-use Rattle.flash_laws.specs.declared.script_run.Step.TheVariants.{Lets, Heads, Sending, Receives, Spills, Gathers, Frames, Wraps, Trims, Ended}
+use Rattle.flash_laws.specs.declared.script_run.Step.TheVariants.{Lets, Heads, Sending, Receives, Spills, Gathers}
+use Rattle.flash_laws.specs.declared.script_run.Step.TheVariants.{Frames, Wraps, Trims, Ended}
 use Rattle.flash_laws.specs.declared.script_run.Running.{Running}
 use Rattle.flash_laws.specs.declared.script_run.Running.TheVariants.{Runs}
 use Rattle.flash_laws.proofs.Lists.{clash}
@@ -46,26 +49,34 @@ use Rattle.flash_laws.proofs.World.JobQueue.Calls.{Quiet, OwnCall, own_files, ot
 
 -- ---- a part of the response is taken: what is to come, and may come, stays
 
-taken_may : (w : Wanted) (o : Progress) (part expected : List ℕ) → MayAnswer w o expected → MayAnswer w (takes_on o part) expected
+taken_may : (w : Wanted) (o : Progress) (part expected : List ℕ) → MayAnswer w o expected
+    → MayAnswer w (takes_on o part) expected
 taken_may w (Ran received ended past) part expected may = may
 taken_may w x part expected may = may
 
-pub part_may : (m : State) (w : Wanted) (d : Phase) (r : Reply) (o after : Progress) (expected : List ℕ) → PartLearns m d r o after → is_dropping d ≡ false → MayAnswer w o expected → MayAnswer w after expected
-part_may m w (phase.Sent a taken None) reply.Done o after expected learns whole may = subst (λ (p : Progress). MayAnswer w p expected) (sym learns.2) (taken_may w o learns.0 expected may)
+pub part_may : (m : State) (w : Wanted) (d : Phase) (r : Reply) (o after : Progress) (expected : List ℕ)
+    → PartLearns m d r o after → is_dropping d ≡ false → MayAnswer w o expected → MayAnswer w after expected
+part_may m w (phase.Sent a taken None) reply.Done o after expected learns whole may =
+    subst (λ (p : Progress). MayAnswer w p expected) (sym learns.2) (taken_may w o learns.0 expected may)
 part_may m w (phase.Drops a None) reply.Done o after expected learns whole may = absurd (cc (whole))
 part_may m w d r o after expected learns whole may = subst (λ (p : Progress). MayAnswer w p expected) (sym learns) may
 
-taken_to_come : (o : Progress) (part output more : List ℕ) → IsToCome o output more → IsToCome (takes_on o part) output more
+taken_to_come : (o : Progress) (part output more : List ℕ) → IsToCome o output more
+    → IsToCome (takes_on o part) output more
 taken_to_come (Ran received ended past) part output more come = come
 taken_to_come x part output more come = come
 
-pub part_to_come : (m : State) (d : Phase) (r : Reply) (o after : Progress) (output more : List ℕ) → PartLearns m d r o after → IsToCome o output more → IsToCome after output more
-part_to_come m (phase.Sent a taken None) reply.Done o after output more learns come = subst (λ (p : Progress). IsToCome p output more) (sym learns.2) (taken_to_come o learns.0 output more come)
-part_to_come m (phase.Drops a None) reply.Done o after output more learns come = subst (λ (p : Progress). IsToCome p output more) (sym learns) tt
+pub part_to_come : (m : State) (d : Phase) (r : Reply) (o after : Progress) (output more : List ℕ)
+    → PartLearns m d r o after → IsToCome o output more → IsToCome after output more
+part_to_come m (phase.Sent a taken None) reply.Done o after output more learns come =
+    subst (λ (p : Progress). IsToCome p output more) (sym learns.2) (taken_to_come o learns.0 output more come)
+part_to_come m (phase.Drops a None) reply.Done o after output more learns come =
+    subst (λ (p : Progress). IsToCome p output more) (sym learns) tt
 part_to_come m d r o after output more learns come = subst (λ (p : Progress). IsToCome p output more) (sym learns) come
 
 -- what sends it touches no pipe
-pub quiet_part : (m : State) (fd : ℕ) (w : Wanted) (expected : List ℕ) (d : Phase) → IsSending m expected d → Quiet fd (conn.wants fd (in_phase w d))
+pub quiet_part : (m : State) (fd : ℕ) (w : Wanted) (expected : List ℕ) (d : Phase) → IsSending m expected d
+    → Quiet fd (conn.wants fd (in_phase w d))
 quiet_part m fd w expected (phase.Heads (Error status)) is = tt
 quiet_part m fd w expected (phase.Sends a len taken None) is = refl
 quiet_part m fd w expected (phase.Cuts a from len taken None) is = tt
@@ -89,36 +100,48 @@ ReceivesNothing step = ⊥
 
 -- ---- what is received is the front of what is to come
 
-received_more : (o after : Progress) (output more rest bytes : List ℕ) (b : ℕ) → after ≡ receives_on o (b ∷ bytes) → IsToCome o output more → more ≡ (b ∷ bytes) ++ rest
+received_more : (o after : Progress) (output more rest bytes : List ℕ) (b : ℕ) → after ≡ receives_on o (b ∷ bytes)
+    → IsToCome o output more → more ≡ (b ∷ bytes) ++ rest
     → IsToCome after output rest
 received_more (Ran received ended past) after output more rest bytes b learns come splits =
     subst (λ (p : Progress). IsToCome p output rest) (sym learns)
     (come.0, come.1 ∙ (ap (λ (l : List ℕ). received ++ l) splits ∙ sym (append_assoc received (b ∷ bytes) rest)))
-received_more Broken after output more rest bytes b learns come splits = subst (λ (p : Progress). IsToCome p output rest) (sym learns) tt
+received_more Broken after output more rest bytes b learns come splits =
+    subst (λ (p : Progress). IsToCome p output rest) (sym learns) tt
 received_more (NotRun status past) after output more rest bytes b learns come splits = absurd come
 
-received_whole : (o after : Progress) (output more : List ℕ) → after ≡ receives_on o [] → IsToCome o output more → more ≡ [] → IsReceivedWhole after output
+received_whole : (o after : Progress) (output more : List ℕ) → after ≡ receives_on o [] → IsToCome o output more
+    → more ≡ [] → IsReceivedWhole after output
 received_whole (Ran received ended past) after output more learns come none =
-    subst (λ (p : Progress). IsReceivedWhole p output) (sym learns) (refl, come.1 ∙ (ap (λ (l : List ℕ). received ++ l) none ∙ append-nil received))
-received_whole Broken after output more learns come none = subst (λ (p : Progress). IsReceivedWhole p output) (sym learns) tt
+    subst (λ (p : Progress). IsReceivedWhole p output) (sym learns) (
+      refl,
+      come.1
+          ∙ (ap (λ (l : List ℕ). received ++ l) none ∙ append-nil received),
+    )
+received_whole Broken after output more learns come none =
+    subst (λ (p : Progress). IsReceivedWhole p output) (sym learns) tt
 received_whole (NotRun status past) after output more learns come none = absurd come
 
 -- ---- and so the response to it may come
 
-run_may : (w : Wanted) (made : Made) (received past more : List ℕ) (ended : Bool) → text_of made ≡ received ++ more → Follows ended more
+run_may : (w : Wanted) (made : Made) (received past more : List ℕ) (ended : Bool) → text_of made ≡ received ++ more
+    → Follows ended more
     → MayAnswer w (Ran received ended past) (response_to w made)
 run_may w made received past more ended all follows = (more, follows, ap (λ (l : List ℕ). script_response w l) all)
 
-more_may : (w : Wanted) (made : Made) (o after : Progress) (more rest bytes : List ℕ) (b : ℕ) → after ≡ receives_on o (b ∷ bytes) → IsToCome o (text_of made) more → more ≡ (b ∷ bytes) ++ rest
+more_may : (w : Wanted) (made : Made) (o after : Progress) (more rest bytes : List ℕ) (b : ℕ)
+    → after ≡ receives_on o (b ∷ bytes) → IsToCome o (text_of made) more → more ≡ (b ∷ bytes) ++ rest
     → MayAnswer w o (response_to w made) → MayAnswer w after (response_to w made)
 more_may w made (Ran received ended past) after more rest bytes b learns come splits may =
     subst (λ (p : Progress). MayAnswer w p (response_to w made)) (sym learns)
-    (run_may w made (received ++ (b ∷ bytes)) past rest ended (come.1 ∙ (ap (λ (l : List ℕ). received ++ l) splits ∙ sym (append_assoc received (b ∷ bytes) rest)))
+    (run_may w made (received ++ (b ∷ bytes)) past rest ended (come.1
+    ∙ (ap (λ (l : List ℕ). received ++ l) splits ∙ sym (append_assoc received (b ∷ bytes) rest)))
     (subst (λ (e : Bool). Follows e rest) (sym come.0) tt))
 more_may w made Broken after more rest bytes b learns come splits may = absurd may
 more_may w made (NotRun status past) after more rest bytes b learns come splits may = absurd come
 
-end_may : (w : Wanted) (made : Made) (o after : Progress) (more : List ℕ) → after ≡ receives_on o [] → IsToCome o (text_of made) more → more ≡ []
+end_may : (w : Wanted) (made : Made) (o after : Progress) (more : List ℕ) → after ≡ receives_on o []
+    → IsToCome o (text_of made) more → more ≡ []
     → MayAnswer w o (response_to w made) → MayAnswer w after (response_to w made)
 end_may w made (Ran received ended past) after more learns come none may =
     subst (λ (p : Progress). MayAnswer w p (response_to w made)) (sym learns)
@@ -128,7 +151,8 @@ end_may w made (NotRun status past) after more learns come none may = absurd com
 
 -- ---- nothing is hidden from the server that a worker puts out
 
-not_hidden : (pools : ℕ → Bool) (m : State) (q : ℕ) (t : Text) → MayReadAll m server pools → lie_in pools t ≡ true → IsHidden m server q t → ⊥
+not_hidden : (pools : ℕ → Bool) (m : State) (q : ℕ) (t : Text) → MayReadAll m server pools → lie_in pools t ≡ true
+    → IsHidden m server q t → ⊥
 not_hidden pools m q t wide lies hidden =
     let e = ap (λ u. lie_in pools u) (sym hidden.text_is) ∙ lies in
     clash (may_read m server q) (wide q (first_true (pools q) (lie_in pools hidden.rest) e)) hidden.may_not
@@ -137,13 +161,18 @@ not_hidden pools m q t wide lies hidden =
     first_true true b is = refl
     first_true false b is = absurd (cc (is))
 
-module _ (site_contents : SiteContents) (worker_set : WorkerSet) (laws : AllLaws worker_set) (m n : State) (c : ℕ) (process_slots : List (ProcessSlot worker_set.Worker)) (w : Wanted) (o after : Progress) where
-  pub not_cut : (made : Made) (run : Run) (step : Step) (process_slot : ProcessSlot worker_set.Worker) → IsPuttingOut worker_set m process_slot run made o → MayReadAll m server worker_set.pools
+module _ (site_contents : SiteContents) (worker_set : WorkerSet) (laws : AllLaws worker_set) (m n : State) (c : ℕ)
+    (process_slots : List (ProcessSlot worker_set.Worker)) (w : Wanted) (o after : Progress) where
+  pub not_cut : (made : Made) (run : Run) (step : Step) (process_slot : ProcessSlot worker_set.Worker)
+      → IsPuttingOut worker_set m process_slot run made o → MayReadAll m server worker_set.pools
       → IsCutOff m c (Runs run step) → is_gone (conn_at m c).peer ≡ true
   not_cut made run step process_slot was wide cut = by cut
     where
-      lies : PutsOut worker_set.turns worker_set.pools worker_set.Free worker_set.Expected m (worker_set.job_queue run.worker) was.has.pipe process_slot made was.more → lie_in worker_set.pools (pipe_at m was.has.pipe).queue ≡ true
-      lies (inl expected) = laws.workers.shown m (worker_set.job_queue run.worker) was.has.pipe process_slot made was.more expected
+      lies : PutsOut worker_set.turns worker_set.pools worker_set.Free worker_set.Expected m
+          (worker_set.job_queue run.worker) was.has.pipe process_slot made was.more
+          → lie_in worker_set.pools (pipe_at m was.has.pipe).queue ≡ true
+      lies (inl expected) = laws.workers.shown m (worker_set.job_queue run.worker) was.has.pipe process_slot made
+          was.more expected
       lies (inr there) = there.lies
 
       one : (p q : ℕ) (u : Option Descriptor) → u ≡ Some (on.ReadEnd p) → u ≡ Some (on.ReadEnd q) → p ≡ q
@@ -152,67 +181,99 @@ module _ (site_contents : SiteContents) (worker_set : WorkerSet) (laws : AllLaws
       by : IsCutOff m c (Runs run step) → is_gone (conn_at m c).peer ≡ true
       by (inl gone) = gone
       by (inr hides) = absurd (not_hidden worker_set.pools m hides.1 (pipe_at m hides.0).queue wide
-          (subst (λ p. lie_in worker_set.pools (pipe_at m p).queue ≡ true) (one was.has.pipe hides.0 (descriptor m server run.from) was.has.reads hides.2) (lies was.puts_out)) hides.3)
+          (subst (λ p. lie_in worker_set.pools (pipe_at m p).queue ≡ true)
+          (one was.has.pipe hides.0 (descriptor m server run.from) was.has.reads hides.2) (lies was.puts_out))
+          hides.3)
 
   module _ (made : Made) where
     abbrev After : Running → Running → Type 0
     After y z = JobQueueAfter worker_set m n c process_slots w made y z o after
 
-    module _ (run : Run) (process_slot : ProcessSlot worker_set.Worker) (sits : slice_get process_slots run.worker ≡ Some process_slot) (now : IsPuttingOut worker_set n process_slot run made after) where
+    module _ (run : Run) (process_slot : ProcessSlot worker_set.Worker)
+        (sits : slice_get process_slots run.worker ≡ Some process_slot)
+        (now : IsPuttingOut worker_set n process_slot run made after) where
       -- ---- what is held
 
-      held_on : (step : Step) (a size : ℕ) (frame : Option ℕ) → ((z : Running) → MayOn (response_to w made) w (Runs run step) z o after)
-          → CutBy m c (Runs run step) (Runs run (holding a size frame)) → After (Runs run step) (Runs run (holding a size frame))
+      held_on : (step : Step) (a size : ℕ) (frame : Option ℕ)
+          → ((z : Running) → MayOn (response_to w made) w (Runs run step) z o after)
+          → CutBy m c (Runs run step) (Runs run (holding a size frame))
+          → After (Runs run step) (Runs run (holding a size frame))
       held_on step a size frame may cut = by (nat_lt size CHUNK_BYTES) frame cut
         where
-          by : (t : Bool) (f : Option ℕ) → CutBy m c (Runs run step) (Runs run (if t then Receives (Some (a, size)) f else filled a f))
+          by : (t : Bool) (f : Option ℕ)
+              → CutBy m c (Runs run step) (Runs run (if t then Receives (Some (a, size)) f else filled a f))
               → After (Runs run step) (Runs run (if t then Receives (Some (a, size)) f else filled a f))
-          by true f cut = proceeds worker_set m n c process_slots w made o after run run step (Receives (Some (a, size)) f) process_slot refl sits now (may (Runs run (Receives (Some (a, size)) f))) cut
-          by false None cut = proceeds worker_set m n c process_slots w made o after run run step (Frames a) process_slot refl sits now (may (Runs run (Frames a))) cut
-          by false (Some f) cut = proceeds worker_set m n c process_slots w made o after run run step (Wraps a f) process_slot refl sits now (may (Runs run (Wraps a f))) cut
+          by true f cut =
+              proceeds worker_set m n c process_slots w made o after run run step (Receives (Some (a, size)) f)
+              process_slot refl sits now (may (Runs run (Receives (Some (a, size)) f))) cut
+          by false None cut =
+              proceeds worker_set m n c process_slots w made o after run run step (Frames a) process_slot refl sits now
+              (may (Runs run (Frames a))) cut
+          by false (Some f) cut =
+              proceeds worker_set m n c process_slots w made o after run run step (Wraps a f) process_slot refl sits now
+              (may (Runs run (Wraps a f))) cut
 
-      hearing_on : (step : Step) (b chunked : Bool) (held : Following) (frame : Option ℕ) (a len : ℕ) → ((z : Running) → MayOn (response_to w made) w (Runs run step) z o after)
-          → CutBy m c (Runs run step) (Runs run (hearing b chunked held frame a len)) → After (Runs run step) (Runs run (hearing b chunked held frame a len))
-      hearing_on step true chunked held frame a len may cut = proceeds worker_set m n c process_slots w made o after run run step (Spills a frame) process_slot refl sits now (may (Runs run (Spills a frame))) cut
+      hearing_on : (step : Step) (b chunked : Bool) (held : Following) (frame : Option ℕ) (a len : ℕ)
+          → ((z : Running) → MayOn (response_to w made) w (Runs run step) z o after)
+          → CutBy m c (Runs run step) (Runs run (hearing b chunked held frame a len))
+          → After (Runs run step) (Runs run (hearing b chunked held frame a len))
+      hearing_on step true chunked held frame a len may cut =
+          proceeds worker_set m n c process_slots w made o after run run step (Spills a frame) process_slot refl sits
+          now (may (Runs run (Spills a frame))) cut
       hearing_on step false false held frame a len may cut =
-          proceeds worker_set m n c process_slots w made o after run run step (Sending (phase.Sends a len 0 None) frame) process_slot refl sits now (may (Runs run (Sending (phase.Sends a len 0 None) frame))) cut
+          proceeds worker_set m n c process_slots w made o after run run step (Sending (phase.Sends a len 0 None) frame)
+          process_slot refl sits now (may (Runs run (Sending (phase.Sends a len 0 None) frame))) cut
       hearing_on step false true None frame a len may cut = held_on step a len frame may cut
       hearing_on step false true (Some y) frame a len may cut =
-          proceeds worker_set m n c process_slots w made o after run run step (Gathers y.0 y.1 a len frame) process_slot refl sits now (may (Runs run (Gathers y.0 y.1 a len frame))) cut
+          proceeds worker_set m n c process_slots w made o after run run step (Gathers y.0 y.1 a len frame) process_slot
+          refl sits now (may (Runs run (Gathers y.0 y.1 a len frame))) cut
 
       -- ---- steps that hear nothing
 
       module _ (same : after ≡ o) where
-        to : (step later : Step) → CutBy m c (Runs run step) (Runs run later) → Stage worker_set n process_slot run made after later → After (Runs run step) (Runs run later)
-        to step later cut stage = same_on worker_set m n c process_slots w made o after run step later process_slot sits same cut stage
+        to : (step later : Step) → CutBy m c (Runs run step) (Runs run later)
+            → Stage worker_set n process_slot run made after later → After (Runs run step) (Runs run later)
+        to step later cut stage = same_on worker_set m n c process_slots w made o after run step later process_slot sits
+            same cut stage
 
-        pub quiet_steps : (step : Step) (r : Reply) (received : List ℕ) → ReceivesNothing step → CutBy m c (Runs run step) (after_step w run step r received)
+        pub quiet_steps : (step : Step) (r : Reply) (received : List ℕ) → ReceivesNothing step
+            → CutBy m c (Runs run step) (after_step w run step r received)
             → After (Runs run step) (after_step w run step r received)
         quiet_steps (Lets j) reply.Done received is cut = to (Lets j) Heads cut now
         quiet_steps (Lets j) r received is cut = to (Lets j) (Lets j) cut now
-        quiet_steps Heads (reply.Agg a) received is cut = to Heads (Sending (phase.Sends a (count_of received) 0 None) None) cut now
+        quiet_steps Heads (reply.Agg a) received is cut =
+            to Heads (Sending (phase.Sends a (count_of received) 0 None) None) cut now
         quiet_steps Heads r received is cut = to Heads Heads cut now
         quiet_steps (Spills a frame) reply.Done received is cut = to (Spills a frame) (Receives None frame) cut now
         quiet_steps (Spills a frame) r received is cut = to (Spills a frame) (Spills a frame) cut now
         quiet_steps (Gathers held size piece len frame) (reply.Agg a) received is cut =
-            held_on (Gathers held size piece len frame) a (both size len) frame (λ z. may_same (response_to w made) w (Runs run (Gathers held size piece len frame)) z o after same) cut
-        quiet_steps (Gathers held size piece len frame) r received is cut = to (Gathers held size piece len frame) (Gathers held size piece len frame) cut now
+            held_on (Gathers held size piece len frame) a (both size len) frame
+            (λ z. may_same (response_to w made) w (Runs run (Gathers held size piece len frame)) z o after same) cut
+        quiet_steps (Gathers held size piece len frame) r received is cut =
+            to (Gathers held size piece len frame) (Gathers held size piece len frame) cut now
         quiet_steps (Frames held) (reply.Agg a) received is cut = to (Frames held) (Wraps held a) cut now
         quiet_steps (Frames held) r received is cut = to (Frames held) (Frames held) cut now
-        quiet_steps (Wraps held frame) (reply.Agg a) received is cut = to (Wraps held frame) (Trims held a (count_of received) frame) cut now
+        quiet_steps (Wraps held frame) (reply.Agg a) received is cut =
+            to (Wraps held frame) (Trims held a (count_of received) frame) cut now
         quiet_steps (Wraps held frame) r received is cut = to (Wraps held frame) (Wraps held frame) cut now
-        quiet_steps (Trims held chunk len frame) reply.Done received is cut = to (Trims held chunk len frame) (Sending (phase.Sends chunk len 0 None) (Some frame)) cut now
-        quiet_steps (Trims held chunk len frame) r received is cut = to (Trims held chunk len frame) (Trims held chunk len frame) cut now
+        quiet_steps (Trims held chunk len frame) reply.Done received is cut =
+            to (Trims held chunk len frame) (Sending (phase.Sends chunk len 0 None) (Some frame)) cut now
+        quiet_steps (Trims held chunk len frame) r received is cut =
+            to (Trims held chunk len frame) (Trims held chunk len frame) cut now
         quiet_steps step r received is cut = absurd is
 
       -- a part is sent
-      pub sending : (d : Phase) (frame : Option ℕ) (r : Reply) → PartLearns m d r o after → CutBy m c (Runs run (Sending d frame)) (after_sending run d frame r)
+      pub sending : (d : Phase) (frame : Option ℕ) (r : Reply) → PartLearns m d r o after
+          → CutBy m c (Runs run (Sending d frame)) (after_sending run d frame r)
           → After (Runs run (Sending d frame)) (after_sending run d frame r)
       sending (phase.Sent a taken None) frame reply.Done learns cut =
-          proceeds worker_set m n c process_slots w made o after run run (Sending (phase.Sent a taken None) frame) (Receives None frame) process_slot refl sits now
-          (λ was gone may. part_may m w (phase.Sent a taken None) reply.Done o after (response_to w made) learns was may) cut
+          proceeds worker_set m n c process_slots w made o after run run (Sending (phase.Sent a taken None) frame)
+          (Receives None frame) process_slot refl sits now
+          (λ was gone may. part_may m w (phase.Sent a taken None) reply.Done o after (response_to w made) learns was
+          may) cut
       sending (phase.Drops a None) frame reply.Done learns cut =
-          proceeds worker_set m n c process_slots w made o after run (broken run) (Sending (phase.Drops a None) frame) (Receives None frame) process_slot refl sits (record {
+          proceeds worker_set m n c process_slots w made o after run (broken run) (Sending (phase.Drops a None) frame)
+          (Receives None frame) process_slot refl sits (record {
             has = record { pipe = now.has.pipe; reads = now.has.reads; apart = now.has.apart };
             more = now.more;
             puts_out = now.puts_out;
@@ -220,12 +281,14 @@ module _ (site_contents : SiteContents) (worker_set : WorkerSet) (laws : AllLaws
           })
           (λ was gone may. absurd (cc (was))) cut
       sending d frame r learns cut =
-          proceeds worker_set m n c process_slots w made o after run run (Sending d frame) (Sending (after_part d r) frame) process_slot refl sits now
+          proceeds worker_set m n c process_slots w made o after run run (Sending d frame)
+          (Sending (after_part d r) frame) process_slot refl sits now
           (λ was gone may. part_may m w d r o after (response_to w made) learns was may) cut
 
   -- ---- made is read, or its end
 
-  module _ (made : Made) (run : Run) (held : Following) (frame : Option ℕ) (process_slot : ProcessSlot worker_set.Worker) (sits : slice_get process_slots run.worker ≡ Some process_slot)
+  module _ (made : Made) (run : Run) (held : Following) (frame : Option ℕ)
+      (process_slot : ProcessSlot worker_set.Worker) (sits : slice_get process_slots run.worker ≡ Some process_slot)
       (was : IsPuttingOut worker_set m process_slot run made o) (few : held_size held < CHUNK_BYTES) where
     abbrev Received : Running → Type 0
     Received z = JobQueueAfter worker_set m n c process_slots w made (Runs run (Receives held frame)) z o after
@@ -236,42 +299,66 @@ module _ (site_contents : SiteContents) (worker_set : WorkerSet) (laws : AllLaws
     abbrev reads : Call
     reads = call.IolRead run.from count
 
-    ended : (a : ℕ) → OwnCall site_contents worker_set m n reads (reply.Agg a) process_slots → readable_at n server a ≡ Some [] → after ≡ receives_on o [] → pipe_at n (worker_set.job_queue run.worker) ≡ pipe_at m (worker_set.job_queue run.worker)
-        → CutBy m c (Runs run (Receives held frame)) (Runs run (Ended a held frame)) → Received (Runs run (Ended a held frame))
+    ended : (a : ℕ) → OwnCall site_contents worker_set m n reads (reply.Agg a) process_slots
+        → readable_at n server a ≡ Some [] → after ≡ receives_on o []
+        → pipe_at n (worker_set.job_queue run.worker) ≡ pipe_at m (worker_set.job_queue run.worker)
+        → CutBy m c (Runs run (Receives held frame)) (Runs run (Ended a held frame))
+        → Received (Runs run (Ended a held frame))
     ended a h is_readable learns job_queue cut =
-        let all = laws.texts.ends m n (worker_set.job_queue run.worker) was.has.pipe server run.from count a process_slot made was.more h.order h.fixed.placed (omega (arith, few)) h.step
-        (other site_contents worker_set laws m n reads (reply.Agg a) process_slots h run.worker process_slot sits) was.has.reads (own_files site_contents worker_set laws m n reads (reply.Agg a) process_slots h run.worker process_slot sits) job_queue is_readable was.puts_out in
-        proceeds worker_set m n c process_slots w made o after run run (Receives held frame) (Ended a held frame) process_slot refl sits
+        let all = laws.texts.ends m n (worker_set.job_queue run.worker) was.has.pipe server run.from count a
+        process_slot made was.more h.order h.fixed.placed (omega (arith, few)) h.step
+        (other site_contents worker_set laws m n reads (reply.Agg a) process_slots h run.worker process_slot sits)
+        was.has.reads (own_files site_contents worker_set laws m n reads (reply.Agg a) process_slots h run.worker
+        process_slot sits) job_queue is_readable was.puts_out in
+        proceeds worker_set m n c process_slots w made o after run run (Receives held frame) (Ended a held frame)
+        process_slot refl sits
         (record { free = all.1; whole = received_whole o after (text_of made) was.more learns was.to_come all.0 })
         (λ on gone may. end_may w made o after was.more learns was.to_come all.0 may) cut
 
-    more : (a b : ℕ) (bytes : List ℕ) → OwnCall site_contents worker_set m n reads (reply.Agg a) process_slots → readable_at n server a ≡ Some (b ∷ bytes) → after ≡ receives_on o (b ∷ bytes)
-        → pipe_at n (worker_set.job_queue run.worker) ≡ pipe_at m (worker_set.job_queue run.worker) → descriptor n server run.from ≡ Some (on.ReadEnd was.has.pipe)
-        → CutBy m c (Runs run (Receives held frame)) (after_output w run held frame (reply.Agg a) (b ∷ bytes)) → Received (after_output w run held frame (reply.Agg a) (b ∷ bytes))
+    more : (a b : ℕ) (bytes : List ℕ) → OwnCall site_contents worker_set m n reads (reply.Agg a) process_slots
+        → readable_at n server a ≡ Some (b ∷ bytes) → after ≡ receives_on o (b ∷ bytes)
+        → pipe_at n (worker_set.job_queue run.worker) ≡ pipe_at m (worker_set.job_queue run.worker)
+        → descriptor n server run.from ≡ Some (on.ReadEnd was.has.pipe)
+        → CutBy m c (Runs run (Receives held frame)) (after_output w run held frame (reply.Agg a) (b ∷ bytes))
+        → Received (after_output w run held frame (reply.Agg a) (b ∷ bytes))
     more a b bytes h is_readable learns job_queue from cut =
-        let did = laws.texts.reads m n (worker_set.job_queue run.worker) was.has.pipe server run.from count a process_slot made was.more (b ∷ bytes) h.order h.fixed.placed h.step
-        (other site_contents worker_set laws m n reads (reply.Agg a) process_slots h run.worker process_slot sits) was.has.reads (own_files site_contents worker_set laws m n reads (reply.Agg a) process_slots h run.worker process_slot sits) job_queue is_readable was.puts_out in
+        let did = laws.texts.reads m n (worker_set.job_queue run.worker) was.has.pipe server run.from count a
+        process_slot made was.more (b ∷ bytes) h.order h.fixed.placed h.step
+        (other site_contents worker_set laws m n reads (reply.Agg a) process_slots h run.worker process_slot sits)
+        was.has.reads (own_files site_contents worker_set laws m n reads (reply.Agg a) process_slots h run.worker
+        process_slot sits) job_queue is_readable was.puts_out in
         let now : IsPuttingOut worker_set n process_slot run made after = record {
           has = record { pipe = was.has.pipe; reads = from; apart = was.has.apart };
           more = did.rest;
           puts_out = did.puts_out;
           to_come = received_more o after (text_of made) was.more did.rest bytes b learns was.to_come did.splits;
         } in
-        hearing_on made run process_slot sits now (Receives held frame) run.broken w.chunked held frame a (count_of (b ∷ bytes))
+        hearing_on made run process_slot sits now (Receives held frame) run.broken w.chunked held frame a
+        (count_of (b ∷ bytes))
         (λ z on gone may. more_may w made o after was.more did.rest bytes b learns was.to_come did.splits may) cut
 
     again : n ≡ m → after ≡ o → Received (Runs run (Receives held frame))
-    again is same = same_on worker_set m n c process_slots w made o after run (Receives held frame) (Receives held frame) process_slot sits same
+    again is same =
+        same_on worker_set m n c process_slots w made o after run (Receives held frame) (Receives held frame)
+        process_slot sits same
         (cut_same m c (Runs run (Receives held frame)) (Runs run (Receives held frame)) refl)
         (subst (λ (u : State). IsPuttingOut worker_set u process_slot run made after) (sym is)
         (subst (λ (p : Progress). IsPuttingOut worker_set m process_slot run made p) (sym same) was))
 
-    pub receives : (r : Reply) (received : List ℕ) → OwnCall site_contents worker_set m n reads r process_slots → Names n r received → StepLearns m (Receives held frame) r received o after
-        → pipe_at n (worker_set.job_queue run.worker) ≡ pipe_at m (worker_set.job_queue run.worker) → descriptor n server run.from ≡ Some (on.ReadEnd was.has.pipe)
-        → CutBy m c (Runs run (Receives held frame)) (after_output w run held frame r received) → Received (after_output w run held frame r received)
+    pub receives : (r : Reply) (received : List ℕ) → OwnCall site_contents worker_set m n reads r process_slots
+        → Names n r received → StepLearns m (Receives held frame) r received o after
+        → pipe_at n (worker_set.job_queue run.worker) ≡ pipe_at m (worker_set.job_queue run.worker)
+        → descriptor n server run.from ≡ Some (on.ReadEnd was.has.pipe)
+        → CutBy m c (Runs run (Receives held frame)) (after_output w run held frame r received)
+        → Received (after_output w run held frame r received)
     receives (reply.Agg a) [] h names learns job_queue from cut = ended a h names learns job_queue cut
-    receives (reply.Agg a) (b ∷ bytes) h names learns job_queue from cut = more a b bytes h names learns job_queue from cut
+    receives (reply.Agg a) (b ∷ bytes) h names learns job_queue from cut =
+        more a b bytes h names learns job_queue from cut
     receives (reply.Refused (no.Denied q)) received h names learns job_queue from cut =
-        absurd (laws.texts.undenied m n (worker_set.job_queue run.worker) was.has.pipe server run.from count q process_slot made was.more h.fixed.wide was.has.reads was.puts_out h.step)
-    receives (reply.Refused y) received h names learns job_queue from cut = again (laws.the.own.read_pipe m n server run.from was.has.pipe count (reply.Refused y) h.order was.has.reads h.step) learns
-    receives r received h names learns job_queue from cut = absurd (laws.the.own.read_pipe m n server run.from was.has.pipe count r h.order was.has.reads h.step)
+        absurd (laws.texts.undenied m n (worker_set.job_queue run.worker) was.has.pipe server run.from count q
+        process_slot made was.more h.fixed.wide was.has.reads was.puts_out h.step)
+    receives (reply.Refused y) received h names learns job_queue from cut =
+        again (laws.the.own.read_pipe m n server run.from was.has.pipe count (reply.Refused y) h.order was.has.reads
+        h.step) learns
+    receives r received h names learns job_queue from cut =
+        absurd (laws.the.own.read_pipe m n server run.from was.has.pipe count r h.order was.has.reads h.step)

@@ -1,5 +1,6 @@
 -- The worker of a run after all of its output was read: it is free, and stays so to the end of the run.
-use Rattle.std.proofs.Common.{◌≡◌, ℕ, List, [], ◌∷◌, ap, ◌∙◌, refl, sym, subst, arith, Option, Some, None, true, false, Bool, slice_get}
+use Rattle.std.proofs.Common.{◌≡◌, ℕ, List, [], ◌∷◌, ap, ◌∙◌, refl, sym, subst, arith, Option, Some, None, true, false}
+use Rattle.std.proofs.Common.{Bool, slice_get}
 use Rattle.std.specs.Prelude.{◌==◌, ◌||◌}
 use Rattle.std.specs.List.{list_any}
 use Rattle.iol_core.specs.State.{State, descriptor, pipe_at}
@@ -26,7 +27,8 @@ use Rattle.flash_laws.specs.declared.phase.Phase.{Phase}
 use Rattle.flash_laws.specs.declared.phase.Phase.TheVariants as phase
 use Rattle.flash_laws.specs.declared.script_run.Run.{Run}
 use Rattle.flash_laws.specs.declared.script_run.Step.{Step}
-use Rattle.flash_laws.specs.declared.script_run.Step.TheVariants.{Ended, Unholds, Stops, Unframes, Lasts, WrapsLast, TrimsLast, Unwraps}
+use Rattle.flash_laws.specs.declared.script_run.Step.TheVariants.{Ended, Unholds, Stops, Unframes, Lasts, WrapsLast}
+use Rattle.flash_laws.specs.declared.script_run.Step.TheVariants.{TrimsLast, Unwraps}
 use Rattle.flash_laws.specs.declared.script_run.Running.{Running}
 use Rattle.flash_laws.specs.declared.script_run.Running.TheVariants.{Runs, Leaves, Closes}
 use Rattle.flash_laws.proofs.Lists.{not-equal}
@@ -38,11 +40,15 @@ use Rattle.flash_laws.proofs.World.JobQueue.Reads.{part_may}
 
 -- ---- a call on one end of a pipe touches no other
 
-pub apart_read : (o : Option Descriptor) (p q : ℕ) → o ≡ Some (on.ReadEnd p) → (p ≡ q → ⊥) → (list_any (is_end q) (o ∷ []) || false) ≡ false
-apart_read o p q is differ = ap (λ u. list_any (is_end q) (u ∷ []) || false) is ∙ ap (λ b. (b || false) || false) (not-equal p q differ)
+pub apart_read : (o : Option Descriptor) (p q : ℕ) → o ≡ Some (on.ReadEnd p) → (p ≡ q → ⊥)
+    → (list_any (is_end q) (o ∷ []) || false) ≡ false
+apart_read o p q is differ = ap (λ u. list_any (is_end q) (u ∷ []) || false) is
+    ∙ ap (λ b. (b || false) || false) (not-equal p q differ)
 
-pub apart_write : (o : Option Descriptor) (p q : ℕ) → o ≡ Some (on.WriteEnd p) → (p ≡ q → ⊥) → (list_any (is_end q) (o ∷ []) || false) ≡ false
-apart_write o p q is differ = ap (λ u. list_any (is_end q) (u ∷ []) || false) is ∙ ap (λ b. (b || false) || false) (not-equal p q differ)
+pub apart_write : (o : Option Descriptor) (p q : ℕ) → o ≡ Some (on.WriteEnd p) → (p ≡ q → ⊥)
+    → (list_any (is_end q) (o ∷ []) || false) ≡ false
+apart_write o p q is differ = ap (λ u. list_any (is_end q) (u ∷ []) || false) is
+    ∙ ap (λ b. (b || false) || false) (not-equal p q differ)
 
 -- the steps once no more made is read
 abbrev pub HasReceivedAll : Step → Type 0
@@ -59,18 +65,27 @@ HasReceivedAll step = ⊥
 some_one : {A : Type 0} (a b : A) → Some a ≡ Some b → a ≡ b
 some_one a b e = cc (e)
 
-module _ (site_contents : SiteContents) (worker_set : WorkerSet) (laws : AllLaws worker_set) (m n : State) (c : ℕ) (process_slots : List (ProcessSlot worker_set.Worker)) (w : Wanted) (o after : Progress) where
+module _ (site_contents : SiteContents) (worker_set : WorkerSet) (laws : AllLaws worker_set) (m n : State) (c : ℕ)
+    (process_slots : List (ProcessSlot worker_set.Worker)) (w : Wanted) (o after : Progress) where
   -- the pipe that is closed is not the one by which a free worker's jobs come
-  pub shut_stays : (run : Run) (p : ℕ) (r : Reply) (process_slot : ProcessSlot worker_set.Worker) → slice_get process_slots run.worker ≡ Some process_slot → OwnCall site_contents worker_set m n (call.Close run.from) r process_slots
-      → descriptor m server run.from ≡ Some (on.ReadEnd p) → worker_set.Free m (worker_set.job_queue run.worker) process_slot → pipe_at n (worker_set.job_queue run.worker) ≡ pipe_at m (worker_set.job_queue run.worker)
+  pub shut_stays : (run : Run) (p : ℕ) (r : Reply) (process_slot : ProcessSlot worker_set.Worker)
+      → slice_get process_slots run.worker ≡ Some process_slot
+      → OwnCall site_contents worker_set m n (call.Close run.from) r process_slots
+      → descriptor m server run.from ≡ Some (on.ReadEnd p)
+      → worker_set.Free m (worker_set.job_queue run.worker) process_slot
+      → pipe_at n (worker_set.job_queue run.worker) ≡ pipe_at m (worker_set.job_queue run.worker)
   shut_stays run p r process_slot sits h reads free =
-      (leaves site_contents worker_set laws m n (call.Close run.from) r process_slots h).pipes (worker_set.job_queue run.worker) (apart_read (descriptor m server run.from) p (worker_set.job_queue run.worker) reads (λ e. differ e))
+      (leaves site_contents worker_set laws m n (call.Close run.from) r process_slots h).pipes
+      (worker_set.job_queue run.worker)
+      (apart_read (descriptor m server run.from) p (worker_set.job_queue run.worker) reads (λ e. differ e))
     where
       differ : p ≡ worker_set.job_queue run.worker → ⊥
       differ e =
           let open_on = subst (λ q. descriptor m server run.from ≡ Some (on.ReadEnd q)) e reads in
           let jobs = (laws.workers.none m (worker_set.job_queue run.worker) process_slot free).jobs in
-          let one = (h.order.one server process_slot.by run.from 0 (on.ReadEnd (worker_set.job_queue run.worker)) refl open_on jobs).0 in
+          let one =
+          (h.order.one server process_slot.by run.from 0 (on.ReadEnd (worker_set.job_queue run.worker)) refl open_on
+          jobs).0 in
           let at = (h.job_queues.by run.worker process_slot sits).1 in
           omega (arith, one, at)
 
@@ -78,17 +93,24 @@ module _ (site_contents : SiteContents) (worker_set : WorkerSet) (laws : AllLaws
     abbrev After : Running → Running → Type 0
     After y z = JobQueueAfter worker_set m n c process_slots w made y z o after
 
-    module _ (run : Run) (process_slot : ProcessSlot worker_set.Worker) (sits : slice_get process_slots run.worker ≡ Some process_slot) (now : HasPutOut worker_set n process_slot run made after) (same : after ≡ o) where
-      to : (step later : Step) → CutBy m c (Runs run step) (Runs run later) → Stage worker_set n process_slot run made after later → After (Runs run step) (Runs run later)
-      to step later cut stage = same_on worker_set m n c process_slots w made o after run step later process_slot sits same cut stage
+    module _ (run : Run) (process_slot : ProcessSlot worker_set.Worker)
+        (sits : slice_get process_slots run.worker ≡ Some process_slot)
+        (now : HasPutOut worker_set n process_slot run made after) (same : after ≡ o) where
+      to : (step later : Step) → CutBy m c (Runs run step) (Runs run later)
+          → Stage worker_set n process_slot run made after later → After (Runs run step) (Runs run later)
+      to step later cut stage = same_on worker_set m n c process_slots w made o after run step later process_slot sits
+          same cut stage
 
-      freed : (k : ℕ) (next : ProcessSlot worker_set.Worker) → slice_get process_slots k ≡ Some next → (run.worker == k) ≡ true → worker_set.Free n (worker_set.job_queue k) next
+      freed : (k : ℕ) (next : ProcessSlot worker_set.Worker) → slice_get process_slots k ≡ Some next
+          → (run.worker == k) ≡ true → worker_set.Free n (worker_set.job_queue k) next
       freed k next at was =
           let e = same-number run.worker k was in
           let one = some_one process_slot next (sym sits ∙ (ap (λ j. slice_get process_slots j) e ∙ at)) in
-          subst (λ (u : ProcessSlot worker_set.Worker). worker_set.Free n (worker_set.job_queue k) u) one (subst (λ j. worker_set.Free n (worker_set.job_queue j) process_slot) e now.free)
+          subst (λ (u : ProcessSlot worker_set.Worker). worker_set.Free n (worker_set.job_queue k) u) one
+          (subst (λ j. worker_set.Free n (worker_set.job_queue j) process_slot) e now.free)
 
-      over : (step : Step) (z : Running) → HasWorkerAt worker_set n process_slots made after z → CutBy m c (Runs run step) z → After (Runs run step) z
+      over : (step : Step) (z : Running) → HasWorkerAt worker_set n process_slots made after z
+          → CutBy m c (Runs run step) z → After (Runs run step) z
       over step z job_queue cut = record {
         job_queue = job_queue;
         freed = λ k next at was gone. freed k next at was;
@@ -96,43 +118,59 @@ module _ (site_contents : SiteContents) (worker_set : WorkerSet) (laws : AllLaws
         cut = cut;
       }
 
-      finishing_on : (step : Step) (b chunked : Bool) (held : Following) → breaks_off (Runs run step) ≡ run.broken → After (Runs run step) (finishing b chunked run held)
-      finishing_on step false true held whole = to step (Lasts held) (cut_same m c (Runs run step) (Runs run (Lasts held)) (sym whole)) now
+      finishing_on : (step : Step) (b chunked : Bool) (held : Following) → breaks_off (Runs run step) ≡ run.broken
+          → After (Runs run step) (finishing b chunked run held)
+      finishing_on step false true held whole =
+          to step (Lasts held) (cut_same m c (Runs run step) (Runs run (Lasts held)) (sym whole)) now
       finishing_on step false false held whole = over step Closes tt (cut_whole m c (Runs run step) Closes refl)
       finishing_on step true chunked held whole = over step Closes tt (cut_whole m c (Runs run step) Closes refl)
 
       left_on : (step : Step) (a len : ℕ) → After (Runs run step) (Leaves (phase.Sends a len 0 None))
-      left_on step a len = over step (Leaves (phase.Sends a len 0 None)) tt (cut_whole m c (Runs run step) (Leaves (phase.Sends a len 0 None)) refl)
+      left_on step a len =
+          over step (Leaves (phase.Sends a len 0 None)) tt
+          (cut_whole m c (Runs run step) (Leaves (phase.Sends a len 0 None)) refl)
 
       ending_on : (held : Following) (a len : ℕ) → After (Runs run (Lasts held)) (ending run held a len)
       ending_on None a len = left_on (Lasts None) a len
-      ending_on (Some y) a len = to (Lasts (Some y)) (WrapsLast y.0 y.1 a) (cut_same m c (Runs run (Lasts (Some y))) (Runs run (WrapsLast y.0 y.1 a)) refl) now
+      ending_on (Some y) a len =
+          to (Lasts (Some y)) (WrapsLast y.0 y.1 a)
+          (cut_same m c (Runs run (Lasts (Some y))) (Runs run (WrapsLast y.0 y.1 a)) refl) now
 
-      on_to : (step later : Step) → breaks_off (Runs run later) ≡ breaks_off (Runs run step) → Stage worker_set n process_slot run made after later → After (Runs run step) (Runs run later)
+      on_to : (step later : Step) → breaks_off (Runs run later) ≡ breaks_off (Runs run step)
+          → Stage worker_set n process_slot run made after later → After (Runs run step) (Runs run later)
       on_to step later whole stage = to step later (cut_same m c (Runs run step) (Runs run later) whole) stage
 
-      pub last_steps : (step : Step) (r : Reply) (received : List ℕ) → HasReceivedAll step → After (Runs run step) (after_step w run step r received)
+      pub last_steps : (step : Step) (r : Reply) (received : List ℕ) → HasReceivedAll step
+          → After (Runs run step) (after_step w run step r received)
       last_steps (Ended a held frame) reply.Done received is = on_to (Ended a held frame) (Stops held frame) refl now
       last_steps (Ended a held frame) r received is = on_to (Ended a held frame) (Ended a held frame) refl now
       last_steps (Unholds held frame) reply.Done received is = on_to (Unholds held frame) (Stops None frame) refl now
       last_steps (Unholds held frame) r received is = on_to (Unholds held frame) (Unholds held frame) refl now
-      last_steps (Stops held None) reply.Done received is = finishing_on (Stops held None) run.broken w.chunked held refl
+      last_steps (Stops held None) reply.Done received is =
+          finishing_on (Stops held None) run.broken w.chunked held refl
       last_steps (Stops held (Some f)) reply.Done received is = on_to (Stops held (Some f)) (Unframes f held) refl now
       last_steps (Stops held frame) r received is = on_to (Stops held frame) (Stops held frame) refl now
-      last_steps (Unframes f held) reply.Done received is = finishing_on (Unframes f held) run.broken w.chunked held refl
+      last_steps (Unframes f held) reply.Done received is =
+          finishing_on (Unframes f held) run.broken w.chunked held refl
       last_steps (Unframes f held) r received is = on_to (Unframes f held) (Unframes f held) refl now
       last_steps (Lasts held) (reply.Agg a) received is = ending_on held a (count_of received)
       last_steps (Lasts held) r received is = on_to (Lasts held) (Lasts held) refl now
-      last_steps (WrapsLast held size frame) (reply.Agg a) received is = on_to (WrapsLast held size frame) (TrimsLast held a (count_of received) frame) refl now
-      last_steps (WrapsLast held size frame) r received is = on_to (WrapsLast held size frame) (WrapsLast held size frame) refl now
-      last_steps (TrimsLast held chunk len frame) reply.Done received is = on_to (TrimsLast held chunk len frame) (Unwraps frame chunk len) refl now
-      last_steps (TrimsLast held chunk len frame) r received is = on_to (TrimsLast held chunk len frame) (TrimsLast held chunk len frame) refl now
+      last_steps (WrapsLast held size frame) (reply.Agg a) received is =
+          on_to (WrapsLast held size frame) (TrimsLast held a (count_of received) frame) refl now
+      last_steps (WrapsLast held size frame) r received is =
+          on_to (WrapsLast held size frame) (WrapsLast held size frame) refl now
+      last_steps (TrimsLast held chunk len frame) reply.Done received is =
+          on_to (TrimsLast held chunk len frame) (Unwraps frame chunk len) refl now
+      last_steps (TrimsLast held chunk len frame) r received is =
+          on_to (TrimsLast held chunk len frame) (TrimsLast held chunk len frame) refl now
       last_steps (Unwraps frame chunk len) reply.Done received is = left_on (Unwraps frame chunk len) chunk len
-      last_steps (Unwraps frame chunk len) r received is = on_to (Unwraps frame chunk len) (Unwraps frame chunk len) refl now
+      last_steps (Unwraps frame chunk len) r received is =
+          on_to (Unwraps frame chunk len) (Unwraps frame chunk len) refl now
       last_steps step r received is = absurd is
 
     -- a run that left its worker
-    pub leaving : (d : Phase) (r : Reply) (received : List ℕ) → PartLearns m d r o after → CutBy m c (Leaves d) (Leaves (conn.after_reply (in_phase w d) r received).phase)
+    pub leaving : (d : Phase) (r : Reply) (received : List ℕ) → PartLearns m d r o after
+        → CutBy m c (Leaves d) (Leaves (conn.after_reply (in_phase w d) r received).phase)
         → After (Leaves d) (Leaves (conn.after_reply (in_phase w d) r received).phase)
     leaving d r received learns cut = record {
       job_queue = tt;

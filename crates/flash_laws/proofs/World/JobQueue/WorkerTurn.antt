@@ -1,5 +1,6 @@
 -- A worker's turn, for the client whose script it runs.
-use Rattle.std.proofs.Common.{inl, inr, ◌≡◌, ◌≢◌, ◌<◌, ℕ, ◌+◌, ◌==◌, List, [], ◌∷◌, ◌++◌, length, take, ap, ◌∙◌, refl, sym, subst, Option, Some, true, false, Bool, slice_get, slice_set}
+use Rattle.std.proofs.Common.{inl, inr, ◌≡◌, ◌≢◌, ◌<◌, ℕ, ◌+◌, ◌==◌, List, [], ◌∷◌, ◌++◌, length, take, ap, ◌∙◌, refl}
+use Rattle.std.proofs.Common.{sym, subst, Option, Some, true, false, Bool, slice_get, slice_set}
 use Rattle.std.specs.Prelude.{◌||◌, ◌&&◌}
 use Rattle.iol_core.specs.NumberedLists.{in_place}
 use Rattle.iol_core.specs.Text.{bytes_of}
@@ -33,10 +34,14 @@ use Rattle.flash_laws.specs.Site.ClientConsistency.{FitsAt}
 use Rattle.flash_laws.specs.SiteContents.{SiteContents, AllMayShow, IsAmong}
 use Rattle.flash_laws.specs.SiteContents.Expected.{outcomes_by}
 use Rattle.flash_laws.specs.Site.{server}
-use Rattle.flash_laws.specs.Run.Stages.{HasPipeOf, IsReadyFor, IsGiven, IsPuttingOut, HasPutOut, IsToCome, Stage, is_starting}
+use Rattle.flash_laws.specs.Run.Stages.{HasPipeOf, IsReadyFor, IsGiven, IsPuttingOut, HasPutOut, IsToCome, Stage}
+use Rattle.flash_laws.specs.Run.Stages.{is_starting}
 use Rattle.flash_laws.specs.declared.script_run.Run.{Run}
 use Rattle.flash_laws.specs.declared.script_run.Step.{Step}
-use Rattle.flash_laws.specs.declared.script_run.Step.TheVariants.{Gives, Makes, Hands, Lets, Heads, Sending, Receives, Spills, Gathers, Frames, Wraps, Trims, Ended, Unholds, Stops, Unframes, Lasts, WrapsLast, TrimsLast, Unwraps, Returns, Lapses, Fails}
+use Rattle.flash_laws.specs.declared.script_run.Step.TheVariants.{Gives, Makes, Hands, Lets, Heads, Sending, Receives}
+use Rattle.flash_laws.specs.declared.script_run.Step.TheVariants.{Spills, Gathers, Frames, Wraps, Trims, Ended, Unholds}
+use Rattle.flash_laws.specs.declared.script_run.Step.TheVariants.{Stops, Unframes, Lasts, WrapsLast, TrimsLast, Unwraps}
+use Rattle.flash_laws.specs.declared.script_run.Step.TheVariants.{Returns, Lapses, Fails}
 use Rattle.flash_laws.specs.declared.script_run.Running.{Running}
 use Rattle.flash_laws.specs.declared.script_run.Running.TheVariants.{Runs}
 use Rattle.flash_laws.proofs.Forms.{of}
@@ -47,10 +52,13 @@ use Rattle.flash_laws.proofs.Given.{given-same}
 use Rattle.flash_laws.proofs.Site.Expected.{show-refused}
 use Rattle.flash_laws.proofs.World.AllLaws.{AllLaws}
 use Rattle.flash_laws.proofs.World.JobQueue.Frame.{none-given, none-touched}
-use Rattle.flash_laws.proofs.World.TurnLeaves.{IsCallOf, what-came, IsTurn, IsItsOwn, Touches, leaves-same, set-same, sits-in, not-server, no-call}
+use Rattle.flash_laws.proofs.World.TurnLeaves.{IsCallOf, what-came, IsTurn, IsItsOwn, Touches, leaves-same, set-same}
+use Rattle.flash_laws.proofs.World.TurnLeaves.{sits-in, not-server, no-call}
 
-module _ (site_contents : SiteContents) (worker_set : WorkerSet) (laws : AllLaws worker_set) (m n : State) (p : Past) (clients : List (Option Client)) (process_slots : List (ProcessSlot worker_set.Worker)) (k : ℕ)
-    (process_slot next : ProcessSlot worker_set.Worker) (yields : Bool) (r : Reply) (turn : IsTurn site_contents worker_set m n p clients process_slots k process_slot next yields r) where
+module _ (site_contents : SiteContents) (worker_set : WorkerSet) (laws : AllLaws worker_set) (m n : State) (p : Past)
+    (clients : List (Option Client)) (process_slots : List (ProcessSlot worker_set.Worker)) (k : ℕ)
+    (process_slot next : ProcessSlot worker_set.Worker) (yields : Bool) (r : Reply)
+    (turn : IsTurn site_contents worker_set m n p clients process_slots k process_slot next yields r) where
   -- ---- which pipe it touches
 
   -- one that is free touches nothing
@@ -69,36 +77,61 @@ module _ (site_contents : SiteContents) (worker_set : WorkerSet) (laws : AllLaws
   pub rests : (j : ℕ) → worker_set.Free m j process_slot → Touches worker_set m n clients k process_slot.by
   rests j free = record {
     pipe = worker_set.job_queue k;
-    leaves = subst (λ (s : State). LeavesAllBut m process_slot.by (worker_set.job_queue k) s) (sym (waits j free).0) (leaves-same m process_slot.by (worker_set.job_queue k));
+    leaves = subst (λ (s : State). LeavesAllBut m process_slot.by (worker_set.job_queue k) s) (sym (waits j free).0)
+        (leaves-same m process_slot.by (worker_set.job_queue k));
     own = own-job_queue;
   }
 
   -- what the server reads for its client no other reads
-  own-pipe : (fd : ℕ) (x : Client) (run : Run) (q : ℕ) → in_place clients fd ≡ Some x → is_run_by x k ≡ true → descriptor m server run.from ≡ Some (on.ReadEnd q)
-      → has_fd x run.from ≡ true → ((l : ℕ) → l < worker_set.count → worker_set.job_queue l ≢ q) → IsItsOwn worker_set m clients k q
+  own-pipe : (fd : ℕ) (x : Client) (run : Run) (q : ℕ) → in_place clients fd ≡ Some x → is_run_by x k ≡ true
+      → descriptor m server run.from ≡ Some (on.ReadEnd q)
+      → has_fd x run.from ≡ true → ((l : ℕ) → l < worker_set.count → worker_set.job_queue l ≢ q)
+      → IsItsOwn worker_set m clients k q
   own-pipe fd x run q at runs opens has away = record {
     job_queues = λ l l_lt apart. away l l_lt;
     pipes = λ gd y other s pipe at_y is none opens_y has_y away_y same.
-        let one : other.from ≡ run.from = (turn.order.one server server other.from run.from (on.ReadEnd q) refl (subst (λ z. descriptor m server other.from ≡ Some (on.ReadEnd z)) same opens_y) opens).1 in
-        let place : gd ≡ fd = turn.fit.fds_apart gd fd run.from y x at_y at (subst (λ g. has_fd y g ≡ true) one has_y) has in
+        let one : other.from ≡ run.from =
+        (turn.order.one server server other.from run.from (on.ReadEnd q) refl
+        (subst (λ z. descriptor m server other.from ≡ Some (on.ReadEnd z)) same opens_y) opens).1 in
+        let place : gd ≡ fd = turn.fit.fds_apart gd fd run.from y x at_y at (subst (λ g. has_fd y g ≡ true) one has_y)
+        has in
         let client : x ≡ y = some-inj x y (sym at ∙ subst (λ z. in_place clients z ≡ Some y) place at_y) in
         clash (is_run_by y k) (ap (λ (z : Client). is_run_by z k) (sym client) ∙ runs) none;
   }
 
   module _ (fd : ℕ) (x : Conn) (script : List ℕ) (run : Run) (made : Made) (o : Progress) where
-    module _ (s : Step) (at : in_place clients fd ≡ Some (of x (Some (Runs run s)) script)) (runs : (run.worker == k) ≡ true) (has : ends_of run s run.from ≡ true) where
-      putting-touches : IsPuttingOut worker_set m process_slot run made o → Touches worker_set m n clients k process_slot.by
+    module _ (s : Step) (at : in_place clients fd ≡ Some (of x (Some (Runs run s)) script))
+        (runs : (run.worker == k) ≡ true) (has : ends_of run s run.from ≡ true) where
+      putting-touches : IsPuttingOut worker_set m process_slot run made o
+          → Touches worker_set m n clients k process_slot.by
       putting-touches h = by h.puts_out
         where
           here : run.worker ≡ k
           here = same-number run.worker k runs
 
-          by : puts.PutsOut worker_set.turns worker_set.pools worker_set.Free worker_set.Expected m (worker_set.job_queue run.worker) h.has.pipe process_slot made h.more → Touches worker_set m n clients k process_slot.by
+          by : puts.PutsOut worker_set.turns worker_set.pools worker_set.Free worker_set.Expected m
+              (worker_set.job_queue run.worker) h.has.pipe process_slot made h.more
+              → Touches worker_set m n clients k process_slot.by
           by (inr there) = rests (worker_set.job_queue run.worker) there.free
-          by (inl expected) = elim (laws.workers.quiet m n (worker_set.job_queue run.worker) h.has.pipe process_slot next yields r made h.more expected turn.did) [
-            | inl left ↦ record { pipe = worker_set.job_queue k; leaves = subst (λ l. LeavesAllBut m process_slot.by (worker_set.job_queue l) n) here left; own = own-job_queue }
-            | inr left ↦ record { pipe = h.has.pipe; leaves = left; own = own-pipe fd (of x (Some (Runs run s)) script) run h.has.pipe at runs h.has.reads has h.has.apart }
-          ]
+          by (inl expected) =
+              elim (laws.workers.quiet m n (worker_set.job_queue run.worker) h.has.pipe process_slot next yields r made
+              h.more expected turn.did) [
+                | inl left ↦
+                    record {
+                      pipe = worker_set.job_queue k;
+                      leaves =
+                          subst (λ l. LeavesAllBut m process_slot.by (worker_set.job_queue l) n) here left;
+                      own = own-job_queue;
+                    }
+                | inr left ↦
+                    record {
+                      pipe = h.has.pipe;
+                      leaves = left;
+                      own =
+                          own-pipe fd (of x (Some (Runs run s)) script) run h.has.pipe at runs h.has.reads has
+                          h.has.apart;
+                    }
+              ]
 
     used : (s : Step) → is_reading s ≡ true → ends_of run s run.from ≡ true
     used s is = by (is_reading s) (run.from == run.from) (step_fd s run.from) is (self run.from)
@@ -108,33 +141,47 @@ module _ (site_contents : SiteContents) (worker_set : WorkerSet) (laws : AllLaws
         by true false c u v = absurd (cc (v))
         by false b c u v = absurd (cc (u))
 
-    stage-touches : (s : Step) → in_place clients fd ≡ Some (of x (Some (Runs run s)) script) → (run.worker == k) ≡ true → Stage worker_set m process_slot run made o s
+    stage-touches : (s : Step) → in_place clients fd ≡ Some (of x (Some (Runs run s)) script) → (run.worker == k) ≡ true
+        → Stage worker_set m process_slot run made o s
         → Touches worker_set m n clients k process_slot.by
     stage-touches (Makes f) at runs h = rests (worker_set.job_queue run.worker) h.ready.free
     stage-touches (Hands j f) at runs h = rests (worker_set.job_queue run.worker) h.0.ready.free
     stage-touches (Lets j) at runs h = putting-touches (Lets j) at runs (used (Lets j) refl) h
     stage-touches Heads at runs h = putting-touches Heads at runs (used Heads refl) h
-    stage-touches (Sending d frame) at runs h = putting-touches (Sending d frame) at runs (used (Sending d frame) refl) h
-    stage-touches (Receives held frame) at runs h = putting-touches (Receives held frame) at runs (used (Receives held frame) refl) h
+    stage-touches (Sending d frame) at runs h =
+        putting-touches (Sending d frame) at runs (used (Sending d frame) refl) h
+    stage-touches (Receives held frame) at runs h =
+        putting-touches (Receives held frame) at runs (used (Receives held frame) refl) h
     stage-touches (Spills a frame) at runs h = putting-touches (Spills a frame) at runs (used (Spills a frame) refl) h
-    stage-touches (Gathers held size piece len frame) at runs h = putting-touches (Gathers held size piece len frame) at runs (used (Gathers held size piece len frame) refl) h
+    stage-touches (Gathers held size piece len frame) at runs h =
+        putting-touches (Gathers held size piece len frame) at runs (used (Gathers held size piece len frame) refl) h
     stage-touches (Frames held) at runs h = putting-touches (Frames held) at runs (used (Frames held) refl) h
-    stage-touches (Wraps held frame) at runs h = putting-touches (Wraps held frame) at runs (used (Wraps held frame) refl) h
-    stage-touches (Trims held chunk len frame) at runs h = putting-touches (Trims held chunk len frame) at runs (used (Trims held chunk len frame) refl) h
+    stage-touches (Wraps held frame) at runs h =
+        putting-touches (Wraps held frame) at runs (used (Wraps held frame) refl) h
+    stage-touches (Trims held chunk len frame) at runs h =
+        putting-touches (Trims held chunk len frame) at runs (used (Trims held chunk len frame) refl) h
     stage-touches (Returns write) at runs h = absurd h
     stage-touches (Lapses j) at runs h = absurd h
     stage-touches Fails at runs h = absurd h
     stage-touches s at runs h = rests (worker_set.job_queue run.worker) h.free
 
   -- who sits at the job queue of a run of worker k
-  at-job_queue : (run : Run) (there : ProcessSlot worker_set.Worker) → (run.worker == k) ≡ true → slice_get process_slots run.worker ≡ Some there → there ≡ process_slot
-  at-job_queue run there runs sits = some-inj there process_slot (sym sits ∙ subst (λ z. slice_get process_slots z ≡ Some process_slot) (sym (same-number run.worker k runs)) turn.sits)
+  at-job_queue : (run : Run) (there : ProcessSlot worker_set.Worker) → (run.worker == k) ≡ true
+      → slice_get process_slots run.worker ≡ Some there → there ≡ process_slot
+  at-job_queue run there runs sits =
+      some-inj there process_slot (sym sits
+      ∙ subst (λ z. slice_get process_slots z ≡ Some process_slot) (sym (same-number run.worker k runs)) turn.sits)
 
-  pub client-touches : (fd : ℕ) (x : Conn) (run : Option Running) (script : List ℕ) → in_place clients fd ≡ Some (of x run script) → is_run_by (of x run script) k ≡ true
-      → FitsAt site_contents worker_set m p fd (of x run script) process_slots → Touches worker_set m n clients k process_slot.by
+  pub client-touches : (fd : ℕ) (x : Conn) (run : Option Running) (script : List ℕ)
+      → in_place clients fd ≡ Some (of x run script) → is_run_by (of x run script) k ≡ true
+      → FitsAt site_contents worker_set m p fd (of x run script) process_slots
+      → Touches worker_set m n clients k process_slot.by
   client-touches fd x (Some (Runs run s)) script at runs f =
       stage-touches fd x script run (made_of f.fits.wanted f.fits.script.lines f.fits.shown) f.fits.so_far s at runs
-      (subst (λ (t : ProcessSlot worker_set.Worker). Stage worker_set m t run (made_of f.fits.wanted f.fits.script.lines f.fits.shown) f.fits.so_far s) (at-job_queue run f.fits.job_queue.process_slot runs f.fits.job_queue.sits) f.fits.job_queue.stage)
+      (subst
+      (λ (t : ProcessSlot worker_set.Worker). Stage worker_set m t run
+      (made_of f.fits.wanted f.fits.script.lines f.fits.shown) f.fits.so_far s)
+      (at-job_queue run f.fits.job_queue.process_slot runs f.fits.job_queue.sits) f.fits.job_queue.stage)
   client-touches fd x run script at runs f = absurd (cc (runs))
 
   -- ---- what it has then
@@ -144,10 +191,15 @@ module _ (site_contents : SiteContents) (worker_set : WorkerSet) (laws : AllLaws
     came = what-came worker_set.turns m n process_slot next yields r turn.did
 
     held-files : HoldFiles worker_set.pools m process_slot.by
-    held-files = subst (λ d. HoldFiles worker_set.pools m d) (sym (sits-in site_contents worker_set laws m n p clients process_slots k process_slot next yields r turn).1) (turn.fixed.holds k lt)
+    held-files =
+        subst (λ d. HoldFiles worker_set.pools m d)
+        (sym (sits-in site_contents worker_set laws m n p clients process_slots k process_slot next yields r turn).1)
+        (turn.fixed.holds k lt)
 
     server-fd : (g : ℕ) → descriptor n server g ≡ descriptor m server g
-    server-fd g = left.fds server g (λ same. not-server site_contents worker_set laws m n p clients process_slots k process_slot next yields r turn (sym same))
+    server-fd g =
+        left.fds server g (λ same. not-server site_contents worker_set laws m n p clients process_slots k process_slot
+        next yields r turn (sym same))
 
     module _ (run : Run) where
       abbrev pipe-turn : HasPipeOf worker_set m run → HasPipeOf worker_set n run
@@ -163,7 +215,8 @@ module _ (site_contents : SiteContents) (worker_set : WorkerSet) (laws : AllLaws
       given-turn : (fd : ℕ) → IsGiven worker_set m process_slot run fd → IsGiven worker_set n next run fd
       given-turn fd h = record {
         ready = ready-turn h.ready;
-        writes = ap (λ (s : State). descriptor s next.by fd) (waits (worker_set.job_queue run.worker) h.ready.free).0 ∙ (ap (λ d. descriptor m d fd) came.1 ∙ h.writes);
+        writes = ap (λ (s : State). descriptor s next.by fd) (waits (worker_set.job_queue run.worker) h.ready.free).0
+            ∙ (ap (λ d. descriptor m d fd) came.1 ∙ h.writes);
       }
 
     -- ---- of a script: where a call for a file is refused, another response is expected, of which as much is given
@@ -175,22 +228,34 @@ module _ (site_contents : SiteContents) (worker_set : WorkerSet) (laws : AllLaws
       -- what it is after the turn
       record Turned (s : Step) : Type 0 where
         pub shown_now : List Outcome
-        pub may_show : (there : List Outcome) → AllMayShow site_contents there shown → AllMayShow site_contents there shown_now
+        pub may_show : (there : List Outcome) → AllMayShow site_contents there shown
+            → AllMayShow site_contents there shown_now
         pub fresh : is_starting (Runs run s) ≡ true → shown_now ≡ shown
-        pub consistency : (k : Connection) (took sent kept : List ℕ) → ConsistencyRun site_contents (response_to w (made_of w lines shown)) k took sent kept w o (Runs run s)
+        pub consistency : (k : Connection) (took sent kept : List ℕ)
+            → ConsistencyRun site_contents (response_to w (made_of w lines shown)) k took sent kept w o (Runs run s)
             → ConsistencyRun site_contents (response_to w (made_of w lines shown_now)) k took sent kept w o (Runs run s)
         pub stage : Stage worker_set n next run (made_of w lines shown_now) o s
 
       unchanged : (s : Step) → Stage worker_set n next run (made_of w lines shown) o s → Turned s
-      unchanged s stage = record { shown_now = shown; may_show = λ there all. all; fresh = λ starts. refl; consistency = λ k took sent kept consistency. consistency; stage = stage }
+      unchanged s stage = record {
+        shown_now = shown;
+        may_show = λ there all. all;
+        fresh = λ starts. refl;
+        consistency =
+            λ k took sent kept consistency. consistency;
+        stage = stage;
+      }
 
       put-turn : HasPutOut worker_set m process_slot run made o → HasPutOut worker_set n next run made o
       put-turn h = record { free = (waits (worker_set.job_queue run.worker) h.free).1; whole = h.whole }
 
       -- as much of the other response is given
-      exchanged : (s : Step) (after : Made) (more later : List ℕ) → is_stopping (Runs run s) ≡ false → HasStep job m w o run s
-          → ((front : List ℕ) → text_of made ≡ front ++ more → text_of after ≡ front ++ later) → IsToCome o (text_of made) more
-          → (k : Connection) (took sent kept : List ℕ) → ConsistencyRun site_contents (response_to w made) k took sent kept w o (Runs run s)
+      exchanged : (s : Step) (after : Made) (more later : List ℕ) → is_stopping (Runs run s) ≡ false
+          → HasStep job m w o run s
+          → ((front : List ℕ) → text_of made ≡ front ++ more → text_of after ≡ front ++ later)
+          → IsToCome o (text_of made) more
+          → (k : Connection) (took sent kept : List ℕ)
+          → ConsistencyRun site_contents (response_to w made) k took sent kept w o (Runs run s)
           → ConsistencyRun site_contents (response_to w after) k took sent kept w o (Runs run s)
       exchanged s after more later going has begins come k took sent kept (inr left) = inr left
       exchanged s after more later going has begins come k took sent kept (inl goes) = by o has come goes
@@ -201,57 +266,89 @@ module _ (site_contents : SiteContents) (worker_set : WorkerSet) (laws : AllLaws
           by (Ran received ended past) has come goes =
               let is : text_of after ≡ received ++ later = begins received come.1 in
               let same = ap (λ (l : List ℕ). take (length past + taken_by (Runs run s)) (script_response w l)) come.1
-              ∙ (given-same w received past more later ended job m run s going has ∙ ap (λ (l : List ℕ). take (length past + taken_by (Runs run s)) (script_response w l)) (sym is)) in
+              ∙ (given-same w received past more later ended job m run s going has
+              ∙ ap (λ (l : List ℕ). take (length past + taken_by (Runs run s)) (script_response w l)) (sym is)) in
               inl (record {
-                answers = subst (λ (l : List ℕ). Answers site_contents took (sent ++ bytes_of k.outgoing) kept (serve w ∷ []) l) same goes.answers;
-                may = (later, subst (λ (e : Bool). Follows e later) (sym come.0) tt, ap (λ (l : List ℕ). script_response w l) is);
+                answers =
+                    subst (λ (l : List ℕ). Answers site_contents took (sent ++ bytes_of k.outgoing) kept (serve w ∷ [])
+                    l) same goes.answers;
+                may = (
+                  later,
+                  subst (λ (e : Bool). Follows e later) (sym come.0) tt,
+                  ap (λ (l : List ℕ). script_response w l) is,
+                );
                 whole = goes.whole;
               })
           by Broken has come goes = absurd goes.may
           by (NotRun status past) has come goes = absurd come
 
-      putting-turn : (s : Step) → is_stopping (Runs run s) ≡ false → is_starting (Runs run s) ≡ false → HasStep job m w o run s
+      putting-turn : (s : Step) → is_stopping (Runs run s) ≡ false → is_starting (Runs run s) ≡ false
+          → HasStep job m w o run s
           → ((after : Made) → IsPuttingOut worker_set n next run after o → Stage worker_set n next run after o s)
           → IsPuttingOut worker_set m process_slot run made o → Turned s
       putting-turn s going started has stages h = by still.instead still.puts_out
         where
-          still : PutsOutStill worker_set.turns worker_set.pools worker_set.Free worker_set.Expected n (worker_set.job_queue run.worker) h.has.pipe next made h.more r
-          still = laws.texts.turns m n (worker_set.job_queue run.worker) h.has.pipe process_slot next yields r made h.more turn.order turn.fixed.placed turn.fixed.files held-files h.puts_out turn.did
+          still : PutsOutStill worker_set.turns worker_set.pools worker_set.Free worker_set.Expected n
+              (worker_set.job_queue run.worker) h.has.pipe next made h.more r
+          still = laws.texts.turns m n (worker_set.job_queue run.worker) h.has.pipe process_slot next yields r made
+              h.more turn.order turn.fixed.placed turn.fixed.files held-files h.puts_out turn.did
               (turn.order.all_stand server run.from (on.ReadEnd h.has.pipe) h.has.reads)
               (turn.order_after.all_stand server run.from (on.ReadEnd h.has.pipe) (server-fd run.from ∙ h.has.reads))
 
-          come_on : (o : Progress) (after : Made) (later : List ℕ) → ((front : List ℕ) → text_of made ≡ front ++ h.more → text_of after ≡ front ++ later)
+          come_on : (o : Progress) (after : Made) (later : List ℕ)
+              → ((front : List ℕ) → text_of made ≡ front ++ h.more → text_of after ≡ front ++ later)
               → IsToCome o (text_of made) h.more → IsToCome o (text_of after) later
           come_on (Ran received ended past) after later begins come = (come.0, begins received come.1)
           come_on Broken after later begins come = tt
           come_on (NotRun status past) after later begins come = absurd come
 
-          same : PutsOut worker_set.turns worker_set.pools worker_set.Free worker_set.Expected n (worker_set.job_queue run.worker) h.has.pipe next made h.more → Turned s
-          same puts = unchanged s (stages made (record { has = pipe-turn run h.has; more = h.more; puts_out = puts; to_come = h.to_come }))
+          same : PutsOut worker_set.turns worker_set.pools worker_set.Free worker_set.Expected n
+              (worker_set.job_queue run.worker) h.has.pipe next made h.more → Turned s
+          same puts =
+              unchanged s
+              (stages made (record { has = pipe-turn run h.has; more = h.more; puts_out = puts; to_come = h.to_come }))
 
-          other : (after : Made) (later : List ℕ) (x : IsExchanged r made after h.more later) → (shown_then : List Outcome) → after ≡ made_of w lines shown_then
-              → ((there : List Outcome) → AllMayShow site_contents there shown → AllMayShow site_contents there shown_then)
-              → PutsOut worker_set.turns worker_set.pools worker_set.Free worker_set.Expected n (worker_set.job_queue run.worker) h.has.pipe next after later → Turned s
+          other : (after : Made) (later : List ℕ) (x : IsExchanged r made after h.more later)
+              → (shown_then : List Outcome) → after ≡ made_of w lines shown_then
+              → ((there : List Outcome) → AllMayShow site_contents there shown
+              → AllMayShow site_contents there shown_then)
+              → PutsOut worker_set.turns worker_set.pools worker_set.Free worker_set.Expected n
+              (worker_set.job_queue run.worker) h.has.pipe next after later → Turned s
           other after later x shown_then is shows puts = record {
             shown_now = shown_then;
             may_show = shows;
             fresh = λ starts. absurd (clash (is_starting (Runs run s)) starts started);
-            consistency = subst (λ (a : Made). (k : Connection) (took sent kept : List ℕ) → ConsistencyRun site_contents (response_to w made) k took sent kept w o (Runs run s)
-                → ConsistencyRun site_contents (response_to w a) k took sent kept w o (Runs run s)) is (exchanged s after h.more later going has x.begins h.to_come);
+            consistency =
+                subst (λ (a : Made). (k : Connection) (took sent kept : List ℕ)
+                → ConsistencyRun site_contents (response_to w made) k took sent kept w o (Runs run s)
+                → ConsistencyRun site_contents (response_to w a) k took sent kept w o (Runs run s)) is
+                (exchanged s after h.more later going has x.begins h.to_come);
             stage = subst (λ (a : Made). Stage worker_set n next run a o s) is
-                (stages after (record { has = pipe-turn run h.has; more = later; puts_out = puts; to_come = come_on o after later x.begins h.to_come }));
+                (stages after (record {
+                  has = pipe-turn run h.has;
+                  more = later;
+                  puts_out = puts;
+                  to_come =
+                      come_on o after later x.begins h.to_come;
+                }));
           }
 
           by : Instead r made still.after h.more still.later
-              → PutsOut worker_set.turns worker_set.pools worker_set.Free worker_set.Expected n (worker_set.job_queue run.worker) h.has.pipe next still.after still.later → Turned s
+              → PutsOut worker_set.turns worker_set.pools worker_set.Free worker_set.Expected n
+              (worker_set.job_queue run.worker) h.has.pipe next still.after still.later → Turned s
           by (inl is) puts =
-              same (subst (λ (l : List ℕ). PutsOut worker_set.turns worker_set.pools worker_set.Free worker_set.Expected n (worker_set.job_queue run.worker) h.has.pipe next made l) is.1
-              (subst (λ (a : Made). PutsOut worker_set.turns worker_set.pools worker_set.Free worker_set.Expected n (worker_set.job_queue run.worker) h.has.pipe next a still.later) is.0 puts))
+              same
+              (subst (λ (l : List ℕ). PutsOut worker_set.turns worker_set.pools worker_set.Free worker_set.Expected
+              n (worker_set.job_queue run.worker) h.has.pipe next made l) is.1
+              (subst (λ (a : Made). PutsOut worker_set.turns worker_set.pools worker_set.Free worker_set.Expected n
+              (worker_set.job_queue run.worker) h.has.pipe next a still.later) is.0 puts))
           by (inr x) puts =
               let may : site_contents.refuses.of_workers x.refused.why ≡ true =
-              (subst (λ (l : Reply). IsAmong site_contents.refuses.of_workers l) x.refused.answer turn.among) (subst (λ (l : Reply). is_resource_failure l ≡ true) x.refused.answer x.refused.resource_failure) in
+              (subst (λ (l : Reply). IsAmong site_contents.refuses.of_workers l) x.refused.answer turn.among)
+              (subst (λ (l : Reply). is_resource_failure l ≡ true) x.refused.answer x.refused.resource_failure) in
               other still.after still.later x (x.refused.past ++ Failed x.refused.why ∷ x.refused.rest) x.refused.is
-              (λ there all. show-refused site_contents there x.refused.past x.refused.rest x.refused.instead x.refused.why may
+              (λ there all. show-refused site_contents there x.refused.past x.refused.rest x.refused.instead
+              x.refused.why may
               (subst (λ (os : List Outcome). AllMayShow site_contents there os) x.refused.was all))
               puts
 
@@ -260,7 +357,8 @@ module _ (site_contents : SiteContents) (worker_set : WorkerSet) (laws : AllLaws
       stage-turn (Makes f) has h = unchanged (Makes f) (given-turn run f h)
       stage-turn (Hands j f) has h = unchanged (Hands j f) (
         given-turn run f h.0,
-        subst (λ (u : State). lie_in worker_set.jobs (text u server j) ≡ true) (sym (waits (worker_set.job_queue run.worker) h.0.ready.free).0) h.1,
+        subst (λ (u : State). lie_in worker_set.jobs (text u server j) ≡ true)
+            (sym (waits (worker_set.job_queue run.worker) h.0.ready.free).0) h.1,
       )
       stage-turn (Ended a held frame) has h = unchanged (Ended a held frame) (put-turn h)
       stage-turn (Unholds held frame) has h = unchanged (Unholds held frame) (put-turn h)
@@ -282,10 +380,15 @@ module _ (site_contents : SiteContents) (worker_set : WorkerSet) (laws : AllLaws
         by : IsCallOf m process_slot.by r n → HasRun job n w o y
         by (inl same) = subst (λ (s : State). HasRun job s w o y) (sym same) has
         by (inr call) = (laws.runs job).stays m n w y (event.Call process_slot.by call.0) r o call.1
-            (λ a used. none-given (event.Call process_slot.by call.0) server a (no-call site_contents worker_set laws m n p clients process_slots k process_slot next yields r turn call.0))
-            (λ g used. none-touched m (event.Call process_slot.by call.0) server g (no-call site_contents worker_set laws m n p clients process_slots k process_slot next yields r turn call.0)) has
+            (λ a used. none-given (event.Call process_slot.by call.0) server a
+            (no-call site_contents worker_set laws m n p clients process_slots k process_slot next yields r turn
+            call.0))
+            (λ g used. none-touched m (event.Call process_slot.by call.0) server g
+            (no-call site_contents worker_set laws m n p clients process_slots k process_slot next yields r turn
+            call.0)) has
 
-    pub own-fits : (fd : ℕ) (x : Conn) (run : Option Running) (script : List ℕ) → is_run_by (of x run script) k ≡ true → FitsAt site_contents worker_set m p fd (of x run script) process_slots
+    pub own-fits : (fd : ℕ) (x : Conn) (run : Option Running) (script : List ℕ) → is_run_by (of x run script) k ≡ true
+        → FitsAt site_contents worker_set m p fd (of x run script) process_slots
         → FitsAt site_contents worker_set n p fd (of x run script) (slice_set process_slots k next)
     own-fits fd x (Some (Runs run s)) script runs at = record {
       conn = at.conn;
@@ -302,20 +405,31 @@ module _ (site_contents : SiteContents) (worker_set : WorkerSet) (laws : AllLaws
         so_far = f.so_far;
         has = has-turn (job_of f.wanted f.script.text) f.wanted f.so_far (Runs run s) f.has;
         ongoing = f.ongoing;
-        consistency = subst (λ (z : Connection). ConsistencyRun site_contents (response_to f.wanted (made_of f.wanted f.script.lines turned.shown_now)) z f.took (p.sent at.conn) x.kept f.wanted f.so_far (Runs run s))
-            (sym (left.conns at.conn)) (turned.consistency (conn_at m at.conn) f.took (p.sent at.conn) x.kept f.consistency);
+        consistency =
+            subst
+            (λ (z : Connection). ConsistencyRun site_contents
+            (response_to f.wanted (made_of f.wanted f.script.lines turned.shown_now)) z f.took (p.sent at.conn) x.kept
+            f.wanted f.so_far (Runs run s))
+            (sym (left.conns at.conn)) (turned.consistency (conn_at m at.conn) f.took (p.sent at.conn) x.kept
+            f.consistency);
         job_queue = record {
           process_slot = next;
-          sits = subst (λ z. slice_get (slice_set process_slots k next) z ≡ Some next) (sym (same-number run.worker k runs)) (set-same process_slots k process_slot next turn.sits);
+          sits =
+              subst (λ z. slice_get (slice_set process_slots k next) z ≡ Some next)
+              (sym (same-number run.worker k runs)) (set-same process_slots k process_slot next turn.sits);
           stage = turned.stage;
         };
       };
     }
       where
-        f : FitsRun site_contents worker_set m (p.came at.conn) (p.sent at.conn) fd at.conn (of x (Some (Runs run s)) script) (Runs run s) process_slots
+        f : FitsRun site_contents worker_set m (p.came at.conn) (p.sent at.conn) fd at.conn
+            (of x (Some (Runs run s)) script) (Runs run s) process_slots
         f = at.fits
 
         turned : Turned run f.wanted f.script.lines f.shown f.so_far (job_of f.wanted f.script.text) s
         turned = stage-turn run f.wanted f.script.lines f.shown f.so_far (job_of f.wanted f.script.text) s f.has.1
-            (subst (λ (t : ProcessSlot worker_set.Worker). Stage worker_set m t run (made_of f.wanted f.script.lines f.shown) f.so_far s) (at-job_queue run f.job_queue.process_slot runs f.job_queue.sits) f.job_queue.stage)
+            (subst
+            (λ (t : ProcessSlot worker_set.Worker). Stage worker_set m t run
+            (made_of f.wanted f.script.lines f.shown) f.so_far s)
+            (at-job_queue run f.job_queue.process_slot runs f.job_queue.sits) f.job_queue.stage)
     own-fits fd x run script runs at = absurd (cc (runs))

@@ -1,6 +1,7 @@
 -- The effect of events other than calls of the server or a worker on the job pipes, and on the pipes of running
 -- scripts.
-use Rattle.std.proofs.Common.{inl, inr, ◌≡◌, ◌≢◌, ◌<◌, ℕ, List, ◌∙◌, refl, sym, subst, Option, Some, true, false, slice_get}
+use Rattle.std.proofs.Common.{inl, inr, ◌≡◌, ◌≢◌, ◌<◌, ℕ, List, ◌∙◌, refl, sym, subst, Option, Some, true, false}
+use Rattle.std.proofs.Common.{slice_get}
 use Rattle.std.specs.Prelude.{◌||◌}
 use Rattle.iol_core.specs.State.{State, descriptor, pipe_at}
 use Rattle.iol_core.specs.Run.{StepsTo}
@@ -29,7 +30,9 @@ use Rattle.flash_laws.specs.Site.{server, KeepsSite}
 use Rattle.flash_laws.specs.Run.Stages.{HasPipeOf, IsGiven, IsPuttingOut, Stage}
 use Rattle.flash_laws.specs.declared.script_run.Run.{Run}
 use Rattle.flash_laws.specs.declared.script_run.Step.{Step}
-use Rattle.flash_laws.specs.declared.script_run.Step.TheVariants.{Gives, Makes, Hands, Ended, Unholds, Stops, Unframes, Lasts, WrapsLast, TrimsLast, Unwraps, Returns, Lapses, Fails}
+use Rattle.flash_laws.specs.declared.script_run.Step.TheVariants.{Gives, Makes, Hands, Ended, Unholds, Stops, Unframes}
+use Rattle.flash_laws.specs.declared.script_run.Step.TheVariants.{Lasts, WrapsLast, TrimsLast, Unwraps, Returns, Lapses}
+use Rattle.flash_laws.specs.declared.script_run.Step.TheVariants.{Fails}
 use Rattle.flash_laws.specs.declared.script_run.Running.{Running}
 use Rattle.flash_laws.specs.declared.script_run.Running.TheVariants.{Runs}
 use Rattle.flash_laws.proofs.Lists.{clash, self, later_of, former_of}
@@ -47,12 +50,14 @@ module _ (worker_set : WorkerSet) (laws : AllLaws worker_set) where
       → ((d : ℕ) → is_call_of e d ≡ true → HasNotEnd m d (on.ReadEnd p))
       → ((d : ℕ) → is_call_of e d ≡ true → HasNotEnd m d (on.WriteEnd p))
       → ((pipe_at m p).reading || (pipe_at m p).writing) ≡ true → pipe_at n p ≡ pipe_at m p
-  pipe-left m n (event.Call d k) r p step reads writes there = laws.pipes.pipe m n d k r p step (reads d (self d)) (writes d (self d)) there
+  pipe-left m n (event.Call d k) r p step reads writes there =
+      laws.pipes.pipe m n d k r p step (reads d (self d)) (writes d (self d)) there
   pipe-left m n e r p step reads writes there = (laws.the.steps.leaves m n e r step).pipes p refl
 
   -- ---- nobody but the server and its worker writes to the pipe of a run, while its made is received
 
-  module _ (m : State) (order : IsOrderly m) (process_slot : ProcessSlot worker_set.Worker) (run : Run) (p : ℕ) (opens : descriptor m server run.from ≡ Some (on.ReadEnd p))
+  module _ (m : State) (order : IsOrderly m) (process_slot : ProcessSlot worker_set.Worker) (run : Run) (p : ℕ)
+      (opens : descriptor m server run.from ≡ Some (on.ReadEnd p))
       (d : ℕ) (not_server : d ≢ server) (not_worker : d ≢ process_slot.by) where
     -- the pipe is the one that the server reads
     same-pipe : (has : HasPipeOf worker_set m run) → p ≡ has.pipe
@@ -60,21 +65,36 @@ module _ (worker_set : WorkerSet) (laws : AllLaws worker_set) where
 
     had-writes : (write : ℕ) → HasPipe m run write → HasNotEnd m d (on.WriteEnd p)
     had-writes write h g is =
-        not_server (order.one d server g write (on.WriteEnd p) refl is (subst (λ q. descriptor m server write ≡ Some (on.WriteEnd q)) (sym (read-one p h.pipe (sym opens ∙ h.read_end))) h.write_end)).0
+        not_server
+        (order.one d server g write (on.WriteEnd p) refl is
+        (subst (λ q. descriptor m server write ≡ Some (on.WriteEnd q))
+        (sym (read-one p h.pipe (sym opens ∙ h.read_end))) h.write_end)).0
 
     given-writes : (f : ℕ) → IsGiven worker_set m process_slot run f → HasNotEnd m d (on.WriteEnd p)
-    given-writes f h g is = not_worker (order.one d process_slot.by g f (on.WriteEnd p) refl is (subst (λ q. descriptor m process_slot.by f ≡ Some (on.WriteEnd q)) (sym (same-pipe h.ready.has)) h.writes)).0
+    given-writes f h g is =
+        not_worker
+        (order.one d process_slot.by g f (on.WriteEnd p) refl is
+        (subst (λ q. descriptor m process_slot.by f ≡ Some (on.WriteEnd q)) (sym (same-pipe h.ready.has)) h.writes)).0
 
-    puts-writes : (made : Made) (o : Progress) → IsPuttingOut worker_set m process_slot run made o → HasNotEnd m d (on.WriteEnd p)
+    puts-writes : (made : Made) (o : Progress) → IsPuttingOut worker_set m process_slot run made o
+        → HasNotEnd m d (on.WriteEnd p)
     puts-writes made o h = by h.puts_out
       where
-        by : PutsOut worker_set.turns worker_set.pools worker_set.Free worker_set.Expected m (worker_set.job_queue run.worker) h.has.pipe process_slot made h.more → HasNotEnd m d (on.WriteEnd p)
+        by : PutsOut worker_set.turns worker_set.pools worker_set.Free worker_set.Expected m
+            (worker_set.job_queue run.worker) h.has.pipe process_slot made h.more → HasNotEnd m d (on.WriteEnd p)
         by (inl expected) g is =
-            let writes = laws.workers.writes m (worker_set.job_queue run.worker) h.has.pipe process_slot made h.more expected in
-            not_worker (order.one d process_slot.by g writes.0 (on.WriteEnd p) refl is (subst (λ q. descriptor m process_slot.by writes.0 ≡ Some (on.WriteEnd q)) (sym (same-pipe h.has)) writes.1)).0
-        by (inr there) g is = clash (pipe_at m p).writing (order.all_stand d g (on.WriteEnd p) is) (subst (λ q. (pipe_at m q).writing ≡ false) (sym (same-pipe h.has)) there.closed)
+            let writes = laws.workers.writes m (worker_set.job_queue run.worker) h.has.pipe process_slot made h.more
+            expected in
+            not_worker
+            (order.one d process_slot.by g writes.0 (on.WriteEnd p) refl is
+            (subst (λ q. descriptor m process_slot.by writes.0 ≡ Some (on.WriteEnd q)) (sym (same-pipe h.has))
+            writes.1)).0
+        by (inr there) g is =
+            clash (pipe_at m p).writing (order.all_stand d g (on.WriteEnd p) is)
+            (subst (λ q. (pipe_at m q).writing ≡ false) (sym (same-pipe h.has)) there.closed)
 
-    stage-writes : (job : ℕ → List ℕ) (w : Wanted) (made : Made) (o : Progress) (s : Step) → HasStep job m w o run s → Stage worker_set m process_slot run made o s
+    stage-writes : (job : ℕ → List ℕ) (w : Wanted) (made : Made) (o : Progress) (s : Step) → HasStep job m w o run s
+        → Stage worker_set m process_slot run made o s
         → is_stopping (Runs run s) ≡ false → HasNotEnd m d (on.WriteEnd p)
     stage-writes job w made o (Gives write) has h going = had-writes write has.0
     stage-writes job w made o (Makes f) has h going = given-writes f h
@@ -95,46 +115,69 @@ module _ (worker_set : WorkerSet) (laws : AllLaws worker_set) where
 -- ---- all job queues, and each client
 
 module _ (site_contents : SiteContents) (worker_set : WorkerSet) (laws : AllLaws worker_set) where
-  module _ (m n : State) (p : Past) (clients : List (Option Client)) (process_slots : List (ProcessSlot worker_set.Worker)) (e : Event) (r : Reply) (order : IsOrderly m)
-      (fixed : IsFixedFor site_contents worker_set m) (site : KeepsSite m n) (step : StepsTo m e r n) (not_server : is_call_of e server ≡ false)
-      (not_worker : (k : ℕ) → k < worker_set.count → is_call_of e (worker_domain k) ≡ false) (all : AllFit site_contents worker_set m p clients process_slots) where
+  module _ (m n : State) (p : Past) (clients : List (Option Client))
+      (process_slots : List (ProcessSlot worker_set.Worker)) (e : Event) (r : Reply) (order : IsOrderly m)
+      (fixed : IsFixedFor site_contents worker_set m) (site : KeepsSite m n) (step : StepsTo m e r n)
+      (not_server : is_call_of e server ≡ false)
+      (not_worker : (k : ℕ) → k < worker_set.count → is_call_of e (worker_domain k) ≡ false)
+      (all : AllFit site_contents worker_set m p clients process_slots) where
     -- whoever calls is neither
     other-than : (d q : ℕ) → is_call_of e d ≡ true → is_call_of e q ≡ false → d ≢ q
     other-than d q is none same = clash (is_call_of e q) (subst (λ z. is_call_of e z ≡ true) same is) none
 
     -- so whoever calls has no end of a job queue's pipe, and leaves it
-    pub job_queue-left : (k : ℕ) → k < worker_set.count → pipe_at n (worker_set.job_queue k) ≡ pipe_at m (worker_set.job_queue k)
-    job_queue-left k lt = pipe-left worker_set laws m n e r (worker_set.job_queue k) step reads writes (later_of (pipe_at m (worker_set.job_queue k)).reading (pipe_at m (worker_set.job_queue k)).writing (order.all_stand server (job_pipe k) (on.WriteEnd (worker_set.job_queue k)) (all.job_queues.job_queues k lt)))
+    pub job_queue-left : (k : ℕ) → k < worker_set.count
+        → pipe_at n (worker_set.job_queue k) ≡ pipe_at m (worker_set.job_queue k)
+    job_queue-left k lt =
+        pipe-left worker_set laws m n e r (worker_set.job_queue k) step reads writes
+        (later_of (pipe_at m (worker_set.job_queue k)).reading (pipe_at m (worker_set.job_queue k)).writing
+        (order.all_stand server (job_pipe k) (on.WriteEnd (worker_set.job_queue k)) (all.job_queues.job_queues k lt)))
       where
         reads : (d : ℕ) → is_call_of e d ≡ true → HasNotEnd m d (on.ReadEnd (worker_set.job_queue k))
         reads d is g there =
             let sits = all.job_queues.in_slots k lt in
-            other-than d (worker_domain k) is (not_worker k lt) ((order.one d sits.0.by g 0 (on.ReadEnd (worker_set.job_queue k)) refl there (reads-jobs site_contents worker_set laws m p clients process_slots all k sits.0 sits.1)).0 ∙ (all.job_queues.by k sits.0 sits.1).1)
+            other-than d (worker_domain k) is (not_worker k lt)
+            ((order.one d sits.0.by g 0 (on.ReadEnd (worker_set.job_queue k)) refl there
+            (reads-jobs site_contents worker_set laws m p clients process_slots all k sits.0 sits.1)).0
+            ∙ (all.job_queues.by k sits.0 sits.1).1)
 
         writes : (d : ℕ) → is_call_of e d ≡ true → HasNotEnd m d (on.WriteEnd (worker_set.job_queue k))
-        writes d is g there = other-than d server is not_server (order.one d server g (job_pipe k) (on.WriteEnd (worker_set.job_queue k)) refl there (all.job_queues.job_queues k lt)).0
+        writes d is g there =
+            other-than d server is not_server (order.one d server g (job_pipe k) (on.WriteEnd (worker_set.job_queue k))
+            refl there (all.job_queues.job_queues k lt)).0
 
     -- nor has it an end of the pipe of a run, while its made is received
-    run-left : (fd c : ℕ) (x : Client) (run : Run) (s : Step) (q : ℕ) → Fits site_contents worker_set m (p.came c) (p.sent c) fd c x process_slots → x.run ≡ Some (Runs run s)
-        → descriptor m server run.from ≡ Some (on.ReadEnd q) → is_stopping (Runs run s) ≡ false → pipe_at n q ≡ pipe_at m q
-    run-left fd c x run s q fits runs opens going = pipe-left worker_set laws m n e r q step reads writes (former_of (pipe_at m q).reading (pipe_at m q).writing (order.all_stand server run.from (on.ReadEnd q) opens))
+    run-left : (fd c : ℕ) (x : Client) (run : Run) (s : Step) (q : ℕ)
+        → Fits site_contents worker_set m (p.came c) (p.sent c) fd c x process_slots → x.run ≡ Some (Runs run s)
+        → descriptor m server run.from ≡ Some (on.ReadEnd q) → is_stopping (Runs run s) ≡ false
+        → pipe_at n q ≡ pipe_at m q
+    run-left fd c x run s q fits runs opens going =
+        pipe-left worker_set laws m n e r q step reads writes
+        (former_of (pipe_at m q).reading (pipe_at m q).writing (order.all_stand server run.from (on.ReadEnd q) opens))
       where
         f : FitsRun site_contents worker_set m (p.came c) (p.sent c) fd c x (Runs run s) process_slots
-        f = subst (λ (o : Option Running). FitsBy site_contents worker_set o m (p.came c) (p.sent c) fd c x process_slots) runs fits
+        f =
+            subst (λ (o : Option Running). FitsBy site_contents worker_set o m (p.came c) (p.sent c) fd c x
+            process_slots) runs fits
 
         in_domain : (run.worker < worker_set.count) × (f.job_queue.process_slot.by ≡ worker_domain run.worker)
         in_domain = all.job_queues.by run.worker f.job_queue.process_slot f.job_queue.sits
 
         reads : (d : ℕ) → is_call_of e d ≡ true → HasNotEnd m d (on.ReadEnd q)
-        reads d is g there = other-than d server is not_server (order.one d server g run.from (on.ReadEnd q) refl there opens).0
+        reads d is g there =
+            other-than d server is not_server (order.one d server g run.from (on.ReadEnd q) refl there opens).0
 
         writes : (d : ℕ) → is_call_of e d ≡ true → HasNotEnd m d (on.WriteEnd q)
-        writes d is = stage-writes worker_set laws m order f.job_queue.process_slot run q opens d (other-than d server is not_server)
-            (λ same. other-than d (worker_domain run.worker) is (not_worker run.worker in_domain.0) (same ∙ in_domain.1))
+        writes d is =
+            stage-writes worker_set laws m order f.job_queue.process_slot run q opens d
+            (other-than d server is not_server)
+            (λ same. other-than d (worker_domain run.worker) is (not_worker run.worker in_domain.0) (same
+            ∙ in_domain.1))
             _ f.wanted _ f.so_far s f.has.1 f.job_queue.stage going
 
     -- a client has what it had
-    pub one-left : (fd : ℕ) (x : Client) → FitsAt site_contents worker_set m p fd x process_slots → LeavesOne worker_set m n e fd x
+    pub one-left : (fd : ℕ) (x : Client) → FitsAt site_contents worker_set m p fd x process_slots
+        → LeavesOne worker_set m n e fd x
     one-left fd x at = record {
       own = none-touched m e server fd not_server;
       aggs = λ a used. none-given e server a not_server;
@@ -146,15 +189,21 @@ module _ (site_contents : SiteContents) (worker_set : WorkerSet) (laws : AllLaws
     }
 
     -- a worker that is free stays so
-    pub free-left : (k : ℕ) (process_slot : ProcessSlot worker_set.Worker) → slice_get process_slots k ≡ Some process_slot → is_free clients k ≡ true → worker_set.Free n (worker_set.job_queue k) process_slot
+    pub free-left : (k : ℕ) (process_slot : ProcessSlot worker_set.Worker)
+        → slice_get process_slots k ≡ Some process_slot → is_free clients k ≡ true
+        → worker_set.Free n (worker_set.job_queue k) process_slot
     free-left k process_slot sits free =
         let in_domain = all.job_queues.by k process_slot sits in
-        laws.workers.free_others m n (worker_set.job_queue k) process_slot e r fixed.placed step (subst (λ d. is_call_of e d ≡ false) (sym in_domain.1) (not_worker k in_domain.0)) (job_queue-left k in_domain.0) (all.free k process_slot sits free)
+        laws.workers.free_others m n (worker_set.job_queue k) process_slot e r fixed.placed step
+        (subst (λ d. is_call_of e d ≡ false) (sym in_domain.1) (not_worker k in_domain.0))
+        (job_queue-left k in_domain.0) (all.free k process_slot sits free)
 
     -- and all sit where they sat
     pub job_queues-left : AreAtJobQueues worker_set n process_slots
     job_queues-left = record {
       in_slots = all.job_queues.in_slots;
       by = all.job_queues.by;
-      job_queues = λ k lt. (laws.the.steps.leaves m n e r step).fds server (job_pipe k) (on.WriteEnd (worker_set.job_queue k)) (all.job_queues.job_queues k lt) (none-touched m e server (job_pipe k) not_server);
+      job_queues =
+          λ k lt. (laws.the.steps.leaves m n e r step).fds server (job_pipe k) (on.WriteEnd (worker_set.job_queue k))
+          (all.job_queues.job_queues k lt) (none-touched m e server (job_pipe k) not_server);
     }

@@ -1,4 +1,5 @@
-use Rattle.flash_laws.proofs.World.Fair.{failure_free_is_fair, any_is_fair, own_is_fair, own_is_least, none_refuses_nothing}
+use Rattle.flash_laws.proofs.World.Fair.{failure_free_is_fair, any_is_fair, own_is_fair, own_is_least}
+use Rattle.flash_laws.proofs.World.Fair.{none_refuses_nothing}
 use Rattle.flash_laws.proofs.answer_laws.runs_are_fair.Goals as goal
 
 pub returns-clause-failure_free : goal.returns-clause-failure_free

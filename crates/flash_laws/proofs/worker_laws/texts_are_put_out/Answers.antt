@@ -5,5 +5,6 @@ use Rattle.flash_laws.proofs.World.JobQueue.Texts.{texts_are_put_out}
 use Rattle.flash_laws.proofs.worker_laws.texts_are_put_out.Goals as goal
 
 pub returns : goal.returns
-returns c = λ pools. texts_are_put_out worker_turns HasWaited pools (IsFreeFor pools) (IsExpectedOf pools) (c.workers_run.ensures pools)
+returns c = λ pools. texts_are_put_out worker_turns HasWaited pools (IsFreeFor pools) (IsExpectedOf pools)
+    (c.workers_run.ensures pools)
     c.calls_serve_their_domain.ensures c.labels_follow.ensures c.others_receive.ensures

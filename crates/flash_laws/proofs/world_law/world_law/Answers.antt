@@ -37,9 +37,12 @@ the_laws g c = record {
 }
 
 abbrev worker_set_of : (g : Over) → (count : ℕ) → (job_queue : ℕ → ℕ) → (pools jobs : ℕ → Bool) → WorkerSet
-worker_set_of g count job_queue pools jobs = worker_set_with g.W.RunsScripts.turns g.W.RunsScripts.quiescent g.W.RunsScripts.free g.W.RunsScripts.expected count job_queue pools jobs
+worker_set_of g count job_queue pools jobs =
+    worker_set_with g.W.RunsScripts.turns g.W.RunsScripts.quiescent g.W.RunsScripts.free g.W.RunsScripts.expected count
+    job_queue pools jobs
 
-all_laws : (g : Over) (c : goal.After-window_fits g) (count : ℕ) (job_queue : ℕ → ℕ) (pools jobs : ℕ → Bool) → JobQueuesAreApart (worker_set_of g count job_queue pools jobs)
+all_laws : (g : Over) (c : goal.After-window_fits g) (count : ℕ) (job_queue : ℕ → ℕ) (pools jobs : ℕ → Bool)
+    → JobQueuesAreApart (worker_set_of g count job_queue pools jobs)
     → AllLaws (worker_set_of g count job_queue pools jobs)
 all_laws g c count job_queue pools jobs apart = record {
   the = the_laws g c;
@@ -55,53 +58,85 @@ all_laws g c count job_queue pools jobs apart = record {
   runs = c.runs_law.ensures;
   run_keeps = c.run_keeping_law.ensures;
   workers = c.runs.ensures pools;
-  texts = texts_are_put_out g.W.RunsScripts.turns g.W.RunsScripts.quiescent pools (g.W.RunsScripts.free pools) (g.W.RunsScripts.expected pools) (c.runs.ensures pools)
+  texts = texts_are_put_out g.W.RunsScripts.turns g.W.RunsScripts.quiescent pools (g.W.RunsScripts.free pools)
+      (g.W.RunsScripts.expected pools) (c.runs.ensures pools)
       c.calls_serve_their_domain.ensures c.labels_follow.ensures c.others_receive.ensures;
   apart = apart;
 }
 
 pub returns-clause-first : goal.returns-clause-first
-returns-clause-first g c = λ count job_queue pools jobs apart site_contents. first_consistent site_contents (worker_set_of g count job_queue pools jobs)
+returns-clause-first g c =
+    λ count job_queue pools jobs apart site_contents. first_consistent site_contents
+    (worker_set_of g count job_queue pools jobs)
 
 pub returns-clause-step : goal.returns-clause-step
-returns-clause-step g c = λ count job_queue pools jobs apart site_contents. step_keeps in_rounds site_contents (worker_set_of g count job_queue pools jobs) (all_laws g c count job_queue pools jobs apart)
+returns-clause-step g c =
+    λ count job_queue pools jobs apart site_contents. step_keeps in_rounds site_contents
+    (worker_set_of g count job_queue pools jobs) (all_laws g c count job_queue pools jobs apart)
 
 pub returns-clause-run : goal.returns-clause-run
 returns-clause-run g c = λ count job_queue pools jobs apart site_contents past xs ps rs w after.
-    run_keeps in_rounds site_contents (worker_set_of g count job_queue pools jobs) (all_laws g c count job_queue pools jobs apart) xs rs w after past ps
+    run_keeps in_rounds site_contents (worker_set_of g count job_queue pools jobs)
+    (all_laws g c count job_queue pools jobs apart) xs rs w after past ps
 
 pub returns-clause-free_step : goal.returns-clause-free_step
-returns-clause-free_step g c = λ count job_queue pools jobs apart site_contents. step_keeps any site_contents (worker_set_of g count job_queue pools jobs) (all_laws g c count job_queue pools jobs apart)
+returns-clause-free_step g c =
+    λ count job_queue pools jobs apart site_contents. step_keeps any site_contents
+    (worker_set_of g count job_queue pools jobs) (all_laws g c count job_queue pools jobs apart)
 
 pub returns-clause-free_run : goal.returns-clause-free_run
 returns-clause-free_run g c = λ count job_queue pools jobs apart site_contents past xs ps rs w after.
-    run_keeps any site_contents (worker_set_of g count job_queue pools jobs) (all_laws g c count job_queue pools jobs apart) xs rs w after past ps
+    run_keeps any site_contents (worker_set_of g count job_queue pools jobs)
+    (all_laws g c count job_queue pools jobs apart) xs rs w after past ps
 
 pub returns-clause-answered : goal.returns-clause-answered
-returns-clause-answered g c = λ count job_queue pools jobs apart site_contents. consistent_answered (window_laws g c) site_contents (worker_set_of g count job_queue pools jobs)
+returns-clause-answered g c =
+    λ count job_queue pools jobs apart site_contents. consistent_answered (window_laws g c) site_contents
+    (worker_set_of g count job_queue pools jobs)
 
 pub returns-clause-whole : goal.returns-clause-whole
-returns-clause-whole g c = λ count job_queue pools jobs apart site_contents. consistent_whole (window_laws g c) site_contents (worker_set_of g count job_queue pools jobs)
+returns-clause-whole g c =
+    λ count job_queue pools jobs apart site_contents. consistent_whole (window_laws g c) site_contents
+    (worker_set_of g count job_queue pools jobs)
 
 pub returns-clause-quiesces : goal.returns-clause-quiesces
-returns-clause-quiesces g c = actor_quiesces c.refusals_that_are_left.ensures.waits g.W.RunsScripts.turns g.W.RunsScripts.quiescent c.quiesces.ensures
+returns-clause-quiesces g c =
+    actor_quiesces c.refusals_that_are_left.ensures.waits g.W.RunsScripts.turns g.W.RunsScripts.quiescent
+    c.quiesces.ensures
 
 pub returns-clause-idle : goal.returns-clause-idle
-returns-clause-idle g c = λ count job_queue pools jobs apart. idle_done (worker_set_of g count job_queue pools jobs) (all_laws g c count job_queue pools jobs apart)
+returns-clause-idle g c = λ count job_queue pools jobs apart. idle_done (worker_set_of g count job_queue pools jobs)
+    (all_laws g c count job_queue pools jobs apart)
 
 -- a whole run: choices, and then turns in rounds
 hosts : (worker_set : WorkerSet) → AllLaws worker_set → HostIsRight worker_set
-hosts worker_set laws quiescent site_contents xs rs w mid after most idle new run site_preserving ends fair fair_rounds =
-    let consistent_mid = run_keeps in_rounds site_contents worker_set laws xs rs w mid [] [] run site_preserving fair (first_consistent site_contents worker_set w new) in
-    let consistent_end = run_keeps in_rounds site_contents worker_set laws (rounds (domains_of mid.process_slots) 0 (length ends.went)) (map (λ t. t.1) ends.went) mid after xs rs ends.run
-    (rounds-site_preserving (actor_turns in_rounds worker_set.turns) (domains_of mid.process_slots) 0 (length ends.went) (map (λ t. t.1) ends.went) mid after ends.run) fair_rounds consistent_mid in
+hosts worker_set laws quiescent site_contents xs rs w mid after most idle new run site_preserving ends fair
+    fair_rounds =
+    let consistent_mid = run_keeps in_rounds site_contents worker_set laws xs rs w mid [] [] run site_preserving fair
+    (first_consistent site_contents worker_set w new) in
+    let consistent_end =
+    run_keeps in_rounds site_contents worker_set laws (rounds (domains_of mid.process_slots) 0 (length ends.went))
+    (map (λ t. t.1) ends.went) mid after xs rs ends.run
+    (rounds-site_preserving (actor_turns in_rounds worker_set.turns) (domains_of mid.process_slots) 0 (length ends.went)
+    (map (λ t. t.1) ends.went) mid after ends.run) fair_rounds consistent_mid in
     record {
-      answered = consistent_answered laws.the.windows site_contents worker_set (xs ++ rounds (domains_of mid.process_slots) 0 (length ends.went)) (rs ++ map (λ t. t.1) ends.went) after consistent_end;
-      whole = consistent_whole laws.the.windows site_contents worker_set (xs ++ rounds (domains_of mid.process_slots) 0 (length ends.went)) (rs ++ map (λ t. t.1) ends.went) after consistent_end;
+      answered =
+          consistent_answered laws.the.windows site_contents worker_set
+          (xs ++ rounds (domains_of mid.process_slots) 0 (length ends.went)) (rs ++ map (λ t. t.1) ends.went) after
+          consistent_end;
+      whole =
+          consistent_whole laws.the.windows site_contents worker_set
+          (xs ++ rounds (domains_of mid.process_slots) 0 (length ends.went)) (rs ++ map (λ t. t.1) ends.went) after
+          consistent_end;
       consistent = consistent_end;
-      done = λ is. idle_done worker_set laws quiescent site_contents (xs ++ rounds (domains_of mid.process_slots) 0 (length ends.went)) (rs ++ map (λ t. t.1) ends.went) mid after most
+      done =
+          λ is. idle_done worker_set laws quiescent site_contents
+          (xs ++ rounds (domains_of mid.process_slots) 0 (length ends.went)) (rs ++ map (λ t. t.1) ends.went) mid after
+          most
           (subst (λ b. Idles copying (actor_turns in_rounds worker_set.turns) mid most b after) is ends) consistent_end;
     }
 
 pub returns-clause-host : goal.returns-clause-host
-returns-clause-host g c = λ count job_queue pools jobs apart. hosts (worker_set_of g count job_queue pools jobs) (all_laws g c count job_queue pools jobs apart)
+returns-clause-host g c =
+    λ count job_queue pools jobs apart. hosts (worker_set_of g count job_queue pools jobs)
+    (all_laws g c count job_queue pools jobs apart)

@@ -19,13 +19,17 @@ use Rattle.flash_lite.proofs.World.FairTurns.{any-turns}
 use Rattle.flash_lite.proofs.World.SiteWorld.{job_queues_apart}
 use Rattle.flash_lite.proofs.laws.hosted_files_become_idle.Goals as goal
 
-module _ (c : goal.After-runs_are_fair) (s : Site) (slots : List (List ℕ)) (xs : List Choice) (rs : List Reply) (turns : ℕ) (idle : Bool)
-    (after : Stage State (Actor Worker)) (hosts : Hosts s slots xs rs turns idle after) (has : IsHostedLongEnough s slots xs rs turns idle after hosts) where
+module _ (c : goal.After-runs_are_fair) (s : Site) (slots : List (List ℕ)) (xs : List Choice) (rs : List Reply)
+    (turns : ℕ) (idle : Bool)
+    (after : Stage State (Actor Worker)) (hosts : Hosts s slots xs rs turns idle after)
+    (has : IsHostedLongEnough s slots xs rs turns idle after hosts) where
   with-these : (refuses : Refusals) → HasFairTurns s slots xs rs turns idle after hosts refuses
       → (idle ≡ true) × AreServed (worker_set_of s) (library_of s slots refuses)
-      (xs ++ rounds (domains_of hosts.mid.process_slots) 0 (length hosts.ends.went)) (rs ++ map (λ t. t.1) hosts.ends.went) after
+      (xs ++ rounds (domains_of hosts.mid.process_slots) 0 (length hosts.ends.went))
+      (rs ++ map (λ t. t.1) hosts.ends.went) after
   with-these refuses fair =
-      c.file_server_becomes_idle.ensures.hosted (workers_used s) (λ k. k) is_shown is_work (job_queues_apart s) (library_of s slots refuses) xs rs hosts.first hosts.mid turns idle after
+      c.file_server_becomes_idle.ensures.hosted (workers_used s) (λ k. k) is_shown is_work (job_queues_apart s)
+      (library_of s slots refuses) xs rs hosts.first hosts.mid turns idle after
       (record {
         files = has.files;
         new = hosts.new.new refuses;
@@ -41,6 +45,7 @@ module _ (c : goal.After-runs_are_fair) (s : Site) (slots : List (List ℕ)) (xs
 
 pub returns : goal.returns
 returns c = λ s slots xs rs turns idle after hosts has. (
-  (with-these c s slots xs rs turns idle after hosts has any_refusal (any-turns s slots xs rs turns idle after hosts c.runs_are_fair.ensures.any)).0,
+  (with-these c s slots xs rs turns idle after hosts has any_refusal
+      (any-turns s slots xs rs turns idle after hosts c.runs_are_fair.ensures.any)).0,
   λ refuses fair. (with-these c s slots xs rs turns idle after hosts has refuses fair).1,
 )

@@ -13,20 +13,26 @@ use Rattle.flash_lite.specs.declared.site.Site.{Site}
 use Rattle.flash_lite.proofs.World.FairTurns.{any-turns, own-turns, failure_free-turns}
 use Rattle.flash_lite.proofs.laws.hosted_is_right.Goals as goal
 
-fair-right : (c : goal.After-runs_are_fair) (s : Site) (slots : List (List ℕ)) (xs : List Choice) (rs : List Reply) (turns : ℕ) (idle : Bool)
+fair-right : (c : goal.After-runs_are_fair) (s : Site) (slots : List (List ℕ)) (xs : List Choice) (rs : List Reply)
+    (turns : ℕ) (idle : Bool)
     (after : Stage State (Actor Worker)) (hosts : Hosts s slots xs rs turns idle after) (refuses : Refusals)
     → IsMildlyUsed s slots xs rs turns idle after hosts → HasFairTurns s slots xs rs turns idle after hosts refuses
     → IsRightAfter s slots xs rs turns idle after hosts refuses
 fair-right c s slots xs rs turns idle after hosts refuses site_preserving fair =
-    c.connections_do_not_meet.ensures.host s c.idle_is_quiescent.ensures (library_of s slots refuses) xs rs hosts.first hosts.mid after turns idle
+    c.connections_do_not_meet.ensures.host s c.idle_is_quiescent.ensures (library_of s slots refuses) xs rs hosts.first
+    hosts.mid after turns idle
     (hosts.new.new refuses) hosts.run site_preserving hosts.ends fair.0 fair.1
 
 pub returns : goal.returns
 returns c = λ s slots xs rs turns idle after hosts. record {
   fair = λ refuses site_preserving fair. fair-right c s slots xs rs turns idle after hosts refuses site_preserving fair;
-  failure_free = λ site_preserving failure_free. fair-right c s slots xs rs turns idle after hosts no_refusal site_preserving
-      (failure_free-turns s slots xs rs turns idle after hosts c.runs_are_fair.ensures.failure_free c.failure_free_runs.ensures failure_free);
-  own = λ site_preserving. fair-right c s slots xs rs turns idle after hosts (refusals_of s slots xs rs turns idle after hosts) site_preserving
+  failure_free = λ site_preserving failure_free. fair-right c s slots xs rs turns idle after hosts no_refusal
+      site_preserving
+      (failure_free-turns s slots xs rs turns idle after hosts c.runs_are_fair.ensures.failure_free
+      c.failure_free_runs.ensures failure_free);
+  own =
+      λ site_preserving. fair-right c s slots xs rs turns idle after hosts
+      (refusals_of s slots xs rs turns idle after hosts) site_preserving
       (own-turns s slots xs rs turns idle after hosts c.runs_are_fair.ensures.own);
   any = λ site_preserving. fair-right c s slots xs rs turns idle after hosts any_refusal site_preserving
       (any-turns s slots xs rs turns idle after hosts c.runs_are_fair.ensures.any);

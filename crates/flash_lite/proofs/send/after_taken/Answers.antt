@@ -6,4 +6,6 @@ use Rattle.flash_lite.proofs.send.after_taken.Goals as goal
 
 pub returns-in-Done-clause-after_reply : goal.returns-in-Done-clause-after_reply
 returns-in-Done-clause-after_reply c =
-    c.proceeds.ensures.goes (answer c.args.asked.now) (sym c.keeps.ensures) ∙ ap (λ (r : Reply). after_taken (answer c.args.asked.now) c.args.agg c.args.taken c.args.more r) (sym c.in-Done.is)
+    c.proceeds.ensures.goes (answer c.args.asked.now) (sym c.keeps.ensures)
+    ∙ ap (λ (r : Reply). after_taken (answer c.args.asked.now) c.args.agg c.args.taken c.args.more r)
+    (sym c.in-Done.is)

@@ -29,9 +29,12 @@ the_laws g c = record {
 }
 
 abbrev worker_set_of : (g : Over) → (count : ℕ) → (job_queue : ℕ → ℕ) → (pools jobs : ℕ → Bool) → WorkerSet
-worker_set_of g count job_queue pools jobs = worker_set_with g.W.RunsScripts.turns g.W.RunsScripts.quiescent g.W.RunsScripts.free g.W.RunsScripts.expected count job_queue pools jobs
+worker_set_of g count job_queue pools jobs =
+    worker_set_with g.W.RunsScripts.turns g.W.RunsScripts.quiescent g.W.RunsScripts.free g.W.RunsScripts.expected count
+    job_queue pools jobs
 
-all_laws : (g : Over) (c : goal.After-window_fits g) (count : ℕ) (job_queue : ℕ → ℕ) (pools jobs : ℕ → Bool) → JobQueuesAreApart (worker_set_of g count job_queue pools jobs)
+all_laws : (g : Over) (c : goal.After-window_fits g) (count : ℕ) (job_queue : ℕ → ℕ) (pools jobs : ℕ → Bool)
+    → JobQueuesAreApart (worker_set_of g count job_queue pools jobs)
     → AllLaws (worker_set_of g count job_queue pools jobs)
 all_laws g c count job_queue pools jobs apart = record {
   the = the_laws g c;
@@ -47,7 +50,8 @@ all_laws g c count job_queue pools jobs apart = record {
   runs = c.runs_law.ensures;
   run_keeps = c.run_keeping_law.ensures;
   workers = c.runs.ensures pools;
-  texts = texts_are_put_out g.W.RunsScripts.turns g.W.RunsScripts.quiescent pools (g.W.RunsScripts.free pools) (g.W.RunsScripts.expected pools) (c.runs.ensures pools)
+  texts = texts_are_put_out g.W.RunsScripts.turns g.W.RunsScripts.quiescent pools (g.W.RunsScripts.free pools)
+      (g.W.RunsScripts.expected pools) (c.runs.ensures pools)
       c.calls_serve_their_domain.ensures c.labels_follow.ensures c.others_receive.ensures;
   apart = apart;
 }
@@ -56,11 +60,14 @@ more_laws : (g : Over) (c : goal.After-window_fits g) → MoreLaws
 more_laws g c = record { homes = c.arrivals_lie_in_their_pool.ensures; histories = c.histories_add_up.ensures }
 
 pub returns-clause-idle : goal.returns-clause-idle
-returns-clause-idle g c = λ count job_queue pools jobs apart. becomes_idle (worker_set_of g count job_queue pools jobs) (all_laws g c count job_queue pools jobs apart) (more_laws g c)
+returns-clause-idle g c = λ count job_queue pools jobs apart. becomes_idle (worker_set_of g count job_queue pools jobs)
+    (all_laws g c count job_queue pools jobs apart) (more_laws g c)
 
 pub returns-clause-served : goal.returns-clause-served
-returns-clause-served g c = λ count job_queue pools jobs apart. serves_all (worker_set_of g count job_queue pools jobs) (all_laws g c count job_queue pools jobs apart) (more_laws g c) c.quiesces.ensures
+returns-clause-served g c = λ count job_queue pools jobs apart. serves_all (worker_set_of g count job_queue pools jobs)
+    (all_laws g c count job_queue pools jobs apart) (more_laws g c) c.quiesces.ensures
 
 pub returns-clause-hosted : goal.returns-clause-hosted
 returns-clause-hosted g c = λ count job_queue pools jobs apart.
-    hosted_becomes_idle (worker_set_of g count job_queue pools jobs) (all_laws g c count job_queue pools jobs apart) (more_laws g c) c.quiesces.ensures
+    hosted_becomes_idle (worker_set_of g count job_queue pools jobs) (all_laws g c count job_queue pools jobs apart)
+    (more_laws g c) c.quiesces.ensures

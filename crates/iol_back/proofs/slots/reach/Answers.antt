@@ -6,5 +6,11 @@ pub loop-alloc-preserved : goal.loop-alloc-preserved
 loop-alloc-preserved c = record {
   no_fewer = rw (c.push_reserved.ensures.items, c.reserve.ensures.items) (simp length-append (omega arith));
   few = rw (c.push_reserved.ensures.items, c.reserve.ensures.items) (simp length-append (omega arith));
-  stay = record { each = λ f. rw (c.push_reserved.ensures.items, c.reserve.ensures.items) (content-push_none (λ v. v.items) _ c.new.result f c.new.ensures.items ∙ c.loop-alloc.invariant.stay.each f) };
+  stay =
+      record {
+        each =
+            λ f. rw (c.push_reserved.ensures.items, c.reserve.ensures.items)
+            (content-push_none (λ v. v.items) _ c.new.result f c.new.ensures.items
+            ∙ c.loop-alloc.invariant.stay.each f);
+      };
 }

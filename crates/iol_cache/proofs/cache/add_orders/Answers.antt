@@ -10,6 +10,14 @@ loop-alloc-preserved c =
     record {
       same = λ p. ap (λ l. order_in l p) items ∙ order_push c.loop-alloc.orders.items p ∙ c.loop-alloc.invariant.same p;
       no_fewer = omega (arith, long, c.loop-alloc.invariant.no_fewer);
-      no_more = omega (arith, long, c.loop-alloc.invariant.no_more, c.loop-alloc-test.true, c.len.ensures, c.loop-alloc.orders.ok.0);
+      no_more =
+          omega (
+            arith,
+            long,
+            c.loop-alloc.invariant.no_more,
+            c.loop-alloc-test.true,
+            c.len.ensures,
+            c.loop-alloc.orders.ok.0,
+          );
       room = omega (arith, c.push_reserved.ensures.capacity, c.loop-alloc.invariant.room);
     }

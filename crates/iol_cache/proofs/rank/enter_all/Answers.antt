@@ -6,7 +6,8 @@ use Rattle.iol_hold.specs.declared.slices.Slice.{Slice}
 use Rattle.iol_evict.specs.Order.{Ranking}
 use Rattle.iol_cache.specs.Marks.{Marks, AreWithin}
 use Rattle.iol_cache.specs.RangeReads.{parts_from, parts_of_spans, all_entered, AllBeginAt, AreAbsent}
-use Rattle.iol_cache.proofs.Evictions.Entries.{marks_nothing, marks_then, parts-take_more, few_left, order_lower, absent_after}
+use Rattle.iol_cache.proofs.Evictions.Entries.{marks_nothing, marks_then, parts-take_more, few_left, order_lower}
+use Rattle.iol_cache.proofs.Evictions.Entries.{absent_after}
 use Rattle.iol_cache.proofs.rank.enter_all.Goals as goal
 
 abbrev none : Span
@@ -53,8 +54,16 @@ loop-span-preserved c =
     record {
       begin = (subst (AllBeginAt es) more c.loop-span.invariant.begin).1;
       in_order = order_lower s.to 4294967295 rest order.2;
-      absent = subst (λ r. AreAbsent r f rest) (sym is) (absent_after c.loop-span.order f s.from _ 1 s.to 4294967295 rest order.1 order.2 (subst (AreAbsent c.loop-span.order f) more c.loop-span.invariant.absent).1);
+      absent =
+          subst (λ r. AreAbsent r f rest) (sym is)
+          (absent_after c.loop-span.order f s.from _ 1 s.to 4294967295 rest order.1 order.2
+          (subst (AreAbsent c.loop-span.order f) more c.loop-span.invariant.absent).1);
       room = omega (arith, ap (λ (r : Ranking). r.room) is, c.loop-span.invariant.room, ap length more);
-      rest = ap (λ r. all_entered r f es rest) is ∙ sym (ap (all_entered c.loop-span.order f es) more) ∙ c.loop-span.invariant.rest;
-      marked = subst (λ (xs : List Slice). Marks c.args.marks.now c.enter_one.new.marks xs) (sym (parts-take_more es ss i none c.loop-span-test.true)) (marks_then (parts_of_spans es (take i ss)) (parts_from es s) c.loop-span.invariant.marked c.enter_one.ensures.marks);
+      rest = ap (λ r. all_entered r f es rest) is ∙ sym (ap (all_entered c.loop-span.order f es) more)
+          ∙ c.loop-span.invariant.rest;
+      marked =
+          subst (λ (xs : List Slice). Marks c.args.marks.now c.enter_one.new.marks xs)
+          (sym (parts-take_more es ss i none c.loop-span-test.true))
+          (marks_then (parts_of_spans es (take i ss)) (parts_from es s) c.loop-span.invariant.marked
+          c.enter_one.ensures.marks);
     }

@@ -10,6 +10,7 @@ invariant-loop-span l = record {
   in_order : AreInOrder 0 4294967295 (drop l.span-index l.spans);
   absent : AreAbsent l.order l.file (drop l.span-index l.spans);
   room : length (drop l.span-index l.spans) ≤ l.order.room;
-  rest : all_entered l.order l.file l.extents.extents (drop l.span-index l.spans) ≡ all_entered l.fn.order l.file l.extents.extents l.spans;
+  rest : all_entered l.order l.file l.extents.extents (drop l.span-index l.spans) ≡ all_entered l.fn.order l.file
+      l.extents.extents l.spans;
   marked : Marks l.fn.marks l.marks (parts_of_spans l.extents.extents (take l.span-index l.spans));
 }

@@ -10,7 +10,8 @@ invariant-loop-at l = record {
   begun : l.from ≤ l.at;
   within : l.at ≤ l.to;
   places : places l.shared ≡ places l.fn.so_far ++ places_over l.extents.extents l.from l.at;
-  parts : bufs_of l.shared ++ bufs_of (slices_over l.extents.extents l.at l.to) ≡ bufs_of l.fn.so_far ++ bufs_of (slices_over l.extents.extents l.from l.to);
+  parts : bufs_of l.shared ++ bufs_of (slices_over l.extents.extents l.at l.to) ≡ bufs_of l.fn.so_far
+      ++ bufs_of (slices_over l.extents.extents l.from l.to);
   shares : Shares l.fn.store l.store (bufs_of l.fn.so_far) (bufs_of l.shared);
 }
 

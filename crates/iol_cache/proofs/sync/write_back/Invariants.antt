@@ -12,6 +12,9 @@ invariant-loop-slice g l = record {
   honest : (g.B.Backing.disk l.backing).honest ≡ (g.B.Backing.disk l.fn.backing).honest;
   failures : (g.B.Backing.disk l.backing).failures ≡ (g.B.Backing.disk l.fn.backing).failures;
   works : 0 < l.slice-index → (g.B.Backing.disk l.fn.backing).failures < last_failure;
-  others : (g.B.Backing.disk l.fn.backing).honest ≡ true → OthersStay l.file (g.B.Backing.disk l.fn.backing).slots (g.B.Backing.disk l.backing).slots;
-  stored : (g.B.Backing.disk l.fn.backing).honest ≡ true → Stores l.at (text.bytes_of (text_of l.store (take l.slice-index l.slices))) (content (g.B.Backing.disk l.fn.backing).slots l.file) (content (g.B.Backing.disk l.backing).slots l.file);
+  others : (g.B.Backing.disk l.fn.backing).honest ≡ true
+      → OthersStay l.file (g.B.Backing.disk l.fn.backing).slots (g.B.Backing.disk l.backing).slots;
+  stored : (g.B.Backing.disk l.fn.backing).honest ≡ true
+      → Stores l.at (text.bytes_of (text_of l.store (take l.slice-index l.slices)))
+      (content (g.B.Backing.disk l.fn.backing).slots l.file) (content (g.B.Backing.disk l.backing).slots l.file);
 }

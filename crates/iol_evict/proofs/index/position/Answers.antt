@@ -8,8 +8,10 @@ use Rattle.iol_evict.proofs.index.position.Goals as goal
 pub loop-low-preserved-then-comes_before : goal.loop-low-preserved-then-comes_before
 loop-low-preserved-then-comes_before c =
     let key = read-key c.args.keys.now.items _ _ c.index.ensures (omega arith) in
-    let rank = c.rank_of.ensures ∙ ap (rank_by c.args.by) (c.read_entry-entry.ensures ∙ ap (entry_of c.args.entries.now) key) in
-    let below = subst (λ (r : Rank). RankLt r c.args.rank.now) rank (c.comes_before.ensures.yes c.if-comes_before.true) in
+    let rank = c.rank_of.ensures
+    ∙ ap (rank_by c.args.by) (c.read_entry-entry.ensures ∙ ap (entry_of c.args.entries.now) key) in
+    let below =
+    subst (λ (r : Rank). RankLt r c.args.rank.now) rank (c.comes_before.ensures.yes c.if-comes_before.true) in
     record {
       ordered = omega arith;
       within = c.loop-low.invariant.within;
@@ -20,8 +22,10 @@ loop-low-preserved-then-comes_before c =
 pub loop-low-preserved : goal.loop-low-preserved
 loop-low-preserved c =
     let key = read-key c.args.keys.now.items _ _ c.index.ensures (omega arith) in
-    let rank = c.rank_of.ensures ∙ ap (rank_by c.args.by) (c.read_entry-entry.ensures ∙ ap (entry_of c.args.entries.now) key) in
-    let above = subst (λ (r : Rank). RankLe c.args.rank.now r) rank (c.comes_before.ensures.no c.if-comes_before.false) in
+    let rank = c.rank_of.ensures
+    ∙ ap (rank_by c.args.by) (c.read_entry-entry.ensures ∙ ap (entry_of c.args.entries.now) key) in
+    let above =
+    subst (λ (r : Rank). RankLe c.args.rank.now r) rank (c.comes_before.ensures.no c.if-comes_before.false) in
     record {
       ordered = omega arith;
       within = omega arith;

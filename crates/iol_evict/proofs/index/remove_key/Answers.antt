@@ -11,9 +11,12 @@ returns c =
     let left = c.remove-taken.new.self in
     let within = place-within _ _ _ _ _ c.requires.index.rising c.requires.there c.position-place.ensures in
     let taken = c.remove-taken.ensures.succeeds 0 (omega (arith, within, c.args.keys.now.ok.0)) in
-    let items : left.items ≡ remove xs place = subst (λ (o : Option ℕ). OnSome o (left.items ≡ remove xs place)) taken c.remove-taken.ensures.items in
+    let items : left.items ≡ remove xs place =
+    subst (λ (o : Option ℕ). OnSome o (left.items ≡ remove xs place)) taken c.remove-taken.ensures.items in
     record {
-      takes = takes _ _ _ _ _ _ _ c.requires.index.rising c.requires.there c.position-place.ensures c.index-key.ensures items;
-      len = subst (λ (o : Option ℕ). OnSome o (deque_len left + 1 ≡ deque_len c.args.keys.now)) taken c.remove-taken.ensures.len;
+      takes = takes _ _ _ _ _ _ _ c.requires.index.rising c.requires.there c.position-place.ensures c.index-key.ensures
+          items;
+      len = subst (λ (o : Option ℕ). OnSome o (deque_len left + 1 ≡ deque_len c.args.keys.now)) taken
+          c.remove-taken.ensures.len;
       capacity = c.remove-taken.ensures.capacity;
     }

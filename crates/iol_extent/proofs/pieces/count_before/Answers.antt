@@ -11,7 +11,8 @@ loop-low-preserved-then-end-at c =
       within = c.loop-low.invariant.within;
       before = λ k d below.
           let m = c.loop-low.low + (c.loop-low.high - c.loop-low.low) / 2 in
-          let here = get_or_default c.args.pieces.now.extents m d c.index-piece.result.now (omega arith) ∙ sym c.index-piece.ensures in
+          let here = get_or_default c.args.pieces.now.extents m d c.index-piece.result.now (omega arith)
+          ∙ sym c.index-piece.ensures in
           let end = ap end_of here ∙ sym c.end.ensures in
           let rise = ends_rise 0 c.args.pieces.now.extents k m d c.requires (omega arith) (omega arith) in
           omega (arith, rise, end);

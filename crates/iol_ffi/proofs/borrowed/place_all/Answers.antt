@@ -25,7 +25,8 @@ loop-part-preserved c =
     let bytes = c.in-Some.part.now in
     let part = located c.in-Some.part in
     let left = c.next.new.self in
-    let whole : length (all_bytes c.loop-part.part-iterator) ≡ length bytes + length (all_bytes left) = ap (λ l. length (all_bytes l)) first ∙ length-append bytes (all_bytes left) in
+    let whole : length (all_bytes c.loop-part.part-iterator) ≡ length bytes + length (all_bytes left) =
+    ap (λ l. length (all_bytes l)) first ∙ length-append bytes (all_bytes left) in
     record {
       can = search (rules);
       finite = search (rules);
@@ -34,7 +35,9 @@ loop-part-preserved c =
       parts = search (rules);
       bytes = omega (arith, c.saturating_add-len.ensures, h.bytes, h.len_fits, whole);
       rest = left_turn c.loop-part.count _ c.args.parts c.loop-part.part-iterator left part next h.rest first;
-      written = writes_turn c.loop-part.count _ c.args.parts c.loop-part.part-iterator left part c.args.skip c.args.room.now c.loop-part.room c.place_numbered.new.room next h.count_fits h.rest first c.place_numbered.ensures h.written;
+      written = writes_turn c.loop-part.count _ c.args.parts c.loop-part.part-iterator left part c.args.skip
+          c.args.room.now c.loop-part.room c.place_numbered.new.room next h.count_fits h.rest first
+          c.place_numbered.ensures h.written;
     }
 
 pub returns-clause-written : goal.returns-clause-written

@@ -10,7 +10,8 @@ invariant-loop-part l = record {
   count_fits : l.count ≤ 18446744073709551615;
   len_fits : l.len ≤ 18446744073709551615;
   parts : min (l.count + length l.part-iterator) 18446744073709551615 ≡ min (length l.fn.parts) 18446744073709551615;
-  bytes : min (l.len + length (all_bytes l.part-iterator)) 18446744073709551615 ≡ min (length (all_bytes l.fn.parts)) 18446744073709551615;
+  bytes : min (l.len + length (all_bytes l.part-iterator)) 18446744073709551615 ≡ min (length (all_bytes l.fn.parts))
+      18446744073709551615;
   rest : l.count < 18446744073709551615 → l.part-iterator ≡ drop l.count l.fn.parts;
   written : WritesBelow l.count l.fn.parts l.fn.skip l.fn.room l.room;
 }

@@ -23,5 +23,7 @@ returns-clause-executes c =
     let most : min (length memory) (2 ^ 32 - 1) ≡ c.args.count = omega (arith, long) in
     let x = reported reply.Bytes (first_of filled c.read_into.result) in
     let step = subst (λ (n : ℕ). Promises old (event.Call c.args.by (call.Read c.args.fd n)) x new) most e.step in
-    let encodes = read_in c.args.by c.args.fd memory filled rest (filled ++ rest) old new c.read_into.result c.read_reply.result refl e c.read_reply.ensures in
-    executed old new (event.Call c.args.by (call.Read c.args.fd c.args.count)) x c.read_reply.result (filled ++ rest) step encodes (omega (arith, length-append filled rest, e.len, long))
+    let encodes = read_in c.args.by c.args.fd memory filled rest (filled ++ rest) old new c.read_into.result
+    c.read_reply.result refl e c.read_reply.ensures in
+    executed old new (event.Call c.args.by (call.Read c.args.fd c.args.count)) x c.read_reply.result (filled ++ rest)
+    step encodes (omega (arith, length-append filled rest, e.len, long))

@@ -14,7 +14,8 @@ loop-n-preserved-then-report-eq0 c =
     let n : ℕ = c.loop-n.n in
     let pages = c.report_pool-report.ensures.pages ∙ ap (λ p. 16 * length (chunks_in s p)) c.new.ensures in
     record {
-      so_far = c.loop-n.invariant.so_far ∙ sym (reports-same s n (no_pages s (n + 1) c.report_pool-report.result.pages pages c.if-report-eq0.true));
+      so_far = c.loop-n.invariant.so_far
+          ∙ sym (reports-same s n (no_pages s (n + 1) c.report_pool-report.result.pages pages c.if-report-eq0.true));
       room = omega (arith, c.loop-n.invariant.room);
     }
 
@@ -25,9 +26,19 @@ loop-n-preserved c =
     let r = c.report_pool-report in
     let is = c.new.ensures in
     let pages = r.ensures.pages ∙ ap (λ p. 16 * length (chunks_in s p)) is in
-    let same = same_report s (n + 1) r.result (r.ensures.pool ∙ is) pages (r.ensures.free ∙ ap (λ p. length (free_pages s.arena (chunks_in s p))) is) (r.ensures.retired ∙ ap (λ p. length (retired_pages s.arena (chunks_in s p))) is) in
+    let same =
+    same_report s (n + 1) r.result (r.ensures.pool ∙ is) pages (r.ensures.free
+    ∙ ap (λ p. length (free_pages s.arena (chunks_in s p))) is) (r.ensures.retired
+    ∙ ap (λ p. length (retired_pages s.arena (chunks_in s p))) is) in
     record {
-      so_far = c.push_reserved.ensures.items ∙ ap (λ l. l ++ r.result ∷ []) c.loop-n.invariant.so_far ∙ ap (λ x. reports_of s n ++ x ∷ []) same
+      so_far = c.push_reserved.ensures.items ∙ ap (λ l. l ++ r.result ∷ []) c.loop-n.invariant.so_far
+          ∙ ap (λ x. reports_of s n ++ x ∷ []) same
           ∙ sym (reports-more s n (some_pages s (n + 1) r.result.pages pages c.if-report-eq0.false));
-      room = omega (arith, c.loop-n.invariant.room, c.push_reserved.ensures.len, c.push_reserved.ensures.capacity, c.loop-n-test.true);
+      room = omega (
+        arith,
+        c.loop-n.invariant.room,
+        c.push_reserved.ensures.len,
+        c.push_reserved.ensures.capacity,
+        c.loop-n-test.true,
+      );
     }

@@ -5,7 +5,8 @@ use Rattle.iol_kernel.proofs.AggregateCalls.DomainEnd.{front_readable, last_cove
 use Rattle.iol_kernel.proofs.tables.release_all.Goals as goal
 
 pub release-requires : goal.release-requires
-release-requires c = last_covered c.args.store.now c.loop-agg.store (bufs_in c.args.aggs) c.loop-agg.left c.pop.new.self c.in-Some.field-0-0 c.in-Some.agg c.in-Some.ensures.given c.requires c.loop-agg.invariant.released.moves
+release-requires c = last_covered c.args.store.now c.loop-agg.store (bufs_in c.args.aggs) c.loop-agg.left c.pop.new.self
+    c.in-Some.field-0-0 c.in-Some.agg c.in-Some.ensures.given c.requires c.loop-agg.invariant.released.moves
 
 pub loop-agg-preserved : goal.loop-agg-preserved
 loop-agg-preserved c =
@@ -25,7 +26,9 @@ loop-agg-preserved c =
         moves = last_released s t c.release.new.store (bufs_in c.args.aggs) es rest n x is so_far.moves released.moves;
         lists = released.lists ∙ so_far.lists;
         frees = frees_trans so_far.frees released.frees released.moves.counts;
-        reclaims = λ all reclaimed. released.reclaims (last_readable s t es rest n x is so_far.moves.stays covers (readable all)) (so_far.reclaims all reclaimed);
+        reclaims =
+            λ all reclaimed. released.reclaims
+            (last_readable s t es rest n x is so_far.moves.stays covers (readable all)) (so_far.reclaims all reclaimed);
       };
       readable = λ all. front_readable s es rest n x is (readable all);
     }

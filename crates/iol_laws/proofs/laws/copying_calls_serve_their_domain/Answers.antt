@@ -1,4 +1,5 @@
-use Rattle.iol_laws.proofs.Caller.Copies.{does_copy_to_file, does_copy_to_conn, does_copy_to_pipe, does_copy_from_file, does_copy_from_conn, does_copy_from_pipe}
+use Rattle.iol_laws.proofs.Caller.Copies.{does_copy_to_file, does_copy_to_conn, does_copy_to_pipe, does_copy_from_file}
+use Rattle.iol_laws.proofs.Caller.Copies.{does_copy_from_conn, does_copy_from_pipe}
 use Rattle.iol_laws.proofs.laws.copying_calls_serve_their_domain.Goals as goal
 
 pub returns : goal.returns

@@ -1,4 +1,5 @@
-use Rattle.iol_laws.proofs.Caller.Domains.{does_start, does_exit, does_make_pool, does_close_pool, does_admit, does_set_pool}
+use Rattle.iol_laws.proofs.Caller.Domains.{does_start, does_exit, does_make_pool, does_close_pool, does_admit}
+use Rattle.iol_laws.proofs.Caller.Domains.{does_set_pool}
 use Rattle.iol_laws.proofs.laws.domains_and_pools_come_and_go.Goals as goal
 
 pub returns : goal.returns

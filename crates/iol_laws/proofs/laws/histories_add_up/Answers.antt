@@ -3,4 +3,11 @@ use Rattle.iol_laws.proofs.Streams.Backlog.{waiting_run}
 use Rattle.iol_laws.proofs.laws.histories_add_up.Goals as goal
 
 pub returns : goal.returns
-returns c = record { stream = stream-append; sent = sent-append; unread = unread_run; unsent = unsent_run; waiting = waiting_run }
+returns c = record {
+  stream = stream-append;
+  sent = sent-append;
+  unread = unread_run;
+  unsent = unsent_run;
+  waiting =
+      waiting_run;
+}

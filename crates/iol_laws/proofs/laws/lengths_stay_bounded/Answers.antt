@@ -1,4 +1,5 @@
-use Rattle.iol_laws.proofs.Bounds.Lengths.{short_new, short_step, short_reached, short_readable, short_pipe, short_incoming, short_outgoing}
+use Rattle.iol_laws.proofs.Bounds.Lengths.{short_new, short_step, short_reached, short_readable, short_pipe}
+use Rattle.iol_laws.proofs.Bounds.Lengths.{short_incoming, short_outgoing}
 use Rattle.iol_laws.proofs.laws.lengths_stay_bounded.Goals as goal
 
 pub returns : goal.returns

@@ -1,5 +1,6 @@
 use Rattle.iol_laws.proofs.Streams.OtherCalls.{other_conn, other_waiting, other_accepted}
-use Rattle.iol_laws.proofs.Streams.Outside.{does_connect, does_arrive, does_transmit, does_peer_closed, count_arrived, count_sent}
+use Rattle.iol_laws.proofs.Streams.Outside.{does_connect, does_arrive, does_transmit, does_peer_closed, count_arrived}
+use Rattle.iol_laws.proofs.Streams.Outside.{count_sent}
 use Rattle.iol_laws.proofs.laws.others_leave_connections.Goals as goal
 
 pub returns : goal.returns

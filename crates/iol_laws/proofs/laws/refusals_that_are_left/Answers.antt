@@ -1,8 +1,13 @@
 use Rattle.iol_laws.proofs.Refusals.Waits.{which_waits}
-use Rattle.iol_laws.proofs.Refusals.FromOutside.{left_connect, left_arrive, left_transmit, left_flush, left_peer_closed, left_drop_clean}
-use Rattle.iol_laws.proofs.Refusals.Calls.{who_waits, left_domain_new, left_make, left_dup, left_cut, left_split, left_join, left_show, left_give_agg, left_pipe, left_give_fd, left_accept, left_read, left_copy, left_write, left_copy_to}
-use Rattle.iol_laws.proofs.Refusals.OfFiles.{left_read_file, left_copy_file, left_write_file, left_copy_to_file, left_file_new, left_open_file, left_sync, left_seek, left_length}
-use Rattle.iol_laws.proofs.Refusals.OfPools.{left_pool_create, left_pool_close, left_pool_admit, left_set_pool, left_replace, left_close, left_drop, left_exit}
+use Rattle.iol_laws.proofs.Refusals.FromOutside.{left_connect, left_arrive, left_transmit, left_flush, left_peer_closed}
+use Rattle.iol_laws.proofs.Refusals.FromOutside.{left_drop_clean}
+use Rattle.iol_laws.proofs.Refusals.Calls.{who_waits, left_domain_new, left_make, left_dup, left_cut, left_split}
+use Rattle.iol_laws.proofs.Refusals.Calls.{left_join, left_show, left_give_agg, left_pipe, left_give_fd, left_accept}
+use Rattle.iol_laws.proofs.Refusals.Calls.{left_read, left_copy, left_write, left_copy_to}
+use Rattle.iol_laws.proofs.Refusals.OfFiles.{left_read_file, left_copy_file, left_write_file, left_copy_to_file}
+use Rattle.iol_laws.proofs.Refusals.OfFiles.{left_file_new, left_open_file, left_sync, left_seek, left_length}
+use Rattle.iol_laws.proofs.Refusals.OfPools.{left_pool_create, left_pool_close, left_pool_admit, left_set_pool}
+use Rattle.iol_laws.proofs.Refusals.OfPools.{left_replace, left_close, left_drop, left_exit}
 use Rattle.iol_laws.proofs.laws.refusals_that_are_left.Goals as goal
 
 pub returns : goal.returns

@@ -10,7 +10,8 @@ invariant-loop-at l = record {
   inside : l.i ≤ length l.self;
   full : l.at ≡ min (length l.fn.into) (byte_len (take l.i l.self));
   len : length l.into ≡ length l.fn.into;
-  count : length (take_while (may_see l.store.pools l.d) (take (length l.fn.into) (places l.self))) ≡ l.at + seen l.store.pools l.d l.self l.i (length l.fn.into - l.at);
+  count : length (take_while (may_see l.store.pools l.d) (take (length l.fn.into) (places l.self)))
+      ≡ l.at + seen l.store.pools l.d l.self l.i (length l.fn.into - l.at);
   copied : l.into ≡ take l.at (all_bytes l.store l.self) ++ drop l.at l.fn.into;
 }
 

@@ -14,10 +14,13 @@ returns-in_default g c =
     let after = g.R.Read.remaining c.read_in.new.reader in
     let old = c.args.self.now in
     let n = c.in_ok-made.arrived.taken in
-    let made = subst (λ (o : Option (List Buffer)). MakesRead left after s t (listed o) c.args.pool n) c.in_default.is c.in_ok-made.ensures.reads.made in
+    let made = subst (λ (o : Option (List Buffer)). MakesRead left after s t (listed o) c.args.pool n) c.in_default.is
+    c.in_ok-made.ensures.reads.made in
     let same : c.reserve.new.self.items ≡ old = ◌∙◌ {A = List Slice} c.reserve.ensures.items c.self.view_is in
     record {
-      read = subst (λ new. ReadsIn left after s t old new c.args.pool n) (sym same) (nothing_added left after s t old c.args.pool n made);
+      read =
+          subst (λ new. ReadsIn left after s t old new c.args.pool n) (sym same)
+          (nothing_added left after s t old c.args.pool n made);
       reported = search (rules);
       room = search (rules);
       late = tt;
@@ -29,7 +32,8 @@ pub add_whole-requires-clause-filled : goal.add_whole-requires-clause-filled
 add_whole-requires-clause-filled g c =
     let left = g.R.Read.remaining c.args.reader.now in
     let after = g.R.Read.remaining c.read_in.new.reader in
-    (subst (λ (o : Option (List Buffer)). MakesRead left after c.args.store.now c.read_in.new.store (listed o) c.args.pool c.in_ok-made.arrived.taken) c.in-Some.is c.in_ok-made.ensures.reads.made).filled
+    (subst (λ (o : Option (List Buffer)). MakesRead left after c.args.store.now c.read_in.new.store (listed o)
+    c.args.pool c.in_ok-made.arrived.taken) c.in-Some.is c.in_ok-made.ensures.reads.made).filled
 
 pub invariant_of-self-2 : goal.invariant_of-self-2
 invariant_of-self-2 g c =
@@ -38,8 +42,10 @@ invariant_of-self-2 g c =
     let left = g.R.Read.remaining c.args.reader.now in
     let after = g.R.Read.remaining c.read_in.new.reader in
     let n = c.in_ok-made.arrived.taken in
-    let made = subst (λ (o : Option (List Buffer)). MakesRead left after s t (listed o) c.args.pool n) c.in-Some.is c.in_ok-made.ensures.reads.made in
-    let more = length_read left after s t c.reserve.new.self.items c.add_whole.new.queue.items c.in-Some.holds c.args.pool n c.add_whole.ensures made in
+    let made = subst (λ (o : Option (List Buffer)). MakesRead left after s t (listed o) c.args.pool n) c.in-Some.is
+    c.in_ok-made.ensures.reads.made in
+    let more = length_read left after s t c.reserve.new.self.items c.add_whole.new.queue.items c.in-Some.holds
+    c.args.pool n c.add_whole.ensures made in
     let same = ap byte_len c.reserve.ensures.items in
     let seen = ap byte_len c.self.view_is in
     record {
@@ -55,11 +61,14 @@ returns g c =
     let after = g.R.Read.remaining c.read_in.new.reader in
     let n = c.in_ok-made.arrived.taken in
     let new = c.add_whole.new.queue.items in
-    let made = subst (λ (o : Option (List Buffer)). MakesRead left after s t (listed o) c.args.pool n) c.in-Some.is c.in_ok-made.ensures.reads.made in
-    let same : c.reserve.new.self.items ≡ c.args.self.now = ◌∙◌ {A = List Slice} c.reserve.ensures.items c.self.view_is in
+    let made = subst (λ (o : Option (List Buffer)). MakesRead left after s t (listed o) c.args.pool n) c.in-Some.is
+    c.in_ok-made.ensures.reads.made in
+    let same : c.reserve.new.self.items ≡ c.args.self.now =
+    ◌∙◌ {A = List Slice} c.reserve.ensures.items c.self.view_is in
     record {
       read = subst (λ old. ReadsIn left after s t old new c.args.pool n) same
-          (read_added left after s t c.reserve.new.self.items new c.in-Some.holds c.args.pool n c.add_whole.ensures made);
+          (read_added left after s t c.reserve.new.self.items new c.in-Some.holds c.args.pool n c.add_whole.ensures
+          made);
       reported = search (rules);
       room = search (rules);
       late = tt;

@@ -12,6 +12,8 @@ returns-clause-cuts c =
       cut = t.cut refl;
       few = t.few;
       left = t.left;
-      rest = left_behind c.args.n (places c.in_ok-take_off.field-0) (places c.take_off.new.self) (places c.args.self.now) t.whole given;
+      rest =
+          left_behind c.args.n (places c.in_ok-take_off.field-0) (places c.take_off.new.self) (places c.args.self.now)
+          t.whole given;
       shares = t.shares;
     }

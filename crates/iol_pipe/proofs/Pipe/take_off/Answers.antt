@@ -13,7 +13,9 @@ pub returns-in_err-slices : goal.returns-in_err-slices
 returns-in_err-slices c = record {
   takes = search rules;
   none = λ e.
-      let zero = no_slice c.args.self.now c.args.n c.min-room.result e (search (rules, c.min-room.ensures, c.len.ensures, c.self.view_is)) in
+      let zero =
+      no_slice c.args.self.now c.args.n c.min-room.result e
+      (search (rules, c.min-room.ensures, c.len.ensures, c.self.view_is)) in
       absurd (cc (c.in_err-slices.ensures.succeeds zero));
   err = search rules;
 }

@@ -14,7 +14,8 @@ invariant-loop-left l = record {
   moves : Moves l.fn.store l.store (bufs_of l.fn.queue.items) (bufs_of l.queue.items);
   lists : SameLists l.fn.store l.store;
   frees : FreesOnly l.fn.store l.store;
-  reclaims : AllReadable l.fn.store l.fn.queue.items → AllReclaimed l.fn.store → AllReadable l.store l.queue.items × AllReclaimed l.store;
+  reclaims : AllReadable l.fn.store l.fn.queue.items → AllReclaimed l.fn.store → AllReadable l.store l.queue.items
+      × AllReclaimed l.store;
 }
 
 abbrev pub decreases-loop-left : goal.decreases-loop-left

@@ -10,7 +10,8 @@ overflow_add-count c =
 
 pub loop-chunk-preserved : goal.loop-chunk-preserved
 loop-chunk-preserved c =
-    let more = pages_more (is_counted c.args.arena.now c.args.retired) c.args.chunks.now c.loop-chunk.chunk-index c.chunk-item.result c.loop-chunk-test.true c.chunk-item.is in
+    let more = pages_more (is_counted c.args.arena.now c.args.retired) c.args.chunks.now c.loop-chunk.chunk-index
+    c.chunk-item.result c.loop-chunk-test.true c.chunk-item.is in
     let few = pages_few (is_counted c.args.arena.now c.args.retired) c.chunk-item.result in
     record {
       found = omega (arith, more, c.count_in-count.ensures, c.loop-chunk.invariant.found);

@@ -12,17 +12,41 @@ loop-chunk-preserved c =
     let now = ap (λ (s : State). s.taken) c.give_chunk.ensures in
     record {
       same =
-          subst (λ (s : State). s ≡ record { memory = c.args.arena.now.memory; base = c.args.arena.now.base; entries = c.args.arena.now.entries; limit = c.args.arena.now.limit; taken = s.taken }) (sym c.give_chunk.ensures)
-          (ap (λ (s : State). record { memory = s.memory; base = s.base; entries = s.entries; limit = s.limit; taken = set was k false }) c.loop-chunk.invariant.same);
+          subst (λ (s : State). s ≡ record {
+            memory = c.args.arena.now.memory;
+            base = c.args.arena.now.base;
+            entries =
+                c.args.arena.now.entries;
+            limit = c.args.arena.now.limit;
+            taken = s.taken;
+          }) (sym c.give_chunk.ensures)
+          (ap (λ (s : State). record {
+            memory = s.memory;
+            base = s.base;
+            entries = s.entries;
+            limit = s.limit;
+            taken =
+                set was k false;
+          }) c.loop-chunk.invariant.same);
       rest =
           ap (λ (l : List Bool). all_returned l (drop (c.loop-chunk.chunk-index + 1) cs)) now
-          ∙ returned_on was cs c.loop-chunk.chunk-index k c.loop-chunk-test.true c.chunk-item.is ∙ c.loop-chunk.invariant.rest;
+          ∙ returned_on was cs c.loop-chunk.chunk-index k c.loop-chunk-test.true c.chunk-item.is
+          ∙ c.loop-chunk.invariant.rest;
       long = ap (λ (l : List Bool). length l) now ∙ length-set was k false ∙ c.loop-chunk.invariant.long;
     }
 
 pub returns : goal.returns
 returns c =
     let was = c.loop-chunk.arena.taken in
-    let all = sym (returned_last was c.args.chunks.now c.loop-chunk.chunk-index (omega (arith, c.loop-chunk-test.false))) ∙ c.loop-chunk.invariant.rest in
+    let all =
+    sym (returned_last was c.args.chunks.now c.loop-chunk.chunk-index (omega (arith, c.loop-chunk-test.false)))
+    ∙ c.loop-chunk.invariant.rest in
     c.loop-chunk.invariant.same
-    ∙ ap (λ (l : List Bool). record { memory = c.args.arena.now.memory; base = c.args.arena.now.base; entries = c.args.arena.now.entries; limit = c.args.arena.now.limit; taken = l }) all
+    ∙ ap (λ (l : List Bool). record {
+      memory = c.args.arena.now.memory;
+      base = c.args.arena.now.base;
+      entries =
+          c.args.arena.now.entries;
+      limit = c.args.arena.now.limit;
+      taken = l;
+    }) all

@@ -1,6 +1,7 @@
 use Rattle.iol_proc.specs.World.{copying}
 use Rattle.iol_proc.proofs.Chains.{system_as}
-use Rattle.iol_proc.proofs.Streams.{machine_as, history_proceeds, runs_follow, stream_over-append, sent_over-append, stream_over-more, sent_over-more, unread_over, unsent_over, waiting_over}
+use Rattle.iol_proc.proofs.Streams.{machine_as, history_proceeds, runs_follow, stream_over-append, sent_over-append}
+use Rattle.iol_proc.proofs.Streams.{stream_over-more, sent_over-more, unread_over, unsent_over, waiting_over}
 use Rattle.iol_proc.proofs.laws.histories_of_choices.Goals as goal
 
 pub returns : goal.returns

@@ -1,4 +1,5 @@
-use Rattle.std.proofs.Common.{◌≡◌, ◌∙◌, ◌<◌, ◌≤◌, ◌++◌, ◌∷◌, [], Bool, false, ℕ, List, length, take, arith, ap, sym, length-append, rules}
+use Rattle.std.proofs.Common.{◌≡◌, ◌∙◌, ◌<◌, ◌≤◌, ◌++◌, ◌∷◌, [], Bool, false, ℕ, List, length, take, arith, ap, sym}
+use Rattle.std.proofs.Common.{length-append, rules}
 use Rattle.iol_system.specs.Machine.{SystemState}
 use Rattle.iol_proc.specs.Idle.{Idles, RoundRun, Went, is_idle, yields_of}
 use Rattle.iol_proc.specs.Turns.{TransitionRelation}
@@ -15,19 +16,27 @@ loop-i-preserved g c =
     let old = c.loop-i.invariant.ran in
     record {
       domains = c.place_turn-outcome.ensures.domains ∙ c.loop-i.invariant.domains;
-      size = c.count.ensures.length ∙ (c.loop-i.invariant.size ∙ same_length _ _ (sym c.place_turn-outcome.ensures.domains));
+      size = c.count.ensures.length
+          ∙ (c.loop-i.invariant.size ∙ same_length _ _ (sym c.place_turn-outcome.ensures.domains));
       ran = (
         old.0 ++ t ∷ [],
-        round_next sharing g.P.Process.turns _ old.0 _ t _ c.loop-i.i c.len.result old.1 old.2 size c.place_turn-outcome.ensures.turn,
+        round_next sharing g.P.Process.turns _ old.0 _ t _ c.loop-i.i c.len.result old.1 old.2 size
+            c.place_turn-outcome.ensures.turn,
         omega (arith, length-append old.0 (t ∷ []), old.2),
-        counted_next _ old.0 t _ _ c.loop-i.i c.len.result old.3 old.2 (size ∙ sym c.loop-i.invariant.size) c.count.ensures.counted,
-        first_next _ old.0 t old.4 (ap is_idle (sym old.3) ∙ (ap is_idle (sym c.deref.ensures.value) ∙ sym c.if-all_twice.ensures.all)),
+        counted_next _ old.0 t _ _ c.loop-i.i c.len.result old.3 old.2 (size ∙ sym c.loop-i.invariant.size)
+            c.count.ensures.counted,
+        first_next _ old.0 t old.4 (ap is_idle (sym old.3)
+            ∙ (ap is_idle (sym c.deref.ensures.value) ∙ sym c.if-all_twice.ensures.all)),
       );
     }
 
 -- the turns that were taken, where no moment before the last was idle
-module _ {P : Type 0} (turns : TransitionRelation P) (w after : Stage SystemState P) (most i : ℕ) (idle : Bool) (yields : List ℕ) where
-  idles : (went : List Went) × RoundRun sharing turns w 0 went after × (length went ≡ i) × (yields ≡ yields_of (length w.process_slots) went) × ((j : ℕ) → j < length went → is_idle (yields_of (length w.process_slots) (take j went)) ≡ false) → i ≤ most → idle ≡ is_idle yields → (idle ≡ false → most ≤ i)
+module _ {P : Type 0} (turns : TransitionRelation P) (w after : Stage SystemState P) (most i : ℕ) (idle : Bool)
+    (yields : List ℕ) where
+  idles : (went : List Went) × RoundRun sharing turns w 0 went after × (length went ≡ i)
+      × (yields ≡ yields_of (length w.process_slots) went)
+      × ((j : ℕ) → j < length went → is_idle (yields_of (length w.process_slots) (take j went)) ≡ false) → i ≤ most
+      → idle ≡ is_idle yields → (idle ≡ false → most ≤ i)
       → Idles sharing turns w most idle after
   idles old within reported all = record {
     went = old.0;
@@ -40,7 +49,11 @@ module _ {P : Type 0} (turns : TransitionRelation P) (w after : Stage SystemStat
   }
 
 pub returns-then-all_twice-clause-idles : goal.returns-then-all_twice-clause-idles
-returns-then-all_twice-clause-idles g c = idles g.P.Process.turns _ _ _ _ _ _ c.loop-i.invariant.ran (omega arith) (c.if-all_twice.ensures.all ∙ ap is_idle c.deref.ensures.value) (λ e. absurd (cc e))
+returns-then-all_twice-clause-idles g c =
+    idles g.P.Process.turns _ _ _ _ _ _ c.loop-i.invariant.ran (omega arith) (c.if-all_twice.ensures.all
+    ∙ ap is_idle c.deref.ensures.value) (λ e. absurd (cc e))
 
 pub returns-clause-idles : goal.returns-clause-idles
-returns-clause-idles g c = idles g.P.Process.turns _ _ _ _ _ _ c.loop-i.invariant.ran (omega arith) (c.all_twice-2.ensures.all ∙ ap is_idle c.deref-2.ensures.value) (λ e. omega arith)
+returns-clause-idles g c =
+    idles g.P.Process.turns _ _ _ _ _ _ c.loop-i.invariant.ran (omega arith) (c.all_twice-2.ensures.all
+    ∙ ap is_idle c.deref-2.ensures.value) (λ e. omega arith)

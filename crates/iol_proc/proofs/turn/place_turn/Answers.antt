@@ -5,7 +5,10 @@ use Rattle.iol_proc.proofs.turn.place_turn.Goals as goal
 
 -- the process keeps its domain
 pub returns-clause-domains : goal.returns-clause-domains
-returns-clause-domains g c = domains_of-slice_set c.args.process_slots.now.items c.args.place c.index_mut-process_slot.result.now c.process_slot_turn-outcome.new.process_slot c.index_mut-process_slot.ensures.value c.process_slot_turn-outcome.ensures.domain
+returns-clause-domains g c =
+    domains_of-slice_set c.args.process_slots.now.items c.args.place c.index_mut-process_slot.result.now
+    c.process_slot_turn-outcome.new.process_slot c.index_mut-process_slot.ensures.value
+    c.process_slot_turn-outcome.ensures.domain
 
 -- the process slot at the place has its turn
 pub returns-clause-turn : goal.returns-clause-turn

@@ -5,7 +5,10 @@ pub loop-init : goal.loop-init
 loop-init g c = (passes_none _ _, keeps_same _)
 
 pub loop-preserved : goal.loop-preserved
-loop-preserved g c = (passes_then _ _ _ _ _ _ c.loop.invariant.0 c.write_once-sending.ensures.passes, keeps_then _ _ _ c.loop.invariant.1 c.write_once-sending.ensures.came)
+loop-preserved g c = (
+  passes_then _ _ _ _ _ _ c.loop.invariant.0 c.write_once-sending.ensures.passes,
+  keeps_then _ _ _ c.loop.invariant.1 c.write_once-sending.ensures.came,
+)
 
 pub returns-then-is_empty-clause-passes : goal.returns-then-is_empty-clause-passes
 returns-then-is_empty-clause-passes g c = c.loop.invariant.0

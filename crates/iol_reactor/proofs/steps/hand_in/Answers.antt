@@ -14,7 +14,8 @@ pub loop-preserved : goal.loop-preserved
 loop-preserved g c = record {
   honest = record { same = c.hand_in_page.ensures.honest.same ∙ c.loop.invariant.honest.same };
   rest = rest_then _ _ _ c.loop.invariant.rest c.hand_in_page.ensures.rest;
-  alone = λ honest. arrives_then g.P.Process.turns c.args.conn _ _ _ _ _ _ (c.loop.invariant.alone honest) (c.hand_in_page.ensures.alone (c.loop.invariant.honest.same ∙ honest));
+  alone = λ honest. arrives_then g.P.Process.turns c.args.conn _ _ _ _ _ _ (c.loop.invariant.alone honest)
+      (c.hand_in_page.ensures.alone (c.loop.invariant.honest.same ∙ honest));
 }
 
 pub returns-then-is_empty-clause-honest : goal.returns-then-is_empty-clause-honest
@@ -27,13 +28,16 @@ pub returns-then-is_empty-clause-alone : goal.returns-then-is_empty-clause-alone
 returns-then-is_empty-clause-alone g c = c.loop.invariant.alone
 
 pub returns-then-not-hand_in_page-clause-honest : goal.returns-then-not-hand_in_page-clause-honest
-returns-then-not-hand_in_page-clause-honest g c = record { same = c.hand_in_page.ensures.honest.same ∙ c.loop.invariant.honest.same }
+returns-then-not-hand_in_page-clause-honest g c =
+    record { same = c.hand_in_page.ensures.honest.same ∙ c.loop.invariant.honest.same }
 
 pub returns-then-not-hand_in_page-clause-rest : goal.returns-then-not-hand_in_page-clause-rest
 returns-then-not-hand_in_page-clause-rest g c = rest_then _ _ _ c.loop.invariant.rest c.hand_in_page.ensures.rest
 
 pub returns-then-not-hand_in_page-clause-alone : goal.returns-then-not-hand_in_page-clause-alone
-returns-then-not-hand_in_page-clause-alone g c = λ honest. arrives_then g.P.Process.turns c.args.conn _ _ _ _ _ _ (c.loop.invariant.alone honest) (c.hand_in_page.ensures.alone (c.loop.invariant.honest.same ∙ honest))
+returns-then-not-hand_in_page-clause-alone g c =
+    λ honest. arrives_then g.P.Process.turns c.args.conn _ _ _ _ _ _ (c.loop.invariant.alone honest)
+    (c.hand_in_page.ensures.alone (c.loop.invariant.honest.same ∙ honest))
 
 pub returns-clause-honest : goal.returns-clause-honest
 returns-clause-honest g c = c.loop.invariant.honest

@@ -4,7 +4,9 @@ use Rattle.iol_reactor.proofs.Serving.{ends_reported}
 use Rattle.iol_reactor.proofs.steps.hang_up.Goals as goal
 
 pub returns-clause-alone : goal.returns-clause-alone
-returns-clause-alone g c = λ honest. goes_hung_up g.P.Process.turns c.args.conn _ _ _ (c.step_outside.ensures.copied honest)
+returns-clause-alone g c =
+    λ honest. goes_hung_up g.P.Process.turns c.args.conn _ _ _ (c.step_outside.ensures.copied honest)
 
 pub returns-clause-reported : goal.returns-clause-reported
-returns-clause-reported g c = λ honest. ends_reported g.P.Process.turns c.args.conn Gone _ _ _ (c.step_outside.ensures.copied honest)
+returns-clause-reported g c =
+    λ honest. ends_reported g.P.Process.turns c.args.conn Gone _ _ _ (c.step_outside.ensures.copied honest)

@@ -15,7 +15,9 @@ loop-preserved g c = record {
 }
 
 pub returns-in-Quiet-clause-sends : goal.returns-in-Quiet-clause-sends
-returns-in-Quiet-clause-sends g c = sends_then g.P.Process.turns c.args.conn _ _ _ _ _ _ c.loop.invariant.sends c.send_piece.ensures.sends
+returns-in-Quiet-clause-sends g c =
+    sends_then g.P.Process.turns c.args.conn _ _ _ _ _ _ c.loop.invariant.sends c.send_piece.ensures.sends
 
 pub returns-in_default-clause-sends : goal.returns-in_default-clause-sends
-returns-in_default-clause-sends g c = sends_then g.P.Process.turns c.args.conn _ _ _ _ _ _ c.loop.invariant.sends c.send_piece.ensures.sends
+returns-in_default-clause-sends g c =
+    sends_then g.P.Process.turns c.args.conn _ _ _ _ _ _ c.loop.invariant.sends c.send_piece.ensures.sends

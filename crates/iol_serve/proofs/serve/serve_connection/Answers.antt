@@ -13,18 +13,26 @@ loop-init g c = record {
 pub loop-preserved : goal.loop-preserved
 loop-preserved g c = record {
   honest = record { same = c.round-step.ensures.honest.same ∙ c.loop.invariant.honest.same };
-  serves = λ honest. serves_as g.P.Process.turns c.args.conn _ _ _ _ _ _ _ _ (hung_up-after _ _ ∙ ap hung_up (sym c.after-ending.ensures))
-      (serves_then g.P.Process.turns c.args.conn _ _ _ _ _ _ _ _ _ _ _ (c.loop.invariant.serves honest) (c.round-step.ensures.serves (c.loop.invariant.honest.same ∙ honest)));
+  serves =
+      λ honest. serves_as g.P.Process.turns c.args.conn _ _ _ _ _ _ _ _ (hung_up-after _ _
+      ∙ ap hung_up (sym c.after-ending.ensures))
+      (serves_then g.P.Process.turns c.args.conn _ _ _ _ _ _ _ _ _ _ _ (c.loop.invariant.serves honest)
+      (c.round-step.ensures.serves (c.loop.invariant.honest.same ∙ honest)));
 }
 
 pub returns-then-is_last : goal.returns-then-is_last
 returns-then-is_last g c = record {
-  ended = ended_last _ c.args.conn _ _ (sym c.is_last.ensures ∙ c.if-is_last.true) c.round-step.ensures.gone c.round-step.ensures.over;
-  over = λ is. over_last _ _ (sym c.is_last.ensures ∙ c.if-is_last.true) (sym c.after-ending.ensures ∙ is) c.round-step.ensures.over;
+  ended = ended_last _ c.args.conn _ _ (sym c.is_last.ensures ∙ c.if-is_last.true) c.round-step.ensures.gone
+      c.round-step.ensures.over;
+  over = λ is. over_last _ _ (sym c.is_last.ensures ∙ c.if-is_last.true) (sym c.after-ending.ensures ∙ is)
+      c.round-step.ensures.over;
   honest = record { same = c.round-step.ensures.honest.same ∙ c.loop.invariant.honest.same };
-  serves = λ honest. serves_as g.P.Process.turns c.args.conn _ _ _ _ _ _ _ _ (hung_up-after _ _ ∙ ap hung_up (sym c.after-ending.ensures))
+  serves =
+      λ honest. serves_as g.P.Process.turns c.args.conn _ _ _ _ _ _ _ _ (hung_up-after _ _
+      ∙ ap hung_up (sym c.after-ending.ensures))
       (serves_kept g.P.Process.turns c.args.conn _ _ _ _ _ _ _ _ c.finish.ensures
-      (serves_then g.P.Process.turns c.args.conn _ _ _ _ _ _ _ _ _ _ _ (c.loop.invariant.serves honest) (c.round-step.ensures.serves (c.loop.invariant.honest.same ∙ honest))));
+      (serves_then g.P.Process.turns c.args.conn _ _ _ _ _ _ _ _ _ _ _ (c.loop.invariant.serves honest)
+      (c.round-step.ensures.serves (c.loop.invariant.honest.same ∙ honest))));
 }
 
 pub returns : goal.returns
@@ -34,5 +42,6 @@ returns g c = record {
   honest = record { same = c.hang_up.ensures.honest.same ∙ c.loop.invariant.honest.same };
   serves = λ honest. serves_as g.P.Process.turns c.args.conn _ _ _ _ _ _ _ _ (sym c.long.ensures.reported)
       (serves_then g.P.Process.turns c.args.conn _ _ _ _ _ _ _ _ _ _ _ (c.loop.invariant.serves honest)
-      (serves_alone g.P.Process.turns c.args.conn _ _ _ _ _ (c.hang_up.ensures.proceeds (c.loop.invariant.honest.same ∙ honest))));
+      (serves_alone g.P.Process.turns c.args.conn _ _ _ _ _
+      (c.hang_up.ensures.proceeds (c.loop.invariant.honest.same ∙ honest))));
 }

@@ -10,7 +10,8 @@ invariant-loop-taken g l = record {
   at : l.i ≤ length l.queue;
   slow : l.i ≤ l.taken;
   full : l.taken ≡ min l.max (byte_len (take l.i l.queue));
-  written : Appends (g.W.Write.contents l.fn.writer) (g.W.Write.contents l.writer) (take l.taken (bytes_of (text_of l.store l.queue)));
+  written : Appends (g.W.Write.contents l.fn.writer) (g.W.Write.contents l.writer)
+      (take l.taken (bytes_of (text_of l.store l.queue)));
 }
 
 abbrev pub decreases-loop-taken : goal.decreases-loop-taken

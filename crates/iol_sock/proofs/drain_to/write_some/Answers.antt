@@ -13,9 +13,11 @@ loop-at-preserved g c =
     let old = g.W.Write.contents c.args.writer.now in
     let now = g.W.Write.contents c.loop-at.writer in
     let new = g.W.Write.contents c.write.new.self in
-    let few : n ≤ length bytes - at = omega (arith, c.in-Ok.ensures.bound, length-take (length bytes - at) (drop at bytes)) in
+    let few : n ≤ length bytes - at =
+    omega (arith, c.in-Ok.ensures.bound, length-take (length bytes - at) (drop at bytes)) in
     record {
       most = omega (arith, c.loop-at-test.true, few);
       written = subst (λ w. Appends old new w) (sym (more_of bytes at n few))
-          (Appends-trans old now new (take at bytes) (take n (take (length bytes - at) (drop at bytes))) c.loop-at.invariant.written c.in-Ok.ensures.bytes);
+          (Appends-trans old now new (take at bytes) (take n (take (length bytes - at) (drop at bytes)))
+          c.loop-at.invariant.written c.in-Ok.ensures.bytes);
     }

@@ -12,27 +12,50 @@ use Rattle.iol_sock.proofs.gather.gather_first.Goals as goal
 
 -- the index of the slice at hand is less than the number of bytes of the queue
 near : (g : Over) (c : After-part-first g) → c.loop-taken.i < byte_len c.args.queue.now
-near g c = slice_near c.args.queue.now c.loop-taken.i c.loop-taken.taken c.min-most.result c.args.max (omega (arith, c.min-most.ensures, c.len.ensures.len)) c.loop-taken.invariant.full c.loop-taken-test.true
+near g c = slice_near c.args.queue.now c.loop-taken.i c.loop-taken.taken c.min-most.result c.args.max
+    (omega (arith, c.min-most.ensures, c.len.ensures.len)) c.loop-taken.invariant.full c.loop-taken-test.true
 
 pub overflow_add-i : goal.overflow_add-i
-overflow_add-i g c = omega (arith, near g (goal.at.overflow_add-i g c).After-part-first, c.len.ensures.len, c.len.ensures.most)
+overflow_add-i g c =
+    omega (arith, near g (goal.at.overflow_add-i g c).After-part-first, c.len.ensures.len, c.len.ensures.most)
 
 pub overflow_add-i-in-loop-taken : goal.overflow_add-i-in-loop-taken
-overflow_add-i-in-loop-taken g c = omega (arith, near g (goal.at.overflow_add-i-in-loop-taken g c).After-part-first, c.len.ensures.len, c.len.ensures.most)
+overflow_add-i-in-loop-taken g c =
+    omega (
+      arith,
+      near g (goal.at.overflow_add-i-in-loop-taken g c).After-part-first,
+      c.len.ensures.len,
+      c.len.ensures.most,
+    )
 
 pub overflow_add-i-in-loop-taken-2 : goal.overflow_add-i-in-loop-taken-2
-overflow_add-i-in-loop-taken-2 g c = omega (arith, near g (goal.at.overflow_add-i-in-loop-taken-2 g c).After-part-first, c.len.ensures.len, c.len.ensures.most)
+overflow_add-i-in-loop-taken-2 g c =
+    omega (
+      arith,
+      near g (goal.at.overflow_add-i-in-loop-taken-2 g c).After-part-first,
+      c.len.ensures.len,
+      c.len.ensures.most,
+    )
 
 pub overflow_add-i-in-loop-taken-3 : goal.overflow_add-i-in-loop-taken-3
-overflow_add-i-in-loop-taken-3 g c = omega (arith, near g (goal.at.overflow_add-i-in-loop-taken-3 g c).After-part-first, c.len.ensures.len, c.len.ensures.most)
+overflow_add-i-in-loop-taken-3 g c =
+    omega (
+      arith,
+      near g (goal.at.overflow_add-i-in-loop-taken-3 g c).After-part-first,
+      c.len.ensures.len,
+      c.len.ensures.most,
+    )
 
 -- the bytes that were offered, and what was taken with them
 pub record Step (g : Over) (c : After-gather-count g) : Type 0 where
   pub offered : List ℕ
-  pub size : length offered ≡ length c.part-first.result.now + length c.part-second.result.now + length c.part-third.result.now + length c.part-fourth.result.now
-  pub full : c.loop-taken.taken + length offered ≡ min c.min-most.result (byte_len (take (c.loop-taken.i + 4) c.args.queue.now))
+  pub size : length offered ≡ length c.part-first.result.now + length c.part-second.result.now
+      + length c.part-third.result.now + length c.part-fourth.result.now
+  pub full : c.loop-taken.taken + length offered
+      ≡ min c.min-most.result (byte_len (take (c.loop-taken.i + 4) c.args.queue.now))
   pub few : c.gather-count.result ≤ length offered
-  pub written : Appends (g.G.Gather.contents c.args.taker.now) (g.G.Gather.contents c.gather-count.new.self) (take (c.loop-taken.taken + c.gather-count.result) (bytes_of (text_of c.args.store.now c.args.queue.now)))
+  pub written : Appends (g.G.Gather.contents c.args.taker.now) (g.G.Gather.contents c.gather-count.new.self)
+      (take (c.loop-taken.taken + c.gather-count.result) (bytes_of (text_of c.args.store.now c.args.queue.now)))
 
 step : (g : Over) (c : After-gather-count g) → Step g c
 step g c =
@@ -50,7 +73,8 @@ step g c =
     let l2 : ℕ = l1 - length b in
     let l3 : ℕ = l2 - length d in
     let o : Offers s xs i c.min-most.result n (a ++ b ++ d ++ e) =
-    offers s xs i c.min-most.result n l l1 l2 l3 a b d e c.loop-taken.invariant.full (omega (arith, c.loop-taken-test.true))
+    offers s xs i c.min-most.result n l l1 l2 l3 a b d e c.loop-taken.invariant.full
+    (omega (arith, c.loop-taken-test.true))
     c.part-first.ensures (omega (arith, part_short s xs i l a c.part-first.ensures))
     c.part-second.ensures (omega (arith, part_short s xs (i + 1) l1 b c.part-second.ensures))
     c.part-third.ensures (omega (arith, part_short s xs (i + 2) l2 d c.part-third.ensures))
@@ -60,16 +84,27 @@ step g c =
       size = four_long a b d e;
       full = o.long;
       few = c.gather-count.ensures.bound;
-      written = subst (λ w. Appends (g.G.Gather.contents c.args.taker.now) (g.G.Gather.contents c.gather-count.new.self) w) (o.taken k c.gather-count.ensures.bound)
-          (Appends-trans (g.G.Gather.contents c.args.taker.now) (g.G.Gather.contents c.loop-taken.taker) (g.G.Gather.contents c.gather-count.new.self) (take n (bytes_of (text_of s xs))) (take k (a ++ b ++ d ++ e)) c.loop-taken.invariant.written c.gather-count.ensures.bytes);
+      written =
+          subst (λ w. Appends (g.G.Gather.contents c.args.taker.now) (g.G.Gather.contents c.gather-count.new.self) w)
+          (o.taken k c.gather-count.ensures.bound)
+          (Appends-trans (g.G.Gather.contents c.args.taker.now) (g.G.Gather.contents c.loop-taken.taker)
+          (g.G.Gather.contents c.gather-count.new.self) (take n (bytes_of (text_of s xs)))
+          (take k (a ++ b ++ d ++ e)) c.loop-taken.invariant.written c.gather-count.ensures.bytes);
     }
 
 pub returns-then-count-offered-clause-writes : goal.returns-then-count-offered-clause-writes
 returns-then-count-offered-clause-writes g c =
     let t = step g (goal.at.returns-then-count-offered-clause-writes g c).After-gather-count in
     let all = byte_len-take-le c.args.queue.now (c.loop-taken.i + 4) in
-    let most : c.min-most.result ≡ min (byte_len c.args.queue.now) c.args.max = omega (arith, c.min-most.ensures, c.len.ensures.len) in
-    record { most = omega (arith, t.few, t.full, most, all); all = λ bad. absurd (cc bad); fewer = λ failed. omega (arith, t.full, t.size, most, all, c.if-count-offered.true); written = t.written }
+    let most : c.min-most.result ≡ min (byte_len c.args.queue.now) c.args.max =
+    omega (arith, c.min-most.ensures, c.len.ensures.len) in
+    record {
+      most = omega (arith, t.few, t.full, most, all);
+      all = λ bad. absurd (cc bad);
+      fewer =
+          λ failed. omega (arith, t.full, t.size, most, all, c.if-count-offered.true);
+      written = t.written;
+    }
 
 pub loop-taken-preserved : goal.loop-taken-preserved
 loop-taken-preserved g c =

@@ -8,7 +8,8 @@ use Rattle.iol_sock.proofs.gather.gather_first.Given as goal
 abbrev pub invariant-loop-taken : goal.invariant-loop-taken
 invariant-loop-taken g l = record {
   full : l.taken ≡ min l.most (byte_len (take l.i l.queue));
-  written : Appends (g.G.Gather.contents l.fn.taker) (g.G.Gather.contents l.taker) (take l.taken (bytes_of (text_of l.store l.queue)));
+  written : Appends (g.G.Gather.contents l.fn.taker) (g.G.Gather.contents l.taker)
+      (take l.taken (bytes_of (text_of l.store l.queue)));
 }
 
 abbrev pub decreases-loop-taken : goal.decreases-loop-taken

@@ -1,4 +1,5 @@
-use Rattle.iol_sock.proofs.MachineConns.{over_meant, closes_meant, arrives_meant, takes_meant, wants_meant, sends_meant, fits_meant, queues_meant}
+use Rattle.iol_sock.proofs.MachineConns.{over_meant, closes_meant, arrives_meant, takes_meant, wants_meant, sends_meant}
+use Rattle.iol_sock.proofs.MachineConns.{fits_meant, queues_meant}
 use Rattle.iol_sock.proofs.laws.connections_are_the_machines.Goals as goal
 
 pub returns : goal.returns

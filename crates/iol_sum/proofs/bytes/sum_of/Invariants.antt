@@ -11,6 +11,9 @@ invariant-loop-chunk l = record {
 
 abbrev pub invariant-loop-byte : goal.invariant-loop-byte
 invariant-loop-byte l = record {
-  sum : folded (256 * l.total + cond l.is_first (word_sum (drop l.byte-index l.rest)) (word_sum (0 ∷ drop l.byte-index l.rest))) ≡ folded (word_sum l.bytes);
+  sum :
+      folded
+      (256 * l.total + cond l.is_first (word_sum (drop l.byte-index l.rest)) (word_sum (0 ∷ drop l.byte-index l.rest)))
+      ≡ folded (word_sum l.bytes);
   bound : l.total ≤ length l.bytes * 18446744073709551615 + 65280 * l.byte-index;
 }

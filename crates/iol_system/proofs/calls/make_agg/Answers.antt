@@ -13,4 +13,31 @@ use Rattle.iol_system.proofs.FileEffects.{places_does}
 use Rattle.iol_system.proofs.calls.make_agg.Goals as goal
 
 pub returns : goal.returns
-returns c = λ disk. as_call refl c.agg.ensures (places_does reply.Agg (λ s. (aggs.agg_make s c.args.by c.args.bytes.now)) (λ s t. aggs.with_agg s c.args.by t) (for_made (state_of c.args.kernel.now) c.args.by c.args.bytes.now) (event.Call c.args.by (call.AggMake c.args.bytes.now)) disk (state_of c.args.kernel.now) (state_of c.agg_make.new.self) c.agg_make.result (λ a. refl) (record { unwritten = refl; unlent = refl; goes = λ d p k. k; asks = λ s. refl; uses = λ s. refl; unshared = λ s. refl; moving = refl; inside = λ s. refl; changes = refl; keeps = λ s t. values_with_agg s c.args.by t; has = λ d k. k; lacks = λ d k. k; fits = λ d k. k; publishes = λ n k. k; creates = λ x n. tt; late = λ d x n k. k; sums = λ x n k. k }) (λ s t r step. reported_step reply.Agg (λ a. refl) (aggs.agg_make s c.args.by c.args.bytes.now) s t r step) tt c.agg_make.ensures.places c.agg_make.ensures.slices)
+returns c =
+    λ disk. as_call refl c.agg.ensures (places_does reply.Agg (λ s. (aggs.agg_make s c.args.by c.args.bytes.now))
+    (λ s t. aggs.with_agg s c.args.by t) (for_made (state_of c.args.kernel.now) c.args.by c.args.bytes.now)
+    (event.Call c.args.by (call.AggMake c.args.bytes.now)) disk (state_of c.args.kernel.now)
+    (state_of c.agg_make.new.self) c.agg_make.result (λ a. refl)
+    (record {
+      unwritten = refl;
+      unlent = refl;
+      goes = λ d p k. k;
+      asks = λ s. refl;
+      uses = λ s. refl;
+      unshared =
+          λ s. refl;
+      moving = refl;
+      inside = λ s. refl;
+      changes = refl;
+      keeps = λ s t. values_with_agg s c.args.by t;
+      has =
+          λ d k. k;
+      lacks = λ d k. k;
+      fits = λ d k. k;
+      publishes = λ n k. k;
+      creates = λ x n. tt;
+      late = λ d x n k. k;
+      sums =
+          λ x n k. k;
+    }) (λ s t r step. reported_step reply.Agg (λ a. refl) (aggs.agg_make s c.args.by c.args.bytes.now) s t r
+    step) tt c.agg_make.ensures.places c.agg_make.ensures.slices)

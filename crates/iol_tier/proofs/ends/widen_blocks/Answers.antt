@@ -5,10 +5,12 @@ use Rattle.iol_tier.proofs.ends.widen_blocks.Goals.{After-widen}
 use Rattle.iol_tier.proofs.ends.widen_blocks.Goals as goal
 
 within : (c : After-widen) → c.loop-at.at < length c.loop-at.blocks.items
-within c = omega (arith, c.loop-at-test.true, c.len-at-end.ensures, c.args.blocks.now.ok.0, c.loop-at.invariant.widens.count)
+within c =
+    omega (arith, c.loop-at-test.true, c.len-at-end.ensures, c.args.blocks.now.ok.0, c.loop-at.invariant.widens.count)
 
 widens : (c : After-widen) → Widens c.args.blocks.now.items (set c.loop-at.blocks.items c.loop-at.at c.widen.new.self)
-widens c = widened c.args.blocks.now.items c.loop-at.blocks.items c.loop-at.at c.index_mut.result.now c.widen.new.self c.loop-at.invariant.widens (within c) c.index_mut.ensures.value c.widen.ensures.keys c.widen.ensures.kept
+widens c = widened c.args.blocks.now.items c.loop-at.blocks.items c.loop-at.at c.index_mut.result.now c.widen.new.self
+    c.loop-at.invariant.widens (within c) c.index_mut.ensures.value c.widen.ensures.keys c.widen.ensures.kept
 
 pub returns-in_err-widen-clause-widens : goal.returns-in_err-widen-clause-widens
 returns-in_err-widen-clause-widens c = widens (goal.at.returns-in_err-widen-clause-widens c).After-widen
@@ -21,5 +23,6 @@ loop-at-preserved c =
     record {
       widens = widens after;
       wide = λ k below. widened_here mid c.loop-at.at b k c.args.width (within after) c.in_ok-widen.ensures.width
-          (λ j l. widened_width mid c.loop-at.at c.index_mut.result.now b j c.args.width (within after) c.index_mut.ensures.value c.widen.ensures.kept (c.loop-at.invariant.wide j l)) below;
+          (λ j l. widened_width mid c.loop-at.at c.index_mut.result.now b j c.args.width (within after)
+          c.index_mut.ensures.value c.widen.ensures.kept (c.loop-at.invariant.wide j l)) below;
     }

@@ -7,5 +7,7 @@ pub returns : goal.returns
 returns c =
     let bs = c.args.blocks.now.items in
     let k = (c.args.skip + c.args.place) / 128 in
-    key_read bs c.args.skip (length (joined bs)) c.args.place k c.at.result c.index.result.now c.requires.laid.filled refl c.requires.within
-    (omega (arith, c.requires.laid.places, c.requires.within)) (omega arith) (omega arith) c.index.ensures (rw (sym c.begin_of.ensures) c.at.ensures)
+    key_read bs c.args.skip (length (joined bs)) c.args.place k c.at.result c.index.result.now c.requires.laid.filled
+    refl c.requires.within
+    (omega (arith, c.requires.laid.places, c.requires.within)) (omega arith) (omega arith) c.index.ensures
+    (rw (sym c.begin_of.ensures) c.at.ensures)

@@ -7,11 +7,20 @@ use Rattle.iol_tier.proofs.places.take_right.Goals as goal
 pub returns-clause-key : goal.returns-clause-key
 returns-clause-key c =
     let old = c.args.blocks.now.items in
-    key_read old c.args.skip (length (joined old)) c.args.place ((c.args.skip + c.args.place) / 128) c.remove-key.result c.index_mut.result.now (rw (sym c.requires.laid.keys) c.requires.laid.filled) refl (omega (arith, c.requires.laid.keys, c.requires.within))
-    (omega (arith, c.requires.laid.places, c.requires.within)) (omega arith) (omega arith) c.index_mut.ensures.value (rw (sym c.begin_of.ensures) c.remove-key.ensures.key)
+    key_read old c.args.skip (length (joined old)) c.args.place ((c.args.skip + c.args.place) / 128) c.remove-key.result
+    c.index_mut.result.now (rw (sym c.requires.laid.keys) c.requires.laid.filled) refl
+    (omega (arith, c.requires.laid.keys, c.requires.within))
+    (omega (arith, c.requires.laid.places, c.requires.within)) (omega arith) (omega arith) c.index_mut.ensures.value
+    (rw (sym c.begin_of.ensures) c.remove-key.ensures.key)
 
 pub returns-clause-becomes : goal.returns-clause-becomes
 returns-clause-becomes c =
-    take_right_becomes c.args.blocks.now.items c.shift_left.new.blocks.items c.args.skip ((c.args.skip + c.args.len - 1) / 128) ((c.args.skip + c.args.place) / 128) c.args.place c.index_mut.result.now c.remove-key.new.self
-    (omega (arith, c.requires.laid.keys)) (omega (arith, c.requires.laid.keys)) (omega arith) (omega arith) (rw (sym c.requires.laid.keys) c.requires.laid.filled) (omega (arith, c.requires.laid.keys, c.requires.laid.places)) (omega (arith, c.requires.laid.keys, c.requires.within))
-    c.index_mut.ensures.value (rw (sym c.begin_of.ensures) c.remove-key.ensures.keys) c.remove-key.ensures.width c.shift_left.ensures.shifts
+    take_right_becomes c.args.blocks.now.items c.shift_left.new.blocks.items c.args.skip
+    ((c.args.skip + c.args.len - 1) / 128) ((c.args.skip + c.args.place) / 128) c.args.place c.index_mut.result.now
+    c.remove-key.new.self
+    (omega (arith, c.requires.laid.keys)) (omega (arith, c.requires.laid.keys)) (omega arith) (omega arith)
+    (rw (sym c.requires.laid.keys) c.requires.laid.filled)
+    (omega (arith, c.requires.laid.keys, c.requires.laid.places))
+    (omega (arith, c.requires.laid.keys, c.requires.within))
+    c.index_mut.ensures.value (rw (sym c.begin_of.ensures) c.remove-key.ensures.keys) c.remove-key.ensures.width
+    c.shift_left.ensures.shifts

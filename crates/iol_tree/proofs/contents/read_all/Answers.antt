@@ -6,5 +6,7 @@ use Rattle.iol_tree.proofs.contents.read_all.Goals as goal
 
 pub loop-place-preserved : goal.loop-place-preserved
 loop-place-preserved g c =
-    ap (λ (l : List (List ℕ)). map length l) (ap items_of c.in_ok-push.ensures.items ∙ map-append (λ v. v.items) c.loop-place.contents.items (c.in_ok-read_file.field-0 ∷ []))
-    ∙ lengths_more c.args.index.now.lengths c.loop-place.place (items_of c.loop-place.contents.items) c.in_ok-read_file.field-0.items c.loop-place.invariant c.in_ok-read_file.ensures
+    ap (λ (l : List (List ℕ)). map length l) (ap items_of c.in_ok-push.ensures.items
+    ∙ map-append (λ v. v.items) c.loop-place.contents.items (c.in_ok-read_file.field-0 ∷ []))
+    ∙ lengths_more c.args.index.now.lengths c.loop-place.place (items_of c.loop-place.contents.items)
+    c.in_ok-read_file.field-0.items c.loop-place.invariant c.in_ok-read_file.ensures

@@ -7,7 +7,8 @@ use Rattle.iol_tree.proofs.contents.store_of.Goals as goal
 pub loop-bytes-init : goal.loop-bytes-init
 loop-bytes-init c = record {
   few = search rules;
-  fills = subst (λ (s : List (List ℕ)). Fills (items_of c.args.contents.items) (items_of c.args.contents.items) s) (sym c.new-slots.ensures) (fills_none _);
+  fills = subst (λ (s : List (List ℕ)). Fills (items_of c.args.contents.items) (items_of c.args.contents.items) s)
+      (sym c.new-slots.ensures) (fills_none _);
 }
 
 pub loop-bytes-preserved : goal.loop-bytes-preserved
@@ -17,7 +18,8 @@ loop-bytes-preserved c =
     let was : c.loop-bytes.contents.items ≡ rest ++ bytes ∷ [] = search rules in
     let shorter = ap length was ∙ length-append rest (bytes ∷ []) in
     let lists = ap items_of was ∙ map-append (λ v. v.items) rest (bytes ∷ []) in
-    let fills = subst (λ (l : List (List ℕ)). Fills (items_of c.args.contents.items) l c.loop-bytes.slots) lists c.loop-bytes.invariant.fills in
+    let fills = subst (λ (l : List (List ℕ)). Fills (items_of c.args.contents.items) l c.loop-bytes.slots) lists
+    c.loop-bytes.invariant.fills in
     record {
       few = omega (arith, shorter, c.loop-bytes.invariant.few);
       fills = one_filled _ (items_of rest) c.loop-bytes.slots c.append.new.self bytes.items _ fills
@@ -29,5 +31,6 @@ pub returns-clause-bytes : goal.returns-clause-bytes
 returns-clause-bytes c =
     let left = c.loop-bytes.contents.items in
     rw c.new-2.ensures.slots
-    (all_filled _ (items_of left) c.loop-bytes.slots (omega (arith, c.in_default.ensures.cases.0, c.loop-bytes.contents.ok.0, length-map left (λ v. v.items)))
+    (all_filled _ (items_of left) c.loop-bytes.slots
+    (omega (arith, c.in_default.ensures.cases.0, c.loop-bytes.contents.ok.0, length-map left (λ v. v.items)))
     c.loop-bytes.invariant.fills)

@@ -6,6 +6,12 @@ use Rattle.iolite.proofs.commands.read_command.Goals as goal
 
 pub returns-in-len4 : goal.returns-in-len4
 returns-in-len4 c =
-    let is = four c.args.words.now _ _ _ _ c.in-len4.len_at_least c.in-len4.len_below c.name-item-then-words-lt5.is c.port-item.is c.root-item-then-words-lt5.is c.count-item.is in
+    let is = four c.args.words.now _ _ _ _ c.in-len4.len_at_least c.in-len4.len_below c.name-item-then-words-lt5.is
+    c.port-item.is c.root-item-then-words-lt5.is c.count-item.is in
     subst (λ ws. Reads (IsCommand (map string_bytes ws)) c.read_serve.result) (sym is)
-    (rw (c.as_str-in-len4.ensures.value, c.as_str-in-len4-2.ensures.value, c.as_str-in-len4-3.ensures.value, c.as_str-in-len4-4.ensures.value) at c.read_serve.ensures)
+    (rw (
+      c.as_str-in-len4.ensures.value,
+      c.as_str-in-len4-2.ensures.value,
+      c.as_str-in-len4-3.ensures.value,
+      c.as_str-in-len4-4.ensures.value,
+    ) at c.read_serve.ensures)

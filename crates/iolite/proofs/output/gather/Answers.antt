@@ -12,8 +12,11 @@ returns-in_err-write_out-clause-some g c =
     let pending = c.args.pending.now.items in
     let text = c.args.text.now in
     let some = c.write_out.ensures.some in
-    let is : c.as_slice.result.now ≡ pending = c.as_slice.ensures.value ∙ c.if-keep.ensures.same refl in
-    (some.0 ++ text, WritesTo-before old mid pending text some.0 (subst (λ (bytes : List ℕ). WritesTo old mid bytes some.0) is some.1))
+    let is : c.as_slice.result.now ≡ pending = c.as_slice.ensures.value ∙ c.if-keep.ensures.same refl in (
+      some.0 ++ text,
+      WritesTo-before old mid pending text some.0
+          (subst (λ (bytes : List ℕ). WritesTo old mid bytes some.0) is some.1),
+    )
 
 pub returns-clause-some : goal.returns-clause-some
 returns-clause-some g c =
@@ -22,8 +25,11 @@ returns-clause-some g c =
     let new = g.W.Write.contents c.write_out-2.new.output in
     let pending = c.args.pending.now.items in
     let is : c.as_slice.result.now ≡ pending = c.as_slice.ensures.value ∙ c.if-keep.ensures.same refl in
-    let some = c.write_out-2.ensures.some in
-    (some.0, WritesTo-behind old mid new pending c.args.text.now some.0 (subst (Appends old mid) is c.in_ok-write_out.ensures.all) some.1)
+    let some = c.write_out-2.ensures.some in (
+      some.0,
+      WritesTo-behind old mid new pending c.args.text.now some.0
+          (subst (Appends old mid) is c.in_ok-write_out.ensures.all) some.1,
+    )
 
 pub returns-clause-ok : goal.returns-clause-ok
 returns-clause-ok g c =
@@ -34,4 +40,7 @@ returns-clause-ok g c =
     let text = c.args.text.now in
     let is : c.as_slice.result.now ≡ pending = c.as_slice.ensures.value ∙ c.if-keep.ensures.same refl in
     let first : Appends old mid pending = subst (Appends old mid) is c.in_ok-write_out.ensures.all in
-    rw (c.clear.ensures.items) (then_on_ok c.write_out-2.result (λ all. WritesTo-behind old mid new pending text [] first (WritesTo-all mid new text all)) c.write_out-2.ensures.all)
+    rw (c.clear.ensures.items)
+    (then_on_ok c.write_out-2.result
+    (λ all. WritesTo-behind old mid new pending text [] first (WritesTo-all mid new text all))
+    c.write_out-2.ensures.all)

@@ -9,6 +9,10 @@ loop-turn-preserved g c =
     let mid = g.W.Write.contents c.loop-turn.output in
     let new = g.W.Write.contents c.write.new.self in
     elim c.match-write.branch [
-      | in-Ok w ↦ rw w.rest-is (WritesTo-sliced old mid new c.args.bytes.now c.loop-turn.rest.now w.in-Ok.count _ (omega arith) c.loop-turn.invariant w.in-Ok.ensures.bytes)
-      | in-Err w ↦ rw w.rest-is (WritesTo-kept old mid new c.args.bytes.now c.loop-turn.rest.now c.loop-turn.invariant w.in-Err.ensures.bytes)
+      | in-Ok w ↦
+          rw w.rest-is (WritesTo-sliced old mid new c.args.bytes.now c.loop-turn.rest.now w.in-Ok.count _ (omega arith)
+          c.loop-turn.invariant w.in-Ok.ensures.bytes)
+      | in-Err w ↦
+          rw w.rest-is (WritesTo-kept old mid new c.args.bytes.now c.loop-turn.rest.now c.loop-turn.invariant
+          w.in-Err.ensures.bytes)
     ]

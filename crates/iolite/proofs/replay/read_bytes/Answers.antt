@@ -6,4 +6,5 @@ use Rattle.iolite.proofs.replay.read_bytes.Goals as goal
 pub returns-in-Ok-clause-bytes : goal.returns-in-Ok-clause-bytes
 returns-in-Ok-clause-bytes g c =
     let found = rw (c.take.ensures.inner) at c.in-Ok.ensures.bytes in
-    IsWholeOrTooLong-take (g.R.Read.remaining c.args.input.now) c.take.result.limit _ _ c.new-bytes.ensures.items (omega (arith, c.take.ensures.limit)) found
+    IsWholeOrTooLong-take (g.R.Read.remaining c.args.input.now) c.take.result.limit _ _ c.new-bytes.ensures.items
+    (omega (arith, c.take.ensures.limit)) found

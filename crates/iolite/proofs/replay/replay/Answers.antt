@@ -25,14 +25,20 @@ returns-in-Ok g c =
     record {
       untouched = e.untouched;
       ok = search (rules);
-      bad = bad_given c.replay_text.result given text c.in-Ok.ensures.whole (subst (λ (t : List ℕ). bad_text c.replay_text.result t) is e.bad);
+      bad =
+          bad_given c.replay_text.result given text c.in-Ok.ensures.whole
+          (subst (λ (t : List ℕ). bad_text c.replay_text.result t) is e.bad);
       begun = elim e.begun [
         | inl same ↦ inl same
-        | inr begun ↦ inr (of_given (λ (t : List ℕ). Begun t held holds) given text c.in-Ok.ensures.whole (subst (λ (t : List ℕ). Begun t held holds) is begun))
+        | inr begun ↦
+            inr (of_given (λ (t : List ℕ). Begun t held holds) given text c.in-Ok.ensures.whole
+            (subst (λ (t : List ℕ). Begun t held holds) is begun))
       ];
       whole = λ wants. elim (e.whole wants) [
         | inl same ↦ inl same
-        | inr begun ↦ inr (of_given (λ (t : List ℕ). BegunWhole t held holds) given text c.in-Ok.ensures.whole (subst (λ (t : List ℕ). BegunWhole t held holds) is begun))
+        | inr begun ↦
+            inr (of_given (λ (t : List ℕ). BegunWhole t held holds) given text c.in-Ok.ensures.whole
+            (subst (λ (t : List ℕ). BegunWhole t held holds) is begun))
       ];
       replayed = on_given c.replay_text.result (λ (t : List ℕ). Replayed t held holds) given text c.in-Ok.ensures.whole
           (subst (λ (t : List ℕ). OnOk c.replay_text.result (Replayed t held holds)) is e.replayed);

@@ -5,7 +5,12 @@ use Rattle.iolite.proofs.script.read_event_line.Goals as goal
 
 pub returns-in-Some : goal.returns-in-Some
 returns-in-Some c = record {
-  some = (event_of c.in-Some.event, event_here _ _ _ _ _ c.split_word.ensures.word c.split_word.ensures.rest c.in-Some.ensures.some, refl);
+  some = (
+    event_of c.in-Some.event,
+    event_here _ _ _ _ _ c.split_word.ensures.word c.split_word.ensures.rest
+        c.in-Some.ensures.some,
+    refl,
+  );
   can = c.in-Some.ensures.can;
   none = λ e. absurd (cc e);
 }
@@ -14,5 +19,7 @@ pub returns-in-None : goal.returns-in-None
 returns-in-None c = record {
   some = tt;
   can = tt;
-  none = λ none x asks. c.in-None.ensures.none refl asks.0 (event_there _ _ _ _ _ c.split_word.ensures.word c.split_word.ensures.rest asks.1);
+  none =
+      λ none x asks. c.in-None.ensures.none refl asks.0
+      (event_there _ _ _ _ _ c.split_word.ensures.word c.split_word.ensures.rest asks.1);
 }

@@ -20,8 +20,10 @@ if-ok (Ok x) p f = f x p
 if-ok (Err e) p f = tt
 
 -- what is hosted by harmless choices is right
-is-right : (law : HarmlessIsRight) (s : Site) (stored : List (List ℕ)) (xs : List Choice) (rs : List Reply) (turns : ℕ) (idle : Bool)
-    (after : Stage SystemState (Actor Worker)) → Hosts s (slots_of stored) xs rs turns idle (copied after) → AreHarmless s xs
+is-right : (law : HarmlessIsRight) (s : Site) (stored : List (List ℕ)) (xs : List Choice) (rs : List Reply) (turns : ℕ)
+    (idle : Bool)
+    (after : Stage SystemState (Actor Worker)) → Hosts s (slots_of stored) xs rs turns idle (copied after)
+    → AreHarmless s xs
     → IsRightRun s stored rs turns idle after
 is-right law s stored xs rs turns idle after hosts harmless = record {
   choices = xs;
@@ -33,7 +35,11 @@ is-right law s stored xs rs turns idle after hosts harmless = record {
 pub returns : goal.returns
 returns c = if-ok c.host.result c.host.ensures.hosts (λ h given.
     is-right c.harmless_is_right.ensures.right c.args.site.now c.args.slots
-    (choice.Outside (event.ConnNew c.new-pool.result) ∷ choice.Outside (event.Arrive c.new-conn.result c.from_vec-bytes.result) ∷ []) h.replies.items 65536 h.idle h.world
+    (choice.Outside (event.ConnNew c.new-pool.result)
+    ∷ choice.Outside (event.Arrive c.new-conn.result c.from_vec-bytes.result) ∷ []) h.replies.items 65536 h.idle
+    h.world
     (subst (λ (stored : List (List ℕ)). Hosts c.args.site.now (slots_of stored)
-    (choice.Outside (event.ConnNew c.new-pool.result) ∷ choice.Outside (event.Arrive c.new-conn.result c.from_vec-bytes.result) ∷ []) h.replies.items 65536 h.idle (copied h.world))
+    (choice.Outside (event.ConnNew c.new-pool.result)
+    ∷ choice.Outside (event.Arrive c.new-conn.result c.from_vec-bytes.result) ∷ []) h.replies.items 65536 h.idle
+    (copied h.world))
     c.new-store.ensures.slots (given c.new-store.ensures.honest)) (tt, (tt, tt)))

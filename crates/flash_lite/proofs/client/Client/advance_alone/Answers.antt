@@ -8,12 +8,18 @@ use Rattle.flash_lite.proofs.client.Client.advance_alone.Goals as goal
 
 pub returns-in-Asks : goal.returns-in-Asks
 returns-in-Asks c =
-    let y : Client = record { conn = c.advance.new.self; run = c.self.inside.run; script = c.self.inside.script.items } in
-    let onward = subst (λ (o : Onward). IsOnward c.args.fd c.self.inside.conn c.args.last.now (received c.args.parts) o c.advance.new.self) c.in-Asks.is c.in_ok-call.ensures.onward in
-    let goes = subst (λ (s : Client). Proceeds s.conn c.args.last.now (received c.args.parts) c.advance.new.self) c.self.view_is onward.0 in
+    let y : Client =
+    record { conn = c.advance.new.self; run = c.self.inside.run; script = c.self.inside.script.items } in
+    let onward =
+    subst (λ (o : Onward). IsOnward c.args.fd c.self.inside.conn c.args.last.now (received c.args.parts) o
+    c.advance.new.self) c.in-Asks.is c.in_ok-call.ensures.onward in
+    let goes = subst (λ (s : Client). Proceeds s.conn c.args.last.now (received c.args.parts) c.advance.new.self)
+    c.self.view_is onward.0 in
     record {
-      course = asks_alone c.args.scripts c.args.fd c.args.self.now y c.args.last.now (received c.args.parts) c.file_call.result c.requires goes
-          (ap (λ (s : Client). s.run) c.self.view_is ∙ c.requires) (ap (λ (s : Client). s.script) c.self.view_is) c.file_call.ensures;
+      course = asks_alone c.args.scripts c.args.fd c.args.self.now y c.args.last.now (received c.args.parts)
+          c.file_call.result c.requires goes
+          (ap (λ (s : Client). s.run) c.self.view_is ∙ c.requires) (ap (λ (s : Client). s.script) c.self.view_is)
+          c.file_call.ensures;
       err = tt;
       wants = tt;
     }

@@ -5,14 +5,16 @@ use Rattle.flash_lite.proofs.client.Client.advance_running.Goals as goal
 
 pub returns-then-is_later : goal.returns-then-is_later
 returns-then-is_later c = record {
-  course = run_stays c.args.worker c.args.self.now c.args.running c.args.last.now (received c.args.parts) c.requires.runs c.requires.goes.1 (sym c.is_later.ensures ∙ c.if-is_later.true);
+  course = run_stays c.args.worker c.args.self.now c.args.running c.args.last.now (received c.args.parts)
+      c.requires.runs c.requires.goes.1 (sym c.is_later.ensures ∙ c.if-is_later.true);
   err = tt;
   wants = tt;
 }
 
 pub returns-then-waits : goal.returns-then-waits
 returns-then-waits c = record {
-  course = run_waits c.args.worker c.args.self.now c.args.running c.run_after-next.result c.args.last.now (received c.args.parts) c.requires.runs c.requires.goes.1 c.run_after-next.ensures.after
+  course = run_waits c.args.worker c.args.self.now c.args.running c.run_after-next.result c.args.last.now
+      (received c.args.parts) c.requires.runs c.requires.goes.1 c.run_after-next.ensures.after
       (sym c.waits.ensures ∙ c.if-waits.true);
   err = tt;
   wants = tt;
@@ -20,7 +22,8 @@ returns-then-waits c = record {
 
 pub returns-in-Some : goal.returns-in-Some
 returns-in-Some c = record {
-  course = run_answers c.args.worker c.args.self.now c.args.running c.run_after-next.result c.in-Some.phase c.args.last.now (received c.args.parts) c.requires.runs c.requires.goes.1
+  course = run_answers c.args.worker c.args.self.now c.args.running c.run_after-next.result c.in-Some.phase
+      c.args.last.now (received c.args.parts) c.requires.runs c.requires.goes.1
       c.run_after-next.ensures.after c.run_after-next.ensures.small c.in-Some.ensures.phase c.in-Some.ensures.some;
   err = tt;
   wants = tt;
@@ -30,14 +33,22 @@ pub returns-in_err-course-in-Some-after_run : goal.returns-in_err-course-in-Some
 returns-in_err-course-in-Some-after_run c = record {
   course = search rules;
   err = search rules;
-  wants = on_err c.from_residual.result _ (run_wants_on c.args.scripts c.args.worker c.args.self.now c.args.running c.run_after-next.result c.in-Some-after_run.phase c.args.last.now (received c.args.parts) c.requires.runs c.requires.goes.1
-      (sym c.is_later.ensures ∙ c.if-is_later.false) c.run_after-next.ensures.after c.in-Some-after_run.ensures.over c.in-Some-after_run.ensures.after c.in_err-course-in-Some-after_run.ensures.wants);
+  wants =
+      on_err c.from_residual.result _ (run_wants_on c.args.scripts c.args.worker c.args.self.now c.args.running
+      c.run_after-next.result c.in-Some-after_run.phase c.args.last.now (received c.args.parts) c.requires.runs
+      c.requires.goes.1
+      (sym c.is_later.ensures ∙ c.if-is_later.false) c.run_after-next.ensures.after c.in-Some-after_run.ensures.over
+      c.in-Some-after_run.ensures.after c.in_err-course-in-Some-after_run.ensures.wants);
 }
 
 pub returns-in_err-call-in-None : goal.returns-in_err-call-in-None
 returns-in_err-call-in-None c = record {
   course = search rules;
   err = search rules;
-  wants = on_err c.from_residual-in_err-call-in-None.result _ (goes_wants c.args.scripts c.args.worker c.args.self.now c.args.running c.run_after-next.result c.args.last.now (received c.args.parts) c.requires.runs c.requires.goes.1
-      (sym c.is_later.ensures ∙ c.if-is_later.false) c.run_after-next.ensures.after (sym c.waits.ensures ∙ c.if-waits.false) c.in_default.ensures.none c.in-None.ensures.none c.in_err-call-in-None.ensures.wants);
+  wants =
+      on_err c.from_residual-in_err-call-in-None.result _
+      (goes_wants c.args.scripts c.args.worker c.args.self.now c.args.running c.run_after-next.result c.args.last.now
+      (received c.args.parts) c.requires.runs c.requires.goes.1
+      (sym c.is_later.ensures ∙ c.if-is_later.false) c.run_after-next.ensures.after (sym c.waits.ensures
+      ∙ c.if-waits.false) c.in_default.ensures.none c.in-None.ensures.none c.in_err-call-in-None.ensures.wants);
 }

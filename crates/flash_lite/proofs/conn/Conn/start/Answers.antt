@@ -12,7 +12,10 @@ pub returns-in_ok-asked-in-Head-clause-starts : goal.returns-in_ok-asked-in-Head
 returns-in_ok-asked-in-Head-clause-starts c =
     let kept = c.as_slice.ensures.value ∙ ap (λ (x : Conn). x.kept) c.self.view_is in
     let again = c.deref.ensures.value ∙ ap (λ (x : Conn). x.kept) c.self.view_is in
-    IfOk-weaker c.begin-in-Head.result _ _ (λ call begun. starts_head (record c.args.self.now { phase = Rests }) c.begin-in-Head.new.self c.in-Head.skip c.in-Head.len (answer c.in_ok-asked-in-Head.asked)
+    IfOk-weaker c.begin-in-Head.result _ _
+    (λ call begun. starts_head (record c.args.self.now { phase = Rests }) c.begin-in-Head.new.self c.in-Head.skip
+    c.in-Head.len (answer c.in_ok-asked-in-Head.asked)
     (ap (λ (l : List ℕ). window_in l) (sym kept) ∙ (sym c.window_of.ensures.window ∙ c.in-Head.is))
-    (subst (λ (l : List ℕ). IsAnswerTo (slice_range l c.in-Head.skip (c.in-Head.skip + c.in-Head.len)) (answer c.in_ok-asked-in-Head.asked)) again c.in_ok-asked-in-Head.ensures.answer)
+    (subst (λ (l : List ℕ). IsAnswerTo (slice_range l c.in-Head.skip (c.in-Head.skip + c.in-Head.len))
+    (answer c.in_ok-asked-in-Head.asked)) again c.in_ok-asked-in-Head.ensures.answer)
     begun) c.begin-in-Head.ensures.begun

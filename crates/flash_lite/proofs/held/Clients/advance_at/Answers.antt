@@ -8,10 +8,17 @@ use Rattle.flash_lite.proofs.held.Clients.advance_at.Goals as goal
 pub note-requires : goal.note-requires
 note-requires c =
     let s = c.self.inside in
-    let course : CourseAt c.args.scripts c.args.worker c.self.inside.places.items c.args.fd c.args.last.now (received c.args.parts) c.in-Some.course c.advance_at.new.clients.items = search rules in
-    let w = is_set s.places.items c.as_slice-in-Some.result.now c.args.fd (Some course.now) course.within (c.as_slice-in-Some.ensures.value ∙ course.after_is) in
-    let long : length c.as_slice-in-Some.result.now ≡ length s.places.items = ap (λ (l : List (Option Client)). length l) c.as_slice-in-Some.ensures.value ∙ c.advance_at.ensures.length in
+    let course : CourseAt c.args.scripts c.args.worker c.self.inside.places.items c.args.fd c.args.last.now
+    (received c.args.parts) c.in-Some.course c.advance_at.new.clients.items = search rules in
+    let w = is_set s.places.items c.as_slice-in-Some.result.now c.args.fd (Some course.now) course.within
+    (c.as_slice-in-Some.ensures.value ∙ course.after_is) in
+    let long : length c.as_slice-in-Some.result.now ≡ length s.places.items =
+    ap (λ (l : List (Option Client)). length l) c.as_slice-in-Some.ensures.value ∙ c.advance_at.ensures.length in
     record {
-      held = can_note w true s.held.items (vec_capacity s.held) c.as_slice.result.now c.noted-was.result.0 c.self.invariant.1.held_is (omega (arith, c.self.invariant.1.holds, long)) c.as_slice.ensures.value c.noted-was.ensures.held;
-      going = can_note w false s.going.items (vec_capacity s.going) c.as_slice.result.now c.noted-was.result.1 c.self.invariant.1.going_is (omega (arith, c.self.invariant.1.fits, long)) c.as_slice.ensures.value c.noted-was.ensures.going;
+      held = can_note w true s.held.items (vec_capacity s.held) c.as_slice.result.now c.noted-was.result.0
+          c.self.invariant.1.held_is (omega (arith, c.self.invariant.1.holds, long)) c.as_slice.ensures.value
+          c.noted-was.ensures.held;
+      going = can_note w false s.going.items (vec_capacity s.going) c.as_slice.result.now c.noted-was.result.1
+          c.self.invariant.1.going_is (omega (arith, c.self.invariant.1.fits, long)) c.as_slice.ensures.value
+          c.noted-was.ensures.going;
     }

@@ -6,4 +6,6 @@ use Rattle.flash_lite.proofs.held.Clients.count.Goals as goal
 pub returns : goal.returns
 returns c =
     let many : c.len.result ≡ length c.self.inside.held.items = search rules in
-    many ∙ (ap (λ (l : List ℕ). length l) c.self.invariant.1.held_is ∙ (as_held c.self.inside.places.items ∙ ap taken c.self.view_is))
+    many
+    ∙ (ap (λ (l : List ℕ). length l) c.self.invariant.1.held_is
+    ∙ (as_held c.self.inside.places.items ∙ ap taken c.self.view_is))

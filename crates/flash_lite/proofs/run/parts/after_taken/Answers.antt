@@ -6,4 +6,6 @@ use Rattle.flash_lite.proofs.run.parts.after_taken.Goals as goal
 
 pub returns-in-Done-clause-after_reply : goal.returns-in-Done-clause-after_reply
 returns-in-Done-clause-after_reply c =
-    c.proceeds.ensures.goes (serve (wanted c.args.request.now)) refl ∙ ap (λ (r : Reply). after_taken (serve (wanted c.args.request.now)) c.args.agg c.args.taken c.args.more r) (sym c.in-Done.is)
+    c.proceeds.ensures.goes (serve (wanted c.args.request.now)) refl
+    ∙ ap (λ (r : Reply). after_taken (serve (wanted c.args.request.now)) c.args.agg c.args.taken c.args.more r)
+    (sym c.in-Done.is)

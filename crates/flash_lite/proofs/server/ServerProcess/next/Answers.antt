@@ -11,25 +11,37 @@ use Rattle.flash_lite.proofs.server.ServerProcess.next.Goals as goal
 
 pub invariant_of-self-2 : goal.invariant_of-self-2
 invariant_of-self-2 c =
-    kept_turn c.self.inside.table c.advance.new.self c.args.last.now (readable c.args.byte_view.now) (received c.readable_by-parts.result) c.in_ok-turn.turn c.readable_by-parts.ensures c.self.invariant c.in_ok-turn.ensures.turn
+    kept_turn c.self.inside.table c.advance.new.self c.args.last.now (readable c.args.byte_view.now)
+    (received c.readable_by-parts.result) c.in_ok-turn.turn c.readable_by-parts.ensures c.self.invariant
+    c.in_ok-turn.ensures.turn
 
 pub returns-clause-quiet : goal.returns-clause-quiet
-returns-clause-quiet c = quiet_turn c.self.inside.table c.advance.new.self c.args.last.now (received c.readable_by-parts.result) c.in_ok-turn.turn c.in_ok-turn.ensures.turn
+returns-clause-quiet c =
+    quiet_turn c.self.inside.table c.advance.new.self c.args.last.now (received c.readable_by-parts.result)
+    c.in_ok-turn.turn c.in_ok-turn.ensures.turn
 
 pub returns-clause-offers : goal.returns-clause-offers
 returns-clause-offers c =
-    offers_next c.clients_law.ensures c.self.inside.table.workers (filed_by c.self.inside.table c.args.last.now (received c.readable_by-parts.result)) (serving c.advance.new.self) c.in_ok-turn.turn
+    offers_next c.clients_law.ensures c.self.inside.table.workers
+    (filed_by c.self.inside.table c.args.last.now (received c.readable_by-parts.result))
+    (serving c.advance.new.self) c.in_ok-turn.turn
     c.in_ok-turn.ensures.turn.hired c.in_ok-turn.ensures.turn.picks
 
 pub returns-clause-few : goal.returns-clause-few
 returns-clause-few c =
-    (kept_turn c.self.inside.table c.advance.new.self c.args.last.now (readable c.args.byte_view.now) (received c.readable_by-parts.result) c.in_ok-turn.turn c.readable_by-parts.ensures c.self.invariant c.in_ok-turn.ensures.turn).few
+    (kept_turn c.self.inside.table c.advance.new.self c.args.last.now (readable c.args.byte_view.now)
+    (received c.readable_by-parts.result) c.in_ok-turn.turn c.readable_by-parts.ensures c.self.invariant
+    c.in_ok-turn.ensures.turn).few
 
 pub returns-clause-shared : goal.returns-clause-shared
 returns-clause-shared c =
-    (kept_turn c.self.inside.table c.advance.new.self c.args.last.now (readable c.args.byte_view.now) (received c.readable_by-parts.result) c.in_ok-turn.turn c.readable_by-parts.ensures c.self.invariant c.in_ok-turn.ensures.turn).shared
+    (kept_turn c.self.inside.table c.advance.new.self c.args.last.now (readable c.args.byte_view.now)
+    (received c.readable_by-parts.result) c.in_ok-turn.turn c.readable_by-parts.ensures c.self.invariant
+    c.in_ok-turn.ensures.turn).shared
 
 pub returns-clause-none : goal.returns-clause-none
 returns-clause-none c = λ zero.
-    (kept_turn c.self.inside.table c.advance.new.self c.args.last.now (readable c.args.byte_view.now) (received c.readable_by-parts.result) c.in_ok-turn.turn c.readable_by-parts.ensures c.self.invariant c.in_ok-turn.ensures.turn).none
+    (kept_turn c.self.inside.table c.advance.new.self c.args.last.now (readable c.args.byte_view.now)
+    (received c.readable_by-parts.result) c.in_ok-turn.turn c.readable_by-parts.ensures c.self.invariant
+    c.in_ok-turn.ensures.turn).none
     (c.in_ok-turn.ensures.turn.hired ∙ (ap (λ (s : Server). s.workers) c.self.view_is ∙ zero))

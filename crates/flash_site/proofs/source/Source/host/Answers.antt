@@ -3,4 +3,5 @@ use Rattle.flash_site.proofs.Begins.{begins_site}
 use Rattle.flash_site.proofs.source.Source.host.Goals as goal
 
 pub invariant_of-result : goal.invariant_of-result
-invariant_of-result g c = record { begins = begins_site c.args.store.names (disk_of c.args.store) c.in-Ok.world c.in-Ok.ensures }
+invariant_of-result g c =
+    record { begins = begins_site c.args.store.names (disk_of c.args.store) c.in-Ok.world c.in-Ok.ensures }

@@ -13,4 +13,6 @@ returns c =
     let long : n ≡ byte_len xs = c.self.invariant ∙ ap byte_len c.self.view_is in
     let all = take_all (n - 0) (places xs) (omega (arith, long)) in
     let whole = ap bufs_of (meeting-all 0 n xs refl (omega (arith, long))) in
-    subst (λ ps. SharesPlaces c.args.store.now c.cut.new.store ps (bufs_of xs) c.cut.result) all (subst (λ bs. SharesPlaces c.args.store.now c.cut.new.store (slice_range (places xs) 0 n) bs c.cut.result) whole c.cut.ensures)
+    subst (λ ps. SharesPlaces c.args.store.now c.cut.new.store ps (bufs_of xs) c.cut.result) all
+    (subst (λ bs. SharesPlaces c.args.store.now c.cut.new.store (slice_range (places xs) 0 n) bs c.cut.result) whole
+    c.cut.ensures)

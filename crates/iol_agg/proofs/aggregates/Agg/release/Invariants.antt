@@ -10,7 +10,8 @@ invariant-loop-slice l = record {
   moves : Moves l.fn.store l.store (bufs_of l.fn.self) (bufs_of l.slices.items);
   lists : SameLists l.fn.store l.store;
   frees : FreesOnly l.fn.store l.store;
-  reclaims : AllReadable l.fn.store l.fn.self → AllReclaimed l.fn.store → AllReadable l.fn.store l.slices.items × AllReclaimed l.store;
+  reclaims : AllReadable l.fn.store l.fn.self → AllReclaimed l.fn.store → AllReadable l.fn.store l.slices.items
+      × AllReclaimed l.store;
 }
 
 abbrev pub decreases-loop-slice : goal.decreases-loop-slice

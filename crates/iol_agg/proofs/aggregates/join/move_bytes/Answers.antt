@@ -3,7 +3,8 @@ use Rattle.iol_hold.specs.Places.{places}
 use Rattle.iol_hold.specs.StoreState.{Buffer}
 use Rattle.iol_hold.specs.Texts.{bufs_of}
 use Rattle.iol_hold.specs.declared.slices.Slice.{Slice}
-use Rattle.iol_agg.proofs.Division.{bufs-given, bufs-left, bufs-none, covers_at, places-given, places-left, shares-given}
+use Rattle.iol_agg.proofs.Division.{bufs-given, bufs-left, bufs-none, covers_at, places-given, places-left}
+use Rattle.iol_agg.proofs.Division.{shares-given}
 use Rattle.iol_agg.proofs.aggregates.join.move_bytes.Goals as goal
 
 pub divide-part-requires : goal.divide-part-requires
@@ -12,7 +13,13 @@ divide-part-requires c =
     let x = c.index_mut.result.now in
     let first : x ≡ get_or xs 0 x = c.index_mut.ensures.value in
     let m = c.requires.moves in
-    record { some = omega arith; within = omega (arith, m.inside x (omega arith), ap (λ (y : Slice). y.len) first); live = covers_at xs 0 x (m.there (omega arith)) first m.held.covered; few = omega (arith, m.held.countable.each x.hold.buf) }
+    record {
+      some = omega arith;
+      within = omega (arith, m.inside x (omega arith), ap (λ (y : Slice). y.len) first);
+      live = covers_at xs 0 x (m.there (omega arith)) first m.held.covered;
+      few =
+          omega (arith, m.held.countable.each x.hold.buf);
+    }
 
 pub returns-then-n-eq0 : goal.returns-then-n-eq0
 returns-then-n-eq0 c =

@@ -1,4 +1,5 @@
-use Rattle.std.proofs.Common.{◌≡◌, ℕ, ◌+◌, ◌-◌, ◌<◌, ◌++◌, List, length, take, drop, get_or, slice_range, subst, sym, ap, ◌∙◌, arith, rules}
+use Rattle.std.proofs.Common.{◌≡◌, ℕ, ◌+◌, ◌-◌, ◌<◌, ◌++◌, List, length, take, drop, get_or, slice_range, subst, sym}
+use Rattle.std.proofs.Common.{ap, ◌∙◌, arith, rules}
 use Rattle.std.proofs.lemmas.Grind.{common_steps}
 use Rattle.std.proofs.lemmas.List.{take_rest, drop_all, length-drop, get_or-drop}
 use Rattle.iol_hold.specs.Places.{places}
@@ -17,21 +18,28 @@ abbrev later : List Slice → ℕ → List Slice
 later xs k = slice_range xs k (length xs)
 
 -- what is poured of the first i of them is of all
-poured : {s t : Stored} {before after : List Slice} (xs : List Slice) (k i : ℕ) → Pours s t before after (bufs_of (take i (later xs k))) → Pours s t before after (bufs_of xs)
-poured {s} {t} {before} {after} xs k i m = pours_rest xs k (subst (λ l. Pours s t before after (bufs_of l)) (take_rest xs k) (pours_within (later xs k) i m))
+poured : {s t : Stored} {before after : List Slice} (xs : List Slice) (k i : ℕ)
+    → Pours s t before after (bufs_of (take i (later xs k))) → Pours s t before after (bufs_of xs)
+poured {s} {t} {before} {after} xs k i m =
+    pours_rest xs k (subst (λ l. Pours s t before after (bufs_of l)) (take_rest xs k) (pours_within (later xs k) i m))
 
-shareable_later : {s : Stored} (xs : List Slice) (k : ℕ) → AreShareable s (bufs_of xs) → AreShareable s (bufs_of (later xs k))
-shareable_later {s} xs k held = subst (λ l. AreShareable s (bufs_of l)) (sym (take_rest xs k)) (shareable_drop xs k held)
+shareable_later : {s : Stored} (xs : List Slice) (k : ℕ) → AreShareable s (bufs_of xs)
+    → AreShareable s (bufs_of (later xs k))
+shareable_later {s} xs k held =
+    subst (λ l. AreShareable s (bufs_of l)) (sym (take_rest xs k)) (shareable_drop xs k held)
 
 -- the next slice ends after what is passed over
-ends_after : (xs : List Slice) (i skip : ℕ) (x : Slice) → x ≡ get_or xs i x → ((d : Slice) → 0 < skip → skip < (get_or xs i d).len) → skip < x.len
+ends_after : (xs : List Slice) (i skip : ℕ) (x : Slice) → x ≡ get_or xs i x
+    → ((d : Slice) → 0 < skip → skip < (get_or xs i d).len) → skip < x.len
 ends_after xs i skip x is inside = grind (arith, inside x, ap (λ (w : Slice). w.len) is, x.some)
 
 -- of the first of them, as of the k-th
-inside_later : (xs : List Slice) (k r : ℕ) → ((d : Slice) → 0 < r → r < (get_or xs k d).len) → (d : Slice) → 0 < r → r < (get_or (later xs k) 0 d).len
+inside_later : (xs : List Slice) (k r : ℕ) → ((d : Slice) → 0 < r → r < (get_or xs k d).len) → (d : Slice) → 0 < r
+    → r < (get_or (later xs k) 0 d).len
 inside_later xs k r inside d some =
     let at : k + 0 ≡ k = omega arith in
-    let first : get_or (later xs k) 0 d ≡ get_or xs k d = ap (λ l. get_or l 0 d) (take_rest xs k) ∙ get_or-drop k xs 0 d ∙ ap (λ j. get_or xs j d) at in
+    let first : get_or (later xs k) 0 d ≡ get_or xs k d = ap (λ l. get_or l 0 d) (take_rest xs k) ∙ get_or-drop k xs 0 d
+    ∙ ap (λ j. get_or xs j d) at in
     omega (arith, inside d some, ap (λ (w : Slice). w.len) first)
 
 pub loop-slice-init : goal.loop-slice-init
@@ -42,9 +50,12 @@ loop-slice-init c =
     let r = c.place_of-whole.result.1 in
     let n = c.args.to - c.args.from in
     record {
-      so_far = ap (λ l. places out ++ take n (drop r (places l))) (take_rest xs k) ∙ ap (λ l. places out ++ take n l) (drop-halves xs k r c.args.from c.place_of-whole.ensures.at);
+      so_far = ap (λ l. places out ++ take n (drop r (places l))) (take_rest xs k)
+          ∙ ap (λ l. places out ++ take n l) (drop-halves xs k r c.args.from c.place_of-whole.ensures.at);
       pours = search rules;
-      bufs = ap (λ l. bufs_of out ++ bufs_of (meeting r (r + n) l)) (take_rest xs k) ∙ ap (λ l. bufs_of out ++ bufs_of l) (meeting-drop xs k r n c.args.from c.args.to c.place_of-whole.ensures.at (omega arith));
+      bufs = ap (λ l. bufs_of out ++ bufs_of (meeting r (r + n) l)) (take_rest xs k)
+          ∙ ap (λ l. bufs_of out ++ bufs_of l) (meeting-drop xs k r n c.args.from c.args.to c.place_of-whole.ensures.at
+          (omega arith));
       inside = inside_later xs k r c.place_of-whole.ensures.inside;
       capacity = search rules;
       short = omega (arith, ap length (take_rest xs k), length-drop k xs);
@@ -78,7 +89,9 @@ returns c =
     record {
       places = grind (arith, common_steps, m.so_far);
       pours = poured c.args.slices.now c.place_of-whole.result.0 i m.pours;
-      bufs = meeting_done out (drop i xs) skip left _ (ap (meeting skip (skip + left)) none ∙ meeting-nil skip (skip + left)) m.bufs;
+      bufs =
+          meeting_done out (drop i xs) skip left _ (ap (meeting skip (skip + left)) none
+          ∙ meeting-nil skip (skip + left)) m.bufs;
       capacity = m.capacity;
       len = omega (arith, m.short);
     }
@@ -86,12 +99,14 @@ returns c =
 pub share-requires-clause-live : goal.share-requires-clause-live
 share-requires-clause-live c =
     let held = shareable_later c.args.slices.now c.place_of-whole.result.0 c.requires.held in
-    next_live (later c.args.slices.now c.place_of-whole.result.0) c.loop-slice.slice-index c.slice-item.result (omega arith) c.slice-item.is held.covered c.loop-slice.invariant.pours
+    next_live (later c.args.slices.now c.place_of-whole.result.0) c.loop-slice.slice-index c.slice-item.result
+    (omega arith) c.slice-item.is held.covered c.loop-slice.invariant.pours
 
 pub share-requires-clause-few : goal.share-requires-clause-few
 share-requires-clause-few c =
     let held = shareable_later c.args.slices.now c.place_of-whole.result.0 c.requires.held in
-    next_few (later c.args.slices.now c.place_of-whole.result.0) c.loop-slice.slice-index c.slice-item.result (omega arith) c.slice-item.is held.countable c.loop-slice.invariant.pours
+    next_few (later c.args.slices.now c.place_of-whole.result.0) c.loop-slice.slice-index c.slice-item.result
+    (omega arith) c.slice-item.is held.countable c.loop-slice.invariant.pours
 
 pub loop-slice-preserved : goal.loop-slice-preserved
 loop-slice-preserved c =
@@ -109,9 +124,16 @@ loop-slice-preserved c =
     let ends = ends_after xs i skip x is m.inside in
     let same : part.hold.buf ≡ x.hold.buf = ap (λ (h : Buffer). h.buf) (c.cut.ensures.hold ∙ c.share.ensures.hold) in
     record {
-      so_far = rw items (cut_more out xs i skip left taken x c.share.result part _ (omega arith) is ends (omega arith) c.share.ensures.places c.cut.ensures.places m.so_far);
-      pours = rw items (pours_more xs i x (omega arith) is m.pours (pours_one c.loop-slice.store c.share.new.store out part x.hold.buf same c.share.ensures.shares));
-      bufs = rw items (meeting_more out xs i skip left taken x part _ (omega arith) is (omega arith) ends (omega arith) same m.bufs);
+      so_far =
+          rw items (cut_more out xs i skip left taken x c.share.result part _ (omega arith) is ends (omega arith)
+          c.share.ensures.places c.cut.ensures.places m.so_far);
+      pours =
+          rw items
+          (pours_more xs i x (omega arith) is m.pours
+          (pours_one c.loop-slice.store c.share.new.store out part x.hold.buf same c.share.ensures.shares));
+      bufs =
+          rw items (meeting_more out xs i skip left taken x part _ (omega arith) is (omega arith) ends (omega arith)
+          same m.bufs);
       inside = λ d some. absurd (omega arith);
       capacity = c.push_reserved.ensures.capacity ∙ m.capacity;
       short = omega (arith, ends, m.short);

@@ -5,8 +5,10 @@ use Rattle.iol_agg.proofs.parts.PartsIterator.next.Goals as goal
 
 pub bytes-requires : goal.bytes-requires
 bytes-requires c =
-    readable_first c.in_ok-first.first.now c.in_ok-first.rest.now (subst (AllReadable c.self.inside.store.now) c.in_ok-first.ensures.cases.0 c.self.invariant)
+    readable_first c.in_ok-first.first.now c.in_ok-first.rest.now
+    (subst (AllReadable c.self.inside.store.now) c.in_ok-first.ensures.cases.0 c.self.invariant)
 
 pub invariant_of-self : goal.invariant_of-self
 invariant_of-self c =
-    readable_later c.in_ok-first.first.now c.in_ok-first.rest.now (subst (AllReadable c.self.inside.store.now) c.in_ok-first.ensures.cases.0 c.self.invariant)
+    readable_later c.in_ok-first.first.now c.in_ok-first.rest.now
+    (subst (AllReadable c.self.inside.store.now) c.in_ok-first.ensures.cases.0 c.self.invariant)

@@ -5,4 +5,5 @@ use Rattle.iol_api.proofs.Shapes.{reply_of}
 use Rattle.iol_api.proofs.domain.Domain.agg_make.Goals as goal
 
 pub agg-requires : goal.agg-requires
-agg-requires g c = reply_of reply.Agg (λ s. calls.agg_make s c.args.self.now.by c.args.bytes.now) c.make_agg.ensures.beside
+agg-requires g c =
+    reply_of reply.Agg (λ s. calls.agg_make s c.args.self.now.by c.args.bytes.now) c.make_agg.ensures.beside

@@ -5,4 +5,5 @@ use Rattle.iol_api.proofs.Shapes.{reply_of}
 use Rattle.iol_api.proofs.domain.Domain.agg_split.Goals as goal
 
 pub aggs-requires : goal.aggs-requires
-aggs-requires g c = reply_of spec.aggs (λ s. calls.agg_split s c.args.self.now.by c.args.agg c.args.at) c.call.ensures.call.beside
+aggs-requires g c =
+    reply_of spec.aggs (λ s. calls.agg_split s c.args.self.now.by c.args.agg c.args.at) c.call.ensures.call.beside

@@ -6,4 +6,7 @@ use Rattle.iol_api.specs.Typed.{Answers}
 use Rattle.iol_api.proofs.domain.Domain.file_new.Goals as goal
 
 pub returns : goal.returns
-returns g c = inl (subst (λ (b : List ℕ). Answers reply.File c.args.self.now (call.FileNew b c.args.pool) c.new_file.result c.new_file.new.self) c.in_ok-name.ensures c.new_file.ensures)
+returns g c =
+    inl
+    (subst (λ (b : List ℕ). Answers reply.File c.args.self.now (call.FileNew b c.args.pool) c.new_file.result
+    c.new_file.new.self) c.in_ok-name.ensures c.new_file.ensures)

@@ -6,4 +6,7 @@ use Rattle.iol_api.specs.Typed.{Answers}
 use Rattle.iol_api.proofs.domain.Domain.open_file.Goals as goal
 
 pub returns : goal.returns
-returns g c = inl (subst (λ (b : List ℕ). Answers reply.Fd c.args.self.now (call.OpenFile b c.args.mode) c.open_named.result c.open_named.new.self) c.in_ok-name.ensures c.open_named.ensures)
+returns g c =
+    inl
+    (subst (λ (b : List ℕ). Answers reply.Fd c.args.self.now (call.OpenFile b c.args.mode) c.open_named.result
+    c.open_named.new.self) c.in_ok-name.ensures c.open_named.ensures)

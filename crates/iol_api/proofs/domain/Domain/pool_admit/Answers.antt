@@ -5,4 +5,5 @@ use Rattle.iol_api.proofs.Shapes.{reply_of}
 use Rattle.iol_api.proofs.domain.Domain.pool_admit.Goals as goal
 
 pub done-requires : goal.done-requires
-done-requires g c = reply_of spec.done (λ s. calls.pool_admit s c.args.self.now.by c.args.pool c.args.domain) c.call.ensures.call.beside
+done-requires g c =
+    reply_of spec.done (λ s. calls.pool_admit s c.args.self.now.by c.args.pool c.args.domain) c.call.ensures.call.beside

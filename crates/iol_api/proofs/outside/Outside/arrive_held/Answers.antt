@@ -5,4 +5,5 @@ use Rattle.iol_api.proofs.Shapes.{reply_of}
 use Rattle.iol_api.proofs.outside.Outside.arrive_held.Goals as goal
 
 pub count-requires : goal.count-requires
-count-requires g c = reply_of reply.Count (λ s. calls.arrive s c.args.conn c.args.bytes) c.event.ensures.step.step.beside
+count-requires g c =
+    reply_of reply.Count (λ s. calls.arrive s c.args.conn c.args.bytes) c.event.ensures.step.step.beside

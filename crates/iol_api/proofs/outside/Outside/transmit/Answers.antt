@@ -5,4 +5,5 @@ use Rattle.iol_api.proofs.Shapes.{reply_of}
 use Rattle.iol_api.proofs.outside.Outside.transmit.Goals as goal
 
 pub segment-requires : goal.segment-requires
-segment-requires g c = reply_of spec.segment (λ s. calls.transmit s c.args.conn c.args.max) c.event.ensures.step.step.beside
+segment-requires g c =
+    reply_of spec.segment (λ s. calls.transmit s c.args.conn c.args.max) c.event.ensures.step.step.beside

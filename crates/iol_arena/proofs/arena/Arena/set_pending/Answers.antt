@@ -29,7 +29,8 @@ set_run-requires c =
     let runs = sound_runs c.self.invariant.sound c.self.view_is in
     let small : c.args.self.now.limit < 2 ^ 32 = omega (arith, ap (λ s. s.limit) c.self.view_is) in
     subst (λ k. CanMark es p.first p.count k 0) (sym c.reserved_kind.ensures)
-    (can_mark es p.first p.count (reserved_kind (not b)) (reserved_kind b) 0 c.args.self.now.limit runs c.requires.within c.requires.each c.requires.below (no_tail (not b)) (no_head b) small (omega arith))
+    (can_mark es p.first p.count (reserved_kind (not b)) (reserved_kind b) 0 c.args.self.now.limit runs
+    c.requires.within c.requires.each c.requires.below (no_tail (not b)) (no_head b) small (omega arith))
 
 pub returns : goal.returns
 returns c =
@@ -41,6 +42,9 @@ returns c =
     let is = c.set_run.ensures ∙ ap (λ k. with_marked s p.first p.count k 0) c.reserved_kind.ensures in
     record {
       arena = is;
-      grows = subst (λ x. Grows s x) (sym is) (marks_grow s p.first p.count was now 0 c.requires.within c.requires.each (bare (not b)) (bare b) (no_head b));
-      spares = marks_spare s c.set_run.new.self p.first p.count was now 0 (ap (λ (x : State). x.entries) is) c.requires.within c.requires.each (bare (not b)) (bare b);
+      grows =
+          subst (λ x. Grows s x) (sym is) (marks_grow s p.first p.count was now 0 c.requires.within c.requires.each
+          (bare (not b)) (bare b) (no_head b));
+      spares = marks_spare s c.set_run.new.self p.first p.count was now 0 (ap (λ (x : State). x.entries) is)
+          c.requires.within c.requires.each (bare (not b)) (bare b);
     }

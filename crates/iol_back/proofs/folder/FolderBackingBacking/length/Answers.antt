@@ -11,12 +11,18 @@ returns-in-None-clause-reported g c =
       | inl none ↦ inl none
       | inr some ↦ elim (cases_lt (length reported) f) [
         | inl past ↦ inr past
-        | inr there ↦ absurd (let wrong = c.in-None.ensures.which.1 (omega (arith, some), omega (arith, there, c.in-None.ensures.listed.count)) in cc wrong)
+        | inr there ↦
+            absurd (let wrong =
+            c.in-None.ensures.which.1 (omega (arith, some), omega (arith, there, c.in-None.ensures.listed.count)) in
+            cc wrong)
       ]
     ] in
     sym (reported-none reported f out)
 
 pub returns-in-Some-clause-reported : goal.returns-in-Some-clause-reported
 returns-in-Some-clause-reported g c =
-    let is : slice_get c.args.self.now.lengths (c.args.file - 1) ≡ Some c.stamp.result.length = rw (← c.self.view_is) (subst (λ k. slice_get c.self.inside.listing.lengths k ≡ Some c.stamp.result.length) c.in-Some.ensures.slot.1 c.stamp.ensures) in
-    c.length.ensures.length ∙ sym (reported-some c.args.self.now.lengths c.args.file c.stamp.result.length c.in-Some.ensures.slot.0.0 is)
+    let is : slice_get c.args.self.now.lengths (c.args.file - 1) ≡ Some c.stamp.result.length =
+    rw (← c.self.view_is) (subst (λ k. slice_get c.self.inside.listing.lengths k ≡ Some c.stamp.result.length)
+    c.in-Some.ensures.slot.1 c.stamp.ensures) in
+    c.length.ensures.length
+    ∙ sym (reported-some c.args.self.now.lengths c.args.file c.stamp.result.length c.in-Some.ensures.slot.0.0 is)

@@ -15,4 +15,6 @@ pub returns : goal.returns
 returns c =
     let place : c.number-number.result - 1 ≡ c.args.file - 1 = omega (arith, c.number-number.ensures) in
     let item = c.index.ensures ∙ ap (λ (k : ℕ). get_or c.self.inside.lists.items k c.index.result.now) place in
-    rw (← c.self.view_is) (c.as_slice.ensures.value ∙ ap (λ v. v.items) item ∙ sym (content-map (λ v. v.items) c.self.inside.lists.items c.args.file c.index.result.now (omega arith) (omega (arith, c.self.inside.lists.ok.0))))
+    rw (← c.self.view_is) (c.as_slice.ensures.value ∙ ap (λ v. v.items) item
+    ∙ sym (content-map (λ v. v.items) c.self.inside.lists.items c.args.file c.index.result.now (omega arith)
+    (omega (arith, c.self.inside.lists.ok.0))))

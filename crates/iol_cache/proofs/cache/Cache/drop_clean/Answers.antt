@@ -29,10 +29,13 @@ loop-i-preserved c =
       sound = here.sound;
       none = λ p some few. elim (cases_eq p c.new.result) [
         | inl e ↦ ap (λ q. (order_in c.drop_clean_of.new.self.orders.items q).entries) e ∙ here.none
-        | inr ne ↦ ap (λ (r : Ranking). r.entries) (here.others p ne) ∙ i.none p some (omega (arith, few, ne, c.new.ensures))
+        | inr ne ↦ ap (λ (r : Ranking). r.entries) (here.others p ne)
+            ∙ i.none p some (omega (arith, few, ne, c.new.ensures))
       ];
       len = here.len ∙ i.len;
-      victims = subst (λ k. EvictsPools k old next) c.new.ensures (pools_more c.new.result c.loop-i.i old now next c.new.ensures i.victims here.victims);
+      victims =
+          subst (λ k. EvictsPools k old next) c.new.ensures
+          (pools_more c.new.result c.loop-i.i old now next c.new.ensures i.victims here.victims);
       gives_up = gives_up_trans old now next i.gives_up here.gives_up;
     }
 
@@ -40,16 +43,22 @@ pub returns : goal.returns
 returns c =
     let i = c.loop-i.invariant in
     let os = c.loop-i.self.orders.items in
-    let all : c.loop-i.i ≡ length c.args.self.now.orders.items = omega (arith, c.loop-i-test.false, c.loop-i.auto.i-end, c.len-i-end.ensures) in
+    let all : c.loop-i.i ≡ length c.args.self.now.orders.items =
+    omega (arith, c.loop-i-test.false, c.loop-i.auto.i-end, c.len-i-end.ensures) in
     record {
       none = all_dirty c.loop-i.store (cached_of c.loop-i.self) i.sound (λ p. elim (cases_lt 0 p) [
         | inr zero ↦ ap (λ (r : Ranking). r.entries) (order_nowhere os p (λ some. absurd (omega (arith, some, zero))))
         | inl some ↦ elim (cases_lt c.loop-i.i p) [
           | inr within ↦ i.none p some within
-          | inl past ↦ ap (λ (r : Ranking). r.entries) (order_nowhere os p (λ h. omega (arith, past, i.len, c.loop-i-test.false, c.len-i-end.ensures, c.args.self.now.orders.ok.0)))
+          | inl past ↦
+              ap (λ (r : Ranking). r.entries)
+              (order_nowhere os p
+              (λ h. omega (arith, past, i.len, c.loop-i-test.false, c.len-i-end.ensures, c.args.self.now.orders.ok.0)))
         ]
       ]);
-      victims = subst (λ k. EvictsPools k (holding c.args.store.now c.args.self.now) (holding c.loop-i.store c.loop-i.self)) all i.victims;
+      victims =
+          subst (λ k. EvictsPools k (holding c.args.store.now c.args.self.now) (holding c.loop-i.store c.loop-i.self))
+          all i.victims;
       gives_up = i.gives_up;
       sound = i.sound;
     }

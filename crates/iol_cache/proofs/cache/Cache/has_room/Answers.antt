@@ -15,7 +15,8 @@ can_free-requires c = open_numbered c.args.store.now.pools c.args.pool c.require
 
 pub returns-then-has_free : goal.returns-then-has_free
 returns-then-has_free c =
-    let enough : c.args.pages ≤ length (free_of c.args.store.now c.args.pool) = grind (arith, nat_tests, c.has_free.ensures, c.if-has_free.true) in
+    let enough : c.args.pages ≤ length (free_of c.args.store.now c.args.pool) =
+    grind (arith, nat_tests, c.has_free.ensures, c.if-has_free.true) in
     ((λ y. omega (arith, free_fits c.args.store.now (cached_of c.args.self.now) c.args.pool, enough)), (λ y. refl))
 
 pub returns : goal.returns

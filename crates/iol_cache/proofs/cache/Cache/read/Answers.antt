@@ -1,4 +1,5 @@
-use Rattle.std.proofs.Common.{◌≡◌, ◌==◌, ◌≤◌, Bool, true, List, [], ◌∷◌, length, Result, Ok, Err, inl, refl, sym, arith, subst}
+use Rattle.std.proofs.Common.{◌≡◌, ◌==◌, ◌≤◌, Bool, true, List, [], ◌∷◌, length, Result, Ok, Err, inl, refl, sym, arith}
+use Rattle.std.proofs.Common.{subst}
 use Rattle.std.specs.Result.{IsErrAnd}
 use Rattle.std.proofs.lemmas.Bool.Decides.{nat_tests}
 use Rattle.std.proofs.lemmas.Result.{IfOk-from_err}
@@ -17,7 +18,8 @@ use Rattle.iol_cache.specs.Gaps.{AreOf}
 use Rattle.iol_cache.specs.ReadSteps.{Goes}
 use Rattle.iol_cache.specs.Ranges.{PinsRange}
 use Rattle.iol_cache.specs.ReadResults.{FaultCounts, Range, ReadsFile, RefusesRead, ReportsRoom, bytes_read}
-use Rattle.iol_cache.proofs.RangeReads.Hits.{HitsShared, fits_hit, goes_filled, goes_hit, gone_filled, late_filled, may_fill, readable_hit, reads_filled, reads_hit, refused_filled, room_hit}
+use Rattle.iol_cache.proofs.RangeReads.Hits.{HitsShared, fits_hit, goes_filled, goes_hit, gone_filled, late_filled}
+use Rattle.iol_cache.proofs.RangeReads.Hits.{may_fill, readable_hit, reads_filled, reads_hit, refused_filled, room_hit}
 use Rattle.iol_cache.proofs.RangeReads.PageChanges.{fills_none}
 use Rattle.iol_cache.proofs.RangeReads.RangeHolds.{always_err, goes_reserved, on_memory, reports_fault}
 use Rattle.iol_cache.proofs.RangeReads.Whole.{file_backed, file_pages, file_pool, file_short, file_text, range_of}
@@ -37,11 +39,13 @@ module _ (g : Over) (c : After-pin g) where
   hit = holding c.pin.new.store c.pin.new.self
 
   abbrev range : Range disk old.cache c.args.file c.args.at c.args.count
-  range = range_of disk old.cache c.args.file c.args.at c.args.count c.file_end-end.result c.min-from.result c.min.result c.file_end-end.ensures c.min-from.ensures c.min.ensures
+  range = range_of disk old.cache c.args.file c.args.at c.args.count c.file_end-end.result c.min-from.result
+      c.min.result c.file_end-end.ensures c.min-from.ensures c.min.ensures
 
 -- Refused for want of memory, before anything was shared.
 
-room_unreported : {A : Type 0} (has lacks : Type 0) (r : Result A Refusal) → IsErrAnd r (λ y. y ≡ Memory) → ReportsRoom has lacks r
+room_unreported : {A : Type 0} (has lacks : Type 0) (r : Result A Refusal) → IsErrAnd r (λ y. y ≡ Memory)
+    → ReportsRoom has lacks r
 room_unreported has lacks (Ok x) is = absurd is
 room_unreported {A = A} has lacks (Err y) is = subst (λ z. ReportsRoom {A = A} has lacks (Err z)) (sym is) tt
 
@@ -60,9 +64,15 @@ returns-in_err-pins g c =
     let p = (file_in c.args.self.now.files.items f).pool in
     let t = c.pin.new.store in
     let goes = IfOk-from_err r (λ xs. Goes (disk g at) [] (bufs_of xs) (old g at) (hit g at)) err in
-    let gone = always_err r (goes_reserved (disk g at) (old g at) (hit g at) c.requires.sound e.same e.none e.lists e.reclaims e.frees.count) in
+    let gone =
+    always_err r (goes_reserved (disk g at) (old g at) (hit g at) c.requires.sound e.same e.none e.lists e.reclaims
+    e.frees.count) in
     record {
-      text = λ b. IfOk-from_err r (λ xs. text_of t xs ≡ labelled p (bytes_read c.args.store.now (disk g at).slots (cached_of c.args.self.now) f c.args.at c.args.count)) err;
+      text =
+          λ b. IfOk-from_err r
+          (λ xs. text_of t xs
+          ≡ labelled p (bytes_read c.args.store.now (disk g at).slots (cached_of c.args.self.now) f c.args.at
+          c.args.count)) err;
       readable = IfOk-from_err r (AllReadable t) err;
       pool = IfOk-from_err r (AreOf p) err;
       short = IfOk-from_err r (λ xs. byte_len xs ≤ c.args.count) err;
@@ -73,24 +83,38 @@ returns-in_err-pins g c =
       pages = fills_none p e.frees;
       sound = e.sound;
       refused = on_memory r (RefusesRead f c.args.at c.args.count (disk g at) (old g at) (hit g at)) memory
-          (record { range = range g at; leaves = inl (refl, record { same = e.same; moves = e.none; frees = e.frees }) });
+          (record {
+            range = range g at;
+            leaves =
+                inl (refl, record { same = e.same; moves = e.none; frees = e.frees });
+          });
       room = room_unreported _ _ r memory;
       fault = record { honest = refl; slots = λ h. refl; counts = no_fault (disk g at) r memory };
       late = on_memory r (WantOfRoomOrFault p f) memory tt;
     }
 
 -- What was in memory was shared.
-abbrev shared : (g : Over) (c : In_ok-pins g) (gs : List Span) → gs ≡ c.in_ok-pins.gaps.items → HitsShared c.args.file c.args.at c.args.count (g.B.Backing.disk c.args.backing.now) (holding c.args.store.now c.args.self.now) (holding c.pin.new.store c.pin.new.self) c.in_ok-pins.pins gs
+abbrev shared : (g : Over) (c : In_ok-pins g) (gs : List Span) → gs ≡ c.in_ok-pins.gaps.items
+    → HitsShared c.args.file c.args.at c.args.count (g.B.Backing.disk c.args.backing.now)
+    (holding c.args.store.now c.args.self.now) (holding c.pin.new.store c.pin.new.self) c.in_ok-pins.pins gs
 shared g c gs is =
     let at = (goal.at.In_ok-pins g c).After-pin in
     let r = range g at in
-    record { range = r; sound = c.requires.sound; there = c.requires.file; pinned = subst (PinsRange c.args.file r.from r.to (old g at) (hit g at) c.in_ok-pins.pins) (sym is) c.in_ok-pins.ensures.pinned }
+    record {
+      range = r;
+      sound = c.requires.sound;
+      there = c.requires.file;
+      pinned =
+          subst (PinsRange c.args.file r.from r.to (old g at) (hit g at) c.in_ok-pins.pins) (sym is)
+          c.in_ok-pins.ensures.pinned;
+    }
 
 -- Without gaps.
 
 none_of : (gs : List Span) (b : Bool) → b ≡ (length gs == 0) → b ≡ true → gs ≡ []
 none_of [] b is empty = refl
-none_of (x ∷ xs) b is empty = absurd (let long : length (x ∷ xs) ≡ 0 = grind (arith, nat_tests, is, empty) in omega (arith, long))
+none_of (x ∷ xs) b is empty = absurd (let long : length (x ∷ xs) ≡ 0 = grind (arith, nat_tests, is, empty) in
+    omega (arith, long))
 
 pub returns-then-is_empty : goal.returns-then-is_empty
 returns-then-is_empty g c =
@@ -103,12 +127,15 @@ returns-then-is_empty g c =
     let reads = reads_hit h none in
     let goes = goes_hit h in
     record {
-      text = file_text f from n (disk g at) (old g at) (hit g at) (Ok c.in_ok-pins.pins) reads c.requires.sound c.pin.ensures.sound c.requires.file goes (readable_hit h);
+      text = file_text f from n (disk g at) (old g at) (hit g at) (Ok c.in_ok-pins.pins) reads c.requires.sound
+          c.pin.ensures.sound c.requires.file goes (readable_hit h);
       readable = readable_hit h;
-      pool = file_pool f from n (disk g at) (old g at) (hit g at) (Ok c.in_ok-pins.pins) reads c.requires.sound c.pin.ensures.sound goes;
+      pool = file_pool f from n (disk g at) (old g at) (hit g at) (Ok c.in_ok-pins.pins) reads c.requires.sound
+          c.pin.ensures.sound goes;
       short = file_short f from n (disk g at) (old g at) (hit g at) (Ok c.in_ok-pins.pins) reads;
       reads = reads;
-      backed = file_backed (disk g at) (disk g at) (old g at) (hit g at) (Ok c.in_ok-pins.pins) goes tt refl (λ h. refl);
+      backed = file_backed (disk g at) (disk g at) (old g at) (hit g at) (Ok c.in_ok-pins.pins) goes tt refl
+          (λ h. refl);
       goes = goes;
       gone = tt;
       pages = file_pages f from n (disk g at) (old g at) (hit g at) (Ok c.in_ok-pins.pins) reads tt;
@@ -122,7 +149,9 @@ returns-then-is_empty g c =
 -- With gaps.
 
 pub fill_pinned-requires : goal.fill_pinned-requires
-fill_pinned-requires g c = may_fill (shared g (goal.at.fill_pinned-requires g c).In_ok-pins c.deref.result.now c.deref.ensures.value) c.pin.ensures.sound c.requires.few
+fill_pinned-requires g c =
+    may_fill (shared g (goal.at.fill_pinned-requires g c).In_ok-pins c.deref.result.now c.deref.ensures.value)
+    c.pin.ensures.sound c.requires.few
 
 pub returns : goal.returns
 returns g c =
@@ -140,7 +169,8 @@ returns g c =
     let goes = goes_filled h e in
     let gone = gone_filled h e in
     record {
-      text = file_text f from n (disk g at) (old g at) new r reads c.requires.sound e.sound c.requires.file goes e.readable;
+      text = file_text f from n (disk g at) (old g at) new r reads c.requires.sound e.sound c.requires.file goes
+          e.readable;
       readable = e.readable;
       pool = file_pool f from n (disk g at) (old g at) new r reads c.requires.sound e.sound goes;
       short = file_short f from n (disk g at) (old g at) new r reads;

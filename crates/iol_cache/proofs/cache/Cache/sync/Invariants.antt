@@ -9,8 +9,10 @@ use Rattle.iol_cache.proofs.cache.Cache.sync.Given as goal
 abbrev pub invariant-loop-more : goal.invariant-loop-more
 invariant-loop-more g l = record {
   sound : IsSound l.store (cached_of l.self);
-  syncs : Syncs l.store l.file (cached_of l.fn.self) (cached_of l.self) (g.B.Backing.disk l.fn.backing) (g.B.Backing.disk l.backing);
-  cleaned : (n : ℕ) × AreCleaned l.store l.file n (cached_of l.fn.self) (cached_of l.self) (g.B.Backing.disk l.fn.backing) (g.B.Backing.disk l.backing);
+  syncs : Syncs l.store l.file (cached_of l.fn.self) (cached_of l.self) (g.B.Backing.disk l.fn.backing)
+      (g.B.Backing.disk l.backing);
+  cleaned : (n : ℕ) × AreCleaned l.store l.file n (cached_of l.fn.self) (cached_of l.self)
+      (g.B.Backing.disk l.fn.backing) (g.B.Backing.disk l.backing);
   failures : (g.B.Backing.disk l.backing).failures ≡ (g.B.Backing.disk l.fn.backing).failures;
   done : l.more ≡ false → dirty_in (extents_in l.self.files.items l.file) ≡ None;
 }

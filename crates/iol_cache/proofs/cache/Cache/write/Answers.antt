@@ -1,4 +1,5 @@
-use Rattle.std.proofs.Common.{inl, inr, ◌≡◌, ◌∙◌, ℕ, ◌+◌, ◌<◌, ◌≤◌, List, [], ◌∷◌, length, refl, rules, sym, ap, arith, subst}
+use Rattle.std.proofs.Common.{inl, inr, ◌≡◌, ◌∙◌, ℕ, ◌+◌, ◌<◌, ◌≤◌, List, [], ◌∷◌, length, refl, rules, sym, ap, arith}
+use Rattle.std.proofs.Common.{subst}
 use Rattle.std.specs.Prelude.{Result, Err, IfErr}
 use mathlib.Core.Bool.{not}
 use Rattle.std.proofs.lemmas.Bool.Decides.{nat_tests}
@@ -27,7 +28,8 @@ use Rattle.iol_cache.proofs.RangeReads.FilledGaps.{leaves_as}
 use Rattle.iol_cache.proofs.RangeReads.PageChanges.{fills_none, frees_shares, unwritten_pages, write_pages}
 use Rattle.iol_cache.proofs.RangeReads.RangeHolds.{places_none}
 use Rattle.iol_cache.proofs.RangeReads.SharedBytes.{length-places_over}
-use Rattle.iol_cache.proofs.RangeWrites.WriteAfterRoom.{KeepsAll, Wrote, all_wrote, goes_all, goes_refused, goes_room, room_held, room_numbered, room_readable}
+use Rattle.iol_cache.proofs.RangeWrites.WriteAfterRoom.{KeepsAll, Wrote, all_wrote, goes_all, goes_refused, goes_room}
+use Rattle.iol_cache.proofs.RangeWrites.WriteAfterRoom.{room_held, room_numbered, room_readable}
 use Rattle.iol_cache.proofs.cache.Cache.write.Goals as goal
 
 pages_none : (p : ℕ) (xs : List Slice) → byte_len xs ≡ 0 → copied_pages p xs ≡ 0
@@ -35,7 +37,8 @@ pages_none p [] none = pages_for-zero
 pages_none p (x ∷ xs) none = absurd (omega (arith, none, byte_len-cons x xs, x.some))
 
 pinned_few : (s : Stored) (clean : List BufId) (p : ℕ) → pinned_beside s clean p ≤ length (pages_of s p)
-pinned_few s clean p = omega (arith, length-filter_both (is_pinned s clean) (λ q. not (is_pinned s clean q)) (λ q. refl) (pages_of s p))
+pinned_few s clean p =
+    omega (arith, length-filter_both (is_pinned s clean) (λ q. not (is_pinned s clean q)) (λ q. refl) (pages_of s p))
 
 -- A write of no bytes.
 
@@ -49,7 +52,11 @@ written_none h f at (x ∷ xs) none = absurd (omega (arith, none, byte_len-cons 
 lies_none : (c : Cached) (f at : ℕ) (xs : List Slice) → byte_len xs ≡ 0 → LiesDirty f at xs c
 lies_none c f at xs none = record {
   dirty = λ i lo hi. absurd (omega (arith, none, lo, hi));
-  own = record { long = omega (arith, none, length-places_over (extents_in c.files f) at (at + byte_len xs)); each = λ i h own. absurd (omega (arith, none, h)) };
+  own = record {
+    long = omega (arith, none, length-places_over (extents_in c.files f) at (at + byte_len xs));
+    each =
+        λ i h own. absurd (omega (arith, none, h));
+  };
 }
 
 pub returns-then-is_empty : goal.returns-then-is_empty
@@ -81,16 +88,22 @@ returns-then-is_empty c =
 
 -- Refused before there was room.
 
-kept : (c : goal.In-Err) → KeepsAll c.args.file (holding c.args.store.now c.args.self.now) (holding c.make_place.new.store c.make_place.new.self)
+kept : (c : goal.In-Err)
+    → KeepsAll c.args.file (holding c.args.store.now c.args.self.now)
+    (holding c.make_place.new.store c.make_place.new.self)
 kept c = goes_all c.args.file _ _ (λ d. goes_room d [] _ _ _ _ c.make_place.ensures.room)
 
-only_room : (c : goal.In-Err) → OnlyMakesRoom (pool_of c.args.self.now c.args.file) (pages_copied c.args.self.now c.args.file c.args.source.now) (holding c.args.store.now c.args.self.now) (holding c.make_place.new.store c.make_place.new.self)
+only_room : (c : goal.In-Err)
+    → OnlyMakesRoom (pool_of c.args.self.now c.args.file) (pages_copied c.args.self.now c.args.file c.args.source.now)
+    (holding c.args.store.now c.args.self.now) (holding c.make_place.new.store c.make_place.new.self)
 only_room c =
     let mid = holding c.make_place.new.store c.make_place.new.self in
     record {
       mid = mid;
       room = c.make_place.ensures.room;
-      placed = places_none mid.store (pool_of c.args.self.now c.args.file) (pages_copied c.args.self.now c.args.file c.args.source.now);
+      placed =
+          places_none mid.store (pool_of c.args.self.now c.args.file)
+          (pages_copied c.args.self.now c.args.file c.args.source.now);
       cache = refl;
       met = inr c.in-Err.ensures.kept;
     }
@@ -138,13 +151,21 @@ overwrite-requires c =
 
 -- Carried out.
 
-done : (c : goal.In-Ok) → Wrote c.args.file c.args.at c.args.source.now (holding c.args.store.now c.args.self.now) (holding c.overwrite.new.store c.overwrite.new.self)
+done : (c : goal.In-Ok) → Wrote c.args.file c.args.at c.args.source.now (holding c.args.store.now c.args.self.now)
+    (holding c.overwrite.new.store c.overwrite.new.self)
 done c =
     let some : 0 < byte_len c.args.source.now = grind (arith, nat_tests, c.if-is_empty.ensures, c.is_empty.ensures) in
-    all_wrote _ _ _ c.args.file c.args.at _ _ c.args.source.now c.make_place.ensures.room c.make_place.ensures.sound c.requires.file c.overwrite.ensures.sound some c.in-Ok.ensures.overwrites c.requires.held c.requires.readable
+    all_wrote _ _ _ c.args.file c.args.at _ _ c.args.source.now c.make_place.ensures.room c.make_place.ensures.sound
+    c.requires.file c.overwrite.ensures.sound some c.in-Ok.ensures.overwrites c.requires.held c.requires.readable
 
-wrote : (c : goal.In-Ok) → WritesFile c.args.file c.args.at c.args.source.now (holding c.args.store.now c.args.self.now) (holding c.overwrite.new.store c.overwrite.new.self)
-wrote c = record { mid = holding c.make_place.new.store c.make_place.new.self; room = c.make_place.ensures.room; over = c.in-Ok.ensures.overwrites }
+wrote : (c : goal.In-Ok) → WritesFile c.args.file c.args.at c.args.source.now (holding c.args.store.now c.args.self.now)
+    (holding c.overwrite.new.store c.overwrite.new.self)
+wrote c = record {
+  mid = holding c.make_place.new.store c.make_place.new.self;
+  room = c.make_place.ensures.room;
+  over =
+      c.in-Ok.ensures.overwrites;
+}
 
 pub returns-in-Ok : goal.returns-in-Ok
 returns-in-Ok c =
@@ -173,30 +194,43 @@ returns-in-Ok c =
 
 -- Refused after room was made: the store went on, and the cache did not.
 
-stayed : (c : goal.In-Err-overwrite) → KeepsAll c.args.file (holding c.args.store.now c.args.self.now) (holding c.overwrite.new.store c.overwrite.new.self)
+stayed : (c : goal.In-Err-overwrite)
+    → KeepsAll c.args.file (holding c.args.store.now c.args.self.now)
+    (holding c.overwrite.new.store c.overwrite.new.self)
 stayed c =
     let old = holding c.args.store.now c.args.self.now in
     let t = c.overwrite.new.store in
     let e = c.in-Err-overwrite.ensures.leaves in
-    subst (λ (x : Cache). KeepsAll c.args.file old (holding t x)) (sym c.in-Err-overwrite.ensures.same) (goes_all c.args.file old _ (λ d. goes_refused d _ _ _ _ t c.make_place.ensures.room c.make_place.ensures.sound e.none e.lists e.reclaims e.given_back.pages.count))
+    subst (λ (x : Cache). KeepsAll c.args.file old (holding t x)) (sym c.in-Err-overwrite.ensures.same)
+    (goes_all c.args.file old _ (λ d. goes_refused d _ _ _ _ t c.make_place.ensures.room c.make_place.ensures.sound
+    e.none e.lists e.reclaims e.given_back.pages.count))
 
 -- the file is of the pool that it was of
-same_pool : (c : goal.In-Err-overwrite) → pool_of c.make_place.new.self c.args.file ≡ pool_of c.args.self.now c.args.file
+same_pool : (c : goal.In-Err-overwrite)
+    → pool_of c.make_place.new.self c.args.file ≡ pool_of c.args.self.now c.args.file
 same_pool c = (let m = c.make_place.ensures.room in m.gives_up.keeps.pools c.args.file ∙ m.rooms.pools c.args.file)
 
 -- there was room in it
-roomy : (c : goal.In-Err-overwrite) (q : ℕ) → ◌≡◌ {A = Result (Unit {0}) Refusal} (Err c.in-Err-overwrite.refusal) (Err (NoRoom q)) → ⊥
+roomy : (c : goal.In-Err-overwrite) (q : ℕ)
+    → ◌≡◌ {A = Result (Unit {0}) Refusal} (Err c.in-Err-overwrite.refusal) (Err (NoRoom q)) → ⊥
 roomy c q is =
     let refusal = c.in-Err-overwrite.refusal in
     let xs = c.args.source.now in
-    let free : pages_copied c.args.self.now c.args.file xs ≤ length (free_of c.make_place.new.store (pool_of c.args.self.now c.args.file)) = search (rules) in
-    let left = leaves_as {B = Unit {0}} (same_pool c) (ap (λ p. copied_pages p xs) (same_pool c)) c.in-Err-overwrite.ensures.leaves in
+    let free : pages_copied c.args.self.now c.args.file xs
+    ≤ length (free_of c.make_place.new.store (pool_of c.args.self.now c.args.file)) = search (rules) in
+    let left =
+    leaves_as {B = Unit {0}} (same_pool c) (ap (λ p. copied_pages p xs) (same_pool c))
+    c.in-Err-overwrite.ensures.leaves in
     omega (arith, free, left.no_room q (subst (λ (r : Result (Unit {0}) Refusal). IfErr r (λ x. refusal ≡ x)) is refl))
 
-back : (c : goal.In-Err-overwrite) → OnlyMakesRoom (pool_of c.args.self.now c.args.file) (pages_copied c.args.self.now c.args.file c.args.source.now) (holding c.args.store.now c.args.self.now) (holding c.overwrite.new.store c.overwrite.new.self)
+back : (c : goal.In-Err-overwrite)
+    → OnlyMakesRoom (pool_of c.args.self.now c.args.file) (pages_copied c.args.self.now c.args.file c.args.source.now)
+    (holding c.args.store.now c.args.self.now) (holding c.overwrite.new.store c.overwrite.new.self)
 back c =
     let xs = c.args.source.now in
-    let left = leaves_as {B = Unit {0}} (same_pool c) (ap (λ p. copied_pages p xs) (same_pool c)) c.in-Err-overwrite.ensures.leaves in
+    let left =
+    leaves_as {B = Unit {0}} (same_pool c) (ap (λ p. copied_pages p xs) (same_pool c))
+    c.in-Err-overwrite.ensures.leaves in
     record {
       mid = holding c.make_place.new.store c.make_place.new.self;
       room = c.make_place.ensures.room;

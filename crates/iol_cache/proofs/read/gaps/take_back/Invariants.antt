@@ -14,7 +14,8 @@ invariant-loop-left l = record {
   moves : Moves l.fn.store l.store (bufs_of (parts_back l.fn.extents.extents (drop l.left l.spans))) [];
   lists : SameLists l.fn.store l.store;
   frees : FreesOnly l.fn.store l.store;
-  reclaims : AllReadable l.fn.store (parts_back l.fn.extents.extents l.spans) → AllReclaimed l.fn.store → AllReclaimed l.store;
+  reclaims : AllReadable l.fn.store (parts_back l.fn.extents.extents l.spans) → AllReclaimed l.fn.store
+      → AllReclaimed l.store;
 }
 
 abbrev pub decreases-loop-left : goal.decreases-loop-left

@@ -17,7 +17,8 @@ loop-gap-init c = record { so_far = omega arith; in_order = c.requires }
 
 pub overflow_sub-gap : goal.overflow_sub-gap
 overflow_sub-gap c =
-    let o = subst (AreInOrder 0 4294967295) (drop_more c.args.gaps.now c.loop-gap.gap-index none c.loop-gap-test.true) c.loop-gap.invariant.in_order in
+    let o = subst (AreInOrder 0 4294967295) (drop_more c.args.gaps.now c.loop-gap.gap-index none c.loop-gap-test.true)
+    c.loop-gap.invariant.in_order in
     omega (arith, o.1)
 
 pub overflow_add-pages : goal.overflow_add-pages
@@ -39,6 +40,8 @@ loop-gap-preserved c =
 
 pub returns : goal.returns
 returns c =
-    let all : c.loop-gap.gap-index ≡ length c.args.gaps.now = omega (arith, c.loop-gap-test.false, c.loop-gap.auto.gap-index-end) in
-    let none_left : drop c.loop-gap.gap-index c.args.gaps.now ≡ [] = ap (λ n. drop n c.args.gaps.now) all ∙ drop-length c.args.gaps.now in
+    let all : c.loop-gap.gap-index ≡ length c.args.gaps.now =
+    omega (arith, c.loop-gap-test.false, c.loop-gap.auto.gap-index-end) in
+    let none_left : drop c.loop-gap.gap-index c.args.gaps.now ≡ [] = ap (λ n. drop n c.args.gaps.now) all
+    ∙ drop-length c.args.gaps.now in
     omega (arith, c.loop-gap.invariant.so_far, ap gap_pages none_left)

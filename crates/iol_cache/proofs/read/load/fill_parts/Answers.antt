@@ -1,4 +1,5 @@
-use Rattle.std.proofs.Common.{◌≡◌, ◌∙◌, ◌*◌, ◌+◌, ◌<◌, sym, ap, length, take, drop, min, List, ℕ, arith, subst, flat_map}
+use Rattle.std.proofs.Common.{◌≡◌, ◌∙◌, ◌*◌, ◌+◌, ◌<◌, sym, ap, length, take, drop, min, List, ℕ, arith, subst}
+use Rattle.std.proofs.Common.{flat_map}
 use Rattle.std.proofs.lemmas.List.{drop-drop}
 use Rattle.std.proofs.Math.Seq.{take-length}
 use Rattle.iol_arena.specs.Parts.{part_bytes, part_pages}
@@ -26,7 +27,9 @@ then_writes {g = g} {h = h} a b = record {
   reserved = b.reserved ∙ a.reserved;
   same_reference = b.same_reference ∙ a.same_reference;
   filling = b.filling;
-  fills = fills_trans a.fills (subst (λ (ps : List Part). Fills (filling_store g) (filling_store h) ps) (parts_are _ _ a.reserved) b.fills);
+  fills =
+      fills_trans a.fills (subst (λ (ps : List Part). Fills (filling_store g) (filling_store h) ps)
+      (parts_are _ _ a.reserved) b.fills);
   entries = b.entries ∙ a.entries;
 }
 
@@ -44,18 +47,33 @@ loop-i-preserved g c =
     let asks = c.in-Ok.ensures.asks in
     let s = (filling_store c.loop-i.filling).arena in
     let t = (filling_store c.fill_part.new.filling).arena in
-    let m = one_more s t ps (filling_parts c.loop-i.filling) i c.args.n c.loop-i.done c.in-Ok.here r.written e c.requires.filling.pages.apart h c.requires.long (some_at 0 ps i c.requires.filling.pages.apart h) (ap (λ (x : Stored). x.arena) r.there) r.len r.was v.whole v.done r.count in
+    let m = one_more s t ps (filling_parts c.loop-i.filling) i c.args.n c.loop-i.done c.in-Ok.here r.written e
+    c.requires.filling.pages.apart h c.requires.long (some_at 0 ps i c.requires.filling.pages.apart h)
+    (ap (λ (x : Stored). x.arena) r.there) r.len r.was v.whole v.done r.count in
     record {
       writes = then_writes v.writes r.writes;
       honest = asks.honest ∙ v.honest;
       slots = λ y. asks.slots (v.honest ∙ y) ∙ v.slots y;
       failures = asks.counts.0 ∙ v.failures;
       works = λ y. omega (arith, asks.counts.1, v.failures);
-      inside = λ y p. omega (arith, r.inside (v.honest ∙ y), ap (λ (slots : List (List ℕ)). length (content slots c.args.file)) (v.slots y));
+      inside =
+          λ y p. omega (
+            arith,
+            r.inside (v.honest ∙ y),
+            ap (λ (slots : List (List ℕ)). length (content slots c.args.file)) (v.slots y),
+          );
       within = omega (arith, h);
       whole = m.3.whole;
       done = m.3.done;
-      read = λ y. ap (take (c.loop-i.done + c.in-Ok.here)) m.2 ∙ read_more (flat_map (part_bytes s) (take i ps)) r.written (drop c.args.at (content (g.B.Backing.disk c.args.backing.now).slots c.args.file)) c.loop-i.done c.in-Ok.here (sym m.0) (v.read y) (r.read (v.honest ∙ y) ∙ ap (λ (rows : List (List ℕ)). take c.in-Ok.here (drop (c.args.at + c.loop-i.done) (content rows c.args.file))) (v.slots y) ∙ ap (take c.in-Ok.here) (sym (drop-drop c.loop-i.done c.args.at (content (g.B.Backing.disk c.args.backing.now).slots c.args.file))));
+      read = λ y. ap (take (c.loop-i.done + c.in-Ok.here)) m.2
+          ∙ read_more (flat_map (part_bytes s) (take i ps)) r.written
+          (drop c.args.at (content (g.B.Backing.disk c.args.backing.now).slots c.args.file)) c.loop-i.done c.in-Ok.here
+          (sym m.0) (v.read y) (r.read (v.honest ∙ y)
+          ∙ ap
+          (λ (rows : List (List ℕ)). take c.in-Ok.here (drop (c.args.at + c.loop-i.done) (content rows c.args.file)))
+          (v.slots y)
+          ∙ ap (take c.in-Ok.here)
+          (sym (drop-drop c.loop-i.done c.args.at (content (g.B.Backing.disk c.args.backing.now).slots c.args.file))));
     }
 
 -- after the last part
@@ -64,10 +82,13 @@ module _ (g : Over) (c : After-loop-i g) where
   ps = filling_parts c.args.filling.now
 
   all : take c.loop-i.i ps ≡ ps
-  all = ap (λ k. take k ps) (let i : c.loop-i.i ≡ length ps = omega (arith, c.loop-i-test.false, c.part_count-i-end.ensures, c.loop-i.invariant.within) in i) ∙ take-length ps
+  all =
+      ap (λ k. take k ps) (let i : c.loop-i.i ≡ length ps =
+      omega (arith, c.loop-i-test.false, c.part_count-i-end.ensures, c.loop-i.invariant.within) in i) ∙ take-length ps
 
   whole : c.loop-i.done ≡ c.args.n
-  whole = c.loop-i.invariant.done ∙ ap (λ (xs : List Part). min c.args.n (length (part_pages xs) * 4096)) all ∙ omega (arith, c.requires.long, pages_hold c.args.n)
+  whole = c.loop-i.invariant.done ∙ ap (λ (xs : List Part). min c.args.n (length (part_pages xs) * 4096)) all
+      ∙ omega (arith, c.requires.long, pages_hold c.args.n)
 
   parts : filling_parts c.loop-i.filling ≡ take c.loop-i.i ps
   parts = parts_are _ _ c.loop-i.invariant.writes.reserved ∙ sym all
@@ -76,7 +97,20 @@ pub returns-clause-asks : goal.returns-clause-asks
 returns-clause-asks g c =
     let at = (goal.at.returns-clause-asks g c).After-loop-i in
     let v = c.loop-i.invariant in
-    record { honest = v.honest; slots = v.slots; counts = (v.failures, v.works (omega (arith, c.loop-i-test.false, c.part_count-i-end.ensures, some_parts (ps g at) c.args.n c.requires.some c.requires.long))) }
+    record {
+      honest = v.honest;
+      slots = v.slots;
+      counts = (
+        v.failures,
+        v.works
+            (omega (
+              arith,
+              c.loop-i-test.false,
+              c.part_count-i-end.ensures,
+              some_parts (ps g at) c.args.n c.requires.some c.requires.long,
+            )),
+      );
+    }
 
 pub returns-clause-reads : goal.returns-clause-reads
 returns-clause-reads g c =
@@ -86,8 +120,17 @@ returns-clause-reads g c =
     let s = (filling_store c.loop-i.filling).arena in
     let bytes = ap (λ (xs : List Part). length (flat_map (part_bytes s) xs)) (parts g at) in
     record {
-      whole = omega (arith, bytes, v.whole, ap (λ (xs : List Part). length (part_pages xs) * 4096) (all g at), c.requires.long, pages_hold c.args.n);
+      whole =
+          omega (
+            arith,
+            bytes,
+            v.whole,
+            ap (λ (xs : List Part). length (part_pages xs) * 4096) (all g at),
+            c.requires.long,
+            pages_hold c.args.n,
+          );
       read = λ h. ap (λ (xs : List Part). take c.args.n (flat_map (part_bytes s) xs)) (parts g at)
-          ∙ ap (λ k. take k (flat_map (part_bytes s) (take c.loop-i.i (ps g at)))) (sym n) ∙ v.read h ∙ ap (λ k. take k (drop c.args.at (content (g.B.Backing.disk c.args.backing.now).slots c.args.file))) n;
+          ∙ ap (λ k. take k (flat_map (part_bytes s) (take c.loop-i.i (ps g at)))) (sym n) ∙ v.read h
+          ∙ ap (λ k. take k (drop c.args.at (content (g.B.Backing.disk c.args.backing.now).slots c.args.file))) n;
       inside = λ h. omega (arith, v.inside h (omega (arith, n, c.requires.some)), n);
     }

@@ -9,12 +9,17 @@ abbrev pub invariant-loop-i : goal.invariant-loop-i
 invariant-loop-i g l = record {
   writes : WritesFilling l.fn.filling l.filling;
   honest : (g.B.Backing.disk l.backing).honest ≡ (g.B.Backing.disk l.fn.backing).honest;
-  slots : (g.B.Backing.disk l.fn.backing).honest ≡ true → (g.B.Backing.disk l.backing).slots ≡ (g.B.Backing.disk l.fn.backing).slots;
+  slots : (g.B.Backing.disk l.fn.backing).honest ≡ true
+      → (g.B.Backing.disk l.backing).slots ≡ (g.B.Backing.disk l.fn.backing).slots;
   failures : (g.B.Backing.disk l.backing).failures ≡ (g.B.Backing.disk l.fn.backing).failures;
   works : 0 < l.i → (g.B.Backing.disk l.fn.backing).failures < last_failure;
-  inside : (g.B.Backing.disk l.fn.backing).honest ≡ true → 0 < l.done → l.at + l.done ≤ length (content (g.B.Backing.disk l.fn.backing).slots l.file);
+  inside : (g.B.Backing.disk l.fn.backing).honest ≡ true → 0 < l.done
+      → l.at + l.done ≤ length (content (g.B.Backing.disk l.fn.backing).slots l.file);
   within : l.i ≤ length (filling_parts l.fn.filling);
-  whole : length (flat_map (part_bytes (filling_store l.filling).arena) (take l.i (filling_parts l.fn.filling))) ≡ length (part_pages (take l.i (filling_parts l.fn.filling))) * 4096;
+  whole : length (flat_map (part_bytes (filling_store l.filling).arena) (take l.i (filling_parts l.fn.filling)))
+      ≡ length (part_pages (take l.i (filling_parts l.fn.filling))) * 4096;
   done : l.done ≡ min l.n (length (part_pages (take l.i (filling_parts l.fn.filling))) * 4096);
-  read : (g.B.Backing.disk l.fn.backing).honest ≡ true → take l.done (flat_map (part_bytes (filling_store l.filling).arena) (take l.i (filling_parts l.fn.filling))) ≡ take l.done (drop l.at (content (g.B.Backing.disk l.fn.backing).slots l.file));
+  read : (g.B.Backing.disk l.fn.backing).honest ≡ true
+      → take l.done (flat_map (part_bytes (filling_store l.filling).arena) (take l.i (filling_parts l.fn.filling)))
+      ≡ take l.done (drop l.at (content (g.B.Backing.disk l.fn.backing).slots l.file));
 }

@@ -25,7 +25,9 @@ fill_parts-requires g c =
       some = c.requires.some;
       fits = c.requires.fits;
       filling = c.in-Ok.ensures.begins.filling;
-      long = ap length c.in-Ok.ensures.begins.pages ∙ length-take-le (pages_for c.args.n) (free_pages s.arena (pool_in s.pools c.args.pool).chunks) c.in-Ok.ensures.begins.enough;
+      long = ap length c.in-Ok.ensures.begins.pages
+          ∙ length-take-le (pages_for c.args.n) (free_pages s.arena (pool_in s.pools c.args.pool).chunks)
+          c.in-Ok.ensures.begins.enough;
     }
 
 pub returns-in-Err-clause-keeps : goal.returns-in-Err-clause-keeps
@@ -34,7 +36,8 @@ returns-in-Err-clause-keeps g c = record {
   kept = search (rules);
   pools = search (rules);
   reclaims = search (rules);
-  no_room = λ p is. few_free c.args.store.now c.args.pool c.args.n (c.in-Err.ensures.begins.no_room p (ap (λ x. Err x) is));
+  no_room =
+      λ p is. few_free c.args.store.now c.args.pool c.args.n (c.in-Err.ensures.begins.no_room p (ap (λ x. Err x) is));
   late = search (rules);
 }
 
@@ -43,7 +46,14 @@ parts_are r q e = ap (λ (x : Reserved). x.reservation.parts.items) e
 
 parts_few : (low : ℕ) (ps : List Part) → AreApart low ps → length ps ≤ length (part_pages ps)
 parts_few low [] apart = omega arith
-parts_few low (p ∷ ps) apart = let h = parts_few (p.first + p.count) ps apart.1 in omega (arith, h, apart.0.some, length-append (range_with_len p.first p.count) (part_pages ps), length-range_with_len p.first p.count)
+parts_few low (p ∷ ps) apart = let h = parts_few (p.first + p.count) ps apart.1 in
+    omega (
+      arith,
+      h,
+      apart.0.some,
+      length-append (range_with_len p.first p.count) (part_pages ps),
+      length-range_with_len p.first p.count,
+    )
 
 pub returns-in-Ok-fill_parts-clause-loads : goal.returns-in-Ok-fill_parts-clause-loads
 returns-in-Ok-fill_parts-clause-loads g c =
@@ -55,17 +65,37 @@ returns-in-Ok-fill_parts-clause-loads g c =
     let ps = filling_parts c.in-Ok.filling in
     let parts = parts_are _ _ w.reserved in
     let pool = ap (λ (x : Reserved). x.pool) w.reserved ∙ b.pool in
-    let made = placed_all ps (filling_parts c.fill_parts.new.filling) c.args.pool c.args.n parts b.pages b.enough b.fills b.others b.free w.fills w.entries e.publishes e.made e.made_on e.others e.free e.tidy in
-    let P : Stored → Type 0 = λ d. LoadsHolds s d c.args.pool c.args.n (g.B.Backing.disk c.args.backing.now) c.args.file c.args.at c.publish.result in
-    subst P (search rules) (loaded c.publish.result (g.B.Backing.disk c.args.backing.now) c.args.file c.args.at made e.filled (subst (λ p. All (λ (h : Buffer). h.pool ≡ p) c.publish.result) pool e.pool)
-    (omega (arith, e.few, ap length parts, parts_few 0 ps b.filling.pages.apart, ap length b.pages, length-take-le (pages_for c.args.n) (free_pages s.arena (pool_in s.pools c.args.pool).chunks) b.enough))
-    (ap length e.value ∙ length-take-le c.args.n (filling_bytes c.fill_parts.new.filling) r.whole) (λ y. e.value ∙ r.read y) r.inside)
+    let made = placed_all ps (filling_parts c.fill_parts.new.filling) c.args.pool c.args.n parts b.pages b.enough
+    b.fills b.others b.free w.fills w.entries e.publishes e.made e.made_on e.others e.free e.tidy in
+    let P : Stored → Type 0 = λ d. LoadsHolds s d c.args.pool c.args.n (g.B.Backing.disk c.args.backing.now) c.args.file
+    c.args.at c.publish.result in
+    subst P (search rules) (loaded c.publish.result (g.B.Backing.disk c.args.backing.now) c.args.file c.args.at made
+    e.filled (subst (λ p. All (λ (h : Buffer). h.pool ≡ p) c.publish.result) pool e.pool)
+    (omega (
+      arith,
+      e.few,
+      ap length parts,
+      parts_few 0 ps b.filling.pages.apart,
+      ap length b.pages,
+      length-take-le (pages_for c.args.n) (free_pages s.arena (pool_in s.pools c.args.pool).chunks) b.enough,
+    ))
+    (ap length e.value ∙ length-take-le c.args.n (filling_bytes c.fill_parts.new.filling) r.whole) (λ y. e.value
+    ∙ r.read y) r.inside)
 
 pub returns-in-Ok-fill_parts-clause-keeps : goal.returns-in-Ok-fill_parts-clause-keeps
 returns-in-Ok-fill_parts-clause-keeps g c =
     let s = c.args.store.now in
     let m = (returns-in-Ok-fill_parts-clause-loads g c).placed.pages in
-    record { none = tt; kept = tt; pools = m.pools; reclaims = λ all. all_reclaimed_placed s _ (pool_in s.pools c.args.pool).chunks (pages_for c.args.n) m.pools m.others all; no_room = tt; late = tt }
+    record {
+      none = tt;
+      kept = tt;
+      pools = m.pools;
+      reclaims =
+          λ all. all_reclaimed_placed s _ (pool_in s.pools c.args.pool).chunks (pages_for c.args.n) m.pools m.others
+          all;
+      no_room = tt;
+      late = tt;
+    }
 
 pub returns-in-Err-fill_parts-clause-keeps : goal.returns-in-Err-fill_parts-clause-keeps
 returns-in-Err-fill_parts-clause-keeps g c =
@@ -74,10 +104,15 @@ returns-in-Err-fill_parts-clause-keeps g c =
     let e = c.abandon.ensures in
     let qs = filling_parts c.fill_parts.new.filling in
     let placed = lowest_of s c.args.pool c.args.n in
-    let gone = keeps_abandoned (filling_parts c.in-Ok.filling) qs placed (parts_are _ _ w.reserved) c.in-Ok.ensures.begins.pages c.in-Ok.ensures.begins.fills c.in-Ok.ensures.begins.others w.fills w.entries e.publishes e.unraised e.others e.returned in
+    let gone =
+    keeps_abandoned (filling_parts c.in-Ok.filling) qs placed (parts_are _ _ w.reserved)
+    c.in-Ok.ensures.begins.pages c.in-Ok.ensures.begins.fills c.in-Ok.ensures.begins.others w.fills w.entries
+    e.publishes e.unraised e.others e.returned in
     let P : Stored → Type 0 = λ t. KeepsPages s t [] in
     let Q : Stored → Type 0 = λ t. AllReclaimed s → AllReclaimed t in
-    let f = λ (d : Stored) (m : KeepsPages s d [] × IsSameBut placed s.arena d.arena × (d.pools ≡ s.pools)) (all : AllReclaimed s). all_reclaimed_placed s d (pool_in s.pools c.args.pool).chunks (pages_for c.args.n) m.2 m.1 all in
+    let f = λ (d : Stored) (m : KeepsPages s d [] × IsSameBut placed s.arena d.arena × (d.pools ≡ s.pools))
+    (all : AllReclaimed s). all_reclaimed_placed s d (pool_in s.pools c.args.pool).chunks (pages_for c.args.n) m.2
+    m.1 all in
     record {
       none = search (rules);
       kept = subst P (search rules) gone.0;

@@ -9,8 +9,11 @@ use Rattle.iol_cache.proofs.read.weave.weave.Given as goal
 
 abbrev pub invariant-loop-gap : goal.invariant-loop-gap
 invariant-loop-gap l = record {
-  places : places l.shared ++ woven (drop l.used (places l.beside)) l.extents.extents l.at l.to (drop l.gap-index l.gaps) ≡ woven (places l.beside) l.extents.extents l.from l.to l.gaps;
-  parts : bufs_of l.shared ++ bufs_of (slices_woven l.beside l.extents.extents l.used l.at l.to (drop l.gap-index l.gaps)) ≡ bufs_of (slices_woven l.beside l.extents.extents 0 l.from l.to l.gaps);
+  places : places l.shared ++ woven (drop l.used (places l.beside)) l.extents.extents l.at l.to
+      (drop l.gap-index l.gaps) ≡ woven (places l.beside) l.extents.extents l.from l.to l.gaps;
+  parts : bufs_of l.shared
+      ++ bufs_of (slices_woven l.beside l.extents.extents l.used l.at l.to (drop l.gap-index l.gaps))
+      ≡ bufs_of (slices_woven l.beside l.extents.extents 0 l.from l.to l.gaps);
   shares : Shares l.fn.store l.store [] (bufs_of l.shared);
   in_order : AreInOrder l.at l.to (drop l.gap-index l.gaps);
   covered : All (IsCoveredSpan l.extents.extents) (drop l.gap-index l.gaps);

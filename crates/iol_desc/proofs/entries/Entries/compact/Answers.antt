@@ -10,7 +10,8 @@ invariant_of-self g c = rw c.close_holes.ensures.items (listed-held _ _ _ c.self
 
 pub returns-clause-entries : goal.returns-clause-entries
 returns-clause-entries g c =
-    ap (λ (es : List (ℕ × Option g.row.A.Denot)). there es) c.close_holes.ensures.items ∙ there-held c.self.inside.list.items ∙ ap (λ (l : Listed g.row.A.Denot). l.entries) c.self.view_is
+    ap (λ (es : List (ℕ × Option g.row.A.Denot)). there es) c.close_holes.ensures.items
+    ∙ there-held c.self.inside.list.items ∙ ap (λ (l : Listed g.row.A.Denot). l.entries) c.self.view_is
 
 pub returns-clause-room : goal.returns-clause-room
 returns-clause-room g c =

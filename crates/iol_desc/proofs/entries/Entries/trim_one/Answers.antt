@@ -11,4 +11,5 @@ invariant_of-self-2 g c = (listed_without_hole _ _ _ _ c.self.invariant c.if-not
 
 pub returns-clause-entries : goal.returns-clause-entries
 returns-clause-entries g c =
-    (listed_without_hole _ _ _ _ c.self.invariant c.if-not-drop_hole.ensures.hole).2 ∙ ap (λ (l : Listed g.row.A.Denot). l.entries) c.self.view_is
+    (listed_without_hole _ _ _ _ c.self.invariant c.if-not-drop_hole.ensures.hole).2
+    ∙ ap (λ (l : Listed g.row.A.Denot). l.entries) c.self.view_is

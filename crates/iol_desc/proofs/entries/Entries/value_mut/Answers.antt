@@ -8,18 +8,30 @@ use Rattle.iol_desc.proofs.entries.Entries.value_mut.Goals as goal
 
 pub invariant_of-self-lent : goal.invariant_of-self-lent
 invariant_of-self-lent g c w =
-    let found = subst (λ (l : Listed g.row.A.Denot). lookup l.entries c.args.number ≢ None) (sym c.self.view_is) c.requires in
-    let at = c.place_of-at.ensures ∙ ap (λ (es : List (ℕ × Option g.row.A.Denot)). place_in es c.args.number) c.deref.ensures.value in
+    let found = subst (λ (l : Listed g.row.A.Denot). lookup l.entries c.args.number ≢ None) (sym c.self.view_is)
+    c.requires in
+    let at = c.place_of-at.ensures ∙ ap (λ (es : List (ℕ × Option g.row.A.Denot)). place_in es c.args.number)
+    c.deref.ensures.value in
     (lent_entry _ _ c.args.number _ _ c.index_mut.result.now w c.self.invariant found at c.index_mut.ensures.value).0
 
 pub returns : goal.returns
 returns g c =
-    let found = subst (λ (l : Listed g.row.A.Denot). lookup l.entries c.args.number ≢ None) (sym c.self.view_is) c.requires in
-    let at = c.place_of-at.ensures ∙ ap (λ (es : List (ℕ × Option g.row.A.Denot)). place_in es c.args.number) c.deref.ensures.value in
+    let found = subst (λ (l : Listed g.row.A.Denot). lookup l.entries c.args.number ≢ None) (sym c.self.view_is)
+    c.requires in
+    let at = c.place_of-at.ensures ∙ ap (λ (es : List (ℕ × Option g.row.A.Denot)). place_in es c.args.number)
+    c.deref.ensures.value in
     let room : ℕ = vec_capacity c.self.inside.list - vec_len c.self.inside.list in (
-      (refl, λ w. ap (λ (es : List (ℕ × g.row.A.Denot)). record { entries = es; next = c.self.inside.next; room = room }) (lent_entry _ _ c.args.number _ _ c.index_mut.result.now w c.self.invariant found at c.index_mut.ensures.value).1 ∙ ap (λ (l : Listed g.row.A.Denot). with_entry l c.args.number w) c.self.view_is),
+      (
+        refl,
+        λ w. ap (λ (es : List (ℕ × g.row.A.Denot)). record { entries = es; next = c.self.inside.next; room = room })
+            (lent_entry _ _ c.args.number _ _ c.index_mut.result.now w c.self.invariant found at
+            c.index_mut.ensures.value).1
+            ∙ ap (λ (l : Listed g.row.A.Denot). with_entry l c.args.number w) c.self.view_is,
+      ),
       record {
         writes_back = tt;
-        value = subst (λ (l : Listed g.row.A.Denot). lookup l.entries c.args.number ≡ c.index_mut.result.now.1) c.self.view_is (lookup_entry _ _ c.args.number _ _ c.index_mut.result.now c.self.invariant found at c.index_mut.ensures.value) ∙ c.occupant.ensures.value;
+        value = subst (λ (l : Listed g.row.A.Denot). lookup l.entries c.args.number ≡ c.index_mut.result.now.1)
+            c.self.view_is (lookup_entry _ _ c.args.number _ _ c.index_mut.result.now c.self.invariant found at
+            c.index_mut.ensures.value) ∙ c.occupant.ensures.value;
       },
     )

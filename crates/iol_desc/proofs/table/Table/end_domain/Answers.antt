@@ -4,4 +4,5 @@ use Rattle.iol_desc.proofs.table.Table.end_domain.Goals as goal
 pub invariant_of-self : goal.invariant_of-self
 invariant_of-self g c =
     let row = c.index_mut-domain in
-    counted_kept _ _ _ row.result.now _ c.self.invariant (rw c.self.view_is c.place_of-at.ensures.within) row.ensures.value c.end.ensures.count
+    counted_kept _ _ _ row.result.now _ c.self.invariant (rw c.self.view_is c.place_of-at.ensures.within)
+    row.ensures.value c.end.ensures.count

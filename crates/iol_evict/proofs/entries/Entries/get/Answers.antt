@@ -8,9 +8,12 @@ use Rattle.iol_evict.proofs.entries.Entries.get.Goals as goal
 
 pub find_key-key-requires-clause-there : goal.find_key-key-requires-clause-there
 find_key-key-requires-clause-there c =
-    place-there c.self.inside.slab c.self.inside.by_place.items _ _ c.args.file c.args.at _ c.self.view_is c.place_of.ensures c.requires
+    place-there c.self.inside.slab c.self.inside.by_place.items _ _ c.args.file c.args.at _ c.self.view_is
+    c.place_of.ensures c.requires
 
 pub returns-clause-entry : goal.returns-clause-entry
 returns-clause-entry c =
-    let here = subst (λ (r : Rank). Finds Place c.self.inside.slab c.self.inside.by_place.items r c.find_key-key.result) c.place_of.ensures c.find_key-key.ensures in
-    c.read_entry.ensures ∙ sym (found-entry _ _ c.args.file c.args.at _ c.self.invariant.indexed.places here) ∙ ap (λ (t : Table). entry_or t.entries c.args.file c.args.at) c.self.view_is
+    let here = subst (λ (r : Rank). Finds Place c.self.inside.slab c.self.inside.by_place.items r c.find_key-key.result)
+    c.place_of.ensures c.find_key-key.ensures in
+    c.read_entry.ensures ∙ sym (found-entry _ _ c.args.file c.args.at _ c.self.invariant.indexed.places here)
+    ∙ ap (λ (t : Table). entry_or t.entries c.args.file c.args.at) c.self.view_is

@@ -12,8 +12,12 @@ first_idle-requires g c =
     let ask = g.U.InUse.can_ask c.args.users.now in
     record {
       index = index-heights _ _ _ c.self.invariant.indexed;
-      ask = ask-heights ask _ _ _ c.self.invariant.indexed (subst (λ (t : Table). All (λ e. ask e.file e.at) t.entries) (sym c.self.view_is) c.requires.ask);
-      below = keys-below used c.args.passed.now _ _ _ c.self.invariant.indexed (subst (λ (t : Table). AreUsedBelow used c.args.passed.now t.entries) (sym c.self.view_is) c.requires.below);
+      ask =
+          ask-heights ask _ _ _ c.self.invariant.indexed
+          (subst (λ (t : Table). All (λ e. ask e.file e.at) t.entries) (sym c.self.view_is) c.requires.ask);
+      below =
+          keys-below used c.args.passed.now _ _ _ c.self.invariant.indexed
+          (subst (λ (t : Table). AreUsedBelow used c.args.passed.now t.entries) (sym c.self.view_is) c.requires.below);
     }
 
 pub returns : goal.returns
@@ -21,6 +25,8 @@ returns g c =
     let used = g.U.InUse.in_use c.args.users.now in
     subst (λ (t : Table). FindsFirst used c.first_idle.new.passed t.entries c.first_idle.result) c.self.view_is
     (record {
-      first = match-map c.first_idle.result (entries-none _ _ _ c.self.invariant.indexed) (λ place. victim-first used _ _ _ place c.self.invariant.indexed) c.first_idle.ensures.first;
+      first =
+          match-map c.first_idle.result (entries-none _ _ _ c.self.invariant.indexed)
+          (λ place. victim-first used _ _ _ place c.self.invariant.indexed) c.first_idle.ensures.first;
       below = below-keys used c.first_idle.new.passed _ _ _ c.self.invariant.indexed c.first_idle.ensures.below;
     })

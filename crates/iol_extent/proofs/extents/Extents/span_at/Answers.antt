@@ -11,7 +11,10 @@ returns-then-found-len c = record {
   further = c.requires;
   within = omega arith;
   hit = λ wrong. cc;
-  gap = λ _. rw (← (ap (λ (m : ExtentMap). m.extents) c.self.view_is)) (gap_past c.self.inside.pieces.extents c.count_before-found.result c.args.at c.args.to c.self.invariant.apart (omega arith) c.count_before-found.ensures.before);
+  gap =
+      λ _. rw (← (ap (λ (m : ExtentMap). m.extents) c.self.view_is))
+      (gap_past c.self.inside.pieces.extents c.count_before-found.result c.args.at c.args.to c.self.invariant.apart
+      (omega arith) c.count_before-found.ensures.before);
   whole = λ _. record { ends = λ short. absurd (omega (arith, short)) };
 }
 
@@ -24,15 +27,25 @@ returns-then-piece-at c =
     let begins : d.at ≡ (get_or es c.count_before-found.result d).at = ap (λ (x : Extent). x.at) at in
     let piece = ap (λ (x : Extent). x.at) c.piece.view_is in
     let after : c.args.at < d.at = omega (arith, piece) in
-    let there = gap_ends es c.count_before-found.result c.args.at d c.self.invariant.apart (omega arith) (λ j l. c.count_before-found.ensures.before j d l) (omega (arith, after, begins)) in
-    let whole : IsWhole es c.args.to s = record { ends = λ short. subst (λ n. IsSome (cover es n)) (let is : (get_or es c.count_before-found.result d).at ≡ c.min.result = omega (arith, short, begins, c.min.ensures, piece) in is) there } in
+    let there = gap_ends es c.count_before-found.result c.args.at d c.self.invariant.apart (omega arith)
+    (λ j l. c.count_before-found.ensures.before j d l) (omega (arith, after, begins)) in
+    let whole : IsWhole es c.args.to s =
+    record {
+      ends =
+          λ short. subst (λ n. IsSome (cover es n)) (let is : (get_or es c.count_before-found.result d).at
+          ≡ c.min.result = omega (arith, short, begins, c.min.ensures, piece) in is) there;
+    } in
     record {
       from = refl;
       further = omega (arith, c.requires, c.min.ensures, piece);
       within = omega (arith, c.min.ensures);
       hit = λ wrong. cc;
-      gap = λ _. rw (← (ap (λ (m : ExtentMap). m.extents) c.self.view_is)) (gap_before es c.count_before-found.result c.args.at _ d c.self.invariant.apart (omega arith) c.count_before-found.ensures.before at (omega (arith, piece)));
-      whole = λ _. subst (λ (l : List Extent). IsWhole l c.args.to s) (ap (λ (m : ExtentMap). m.extents) c.self.view_is) whole;
+      gap =
+          λ _. rw (← (ap (λ (m : ExtentMap). m.extents) c.self.view_is))
+          (gap_before es c.count_before-found.result c.args.at _ d c.self.invariant.apart (omega arith)
+          c.count_before-found.ensures.before at (omega (arith, piece)));
+      whole = λ _. subst (λ (l : List Extent). IsWhole l c.args.to s) (ap (λ (m : ExtentMap). m.extents) c.self.view_is)
+          whole;
     }
 
 pub returns : goal.returns
@@ -50,9 +63,18 @@ returns c =
     } in
     record {
       from = refl;
-      further = omega (arith, c.requires, c.min-2.ensures, c.end.ensures, c.count_before-found.ensures.after d (omega arith), ap end_of at);
+      further =
+          omega (
+            arith,
+            c.requires,
+            c.min-2.ensures,
+            c.end.ensures,
+            c.count_before-found.ensures.after d (omega arith),
+            ap end_of at,
+          );
       within = omega (arith, c.min-2.ensures);
-      hit = λ _. subst (λ (es : List Extent). IsHit es c.args.to s) (ap (λ (m : ExtentMap). m.extents) c.self.view_is) hit;
+      hit = λ _. subst (λ (es : List Extent). IsHit es c.args.to s) (ap (λ (m : ExtentMap). m.extents) c.self.view_is)
+          hit;
       gap = λ wrong. cc;
       whole = λ wrong. cc;
     }

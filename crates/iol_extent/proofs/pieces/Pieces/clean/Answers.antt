@@ -10,7 +10,8 @@ invariant_of-self c =
     let s = c.self.inside.slab in
     let key = c.at-key.result in
     record {
-      keys = keys_changed s c.clean_at.new.slab c.self.inside.keys.keys key (as_clean (extent_at s key)) c.clean_at.ensures.updates c.self.invariant.keys;
+      keys = keys_changed s c.clean_at.new.slab c.self.inside.keys.keys key (as_clean (extent_at s key))
+          c.clean_at.ensures.updates c.self.invariant.keys;
       slab_room = omega (arith, c.clean_at.ensures.len, c.clean_at.ensures.capacity, c.self.invariant.slab_room);
       key_room = c.self.invariant.key_room;
     }
@@ -20,7 +21,15 @@ returns-clause-extents c = λ d.
     let s = c.self.inside.slab in
     let ks = c.self.inside.keys.keys in
     let key = c.at-key.result in
-    let within : c.args.place < length ks = omega (arith, c.requires, length-map ks (extent_at s), ap (λ (m : ExtentMap). length m.extents) c.self.view_is) in
-    extents_changed s c.clean_at.new.slab ks c.args.place key (as_clean (extent_at s key)) c.clean_at.ensures.updates c.at-key.ensures within c.self.invariant.keys.distinct
-    ∙ ap (λ (x : Extent). set (map (extent_at s) ks) c.args.place (as_clean x)) (sym (extent_there s ks c.args.place key d within c.at-key.ensures))
+    let within : c.args.place < length ks =
+    omega (
+      arith,
+      c.requires,
+      length-map ks (extent_at s),
+      ap (λ (m : ExtentMap). length m.extents) c.self.view_is,
+    ) in
+    extents_changed s c.clean_at.new.slab ks c.args.place key (as_clean (extent_at s key)) c.clean_at.ensures.updates
+    c.at-key.ensures within c.self.invariant.keys.distinct
+    ∙ ap (λ (x : Extent). set (map (extent_at s) ks) c.args.place (as_clean x))
+    (sym (extent_there s ks c.args.place key d within c.at-key.ensures))
     ∙ ap (λ (m : ExtentMap). set m.extents c.args.place (as_clean (get_or m.extents c.args.place d))) c.self.view_is

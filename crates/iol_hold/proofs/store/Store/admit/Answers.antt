@@ -12,5 +12,7 @@ invariant_of-self c =
     let there = subst (λ (x : Stored). is_numbered x.pools c.args.p ≡ true) (sym c.self.view_is) c.requires.there in
     record {
       counts = c.self.invariant.counts;
-      tidy = subst (λ (ps : List Pool). IsTidy (with_pools s ps)) (sym c.admit.ensures) ((admitted_moves s c.args.p c.args.d there).tidy c.self.invariant.tidy);
+      tidy =
+          subst (λ (ps : List Pool). IsTidy (with_pools s ps)) (sym c.admit.ensures)
+          ((admitted_moves s c.args.p c.args.d there).tidy c.self.invariant.tidy);
     }

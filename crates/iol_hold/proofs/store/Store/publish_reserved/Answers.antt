@@ -17,15 +17,23 @@ use Rattle.iol_hold.specs.View.{stored}
 use Rattle.iol_hold.specs.PendingPages.{Publishes, all_held}
 use Rattle.iol_pool.proofs.Owners.{owned_stays}
 use Rattle.iol_hold.proofs.LiveBuffers.{holds_all, tidy_of}
-use Rattle.iol_hold.proofs.Publication.{Makes, held_filled, held_named, held_pool, made_holds, made_publishes, made_usable, length-all_held}
+use Rattle.iol_hold.proofs.Publication.{Makes, held_filled, held_named, held_pool, made_holds, made_publishes}
+use Rattle.iol_hold.proofs.Publication.{made_usable, length-all_held}
 use Rattle.std.proofs.lemmas.List.{length-map, take-append-drop, take_all}
 use Rattle.iol_hold.proofs.store.Store.publish_reserved.Goals as goal
 
 abbrev after : goal.After-new → Stored
-after c = record { arena = c.publish_reserved-bufs.new.self; pools = c.self.inside.pools; counts = c.hold_once.new.counts.items }
+after c = record {
+  arena = c.publish_reserved-bufs.new.self;
+  pools = c.self.inside.pools;
+  counts =
+      c.hold_once.new.counts.items;
+}
 
 -- buffers were made on the first pages, and the others go back
-makes : (c : goal.After-new) → Makes (stored c.self.inside) (after c) (part_pages c.args.reserved.reservation.parts.items) (needed_pages c.args.reserved.reservation.parts.items c.args.len) c.publish_reserved-bufs.result.items
+makes : (c : goal.After-new)
+    → Makes (stored c.self.inside) (after c) (part_pages c.args.reserved.reservation.parts.items)
+    (needed_pages c.args.reserved.reservation.parts.items c.args.len) c.publish_reserved-bufs.result.items
 makes c =
     let s : Stored = stored c.self.inside in
     let ps = c.args.reserved.reservation.parts.items in
@@ -35,10 +43,13 @@ makes c =
     record {
       waited = λ q h. (page_all Pending s.arena.limit s.arena.entries ps q held.pages.pending h).0;
       others = e.others;
-      back = λ q h off. elim (in_either (take k (part_pages ps)) (drop k (part_pages ps)) q (subst (λ l. In l q) (sym (take-append-drop k (part_pages ps))) h)) [
-        | inl on ↦ absurd (off on)
-        | inr past ↦ e.returned.each q (contains_in (drop k (part_pages ps)) q past)
-      ];
+      back =
+          λ q h off.
+          elim (in_either (take k (part_pages ps)) (drop k (part_pages ps)) q
+          (subst (λ l. In l q) (sym (take-append-drop k (part_pages ps))) h)) [
+            | inl on ↦ absurd (off on)
+            | inr past ↦ e.returned.each q (contains_in (drop k (part_pages ps)) q past)
+          ];
       on = e.made_on;
       new = e.adds.made;
       runs = e.runs;
@@ -51,14 +62,17 @@ tidy c =
     let s : Stored = stored c.self.inside in
     let ps = c.args.reserved.reservation.parts.items in
     let e = c.publish_reserved-bufs.ensures in
-    tidy_of (made_holds s (after c) (part_pages ps) (needed_pages ps c.args.len) c.publish_reserved-bufs.result.items (makes c) (holds_all c.self.invariant.tidy)) e.runs (owned_stays s.arena c.publish_reserved-bufs.new.self s.pools e.adds.grows.taken c.self.invariant.tidy.owned)
+    tidy_of (made_holds s (after c) (part_pages ps) (needed_pages ps c.args.len) c.publish_reserved-bufs.result.items
+    (makes c) (holds_all c.self.invariant.tidy)) e.runs
+    (owned_stays s.arena c.publish_reserved-bufs.new.self s.pools e.adds.grows.taken c.self.invariant.tidy.owned)
 
 pub invariant_of-self : goal.invariant_of-self
 invariant_of-self c =
     let s : Stored = stored c.self.inside in
     let counts = c.hold_once.ensures ∙ ap (all_held s.counts) c.as_slice.ensures in
     record {
-      counts = ap length counts ∙ length-all_held s.counts c.publish_reserved-bufs.result.items ∙ c.self.invariant.counts ∙ sym c.publish_reserved-bufs.ensures.adds.grows.count;
+      counts = ap length counts ∙ length-all_held s.counts c.publish_reserved-bufs.result.items
+          ∙ c.self.invariant.counts ∙ sym c.publish_reserved-bufs.ensures.adds.grows.count;
       tidy = tidy c;
     }
 
@@ -82,12 +96,19 @@ returns c =
       publishes = subst (λ bs. Publishes s t ps bs) (sym named) (made_publishes s t ps placed bufs m e.adds.grows refl);
       made = subst (λ bs. All (IsNew s.arena t.arena) bs) (sym named) e.adds.made;
       value = ap (bytes_in t.arena) named ∙ e.adds.value;
-      filled = held_filled s t p bufs c.new.result c.new.ensures e.adds.made (λ k d h. held.inside (get_or bufs k d).page (contains_in pages (get_or bufs k d).page (places k d h)));
+      filled =
+          held_filled s t p bufs c.new.result c.new.ensures e.adds.made
+          (λ k d h. held.inside (get_or bufs k d).page (contains_in pages (get_or bufs k d).page (places k d h)));
       pool = held_pool p bufs c.new.result c.new.ensures;
       few = omega (arith, ap length c.new.ensures, length-map bufs one, e.few);
       made_on = subst (λ bs. MadeOn s.arena t.arena bs placed) (sym named) e.made_on;
       others = e.others;
       returned = e.returned;
-      free = record { each = λ long. made_usable s t pages placed bufs m e.adds.grows.limit (λ q h. subst (λ l. In l q) (sym (take_all (pages_for c.args.len) pages (omega (arith, long)))) h) };
+      free =
+          record {
+            each =
+                λ long. made_usable s t pages placed bufs m e.adds.grows.limit
+                (λ q h. subst (λ l. In l q) (sym (take_all (pages_for c.args.len) pages (omega (arith, long)))) h);
+          };
       tidy = tidy c;
     })

@@ -14,14 +14,17 @@ pub admit-requires-clause-there : goal.admit-requires-clause-there
 admit-requires-clause-there c = sym (is_pool-read_of _ (state_of c.args.self.now) c.args.p) ∙ c.requires.there
 
 pub admit-requires-clause-place : goal.admit-requires-clause-place
-admit-requires-clause-place c = sym (ap (λ list. has_place list c.args.d) (list-read_of _ (state_of c.args.self.now) c.args.p)) ∙ c.requires.place
+admit-requires-clause-place c =
+    sym (ap (λ list. has_place list c.args.d) (list-read_of _ (state_of c.args.self.now) c.args.p)) ∙ c.requires.place
 
 pub returns-clause-admits : goal.returns-clause-admits
 returns-clause-admits c =
     let h = state_of c.args.self.now in
     let there : is_numbered h.store.pools c.args.p ≡ true = sym (is_pool-read_of _ h c.args.p) ∙ c.requires.there in
-    let after : State → State = λ s. record s { pools = with_numbered s.pools c.args.p (admitting (machine.pool s c.args.p) c.args.d) } in
-    subst (λ (t : Stored). Leaves after h (record h { store = t })) (sym c.admit.ensures) (admitted h c.args.p c.args.d there c.requires.sound)
+    let after : State → State =
+    λ s. record s { pools = with_numbered s.pools c.args.p (admitting (machine.pool s c.args.p) c.args.d) } in
+    subst (λ (t : Stored). Leaves after h (record h { store = t })) (sym c.admit.ensures)
+    (admitted h c.args.p c.args.d there c.requires.sound)
 
 pub returns-clause-list : goal.returns-clause-list
 returns-clause-list c = ap (λ (t : Stored). record (state_of c.args.self.now) { store = t }) c.admit.ensures

@@ -10,4 +10,5 @@ pub returns-then-is_live : goal.returns-then-is_live
 returns-then-is_live c = λ f.
     c.are_live.ensures
     ∙ all_live-read_of f (state_of c.args.self.now) c.args.list.now
-    ∙ ap (λ (b : Bool). b && list_all (λ d. is_live (as_read f c.args.self.now) d) c.args.list.now) (sym c.if-is_live.true ∙ c.is_live.ensures f)
+    ∙ ap (λ (b : Bool). b && list_all (λ d. is_live (as_read f c.args.self.now) d) c.args.list.now)
+    (sym c.if-is_live.true ∙ c.is_live.ensures f)

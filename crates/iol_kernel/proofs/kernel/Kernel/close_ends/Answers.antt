@@ -17,9 +17,13 @@ close_end-requires c =
     let k = state_of c.loop-place.self in
     record {
       sound = c.loop-place.invariant.closed.sound;
-      opened = subst (IsOpenEnd (objects_of k)) c.in-Some.is (first_open h.domains (objects_of k) c.args.ends.now c.loop-place.place-index c.place-item.result c.loop-place-test.true c.place-item.is c.loop-place.invariant.left);
+      opened =
+          subst (IsOpenEnd (objects_of k)) c.in-Some.is
+          (first_open h.domains (objects_of k) c.args.ends.now c.loop-place.place-index c.place-item.result
+          c.loop-place-test.true c.place-item.is c.loop-place.invariant.left);
       free = ap (all_ends_on c.in-Some.end) c.loop-place.invariant.domains
-          ∙ first_alone h.domains (objects_of k) c.args.ends.now c.loop-place.place-index c.place-item.result c.loop-place-test.true c.place-item.is c.loop-place.invariant.left c.in-Some.end c.in-Some.is;
+          ∙ first_alone h.domains (objects_of k) c.args.ends.now c.loop-place.place-index c.place-item.result
+          c.loop-place-test.true c.place-item.is c.loop-place.invariant.left c.in-Some.end c.in-Some.is;
     }
 
 pub loop-place-preserved : goal.loop-place-preserved
@@ -30,9 +34,15 @@ loop-place-preserved c =
     let i = c.loop-place.place-index in
     let ends = c.args.ends.now in
     record {
-      closed = leaves_as (λ s. closed_on (fold closed_on s (take i ends)) (Some c.in-Some.end)) (λ s. fold closed_on s (take (i + 1) ends)) h l
-          (λ f. ap (λ (o : Option Descriptor). closed_on (fold closed_on (read_of f h) (take i ends)) o) (sym c.in-Some.is ∙ c.place-item.is) ∙ sym (fold_more closed_on (read_of f h) ends i c.place-item.result c.loop-place-test.true))
-          (leaves_then (λ s. fold closed_on s (take i ends)) (λ s. closed_on s (Some c.in-Some.end)) h k l (λ s. pools-fold s (take i ends)) c.loop-place.invariant.closed c.close_end.ensures.closed);
+      closed =
+          leaves_as (λ s. closed_on (fold closed_on s (take i ends)) (Some c.in-Some.end))
+          (λ s. fold closed_on s (take (i + 1) ends)) h l
+          (λ f. ap (λ (o : Option Descriptor). closed_on (fold closed_on (read_of f h) (take i ends)) o)
+          (sym c.in-Some.is ∙ c.place-item.is)
+          ∙ sym (fold_more closed_on (read_of f h) ends i c.place-item.result c.loop-place-test.true))
+          (leaves_then (λ s. fold closed_on s (take i ends)) (λ s. closed_on s (Some c.in-Some.end)) h k l
+          (λ s. pools-fold s (take i ends)) c.loop-place.invariant.closed c.close_end.ensures.closed);
       domains = c.close_end.ensures.domains ∙ c.loop-place.invariant.domains;
-      left = later_taken h.domains (objects_of k) ends i c.place-item.result c.loop-place-test.true c.place-item.is c.loop-place.invariant.left c.in-Some.end c.in-Some.is (objects_of l) c.close_end.ensures.others;
+      left = later_taken h.domains (objects_of k) ends i c.place-item.result c.loop-place-test.true c.place-item.is
+          c.loop-place.invariant.left c.in-Some.end c.in-Some.is (objects_of l) c.close_end.ensures.others;
     }

@@ -19,7 +19,8 @@ pub take_fd-requires-clause-there : goal.take_fd-requires-clause-there
 take_fd-requires-clause-there c = not_none _ _ c.args.end (open_in c.requires) refl
 
 pub close_end-requires : goal.close_end-requires
-close_end-requires c = let_go (state_of c.args.self.now) (domains_of c.take_fd.new.self) c.args.by c.args.fd c.args.end c.requires c.take_fd.ensures
+close_end-requires c = let_go (state_of c.args.self.now) (domains_of c.take_fd.new.self) c.args.by c.args.fd c.args.end
+    c.requires c.take_fd.ensures
 
 pub returns : goal.returns
 returns c =
@@ -27,7 +28,13 @@ returns c =
     let d = c.args.by in
     let xs = slice_set (domain_in h.domains d).fds c.args.fd None in
     let free = let_go h (domains_of c.take_fd.new.self) d c.args.fd c.args.end c.requires c.take_fd.ensures in
-    let one = leaves_here (λ s. with_fds s d xs) h (domains_of c.take_fd.new.self) (λ f. fds-changed f h (domains_of c.take_fd.new.self) d xs c.take_fd.ensures) free.sound in
-    leaves_as (λ s. closed_on (with_fds s d xs) (Some c.args.end)) (λ s. with_fds (closed_on s (Some c.args.end)) d (freed s d c.args.fd)) h (state_of c.close_end.new.self)
-    (λ f. closed_on-with_fds (read_of f h) d xs (Some c.args.end) ∙ ap (λ (ys : List (Option Descriptor)). with_fds (closed_on (read_of f h) (Some c.args.end)) d ys) (sym (freed-read_of f h d c.args.fd)))
-    (leaves_then (λ s. with_fds s d xs) (λ s. closed_on s (Some c.args.end)) h _ (state_of c.close_end.new.self) (λ s. pools-with_domain s d (record (domain s d) { fds = xs })) one c.close_end.ensures.closed)
+    let one =
+    leaves_here (λ s. with_fds s d xs) h (domains_of c.take_fd.new.self)
+    (λ f. fds-changed f h (domains_of c.take_fd.new.self) d xs c.take_fd.ensures) free.sound in
+    leaves_as (λ s. closed_on (with_fds s d xs) (Some c.args.end))
+    (λ s. with_fds (closed_on s (Some c.args.end)) d (freed s d c.args.fd)) h (state_of c.close_end.new.self)
+    (λ f. closed_on-with_fds (read_of f h) d xs (Some c.args.end)
+    ∙ ap (λ (ys : List (Option Descriptor)). with_fds (closed_on (read_of f h) (Some c.args.end)) d ys)
+    (sym (freed-read_of f h d c.args.fd)))
+    (leaves_then (λ s. with_fds s d xs) (λ s. closed_on s (Some c.args.end)) h _ (state_of c.close_end.new.self)
+    (λ s. pools-with_domain s d (record (domain s d) { fds = xs })) one c.close_end.ensures.closed)

@@ -16,7 +16,8 @@ use Rattle.iol_kernel.specs.Kernel.{state_of}
 use Rattle.iol_kernel.specs.KernelState.{KernelState}
 use Rattle.iol_kernel.specs.Readings.{bytes_over}
 use Rattle.iol_kernel.proofs.FileCalls.FileCopies.{copied_as, copies_refused, copies_unmade, covers_read, frees_here}
-use Rattle.iol_kernel.proofs.FileCalls.FileReads.{file_for, numbered_here, open_at, open_there, refused_read, row_live, set_to}
+use Rattle.iol_kernel.proofs.FileCalls.FileReads.{file_for, numbered_here, open_at, open_there, refused_read, row_live}
+use Rattle.iol_kernel.proofs.FileCalls.FileReads.{set_to}
 use Rattle.iol_kernel.proofs.FileCalls.ReadEffects.{counts_few, read_fits, reads_done, reads_refused}
 use Rattle.iol_kernel.proofs.FileCalls.FileTests.{read-first}
 use Rattle.iol_kernel.proofs.FileCalls.FileNames.{cache_sound}
@@ -26,23 +27,30 @@ use Rattle.iol_kernel.proofs.kernel.Kernel.copy_file.Goals as goal
 use Rattle.iol_kernel.proofs.kernel.Kernel.copy_file.Goals.{In_ok-test_read}
 
 pub test_read-requires : goal.test_read-requires
-test_read-requires g c = file_for (open_at (state_of c.args.self.now) c.args.by c.args.fd c.args.found c.args.count c.requires.sound c.requires.live c.requires.from)
+test_read-requires g c =
+    file_for (open_at (state_of c.args.self.now) c.args.by c.args.fd c.args.found c.args.count c.requires.sound
+    c.requires.live c.requires.from)
 
 pub returns-in_err-test_read : goal.returns-in_err-test_read
 returns-in_err-test_read g c =
     let h = state_of c.args.self.now in
     let disk = g.B.Backing.disk c.args.backing.now in
     let x = read_at c.args.by c.args.fd c.args.found c.args.count in
-    let held = open_at h c.args.by c.args.fd c.args.found c.args.count c.requires.sound c.requires.live c.requires.from in
+    let held = open_at h c.args.by c.args.fd c.args.found c.args.count c.requires.sound c.requires.live
+    c.requires.from in
     let e = c.in_err-test_read.ensures in
     let y = c.in_err-test_read.field-0.0 in
     let is : ◌≡◌ {A = Result (List ℕ) Refusal} (Err y) c.from_residual.result = search (rules) in
-    let done = subst (λ (r : Result (List ℕ) Refusal). CopiesFromFile x disk h r disk h) is (copies_refused held disk y (e.refused (bytes_over [] h.store)) e.early) in
+    let done =
+    subst (λ (r : Result (List ℕ) Refusal). CopiesFromFile x disk h r disk h) is
+    (copies_refused held disk y (e.refused (bytes_over [] h.store)) e.early) in
     record { serves = done.serves; copies = done.copies; short = done.short }
 
 -- what is known once the read passes its tests
-held : (g : Over) (c : In_ok-test_read g) → IsOpenAt (state_of c.args.self.now) (read_at c.args.by c.args.fd c.args.found c.args.count)
-held g c = open_at (state_of c.args.self.now) c.args.by c.args.fd c.args.found c.args.count c.requires.sound c.requires.live c.requires.from
+held : (g : Over) (c : In_ok-test_read g)
+    → IsOpenAt (state_of c.args.self.now) (read_at c.args.by c.args.fd c.args.found c.args.count)
+held g c = open_at (state_of c.args.self.now) c.args.by c.args.fd c.args.found c.args.count c.requires.sound
+    c.requires.live c.requires.from
 
 pub readable-most-requires : goal.readable-most-requires
 readable-most-requires g c = (file_for (held g (goal.at.readable-most-requires g c).In_ok-test_read)).file
@@ -54,7 +62,9 @@ returns-in_err-bytes g c =
     let x = read_at c.args.by c.args.fd c.args.found c.args.count in
     let at = held g (goal.at.returns-in_err-bytes g c).In_ok-test_read in
     let is : ◌≡◌ {A = Result (List ℕ) Refusal} (Err Memory) c.from_residual-in_err-bytes.result = search (rules) in
-    let done = subst (λ (r : Result (List ℕ) Refusal). CopiesFromFile x disk h r disk h) is (copies_unmade at disk (read-first at ∙ c.in_ok-test_read.ensures.passed (bytes_over [] h.store))) in
+    let done =
+    subst (λ (r : Result (List ℕ) Refusal). CopiesFromFile x disk h r disk h) is
+    (copies_unmade at disk (read-first at ∙ c.in_ok-test_read.ensures.passed (bytes_over [] h.store))) in
     record { serves = done.serves; copies = done.copies; short = done.short }
 
 pub read-requires : goal.read-requires
@@ -81,10 +91,13 @@ returns-in_err-agg g c =
     let new : KernelState = record h { store = m; cache = k } in
     let is : ◌≡◌ {A = Result (List ℕ) Refusal} (Err y) c.from_residual-in_err-agg.result = search (rules) in
     let refused : CopiesFromFile x disk h (Err y) after new = record {
-      serves = refused_read disk after m k at e.sound e.fault.honest e.fault.slots e.backed e.gone y (read-first at ∙ c.in_ok-test_read.ensures.passed (bytes_over [] h.store)) e.late;
+      serves = refused_read disk after m k at e.sound e.fault.honest e.fault.slots e.backed e.gone y (read-first at
+          ∙ c.in_ok-test_read.ensures.passed (bytes_over [] h.store)) e.late;
       copies = record {
         mid = m;
-        reads = reads_refused disk after m k at e.pages e.gone.lists (List Slice) (List ℕ) y h.domains refl (refuses_more (holding_of h) reported e.refused) (reports_room (holding_of h) reported {A = List Slice} (Err y) e.room) e.fault e.late;
+        reads = reads_refused disk after m k at e.pages e.gone.lists (List Slice) (List ℕ) y h.domains refl
+            (refuses_more (holding_of h) reported e.refused)
+            (reports_room (holding_of h) reported {A = List Slice} (Err y) e.room) e.fault e.late;
         gives = tt;
         early = inr e.late;
         frees = frees_here m;
@@ -96,15 +109,22 @@ returns-in_err-agg g c =
     record { serves = done.serves; copies = done.copies; short = done.short }
 
 pub copy_out-requires-clause-room : goal.copy_out-requires-clause-room
-copy_out-requires-clause-room g c = omega (arith, c.in_ok-agg.ensures.short, c.in_ok-bytes.ensures.len, c.in_ok-bytes.ensures.capacity)
+copy_out-requires-clause-room g c =
+    omega (arith, c.in_ok-agg.ensures.short, c.in_ok-bytes.ensures.len, c.in_ok-bytes.ensures.capacity)
 
 pub release-requires : goal.release-requires
 release-requires g c =
     let e = c.in_ok-agg.ensures in
-    covers_read (g.B.Backing.disk c.args.backing.now) c.read.new.store (cached_of c.read.new.self) c.in_ok-agg.agg (held g (goal.at.release-requires g c).In_ok-test_read) e.sound e.goes
+    covers_read (g.B.Backing.disk c.args.backing.now) c.read.new.store (cached_of c.read.new.self) c.in_ok-agg.agg
+    (held g (goal.at.release-requires g c).In_ok-test_read) e.sound e.goes
 
 pub moved_by-requires : goal.moved_by-requires
-moved_by-requires g c = omega (arith, read_fits (held g (goal.at.moved_by-requires g c).In_ok-test_read) c.in_ok-agg.ensures.reads, c.len-len.ensures)
+moved_by-requires g c =
+    omega (
+      arith,
+      read_fits (held g (goal.at.moved_by-requires g c).In_ok-test_read) c.in_ok-agg.ensures.reads,
+      c.len-len.ensures,
+    )
 
 pub set_fd-requires-clause-live : goal.set_fd-requires-clause-live
 set_fd-requires-clause-live g c = row_live (held g (goal.at.set_fd-requires-clause-live g c).In_ok-test_read)
@@ -129,15 +149,31 @@ returns g c =
     let ds = domains_of c.set_fd.new.self in
     let bytes = c.from_vec.result in
     let fewer : byte_len agg ≤ x.count = omega (arith, e.short, reported.fewer) in
-    let moved : ds ≡ moved_on h.domains x (byte_len agg) = set_to h.domains c.args.by c.args.fd c.set_fd.ensures.set c.moved_by.ensures ∙ ap (moved_on h.domains x) c.len-len.ensures in
-    let is : bytes ≡ bytes_of text = c.from_vec.ensures ∙ c.copy_out.ensures ∙ ap (λ (w : List ℕ). w ++ bytes_of text) c.in_ok-bytes.ensures.items in
+    let moved : ds ≡ moved_on h.domains x (byte_len agg) =
+    set_to h.domains c.args.by c.args.fd c.set_fd.ensures.set c.moved_by.ensures
+    ∙ ap (moved_on h.domains x) c.len-len.ensures in
+    let is : bytes ≡ bytes_of text = c.from_vec.ensures ∙ c.copy_out.ensures
+    ∙ ap (λ (w : List ℕ). w ++ bytes_of text) c.in_ok-bytes.ensures.items in
     record {
-      serves = copied_as disk m k agg at e.sound e.goes after c.release.new.store r.moves r.lists r.frees (r.reclaims e.readable) (read-first at ∙ c.in_ok-test_read.ensures.passed (bytes_over [] h.store)) e.fault.honest e.fault.slots e.backed
-          bytes ds is fewer (read_fits at e.reads) (λ b. e.text b ∙ ap (labelled (pool_read h x)) (bytes_more (holding_of h) reported b)) moved;
+      serves = copied_as disk m k agg at e.sound e.goes after c.release.new.store r.moves r.lists r.frees
+          (r.reclaims e.readable) (read-first at ∙ c.in_ok-test_read.ensures.passed (bytes_over [] h.store))
+          e.fault.honest e.fault.slots e.backed
+          bytes ds is fewer (read_fits at e.reads) (λ b. e.text b
+          ∙ ap (labelled (pool_read h x)) (bytes_more (holding_of h) reported b)) moved;
       copies = record {
         mid = m;
-        reads = reads_done disk after m k at e.pages e.goes.lists {B = List ℕ} bytes agg m ds (reads_more (holding_of h) reported e.reads) (room_more (holding_of h) reported e.room) e.fault.counts e.fault.honest e.fault.slots;
-        gives = record { slices = agg; copied = is; read = reads_more (holding_of h) reported e.reads; released = r.moves; domains = moved };
+        reads =
+            reads_done disk after m k at e.pages e.goes.lists {B = List ℕ} bytes agg m ds
+            (reads_more (holding_of h) reported e.reads) (room_more (holding_of h) reported e.room) e.fault.counts
+            e.fault.honest e.fault.slots;
+        gives = record {
+          slices = agg;
+          copied = is;
+          read = reads_more (holding_of h) reported e.reads;
+          released =
+              r.moves;
+          domains = moved;
+        };
         early = tt;
         frees = r.frees;
         lists = r.lists;

@@ -1,4 +1,5 @@
-use Rattle.std.proofs.Common.{rules, ◌≡◌, ◌∙◌, ℕ, List, [], ◌++◌, ◌≤◌, ap, refl, subst, arith, inr, length, take, drop, length-append}
+use Rattle.std.proofs.Common.{rules, ◌≡◌, ◌∙◌, ℕ, List, [], ◌++◌, ◌≤◌, ap, refl, subst, arith, inr, length, take, drop}
+use Rattle.std.proofs.Common.{length-append}
 use Rattle.std.specs.Prelude.{Result, Err}
 use Rattle.std.proofs.lemmas.List.{drop_at, length-drop, length-map}
 use Rattle.iol_core.specs.Text.{Text, bytes_of, labelled}
@@ -16,7 +17,8 @@ use Rattle.iol_kernel.specs.Kernel.{state_of}
 use Rattle.iol_kernel.specs.KernelState.{KernelState}
 use Rattle.iol_kernel.specs.Readings.{bytes_over}
 use Rattle.iol_kernel.proofs.FileCalls.FileCopies.{copied_as, copies_refused, covers_read, frees_here}
-use Rattle.iol_kernel.proofs.FileCalls.FileReads.{file_for, numbered_here, open_at, open_there, refused_read, row_live, set_to}
+use Rattle.iol_kernel.proofs.FileCalls.FileReads.{file_for, numbered_here, open_at, open_there, refused_read, row_live}
+use Rattle.iol_kernel.proofs.FileCalls.FileReads.{set_to}
 use Rattle.iol_kernel.proofs.FileCalls.ReadEffects.{counts_few, read_fits, reads_done, reads_refused}
 use Rattle.iol_kernel.proofs.FileCalls.FileTests.{read-first}
 use Rattle.iol_kernel.proofs.FileCalls.FileNames.{cache_sound}
@@ -27,11 +29,15 @@ use Rattle.iol_kernel.proofs.kernel.Kernel.copy_file_into.Goals as goal
 use Rattle.iol_kernel.proofs.kernel.Kernel.copy_file_into.Goals.{In_ok-test_read}
 
 -- a refusal leaves the memory unchanged
-into_refused : (x : FileRead) (memory : List ℕ) (disk after : Disk) (old new : KernelState) (y : Refusal) → CopiesFromFile x disk old (Err y) after new → CopiesInto x memory memory disk old (Err y) after new
-into_refused x memory disk after old new y refused = record { copies = refused; count = tt; len = refl; rest = tt; err = refl }
+into_refused : (x : FileRead) (memory : List ℕ) (disk after : Disk) (old new : KernelState) (y : Refusal)
+    → CopiesFromFile x disk old (Err y) after new → CopiesInto x memory memory disk old (Err y) after new
+into_refused x memory disk after old new y refused =
+    record { copies = refused; count = tt; len = refl; rest = tt; err = refl }
 
 pub test_read-requires : goal.test_read-requires
-test_read-requires g c = file_for (open_at (state_of c.args.self.now) c.args.by c.args.fd c.args.found (length c.args.into.now) c.requires.open.sound c.requires.open.live c.requires.open.from)
+test_read-requires g c =
+    file_for (open_at (state_of c.args.self.now) c.args.by c.args.fd c.args.found (length c.args.into.now)
+    c.requires.open.sound c.requires.open.live c.requires.open.from)
 
 pub returns-in_err-test_read : goal.returns-in_err-test_read
 returns-in_err-test_read g c =
@@ -39,16 +45,22 @@ returns-in_err-test_read g c =
     let disk = g.B.Backing.disk c.args.backing.now in
     let memory = c.args.into.now in
     let x = read_at c.args.by c.args.fd c.args.found (length memory) in
-    let held = open_at h c.args.by c.args.fd c.args.found (length memory) c.requires.open.sound c.requires.open.live c.requires.open.from in
+    let held = open_at h c.args.by c.args.fd c.args.found (length memory) c.requires.open.sound c.requires.open.live
+    c.requires.open.from in
     let e = c.in_err-test_read.ensures in
     let y = c.in_err-test_read.field-0.0 in
     let is : ◌≡◌ {A = Result ℕ Refusal} (Err y) c.from_residual.result = search (rules) in
-    let done = subst (λ (r : Result ℕ Refusal). CopiesInto x memory memory disk h r disk h) is (into_refused x memory disk disk h h y (copies_refused held disk y (e.refused (bytes_over [] h.store)) e.early)) in
+    let done =
+    subst (λ (r : Result ℕ Refusal). CopiesInto x memory memory disk h r disk h) is
+    (into_refused x memory disk disk h h y
+    (copies_refused held disk y (e.refused (bytes_over [] h.store)) e.early)) in
     record { copies = done.copies; count = done.count; len = done.len; rest = done.rest; err = done.err }
 
 -- what is known once the read passes its tests
-held : (g : Over) (c : In_ok-test_read g) → IsOpenAt (state_of c.args.self.now) (read_at c.args.by c.args.fd c.args.found (length c.args.into.now))
-held g c = open_at (state_of c.args.self.now) c.args.by c.args.fd c.args.found (length c.args.into.now) c.requires.open.sound c.requires.open.live c.requires.open.from
+held : (g : Over) (c : In_ok-test_read g)
+    → IsOpenAt (state_of c.args.self.now) (read_at c.args.by c.args.fd c.args.found (length c.args.into.now))
+held g c = open_at (state_of c.args.self.now) c.args.by c.args.fd c.args.found (length c.args.into.now)
+    c.requires.open.sound c.requires.open.live c.requires.open.from
 
 pub readable-most-requires : goal.readable-most-requires
 readable-most-requires g c = (file_for (held g (goal.at.readable-most-requires g c).In_ok-test_read)).file
@@ -78,10 +90,13 @@ returns-in_err-agg g c =
     let new : KernelState = record h { store = m; cache = k } in
     let is : ◌≡◌ {A = Result ℕ Refusal} (Err y) c.from_residual-in_err-agg.result = search (rules) in
     let refused : CopiesFromFile x disk h (Err y) after new = record {
-      serves = refused_read disk after m k at e.sound e.fault.honest e.fault.slots e.backed e.gone y (read-first at ∙ c.in_ok-test_read.ensures.passed (bytes_over [] h.store)) e.late;
+      serves = refused_read disk after m k at e.sound e.fault.honest e.fault.slots e.backed e.gone y (read-first at
+          ∙ c.in_ok-test_read.ensures.passed (bytes_over [] h.store)) e.late;
       copies = record {
         mid = m;
-        reads = reads_refused disk after m k at e.pages e.gone.lists (List Slice) (List ℕ) y h.domains refl (refuses_more (holding_of h) reported e.refused) (reports_room (holding_of h) reported {A = List Slice} (Err y) e.room) e.fault e.late;
+        reads = reads_refused disk after m k at e.pages e.gone.lists (List Slice) (List ℕ) y h.domains refl
+            (refuses_more (holding_of h) reported e.refused)
+            (reports_room (holding_of h) reported {A = List Slice} (Err y) e.room) e.fault e.late;
         gives = tt;
         early = inr e.late;
         frees = frees_here m;
@@ -89,7 +104,9 @@ returns-in_err-agg g c =
       };
       short = tt;
     } in
-    let done = subst (λ (r : Result ℕ Refusal). CopiesInto x memory memory disk h r after new) is (into_refused x memory disk after h new y refused) in
+    let done =
+    subst (λ (r : Result ℕ Refusal). CopiesInto x memory memory disk h r after new) is
+    (into_refused x memory disk after h new y refused) in
     record { copies = done.copies; count = done.count; len = done.len; rest = done.rest; err = done.err }
 
 pub copy_to_front-requires-clause-room : goal.copy_to_front-requires-clause-room
@@ -98,10 +115,16 @@ copy_to_front-requires-clause-room g c = omega (arith, c.in_ok-agg.ensures.short
 pub release-requires : goal.release-requires
 release-requires g c =
     let e = c.in_ok-agg.ensures in
-    covers_read (g.B.Backing.disk c.args.backing.now) c.read.new.store (cached_of c.read.new.self) c.in_ok-agg.agg (held g (goal.at.release-requires g c).In_ok-test_read) e.sound e.goes
+    covers_read (g.B.Backing.disk c.args.backing.now) c.read.new.store (cached_of c.read.new.self) c.in_ok-agg.agg
+    (held g (goal.at.release-requires g c).In_ok-test_read) e.sound e.goes
 
 pub moved_by-requires : goal.moved_by-requires
-moved_by-requires g c = omega (arith, read_fits (held g (goal.at.moved_by-requires g c).In_ok-test_read) c.in_ok-agg.ensures.reads, c.len-len.ensures)
+moved_by-requires g c =
+    omega (
+      arith,
+      read_fits (held g (goal.at.moved_by-requires g c).In_ok-test_read) c.in_ok-agg.ensures.reads,
+      c.len-len.ensures,
+    )
 
 pub set_fd-requires-clause-live : goal.set_fd-requires-clause-live
 set_fd-requires-clause-live g c = row_live (held g (goal.at.set_fd-requires-clause-live g c).In_ok-test_read)
@@ -129,19 +152,34 @@ returns g c =
     let len = c.len-len.result in
     let bytes = take len filled in
     let fewer : byte_len agg ≤ x.count = omega (arith, e.short, reported.fewer) in
-    let moved : ds ≡ moved_on h.domains x (byte_len agg) = set_to h.domains c.args.by c.args.fd c.set_fd.ensures.set c.moved_by.ensures ∙ ap (moved_on h.domains x) c.len-len.ensures in
+    let moved : ds ≡ moved_on h.domains x (byte_len agg) =
+    set_to h.domains c.args.by c.args.fd c.set_fd.ensures.set c.moved_by.ensures
+    ∙ ap (moved_on h.domains x) c.len-len.ensures in
     let long : length (bytes_of text) ≡ byte_len agg = length-map text (λ (b : ℕ × ℕ). b.0) ∙ length-text_of m agg in
     let count : len ≡ length (bytes_of text) = omega (arith, long, c.len-len.ensures) in
     let laid : filled ≡ bytes_of text ++ drop (byte_len agg) memory = c.copy_to_front.ensures in
     let is : bytes ≡ bytes_of text = front_is (bytes_of text) (drop (byte_len agg) memory) filled len laid count in
     record {
       copies = record {
-        serves = copied_as disk m k agg at e.sound e.goes after c.release.new.store r.moves r.lists r.frees (r.reclaims e.readable) (read-first at ∙ c.in_ok-test_read.ensures.passed (bytes_over [] h.store)) e.fault.honest e.fault.slots e.backed
-            bytes ds is fewer (read_fits at e.reads) (λ b. e.text b ∙ ap (labelled (pool_read h x)) (bytes_more (holding_of h) reported b)) moved;
+        serves = copied_as disk m k agg at e.sound e.goes after c.release.new.store r.moves r.lists r.frees
+            (r.reclaims e.readable) (read-first at ∙ c.in_ok-test_read.ensures.passed (bytes_over [] h.store))
+            e.fault.honest e.fault.slots e.backed
+            bytes ds is fewer (read_fits at e.reads) (λ b. e.text b
+            ∙ ap (labelled (pool_read h x)) (bytes_more (holding_of h) reported b)) moved;
         copies = record {
           mid = m;
-          reads = reads_done disk after m k at e.pages e.goes.lists {B = List ℕ} bytes agg m ds (reads_more (holding_of h) reported e.reads) (room_more (holding_of h) reported e.room) e.fault.counts e.fault.honest e.fault.slots;
-          gives = record { slices = agg; copied = is; read = reads_more (holding_of h) reported e.reads; released = r.moves; domains = moved };
+          reads =
+              reads_done disk after m k at e.pages e.goes.lists {B = List ℕ} bytes agg m ds
+              (reads_more (holding_of h) reported e.reads) (room_more (holding_of h) reported e.room) e.fault.counts
+              e.fault.honest e.fault.slots;
+          gives = record {
+            slices = agg;
+            copied = is;
+            read = reads_more (holding_of h) reported e.reads;
+            released =
+                r.moves;
+            domains = moved;
+          };
           early = tt;
           frees = r.frees;
           lists = r.lists;
@@ -149,7 +187,16 @@ returns g c =
         short = omega (arith, ap length is, long, fewer);
       };
       count = omega (arith, c.len-len.ensures, fewer);
-      len = omega (arith, ap length laid, length-append (bytes_of text) (drop (byte_len agg) memory), length-drop (byte_len agg) memory, long, fewer);
-      rest = ap (drop len) laid ∙ drop_at (bytes_of text) (drop (byte_len agg) memory) len (omega (arith, count)) ∙ ap (λ n. drop n memory) (omega (arith, c.len-len.ensures));
+      len =
+          omega (
+            arith,
+            ap length laid,
+            length-append (bytes_of text) (drop (byte_len agg) memory),
+            length-drop (byte_len agg) memory,
+            long,
+            fewer,
+          );
+      rest = ap (drop len) laid ∙ drop_at (bytes_of text) (drop (byte_len agg) memory) len (omega (arith, count))
+          ∙ ap (λ n. drop n memory) (omega (arith, c.len-len.ensures));
       err = tt;
     }

@@ -18,15 +18,24 @@ returns-in-ReadEnd c =
     let count = c.copy_front.result in
     let e = c.copy_front.ensures in
     record {
-      copied = e.copied ∙ ap (λ (w : List ℕ). w ++ drop count c.args.into.now) (front_bytes h c.args.by (length c.args.into.now) count c.args.from.now queue c.requires.no_file (λ f. unread-pipe f h c.args.from.now c.in-ReadEnd.pipe c.in-ReadEnd.is) e.count);
-      count = front_count h c.args.by (length c.args.into.now) count c.args.from.now queue c.requires.no_file (λ f. unread-pipe f h c.args.from.now c.in-ReadEnd.pipe c.in-ReadEnd.is) e.count;
+      copied =
+          e.copied
+          ∙ ap (λ (w : List ℕ). w ++ drop count c.args.into.now)
+          (front_bytes h c.args.by (length c.args.into.now) count c.args.from.now queue c.requires.no_file
+          (λ f. unread-pipe f h c.args.from.now c.in-ReadEnd.pipe c.in-ReadEnd.is) e.count);
+      count = front_count h c.args.by (length c.args.into.now) count c.args.from.now queue c.requires.no_file
+          (λ f. unread-pipe f h c.args.from.now c.in-ReadEnd.pipe c.in-ReadEnd.is) e.count;
     }
 
 pub unreachable-requires : goal.unreachable-requires
-unreachable-requires c = source_there (state_of c.args.self.now) c.args.from.now c.in-Connection.conn c.requires c.in-Connection.is (sym c.in_default.ensures)
+unreachable-requires c =
+    source_there (state_of c.args.self.now) c.args.from.now c.in-Connection.conn c.requires c.in-Connection.is
+    (sym c.in_default.ensures)
 
 pub copy_front-requires-in-Connection : goal.copy_front-requires-in-Connection
-copy_front-requires-in-Connection c = (conn_readable (state_of c.args.self.now) c.in-Connection.conn c.in-Some.found.now c.requires.sound (sym c.in-Some.ensures)).0
+copy_front-requires-in-Connection c =
+    (conn_readable (state_of c.args.self.now) c.in-Connection.conn c.in-Some.found.now c.requires.sound
+    (sym c.in-Some.ensures)).0
 
 pub returns-in-Some : goal.returns-in-Some
 returns-in-Some c =
@@ -36,6 +45,13 @@ returns-in-Some c =
     let count = c.copy_front-in-Connection.result in
     let e = c.copy_front-in-Connection.ensures in
     record {
-      copied = e.copied ∙ ap (λ (w : List ℕ). w ++ drop count c.args.into.now) (front_bytes h c.args.by (length c.args.into.now) count c.args.from.now found.incoming c.requires.no_file (λ f. unread-conn f h c.args.from.now n found c.in-Connection.is (conn_at-there f h n found c.in-Some.ensures)) e.count);
-      count = front_count h c.args.by (length c.args.into.now) count c.args.from.now found.incoming c.requires.no_file (λ f. unread-conn f h c.args.from.now n found c.in-Connection.is (conn_at-there f h n found c.in-Some.ensures)) e.count;
+      copied =
+          e.copied
+          ∙ ap (λ (w : List ℕ). w ++ drop count c.args.into.now)
+          (front_bytes h c.args.by (length c.args.into.now) count c.args.from.now found.incoming c.requires.no_file
+          (λ f. unread-conn f h c.args.from.now n found c.in-Connection.is
+          (conn_at-there f h n found c.in-Some.ensures)) e.count);
+      count = front_count h c.args.by (length c.args.into.now) count c.args.from.now found.incoming c.requires.no_file
+          (λ f. unread-conn f h c.args.from.now n found c.in-Connection.is
+          (conn_at-there f h n found c.in-Some.ensures)) e.count;
     }

@@ -8,7 +8,8 @@ use Rattle.iol_kernel.proofs.kernel.Kernel.denied_pool.Goals as goal
 pub hidden_pool-requires : goal.hidden_pool-requires
 hidden_pool-requires c =
     let h = state_of c.args.self.now in
-    open_conn-there h.conns c.in-Connection.conn (subst (λ (x : Descriptor). IsOpenEnd (objects_of h) (Some x)) c.in-Connection.is c.requires)
+    open_conn-there h.conns c.in-Connection.conn
+    (subst (λ (x : Descriptor). IsOpenEnd (objects_of h) (Some x)) c.in-Connection.is c.requires)
 
 pub hidden_file-requires : goal.hidden_file-requires
 hidden_file-requires c =

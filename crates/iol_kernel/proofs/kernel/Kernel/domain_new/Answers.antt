@@ -9,7 +9,12 @@ pub returns : goal.returns
 returns c =
     let h = state_of c.args.self.now in
     record {
-      step = λ f keeps. (search (rules), search (rules), grown-read f h (domains_of c.add_domain.new.self) c.in_ok-add_domain.ensures.ok);
+      step =
+          λ f keeps. (
+            search (rules),
+            search (rules),
+            grown-read f h (domains_of c.add_domain.new.self) c.in_ok-add_domain.ensures.ok,
+          );
       arena = refl;
       pools = refl;
       sums = refl;

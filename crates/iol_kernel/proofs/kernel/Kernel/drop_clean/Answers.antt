@@ -20,7 +20,9 @@ returns c =
     let new : Holding = record { store = c.drop_clean.new.store; cache = cached_of c.drop_clean.new.self } in
     let e = c.drop_clean.ensures in
     record {
-      serves = given_serves outside.drop_clean h _ new (Ok tt) c.requires e.gives_up e.sound (λ stored. (refl, refl, refl)) refl;
+      serves =
+          given_serves outside.drop_clean h _ new (Ok tt) c.requires e.gives_up e.sound (λ stored. (refl, refl, refl))
+          refl;
       pages = given_up_pages (holding_of h) new e.gives_up;
       none = e.none;
       victims = e.victims;

@@ -20,31 +20,43 @@ close_fds-requires c =
     let h : KernelState = state_of c.args.self.now in
     let k : KernelState = state_of c.drop_aggs.new.self in
     let live = live_held _ h c.args.by c.requires.live in
-    let still = is_live-read_of _ k c.args.by ∙ ap (λ (x : Domain (List Slice)). x.live) (domain_in-changed h.domains k.domains c.args.by _ live c.drop_aggs.ensures.domains) ∙ live in
+    let still = is_live-read_of _ k c.args.by
+    ∙ ap (λ (x : Domain (List Slice)). x.live)
+    (domain_in-changed h.domains k.domains c.args.by _ live c.drop_aggs.ensures.domains) ∙ live in
     record { sound = c.drop_aggs.ensures.dropped.sound; live = still }
 
 -- what is left of it before it ends
-left_of : (h k l : KernelState) (d : ℕ) → (domain_in h.domains d).live ≡ true → k.domains ≡ with_aggs_in h.domains d [] → l.domains ≡ with_fds_in k.domains d [] → domain_in l.domains d ≡ record (domain_in h.domains d) { aggs = []; fds = [] }
+left_of : (h k l : KernelState) (d : ℕ) → (domain_in h.domains d).live ≡ true → k.domains ≡ with_aggs_in h.domains d []
+    → l.domains ≡ with_fds_in k.domains d [] → domain_in l.domains d ≡ record (domain_in h.domains d) {
+      aggs = [];
+      fds =
+          [];
+    }
 left_of h k l d live dropped closed =
     let x = domain_in-changed h.domains k.domains d (record (domain_in h.domains d) { aggs = [] }) live dropped in
-    domain_in-changed k.domains l.domains d (record (domain_in k.domains d) { fds = [] }) (ap (λ (y : Domain (List Slice)). y.live) x ∙ live) closed
+    domain_in-changed k.domains l.domains d (record (domain_in k.domains d) { fds = [] })
+    (ap (λ (y : Domain (List Slice)). y.live) x ∙ live) closed
     ∙ ap (λ (y : Domain (List Slice)). record y { fds = [] }) x
 
 pub end_domain-requires-clause-live : goal.end_domain-requires-clause-live
 end_domain-requires-clause-live c =
     let h : KernelState = state_of c.args.self.now in
     let live = live_held _ h c.args.by c.requires.live in
-    ap (λ (y : Domain (List Slice)). y.live) (left_of h (state_of c.drop_aggs.new.self) (state_of c.close_fds.new.self) c.args.by live c.drop_aggs.ensures.domains c.close_fds.ensures.domains) ∙ live
+    ap (λ (y : Domain (List Slice)). y.live) (left_of h (state_of c.drop_aggs.new.self) (state_of c.close_fds.new.self)
+    c.args.by live c.drop_aggs.ensures.domains c.close_fds.ensures.domains) ∙ live
 
 pub end_domain-requires-clause-no_aggs : goal.end_domain-requires-clause-no_aggs
 end_domain-requires-clause-no_aggs c =
     let h : KernelState = state_of c.args.self.now in
-    ap (λ (y : Domain (List Slice)). y.aggs) (left_of h (state_of c.drop_aggs.new.self) (state_of c.close_fds.new.self) c.args.by (live_held _ h c.args.by c.requires.live) c.drop_aggs.ensures.domains c.close_fds.ensures.domains)
+    ap (λ (y : Domain (List Slice)). y.aggs) (left_of h (state_of c.drop_aggs.new.self) (state_of c.close_fds.new.self)
+    c.args.by (live_held _ h c.args.by c.requires.live) c.drop_aggs.ensures.domains c.close_fds.ensures.domains)
 
 pub end_domain-requires-clause-no_fds : goal.end_domain-requires-clause-no_fds
 end_domain-requires-clause-no_fds c =
     let h : KernelState = state_of c.args.self.now in
-    ap (λ (y : Domain (List Slice)). taken y.fds) (left_of h (state_of c.drop_aggs.new.self) (state_of c.close_fds.new.self) c.args.by (live_held _ h c.args.by c.requires.live) c.drop_aggs.ensures.domains c.close_fds.ensures.domains)
+    ap (λ (y : Domain (List Slice)). taken y.fds)
+    (left_of h (state_of c.drop_aggs.new.self) (state_of c.close_fds.new.self) c.args.by
+    (live_held _ h c.args.by c.requires.live) c.drop_aggs.ensures.domains c.close_fds.ensures.domains)
 
 pub returns : goal.returns
 returns c =
@@ -57,8 +69,15 @@ returns c =
     let drop' = λ (s : State). machine.with_domain s d (record (machine.domain s d) { aggs = [] }) in
     let close' = λ (s : State). fold closed_on (with_fds s d []) (machine.domain s d).fds in
     let end' = λ (s : State). machine.with_domain s d no_domain in
-    let last = domain_ended l (domains_of c.end_domain.new.self) d c.close_fds.ensures.closed.sound (ap (λ (y : Domain (List Slice)). y.live) left ∙ live) (ap (λ (y : Domain (List Slice)). y.aggs) left) c.end_domain.ensures in
-    leaves_as (λ s. end' (close' (drop' s))) (λ s. machine.with_domain (fold closed_on s (machine.domain s d).fds) d no_domain) h _
+    let last =
+    domain_ended l (domains_of c.end_domain.new.self) d c.close_fds.ensures.closed.sound
+    (ap (λ (y : Domain (List Slice)). y.live) left ∙ live) (ap (λ (y : Domain (List Slice)). y.aggs) left)
+    c.end_domain.ensures in
+    leaves_as (λ s. end' (close' (drop' s)))
+    (λ s. machine.with_domain (fold closed_on s (machine.domain s d).fds) d no_domain) h _
     (λ f. ended_all (read_of f h) d (is_live-read_of f h d ∙ live))
-    (leaves_then (λ s. close' (drop' s)) end' h l _ (λ s. pools-fold (with_fds (drop' s) d []) (machine.domain (drop' s) d).fds ∙ pools-with_domain (drop' s) d _ ∙ pools-with_domain s d _)
-    (leaves_then drop' close' h k l (λ s. pools-with_domain s d _) c.drop_aggs.ensures.dropped c.close_fds.ensures.closed) last)
+    (leaves_then (λ s. close' (drop' s)) end' h l _
+    (λ s. pools-fold (with_fds (drop' s) d []) (machine.domain (drop' s) d).fds ∙ pools-with_domain (drop' s) d _
+    ∙ pools-with_domain s d _)
+    (leaves_then drop' close' h k l (λ s. pools-with_domain s d _) c.drop_aggs.ensures.dropped
+    c.close_fds.ensures.closed) last)

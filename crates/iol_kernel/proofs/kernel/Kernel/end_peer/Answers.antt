@@ -15,16 +15,27 @@ peer_closed-requires-clause-there c = conn_is (state_of c.args.self.now) c.args.
 pub peer_closed-requires-clause-covered : goal.peer_closed-requires-clause-covered
 peer_closed-requires-clause-covered c =
     let h = state_of c.args.self.now in
-    outgoing_covered h c.args.conn (conn_in h.conns c.args.conn) c.requires.sound (found_conn h c.args.conn c.requires.there)
+    outgoing_covered h c.args.conn (conn_in h.conns c.args.conn) c.requires.sound
+    (found_conn h c.args.conn c.requires.there)
 
 -- its peer is as told, whether or not it is forgotten then
-reported : (c : After-peer_closed) → IsChanged c.args.conn (λ s. with_conn s c.args.conn (closed_by (conn_at s c.args.conn) c.args.how)) (state_of c.args.self.now) (record (state_of c.args.self.now) { store = c.peer_closed.new.store; conns = c.peer_closed.new.self.conns; next_conn = c.peer_closed.new.self.next })
+reported : (c : After-peer_closed)
+    → IsChanged c.args.conn (λ s. with_conn s c.args.conn (closed_by (conn_at s c.args.conn) c.args.how))
+    (state_of c.args.self.now) (record (state_of c.args.self.now) {
+      store = c.peer_closed.new.store;
+      conns =
+          c.peer_closed.new.self.conns;
+      next_conn = c.peer_closed.new.self.next;
+    })
 reported c =
     let h = state_of c.args.self.now in
     let w = c.peer_closed.new in
     let e = c.peer_closed.ensures in
-    peer_changed h (record h { store = w.store; conns = w.self.conns; next_conn = w.self.next }) c.args.conn c.args.how c.requires.sound (conn_is h c.args.conn c.requires.there)
-    (ap (λ (t : ConnTable). record h { store = w.store; conns = t.conns; next_conn = t.next }) (changed_to e.others e.conn.closed)) e.conn.releases.moves e.conn.releases.lists e.conn.releases.frees e.conn.releases.reclaims
+    peer_changed h (record h { store = w.store; conns = w.self.conns; next_conn = w.self.next }) c.args.conn c.args.how
+    c.requires.sound (conn_is h c.args.conn c.requires.there)
+    (ap (λ (t : ConnTable). record h { store = w.store; conns = t.conns; next_conn = t.next })
+    (changed_to e.others e.conn.closed)) e.conn.releases.moves e.conn.releases.lists e.conn.releases.frees
+    e.conn.releases.reclaims
 
 pub reclaim-requires-clause-sound : goal.reclaim-requires-clause-sound
 reclaim-requires-clause-sound c = (reported (goal.at.reclaim-requires-clause-sound c).After-peer_closed).sound

@@ -11,4 +11,7 @@ close_pool-requires c = sym (is_pool-read_of _ (state_of c.args.self.now) c.args
 pub returns : goal.returns
 returns c =
     let h = state_of c.args.self.now in
-    pool_closed h c.close_pool.new.self c.requires.sound c.close_pool.ensures.moves c.close_pool.ensures.reclaims c.close_pool.ensures.pages c.args.p (idle_held (bytes_over [] h.store) h c.args.p (c.requires.idle (bytes_over [] h.store))) c.close_pool.ensures.closed
+    pool_closed h c.close_pool.new.self c.requires.sound c.close_pool.ensures.moves c.close_pool.ensures.reclaims
+    c.close_pool.ensures.pages c.args.p
+    (idle_held (bytes_over [] h.store) h c.args.p (c.requires.idle (bytes_over [] h.store)))
+    c.close_pool.ensures.closed

@@ -20,9 +20,23 @@ arrive-requires-clause-pool c =
 pub returns : goal.returns
 returns c =
     let h = state_of c.args.self.now in
-    let k : KernelState = record h { store = c.arrive.new.store; conns = c.arrive.new.self.conns; next_conn = c.arrive.new.self.next } in
+    let k : KernelState = record h {
+      store = c.arrive.new.store;
+      conns = c.arrive.new.self.conns;
+      next_conn =
+          c.arrive.new.self.next;
+    } in
     let e = c.arrive.ensures in
     let x = conn_in h.conns c.args.conn in
-    let arrived = arrives h k c.args.conn c.args.bytes.now c.arrive.result c.requires.sound (conn_is h c.args.conn c.requires.there) e.conn
-    (ap (λ (w : ConnTable). record h { store = c.arrive.new.store; conns = w.conns; next_conn = w.next }) (changed_to e.others e.conn.others)) (kept_table h c.arrive.new.store c.args.self.now.conns c.arrive.new.self c.args.conn c.arrive.result e.others e.conn.err) in
-    record { fills = arrived; slices = few_fitting h.store k.store x.incoming (conn_in k.conns c.args.conn).incoming x.pool c.args.bytes.now c.arrive.result e.conn.adds }
+    let arrived =
+    arrives h k c.args.conn c.args.bytes.now c.arrive.result c.requires.sound
+    (conn_is h c.args.conn c.requires.there) e.conn
+    (ap (λ (w : ConnTable). record h { store = c.arrive.new.store; conns = w.conns; next_conn = w.next })
+    (changed_to e.others e.conn.others)) (kept_table h c.arrive.new.store c.args.self.now.conns c.arrive.new.self
+    c.args.conn c.arrive.result e.others e.conn.err) in
+    record {
+      fills = arrived;
+      slices =
+          few_fitting h.store k.store x.incoming (conn_in k.conns c.args.conn).incoming x.pool c.args.bytes.now
+          c.arrive.result e.conn.adds;
+    }

@@ -21,7 +21,8 @@ returns-in-Err g c =
     let after = g.B.Backing.disk c.flush_one.new.backing in
     let w = c.flush_one.ensures in
     record {
-      serves = flush_serves h k disk after c.flush_one.result (ap done_of c.in-Err.is) w.flushes c.requires w.sound w.files w.mirrors;
+      serves = flush_serves h k disk after c.flush_one.result (ap done_of c.in-Err.is) w.flushes c.requires w.sound
+          w.files w.mirrors;
       flushes = flushes_one h k disk after c.flush_one.result (ap done_of c.in-Err.is) w.flushes;
     }
 
@@ -33,6 +34,7 @@ returns g c =
     let after = g.B.Backing.disk c.flush_one.new.backing in
     let w = c.flush_one.ensures in
     record {
-      serves = flush_serves h k disk after c.flush_one.result (ap done_of c.in_default.is) w.flushes c.requires w.sound w.files w.mirrors;
+      serves = flush_serves h k disk after c.flush_one.result (ap done_of c.in_default.is) w.flushes c.requires w.sound
+          w.files w.mirrors;
       flushes = flushes_one h k disk after c.flush_one.result (ap done_of c.in_default.is) w.flushes;
     }

@@ -17,7 +17,9 @@ returns-in-Err g c =
     let first = c.in-Err.ensures.refused (bytes_over [] h.store) in
     record {
       serves = fsync_refused disk h c.args.by c.args.fd c.in-Err.refusal c.requires first;
-      syncs = refused_sync (file_on (machine_of [] h) c.args.by c.args.fd) disk h c.in-Err.refusal (no_fault disk h c.args.by c.args.fd c.in-Err.refusal c.requires first);
+      syncs =
+          refused_sync (file_on (machine_of [] h) c.args.by c.args.fd) disk h c.in-Err.refusal
+          (no_fault disk h c.args.by c.args.fd c.in-Err.refusal c.requires first);
     }
 
 pub returns : goal.returns
@@ -27,5 +29,8 @@ returns g c =
     let y = g.B.Backing.disk c.sync.new.backing in
     record {
       serves = c.sync.ensures.serves;
-      syncs = subst (λ n. SyncsFile n x h c.sync.result y (state_of c.sync.new.self)) (sym (ap (λ (o : Option Descriptor). unwrap_or (option_map (λ x. x.0) (open_on o)) 0) (c.in-Ok.ensures.found.held.from (bytes_over [] h.store)))) c.sync.ensures.syncs;
+      syncs =
+          subst (λ n. SyncsFile n x h c.sync.result y (state_of c.sync.new.self))
+          (sym (ap (λ (o : Option Descriptor). unwrap_or (option_map (λ x. x.0) (open_on o)) 0)
+          (c.in-Ok.ensures.found.held.from (bytes_over [] h.store)))) c.sync.ensures.syncs;
     }

@@ -10,4 +10,5 @@ move_agg-requires c = give_in c.requires
 pub returns : goal.returns
 returns c =
     let e = c.in_ok-move_agg.ensures in
-    attempted (given_answers (state_of c.args.self.now) (domains_of c.move_agg.new.domains) c.args.by c.args.agg c.args.to c.requires e.moved c.in_ok-move_agg.field-0 e.number)
+    attempted (given_answers (state_of c.args.self.now) (domains_of c.move_agg.new.domains) c.args.by c.args.agg
+    c.args.to c.requires e.moved c.in_ok-move_agg.field-0 e.number)

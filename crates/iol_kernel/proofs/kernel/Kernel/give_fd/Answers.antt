@@ -7,4 +7,5 @@ use Rattle.iol_kernel.proofs.kernel.Kernel.give_fd.Goals as goal
 pub denied_pool-requires : goal.denied_pool-requires
 denied_pool-requires c =
     let h = state_of c.args.self.now in
-    end_held (bytes_over [] h.store) h c.args.by c.args.fd c.in-Some.given c.requires (sym (c.descriptor.ensures (bytes_over [] h.store)) ∙ c.in-Some.is)
+    end_held (bytes_over [] h.store) h c.args.by c.args.fd c.in-Some.given c.requires
+    (sym (c.descriptor.ensures (bytes_over [] h.store)) ∙ c.in-Some.is)

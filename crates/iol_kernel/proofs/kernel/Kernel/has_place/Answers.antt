@@ -5,4 +5,6 @@ use Rattle.iol_kernel.proofs.State.ReadOf.{list-read_of}
 use Rattle.iol_kernel.proofs.kernel.Kernel.has_place.Goals as goal
 
 pub returns : goal.returns
-returns c = λ f. (let same = sym (ap (λ list. has_place list c.args.d) (list-read_of f (state_of c.args.self.now) c.args.p)) in search (rules, same))
+returns c =
+    λ f. (let same = sym (ap (λ list. has_place list c.args.d) (list-read_of f (state_of c.args.self.now) c.args.p)) in
+    search (rules, same))

@@ -9,15 +9,19 @@ use Rattle.iol_kernel.proofs.State.ReadOf.{reading-read_of}
 use Rattle.iol_kernel.proofs.kernel.Kernel.is_broken.Goals as goal
 
 pub returns-in-WriteEnd : goal.returns-in-WriteEnd
-returns-in-WriteEnd c = λ f. ap not (c.is_reading.ensures ∙ sym (reading-read_of f (state_of c.args.self.now) c.in-WriteEnd.pipe)) ∙ sym (ap (λ (x : Descriptor). is_broken (as_read f c.args.self.now) (Some x)) c.in-WriteEnd.is)
+returns-in-WriteEnd c =
+    λ f. ap not (c.is_reading.ensures ∙ sym (reading-read_of f (state_of c.args.self.now) c.in-WriteEnd.pipe))
+    ∙ sym (ap (λ (x : Descriptor). is_broken (as_read f c.args.self.now) (Some x)) c.in-WriteEnd.is)
 
 pub returns-in-Some : goal.returns-in-Some
 returns-in-Some c = λ f.
     c.is_gone.ensures
     ∙ sym (ap (λ (x : Descriptor). is_broken (as_read f c.args.self.now) (Some x)) c.in-Connection.is
-    ∙ ap (λ (y : Connection). is_gone y.peer) (conn_at-there f (state_of c.args.self.now) c.in-Connection.conn c.in-Some.found.now c.in-Some.ensures))
+    ∙ ap (λ (y : Connection). is_gone y.peer)
+    (conn_at-there f (state_of c.args.self.now) c.in-Connection.conn c.in-Some.found.now c.in-Some.ensures))
 
 pub returns-in-None : goal.returns-in-None
 returns-in-None c = λ f.
     sym (ap (λ (x : Descriptor). is_broken (as_read f c.args.self.now) (Some x)) c.in-Connection.is
-    ∙ ap (λ (y : Connection). is_gone y.peer) (conn_at-none f (state_of c.args.self.now) c.in-Connection.conn c.in-None.ensures))
+    ∙ ap (λ (y : Connection). is_gone y.peer)
+    (conn_at-none f (state_of c.args.self.now) c.in-Connection.conn c.in-None.ensures))

@@ -23,8 +23,10 @@ returns g c =
     let h = state_of c.args.self.now in
     let disk = g.B.Backing.disk c.args.backing.now in
     let n = c.length-stored.result in
-    let honest : IfHonest disk (n ≡ min (length (content disk.slots (length h.files + 1))) 4294967295) = search (rules, c.length-stored.ensures.honest) in
-    let reported : n ≡ length_reported disk.reported (length h.files + 1) = search (rules, c.length-stored.ensures.reported) in
+    let honest : IfHonest disk (n ≡ min (length (content disk.slots (length h.files + 1))) 4294967295) =
+    search (rules, c.length-stored.ensures.honest) in
+    let reported : n ≡ length_reported disk.reported (length h.files + 1) =
+    search (rules, c.length-stored.ensures.reported) in
     let asked : AsksNext disk h (nat_lt MAX_FILE_BYTES n) = record {
       honest = next_too_long disk h n c.requires.filed (omega (arith)) honest;
       reported = reports_next h (nat_lt MAX_FILE_BYTES n) c.requires.filed (λ long. omega (arith));

@@ -10,4 +10,5 @@ join_aggs-requires c = join_in c.requires
 pub returns : goal.returns
 returns c =
     let e = c.in_ok-join_aggs.ensures in
-    attempted (join_answers (state_of c.args.self.now) (domains_of c.join_aggs.new.domains) c.args.by c.args.first c.args.second e.joined c.in_ok-join_aggs.field-0 c.requires e.number)
+    attempted (join_answers (state_of c.args.self.now) (domains_of c.join_aggs.new.domains) c.args.by c.args.first
+    c.args.second e.joined c.in_ok-join_aggs.field-0 c.requires e.number)

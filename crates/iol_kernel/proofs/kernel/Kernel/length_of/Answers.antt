@@ -7,6 +7,7 @@ file_length-requires-clause-short g c = extents_short (state_of c.args.self.now)
 
 pub returns : goal.returns
 returns g c = record {
-  is = length_is (g.B.Backing.disk c.args.backing.now) (state_of c.args.self.now) c.args.file c.file_length.result c.requires.sound c.requires.there (c.file_length.ensures.length c.args.self.now.store);
+  is = length_is (g.B.Backing.disk c.args.backing.now) (state_of c.args.self.now) c.args.file c.file_length.result
+      c.requires.sound c.requires.there (c.file_length.ensures.length c.args.self.now.store);
   end = c.file_length.ensures.end;
 }

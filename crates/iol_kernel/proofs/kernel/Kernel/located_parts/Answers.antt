@@ -15,7 +15,9 @@ use Rattle.iol_kernel.proofs.State.Sound.{agg_readable}
 use Rattle.iol_kernel.proofs.kernel.Kernel.located_parts.Goals as goal
 
 pub located_parts-requires : goal.located_parts-requires
-located_parts-requires c = agg_readable (state_of c.args.self.now) c.args.by c.args.agg c.in_ok-found.found.now c.requires c.in_ok-found.ensures.ok.found
+located_parts-requires c =
+    agg_readable (state_of c.args.self.now) c.args.by c.args.agg c.in_ok-found.found.now c.requires
+    c.in_ok-found.ensures.ok.found
 
 pub returns-clause-ok : goal.returns-clause-ok
 returns-clause-ok c =
@@ -23,12 +25,15 @@ returns-clause-ok c =
     let s = c.args.self.now.store in
     let xs = c.in_ok-found.found.now in
     let readable = agg_readable h c.args.by c.args.agg xs c.requires c.in_ok-found.ensures.ok.found in
-    let bytes = ap (λ (l : List Located). joined (map (λ (x : Located). x.bytes) l)) c.located_parts.ensures ∙ ap joined (bytes-located_parts s xs)
+    let bytes = ap (λ (l : List Located). joined (map (λ (x : Located). x.bytes) l)) c.located_parts.ensures
+    ∙ ap joined (bytes-located_parts s xs)
     ∙ flat_map-parts_of s xs readable ∙ ap bytes_of (sym (c.in_ok-found.ensures.ok.text (bytes_over [] s))) in
     let none : List Slice = [] in
-    let held : xs ≡ slices_in h.domains c.args.by c.args.agg = ap (λ o. unwrap_or o none) c.in_ok-found.ensures.ok.found in
+    let held : xs ≡ slices_in h.domains c.args.by c.args.agg =
+    ap (λ o. unwrap_or o none) c.in_ok-found.ensures.ok.found in
     record {
       shows = search (rules, bytes);
       at = c.located_parts.ensures ∙ ap (located_parts s) held;
-      addresses = ap (λ (l : List Located). flat_map spread l) c.located_parts.ensures ∙ spread_parts s xs readable ∙ ap (λ (l : List Slice). map (address_at s) (places l)) held;
+      addresses = ap (λ (l : List Located). flat_map spread l) c.located_parts.ensures ∙ spread_parts s xs readable
+          ∙ ap (λ (l : List Slice). map (address_at s) (places l)) held;
     }

@@ -14,7 +14,8 @@ returns c =
     let h = state_of c.args.self.now in
     let e = c.make_room.ensures in
     record {
-      made = room_made h c.make_room.new.store (cached_of c.make_room.new.self) c.requires.sound e.sound e.gives_up c.args.pool c.args.pages e.victims;
+      made = room_made h c.make_room.new.store (cached_of c.make_room.new.self) c.requires.sound e.sound e.gives_up
+          c.args.pool c.args.pages e.victims;
       room = e.room;
       free = e.free;
       refused = λ no. ap (λ (x : Holding). record h { store = x.store; cache = x.cache }) (e.refused no);

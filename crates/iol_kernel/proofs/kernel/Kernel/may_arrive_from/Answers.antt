@@ -13,16 +13,37 @@ use Rattle.iol_kernel.proofs.Connections.StreamsAfterRoom.{read_missing, read_no
 use Rattle.iol_kernel.proofs.kernel.Kernel.may_arrive_from.Goals as goal
 
 pub returns-in_default-clause-refused : goal.returns-in_default-clause-refused
-returns-in_default-clause-refused c = record { refused = read_missing (state_of c.args.self.now) c.args.conn c.args.max (search (rules)); roomy = λ p is. absurd (cc is); memory = λ is. absurd (cc is) }
+returns-in_default-clause-refused c =
+    record {
+      refused = read_missing (state_of c.args.self.now) c.args.conn c.args.max (search (rules));
+      roomy =
+          λ p is. absurd (cc is);
+      memory = λ is. absurd (cc is);
+    }
 
 pub returns-then-max-eq0-clause-refused : goal.returns-then-max-eq0-clause-refused
-returns-then-max-eq0-clause-refused c = record { refused = read_none_asked (state_of c.args.self.now) c.args.conn c.args.max c.in-Some.found.now (sym c.in-Some.ensures) c.if-max-eq0.true; roomy = λ p is. absurd (cc is); memory = λ is. absurd (cc is) }
+returns-then-max-eq0-clause-refused c =
+    record {
+      refused =
+          read_none_asked (state_of c.args.self.now) c.args.conn c.args.max c.in-Some.found.now (sym c.in-Some.ensures)
+          c.if-max-eq0.true;
+      roomy = λ p is. absurd (cc is);
+      memory = λ is. absurd (cc is);
+    }
 
 pub returns-in_err-may_arrive-clause-refused : goal.returns-in_err-may_arrive-clause-refused
 returns-in_err-may_arrive-clause-refused c =
     let is : first (arrive_refusals c.in-Some.found.now 1) ≡ Some c.in_err-may_arrive.field-0.0 = search (rules) in
     let some : (c.args.max == 0) ≡ false = let ne = c.if-max-eq0.false in grind (arith, nat_tests, ne) in
-    let refused : FailsToRead c.args.conn c.args.max c.in_err-may_arrive.field-0.0 (state_of c.args.self.now) = record { roomy = search (rules); memory = λ e. absurd (held_tests c.in-Some.found.now 1 (is ∙ ap (λ (y : Refusal). Some y) e)); refused = read_some_asked (state_of c.args.self.now) c.args.conn c.args.max c.in-Some.found.now (sym c.in-Some.ensures) (Some c.in_err-may_arrive.field-0.0) some is } in
+    let refused : FailsToRead c.args.conn c.args.max c.in_err-may_arrive.field-0.0 (state_of c.args.self.now) =
+    record {
+      roomy = search (rules);
+      memory =
+          λ e. absurd (held_tests c.in-Some.found.now 1 (is ∙ ap (λ (y : Refusal). Some y) e));
+      refused =
+          read_some_asked (state_of c.args.self.now) c.args.conn c.args.max c.in-Some.found.now (sym c.in-Some.ensures)
+          (Some c.in_err-may_arrive.field-0.0) some is;
+    } in
     search (rules, refused)
 
 pub returns-clause-may : goal.returns-clause-may

@@ -18,7 +18,8 @@ pub new-requires-2 : goal.new-requires-2
 new-requires-2 c = some_sums c.args.config c.new.result c.in_ok-store.store c.new.ensures.range (search (rules))
 
 -- where memory was wanting, the sizes are in their ranges, since there is a store of them
-unmade : (config : Config) {A : Type 0} (s : Result A Refusal) (x : A) (r : Result Kernel Refusal) → (s ≡ Err BadRange) ↔ (IsInRange config → ⊥) → s ≡ Ok x → r ≡ Err Memory → MakesKernel config r
+unmade : (config : Config) {A : Type 0} (s : Result A Refusal) (x : A) (r : Result Kernel Refusal)
+    → (s ≡ Err BadRange) ↔ (IsInRange config → ⊥) → s ≡ Ok x → r ≡ Err Memory → MakesKernel config r
 unmade config s x r range made is = subst (λ (t : Result Kernel Refusal). MakesKernel config t) (sym is) (record {
   range = ((λ e. absurd (cc e)), (λ out. (let bad : s ≡ Err BadRange = range.1 out in absurd (cc (bad, made)))));
   errors = inr refl;
@@ -44,10 +45,24 @@ returns-in_err-files c =
 
 pub returns : goal.returns
 returns c =
-    let h : KernelState = record { store = c.in_ok-store.store; domains = domains_of c.add_domain.new.self; pipes = c.new-pipes.result.places; conns = c.new-conns.result.conns; next_conn = c.new-conns.result.next; sums = c.in_ok-sums.sums; files = c.in_ok-files.files.table.files; cache = cached_of c.in_ok-files.files.cache } in
-    let one = c.in_ok-add_domain.ensures.ok ∙ ap (λ (rows : List (Row (List Slice))). domains_of rows ++ new_domain ∷ []) c.new-domains.ensures in
-    let none = none_of c.new-pipes.ensures c.new-conns.ensures.none c.new-conns.ensures.next c.in_ok-files.ensures.none c.in_ok-files.ensures.cached in
+    let h : KernelState = record {
+      store = c.in_ok-store.store;
+      domains = domains_of c.add_domain.new.self;
+      pipes =
+          c.new-pipes.result.places;
+      conns = c.new-conns.result.conns;
+      next_conn = c.new-conns.result.next;
+      sums =
+          c.in_ok-sums.sums;
+      files = c.in_ok-files.files.table.files;
+      cache = cached_of c.in_ok-files.files.cache;
+    } in
+    let one = c.in_ok-add_domain.ensures.ok
+    ∙ ap (λ (rows : List (Row (List Slice))). domains_of rows ++ new_domain ∷ []) c.new-domains.ensures in
+    let none = none_of c.new-pipes.ensures c.new-conns.ensures.none c.new-conns.ensures.next c.in_ok-files.ensures.none
+    c.in_ok-files.ensures.cached in
     let made = c.in_ok-store.ensures in
     let new = new-machine h one made.pools none in
-    let sound = new-sound h (c.args.config.chunks * 16) one made.all_free.entries made.tidy made.reclaimed none made.pools (c.in_ok-sums.ensures.right c.in_ok-store.store.arena) c.in_ok-files.ensures.sound in
+    let sound = new-sound h (c.args.config.chunks * 16) one made.all_free.entries made.tidy made.reclaimed none
+    made.pools (c.in_ok-sums.ensures.right c.in_ok-store.store.arena) c.in_ok-files.ensures.sound in
     search (rules, new, sound)

@@ -14,23 +14,35 @@ drain_into-sent-requires-clause-there g c = conn_is (state_of c.args.self.now) c
 pub drain_into-sent-requires-clause-covered : goal.drain_into-sent-requires-clause-covered
 drain_into-sent-requires-clause-covered g c =
     let h = state_of c.args.self.now in
-    outgoing_covered h c.args.conn (conn_in h.conns c.args.conn) c.requires.sound (found_conn h c.args.conn c.requires.there)
+    outgoing_covered h c.args.conn (conn_in h.conns c.args.conn) c.requires.sound
+    (found_conn h c.args.conn c.requires.there)
 
 pub drain_into-sent-requires-clause-readable : goal.drain_into-sent-requires-clause-readable
 drain_into-sent-requires-clause-readable g c =
     let h = state_of c.args.self.now in
-    (conn_readable h c.args.conn (conn_in h.conns c.args.conn) c.requires.sound (found_conn h c.args.conn c.requires.there)).1
+    (conn_readable h c.args.conn (conn_in h.conns c.args.conn) c.requires.sound
+    (found_conn h c.args.conn c.requires.there)).1
 
 -- what was lent
-lent : (g : Over) (c : After-drain_into-sent g) → Lent (state_of c.args.self.now) (record (state_of c.args.self.now) { store = c.drain_into-sent.new.store; conns = c.drain_into-sent.new.self.conns; next_conn = c.drain_into-sent.new.self.next }) c.args.conn c.drain_into-sent.result.taken
+lent : (g : Over) (c : After-drain_into-sent g)
+    → Lent (state_of c.args.self.now) (record (state_of c.args.self.now) {
+      store = c.drain_into-sent.new.store;
+      conns =
+          c.drain_into-sent.new.self.conns;
+      next_conn = c.drain_into-sent.new.self.next;
+    }) c.args.conn
+    c.drain_into-sent.result.taken
 lent g c =
     let h = state_of c.args.self.now in
     let w = c.drain_into-sent.new in
     let e = c.drain_into-sent.ensures.drains in
     let r = e.conn.releases in
-    lent_out h (record h { store = w.store; conns = w.self.conns; next_conn = w.self.next }) c.args.conn c.drain_into-sent.result.taken c.requires.sound (conn_is h c.args.conn c.requires.there) e.conn.rest
-    (ap (λ (t : ConnTable). record h { store = w.store; conns = t.conns; next_conn = t.next }) (changed_to e.others e.conn.others)) r.moves r.lists r.frees
-    (r.reclaims (conn_readable h c.args.conn (conn_in h.conns c.args.conn) c.requires.sound (found_conn h c.args.conn c.requires.there)).1)
+    lent_out h (record h { store = w.store; conns = w.self.conns; next_conn = w.self.next }) c.args.conn
+    c.drain_into-sent.result.taken c.requires.sound (conn_is h c.args.conn c.requires.there) e.conn.rest
+    (ap (λ (t : ConnTable). record h { store = w.store; conns = t.conns; next_conn = t.next })
+    (changed_to e.others e.conn.others)) r.moves r.lists r.frees
+    (r.reclaims (conn_readable h c.args.conn (conn_in h.conns c.args.conn) c.requires.sound
+    (found_conn h c.args.conn c.requires.there)).1)
 
 pub reclaim-requires-clause-sound : goal.reclaim-requires-clause-sound
 reclaim-requires-clause-sound g c = (lent g (goal.at.reclaim-requires-clause-sound g c).After-drain_into-sent).sound
@@ -43,12 +55,18 @@ returns-then-sent-eq0-clause-lends g c =
     let h = state_of c.args.self.now in
     let w = c.drain_into-sent.new in
     let e = c.drain_into-sent.ensures.drains.conn.writes in
-    drains_to h c.args.conn c.args.max (conn_is h c.args.conn c.requires.there) (g.G.Gather.contents c.args.taker.now) (g.G.Gather.contents w.taker) (record h { store = w.store; conns = w.self.conns; next_conn = w.self.next }) c.drain_into-sent.result e.most e.all e.fewer e.written
-    ((lent g (goal.at.returns-then-sent-eq0-clause-lends g c).After-drain_into-sent).nothing (omega (arith, c.if-sent-eq0.true)))
+    drains_to h c.args.conn c.args.max (conn_is h c.args.conn c.requires.there) (g.G.Gather.contents c.args.taker.now)
+    (g.G.Gather.contents w.taker) (record h { store = w.store; conns = w.self.conns; next_conn = w.self.next })
+    c.drain_into-sent.result e.most e.all e.fewer e.written
+    ((lent g (goal.at.returns-then-sent-eq0-clause-lends g c).After-drain_into-sent).nothing
+    (omega (arith, c.if-sent-eq0.true)))
 
 pub returns-clause-lends : goal.returns-clause-lends
 returns-clause-lends g c =
     let h = state_of c.args.self.now in
     let e = c.drain_into-sent.ensures.drains.conn.writes in
-    drains_to h c.args.conn c.args.max (conn_is h c.args.conn c.requires.there) (g.G.Gather.contents c.args.taker.now) (g.G.Gather.contents c.drain_into-sent.new.taker) (state_of c.reclaim.new.self) c.drain_into-sent.result e.most e.all e.fewer e.written
-    ((lent g (goal.at.returns-clause-lends g c).After-drain_into-sent).some (state_of c.reclaim.new.self) (λ none. omega (arith, none, c.if-sent-eq0.false)) c.reclaim.ensures.left)
+    drains_to h c.args.conn c.args.max (conn_is h c.args.conn c.requires.there) (g.G.Gather.contents c.args.taker.now)
+    (g.G.Gather.contents c.drain_into-sent.new.taker) (state_of c.reclaim.new.self) c.drain_into-sent.result e.most
+    e.all e.fewer e.written
+    ((lent g (goal.at.returns-clause-lends g c).After-drain_into-sent).some (state_of c.reclaim.new.self)
+    (λ none. omega (arith, none, c.if-sent-eq0.false)) c.reclaim.ensures.left)

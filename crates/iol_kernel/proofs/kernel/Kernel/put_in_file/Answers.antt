@@ -15,7 +15,13 @@ make_room_for-requires c = may_place c.requires
 
 -- all of the bytes are written
 counted : (c : After-min-count) → c.min-count.result ≡ length c.args.bytes.now
-counted c = omega (arith, c.min-count.ensures, held_short (state_of c.args.self.now) c.args.by c.args.fd c.args.found.file c.args.found.at c.args.pool c.args.found.mode c.args.bytes.now c.requires)
+counted c =
+    omega (
+      arith,
+      c.min-count.ensures,
+      held_short (state_of c.args.self.now) c.args.by c.args.fd c.args.found.file
+          c.args.found.at c.args.pool c.args.found.mode c.args.bytes.now c.requires,
+    )
 
 pub returns-then-not-make_room_for : goal.returns-then-not-make_room_for
 returns-then-not-make_room_for c =
@@ -26,17 +32,23 @@ returns-then-not-make_room_for c =
     let room = c.make_room_for.ensures in
     let no = c.if-not-make_room_for.true in
     record {
-      serves = (write_none c.args.by c.args.fd (on.File x.file x.at x.mode) c.args.pool c.min-count.result c.args.bytes.now h k c.requires room.made (λ f. file_count h c.args.by c.args.fd x.file x.at c.args.pool x.mode c.args.bytes.now c.requires f ∙ sym count) (room.refused no) (room.fits ∙ no)).serves;
+      serves =
+          (write_none c.args.by c.args.fd (on.File x.file x.at x.mode) c.args.pool c.min-count.result c.args.bytes.now h
+          k c.requires room.made (λ f. file_count h c.args.by c.args.fd x.file x.at c.args.pool x.mode c.args.bytes.now
+          c.requires f ∙ sym count) (room.refused no) (room.fits ∙ no)).serves;
       room = tt;
       no_room = λ p e. ap (can_fit h c.args.pool) (sym count) ∙ room.fits ∙ no;
       memory = λ e. absurd (cc e);
       late = refl;
       puts = puts_none x.file x.at c.args.pool c.min-count.result (length c.args.bytes.now) h k count room.made _;
-      lays = laid_none x.file x.at c.args.pool c.min-count.result c.args.bytes.now h k count room.made _ (room.refused no);
+      lays = laid_none x.file x.at c.args.pool c.min-count.result c.args.bytes.now h k count room.made _
+          (room.refused no);
     }
 
 pub fill_file-requires : goal.fill_file-requires
-fill_file-requires c = may_still c.args.by c.args.fd (on.File c.args.found.file c.args.found.at c.args.found.mode) c.args.pool c.min-count.result c.args.bytes.now (state_of c.args.self.now) (state_of c.make_room_for.new.self) c.requires c.make_room_for.ensures.made
+fill_file-requires c = may_still c.args.by c.args.fd (on.File c.args.found.file c.args.found.at c.args.found.mode)
+    c.args.pool c.min-count.result c.args.bytes.now (state_of c.args.self.now) (state_of c.make_room_for.new.self)
+    c.requires c.make_room_for.ensures.made
 
 pub returns : goal.returns
 returns c =
@@ -49,11 +61,14 @@ returns c =
     let fits = room.fits ∙ c.if-not-make_room_for.false in
     let e = c.fill_file.ensures in
     record {
-      serves = λ disk. roomed_serves (λ s. writing.write s c.args.by c.args.fd c.args.bytes.now) c.args.pool (pages_for c.min-count.result) h k l c.fill_file.result room.made disk disk (e.serves disk);
+      serves = λ disk. roomed_serves (λ s. writing.write s c.args.by c.args.fd c.args.bytes.now) c.args.pool
+          (pages_for c.min-count.result) h k l c.fill_file.result room.made disk disk (e.serves disk);
       room = on_ok c.fill_file.result (ap (can_fit h c.args.pool) (sym count) ∙ fits);
       no_room = λ p is. absurd (e.roomy p is);
       memory = λ is. ap (can_fit h c.args.pool) (sym count) ∙ fits;
       late = e.late;
-      puts = puts_roomed x.file x.at c.args.pool c.min-count.result (length c.args.bytes.now) h k count room.made l c.fill_file.result e.fills e.beside;
-      lays = laid_roomed x.file x.at c.args.pool c.min-count.result c.args.bytes.now h k count room.made l c.fill_file.result fits e.lays e.leaves e.late e.roomy;
+      puts = puts_roomed x.file x.at c.args.pool c.min-count.result (length c.args.bytes.now) h k count room.made l
+          c.fill_file.result e.fills e.beside;
+      lays = laid_roomed x.file x.at c.args.pool c.min-count.result c.args.bytes.now h k count room.made l
+          c.fill_file.result fits e.lays e.leaves e.late e.roomy;
     }

@@ -13,6 +13,14 @@ take-requires c =
     let readable : can_read (Some c.args.from.now) ≡ true = search (rules) in
     record {
       held = held;
-      source = record { sound = held.sound; opened = end_held f h c.args.by c.args.fd c.args.from.now held.sound (held.from f); readable = readable; no_file = c.requires.no_file };
+      source =
+          record {
+            sound = held.sound;
+            opened =
+                end_held f h c.args.by c.args.fd c.args.from.now held.sound (held.from f);
+            readable = readable;
+            no_file =
+                c.requires.no_file;
+          };
       few = search (rules);
     }

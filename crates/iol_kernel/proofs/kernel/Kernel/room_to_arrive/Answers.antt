@@ -11,7 +11,10 @@ use Rattle.iol_kernel.proofs.kernel.Kernel.room_to_arrive.Goals as goal
 pub returns-in_default : goal.returns-in_default
 returns-in_default c = record {
   may = tt;
-  refused = record { refused = arrive_missing (state_of c.args.self.now) c.args.conn c.args.bytes.now (search (rules)); roomy = λ p e. cc e };
+  refused = record {
+    refused = arrive_missing (state_of c.args.self.now) c.args.conn c.args.bytes.now (search (rules));
+    roomy = λ p e. cc e;
+  };
 }
 
 pub returns-in_err-may_arrive : goal.returns-in_err-may_arrive
@@ -19,7 +22,8 @@ returns-in_err-may_arrive c =
     let x = c.in-Some.found.now in
     let y = c.in_err-may_arrive.field-0.0 in
     let first' : first (arrive_refusals x (length c.args.bytes.now)) ≡ Some y = search (rules) in
-    let refused = arrive_first (state_of c.args.self.now) c.args.conn x c.args.bytes.now (sym c.in-Some.ensures) (Some y) first' in
+    let refused = arrive_first (state_of c.args.self.now) c.args.conn x c.args.bytes.now (sym c.in-Some.ensures)
+    (Some y) first' in
     search (rules, refused)
 
 pub returns : goal.returns
@@ -27,7 +31,8 @@ returns c =
     let h = state_of c.args.self.now in
     let x = c.in-Some.found.now in
     let there = sym c.in-Some.ensures in
-    let is : fitting x.incoming (length c.args.bytes.now) ≡ c.min.result = omega (arith, c.min.ensures, c.unread.ensures.len, c.unread.ensures.most) in
+    let is : fitting x.incoming (length c.args.bytes.now) ≡ c.min.result =
+    omega (arith, c.min.ensures, c.unread.ensures.len, c.unread.ensures.most) in
     record {
       may = record {
         sound = c.requires;

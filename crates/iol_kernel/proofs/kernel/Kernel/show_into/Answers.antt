@@ -12,7 +12,9 @@ use Rattle.iol_kernel.proofs.kernel.Kernel.show_into.Goals.{then-len-into, else-
 use Rattle.iol_kernel.proofs.kernel.Kernel.show_into.Goals as goal
 
 pub copy_to_front-requires-clause-readable : goal.copy_to_front-requires-clause-readable
-copy_to_front-requires-clause-readable c = agg_readable (state_of c.args.self.now) c.args.by c.args.agg c.in_ok-found.found.now c.requires c.in_ok-found.ensures.ok.found
+copy_to_front-requires-clause-readable c =
+    agg_readable (state_of c.args.self.now) c.args.by c.args.agg c.in_ok-found.found.now c.requires
+    c.in_ok-found.ensures.ok.found
 
 pub returns : goal.returns
 returns c =

@@ -12,7 +12,8 @@ use Rattle.iol_kernel.proofs.kernel.Kernel.skip.Goals as goal
 use Rattle.iol_kernel.proofs.kernel.Kernel.skip.Goals.{In-ReadEnd}
 
 reading : (c : In-ReadEnd) → (queue_at (state_of c.args.self.now).pipes c.in-ReadEnd.pipe).reading ≡ true
-reading c = subst (λ (x : Descriptor). IsOpenEnd (objects_of (state_of c.args.self.now)) (Some x)) c.in-ReadEnd.is c.requires.opened
+reading c = subst (λ (x : Descriptor). IsOpenEnd (objects_of (state_of c.args.self.now)) (Some x)) c.in-ReadEnd.is
+    c.requires.opened
 
 pub returns-in-ReadEnd : goal.returns-in-ReadEnd
 returns-in-ReadEnd c = λ d fd.
@@ -20,13 +21,17 @@ returns-in-ReadEnd c = λ d fd.
     let k : KernelState = record h { store = c.skip.new.store; pipes = c.skip.new.self.places } in
     let e = c.skip.ensures in
     subst (λ (x : Descriptor). Leaves (λ s. read_on s d fd (Some x) c.args.count) h k) (sym c.in-ReadEnd.is)
-    (pipe_skipped h c.skip.new.store c.skip.new.self.places c.in-ReadEnd.pipe c.args.count c.requires.sound (reading (goal.at.returns-in-ReadEnd c).In-ReadEnd) e.rest e.pipes e.releases.moves e.releases.lists e.releases.frees e.releases.reclaims)
+    (pipe_skipped h c.skip.new.store c.skip.new.self.places c.in-ReadEnd.pipe c.args.count c.requires.sound
+    (reading (goal.at.returns-in-ReadEnd c).In-ReadEnd) e.rest e.pipes e.releases.moves e.releases.lists
+    e.releases.frees e.releases.reclaims)
 
 pub skip-requires-in-Connection-clause-there : goal.skip-requires-in-Connection-clause-there
-skip-requires-in-Connection-clause-there c = source_there (state_of c.args.self.now) c.args.from.now c.in-Connection.conn c.requires c.in-Connection.is
+skip-requires-in-Connection-clause-there c =
+    source_there (state_of c.args.self.now) c.args.from.now c.in-Connection.conn c.requires c.in-Connection.is
 
 pub skip-requires-in-Connection-clause-covered : goal.skip-requires-in-Connection-clause-covered
-skip-requires-in-Connection-clause-covered c = source_covered (state_of c.args.self.now) c.args.from.now c.in-Connection.conn c.requires c.in-Connection.is
+skip-requires-in-Connection-clause-covered c =
+    source_covered (state_of c.args.self.now) c.args.from.now c.in-Connection.conn c.requires c.in-Connection.is
 
 pub returns-in-Connection : goal.returns-in-Connection
 returns-in-Connection c = λ d fd.
@@ -36,5 +41,7 @@ returns-in-Connection c = λ d fd.
     let e = c.skip-in-Connection.ensures in
     let r = e.conn.releases in
     subst (λ (x : Descriptor). Leaves (λ s. read_on s d fd (Some x) c.args.count) h k) (sym c.in-Connection.is)
-    (conn_skipped h k c.in-Connection.conn c.args.count c.requires.sound (source_open h c.args.from.now c.in-Connection.conn c.requires c.in-Connection.is) e.conn.rest
-    (ap (λ (t : ConnTable). record h { store = w.store; conns = t.conns; next_conn = t.next }) (changed_to e.others e.conn.others)) r.moves r.lists r.frees r.reclaims)
+    (conn_skipped h k c.in-Connection.conn c.args.count c.requires.sound
+    (source_open h c.args.from.now c.in-Connection.conn c.requires c.in-Connection.is) e.conn.rest
+    (ap (λ (t : ConnTable). record h { store = w.store; conns = t.conns; next_conn = t.next })
+    (changed_to e.others e.conn.others)) r.moves r.lists r.frees r.reclaims)

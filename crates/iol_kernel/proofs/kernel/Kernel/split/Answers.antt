@@ -10,4 +10,5 @@ split_agg-requires c = split_in c.requires
 pub returns : goal.returns
 returns c =
     let e = c.in_ok-split_agg.ensures in
-    attempted (split_answers (state_of c.args.self.now) c.split_agg.new.store (domains_of c.split_agg.new.domains) c.args.by c.args.agg c.args.at e.split c.in_ok-split_agg.field-0 c.requires e.numbers)
+    attempted (split_answers (state_of c.args.self.now) c.split_agg.new.store (domains_of c.split_agg.new.domains)
+    c.args.by c.args.agg c.args.at e.split c.in_ok-split_agg.field-0 c.requires e.numbers)

@@ -13,7 +13,8 @@ pub sync-requires-clause-sound : goal.sync-requires-clause-sound
 sync-requires-clause-sound g c = cache_sound (state_of c.args.self.now) c.requires.has.sound
 
 pub sync-requires-clause-file : goal.sync-requires-clause-file
-sync-requires-clause-file g c = in_cache (state_of c.args.self.now) c.args.file c.requires.has.sound c.requires.has.there
+sync-requires-clause-file g c =
+    in_cache (state_of c.args.self.now) c.args.file c.requires.has.sound c.requires.has.there
 
 pub sync-requires-clause-few : goal.sync-requires-clause-few
 sync-requires-clause-few g c = counts_lower (state_of c.args.self.now) c.requires.has.sound
@@ -26,8 +27,17 @@ returns g c =
     let y = g.B.Backing.disk c.sync.new.backing in
     let w = c.sync.ensures in
     record {
-      serves = back_serves (λ s. calls.fsync s c.args.by c.args.fd) h _ d x y c.sync.result c.requires.has.sound (synced_parts h.store c.args.file h.cache d x y w.syncs) w.sound
-          (λ stored. sync_steps _ c.args.by c.args.fd c.args.file c.sync.result (c.requires.passed (bytes_over stored h.store)) (c.requires.file (bytes_over stored h.store)) w.late)
+      serves = back_serves (λ s. calls.fsync s c.args.by c.args.fd) h _ d x y c.sync.result c.requires.has.sound
+          (synced_parts h.store c.args.file h.cache d x y w.syncs) w.sound
+          (λ stored. sync_steps _ c.args.by c.args.fd c.args.file c.sync.result
+          (c.requires.passed (bytes_over stored h.store)) (c.requires.file (bytes_over stored h.store)) w.late)
           w.syncs.honest w.files w.mirrors (cache_sound h c.requires.has.sound) refl;
-      syncs = record { syncs = w.syncs; clean = w.clean; writes = inl w.writes; counts = fault_counted c.args.file x y c.sync.result w.fails w.succeeds w.late; same = refl };
+      syncs = record {
+        syncs = w.syncs;
+        clean = w.clean;
+        writes = inl w.writes;
+        counts =
+            fault_counted c.args.file x y c.sync.result w.fails w.succeeds w.late;
+        same = refl;
+      };
     }

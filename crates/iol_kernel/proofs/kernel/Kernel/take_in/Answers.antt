@@ -12,12 +12,15 @@ pub returns-then-not-make_room_for : goal.returns-then-not-make_room_for
 returns-then-not-make_room_for c =
     let r = c.make_room_for.ensures in
     record {
-      places = arrive_none c.args.conn c.args.bytes.now c.args.pool c.args.count (state_of c.args.self.now) (state_of c.make_room_for.new.self) r.made c.requires (r.refused c.if-not-make_room_for.true) (r.fits ∙ c.if-not-make_room_for.true);
+      places = arrive_none c.args.conn c.args.bytes.now c.args.pool c.args.count (state_of c.args.self.now)
+          (state_of c.make_room_for.new.self) r.made c.requires (r.refused c.if-not-make_room_for.true) (r.fits
+          ∙ c.if-not-make_room_for.true);
       slices = tt;
     }
 
 pub fill_conn-requires : goal.fill_conn-requires
-fill_conn-requires c = conn_now c.args.conn c.args.bytes.now c.args.pool c.args.count (state_of c.args.self.now) (state_of c.make_room_for.new.self) c.make_room_for.ensures.made c.requires
+fill_conn-requires c = conn_now c.args.conn c.args.bytes.now c.args.pool c.args.count (state_of c.args.self.now)
+    (state_of c.make_room_for.new.self) c.make_room_for.ensures.made c.requires
 
 pub returns : goal.returns
 returns c =
@@ -26,7 +29,9 @@ returns c =
     let l = state_of c.fill_conn.new.self in
     let r = c.make_room_for.ensures in
     record {
-      places = arrive_places c.args.conn c.args.bytes.now c.args.pool c.args.count h k r.made c.requires l c.fill_conn.result
+      places = arrive_places c.args.conn c.args.bytes.now c.args.pool c.args.count h k r.made c.requires l
+          c.fill_conn.result
           (r.room c.if-not-make_room_for.false) (r.fits ∙ c.if-not-make_room_for.false) c.fill_conn.ensures.fills;
-      slices = few_arrived c.args.pool (pages_for c.args.count) h k r.made l c.args.conn (length c.args.bytes.now) c.fill_conn.result c.fill_conn.ensures.slices;
+      slices = few_arrived c.args.pool (pages_for c.args.count) h k r.made l c.args.conn (length c.args.bytes.now)
+          c.fill_conn.result c.fill_conn.ensures.slices;
     }

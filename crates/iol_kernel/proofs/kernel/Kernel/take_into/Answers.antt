@@ -16,13 +16,15 @@ pub copy_front-count-requires : goal.copy_front-count-requires
 copy_front-count-requires c =
     let h = state_of c.args.self.now in
     let from = sym (c.descriptor.ensures (bytes_over [] h.store)) ∙ c.in-Some.is in
-    source_held h c.args.by c.args.fd c.in-Some.from c.requires.queue.sound c.requires.live from c.requires.queue.no_file (sym (ap can_read from) ∙ c.requires.readable)
+    source_held h c.args.by c.args.fd c.in-Some.from c.requires.queue.sound c.requires.live from
+    c.requires.queue.no_file (sym (ap can_read from) ∙ c.requires.readable)
 
 pub skip-requires : goal.skip-requires
 skip-requires c =
     let h = state_of c.args.self.now in
     let from = sym (c.descriptor.ensures (bytes_over [] h.store)) ∙ c.in-Some.is in
-    source_held h c.args.by c.args.fd c.in-Some.from c.requires.queue.sound c.requires.live from c.requires.queue.no_file (sym (ap can_read from) ∙ c.requires.readable)
+    source_held h c.args.by c.args.fd c.in-Some.from c.requires.queue.sound c.requires.live from
+    c.requires.queue.no_file (sym (ap can_read from) ∙ c.requires.readable)
 
 pub returns : goal.returns
 returns c =
@@ -30,12 +32,19 @@ returns c =
     let s = machine_of [] h in
     let memory = c.args.into.now in
     let count = c.copy_front-count.result in
-    let from : (f : Reading) → descriptor (read_of f h) c.args.by c.args.fd ≡ Some c.in-Some.from = λ f. sym (c.descriptor.ensures f) ∙ c.in-Some.is in
+    let from : (f : Reading) → descriptor (read_of f h) c.args.by c.args.fd ≡ Some c.in-Some.from =
+    λ f. sym (c.descriptor.ensures f) ∙ c.in-Some.is in
     let here = sym (from (bytes_over [] h.store)) in
     let e = c.copy_front-count.ensures in
     record {
-      copied = subst (λ (o : Option Descriptor). c.copy_front-count.new.into ≡ bytes_of (read_text s c.args.by o (length memory)) ++ drop count memory) here e.copied;
-      count = e.count (bytes_over [] h.store) (keeps_bytes h.store) ∙ ap (λ (o : Option Descriptor). length (read_text s c.args.by o (length memory))) here
-          ∙ sym (length-map (read_text s c.args.by (descriptor s c.args.by c.args.fd) (length memory)) (λ (b : ℕ × ℕ). b.0));
-      left = copied_left h c.args.by c.args.fd (length memory) count c.in-Some.from from e.count (state_of c.skip.new.self) (c.skip.ensures c.args.by c.args.fd);
+      copied =
+          subst (λ (o : Option Descriptor). c.copy_front-count.new.into
+          ≡ bytes_of (read_text s c.args.by o (length memory)) ++ drop count memory) here e.copied;
+      count = e.count (bytes_over [] h.store) (keeps_bytes h.store)
+          ∙ ap (λ (o : Option Descriptor). length (read_text s c.args.by o (length memory))) here
+          ∙ sym (length-map (read_text s c.args.by (descriptor s c.args.by c.args.fd) (length memory))
+          (λ (b : ℕ × ℕ). b.0));
+      left =
+          copied_left h c.args.by c.args.fd (length memory) count c.in-Some.from from e.count (state_of c.skip.new.self)
+          (c.skip.ensures c.args.by c.args.fd);
     }

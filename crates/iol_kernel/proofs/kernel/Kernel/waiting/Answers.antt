@@ -8,4 +8,5 @@ pub first_barred-requires : goal.first_barred-requires
 first_barred-requires c =
     let h = state_of c.args.self.now in
     let e = c.in_ok-from.ensures in
-    is_queue h c.args.by c.args.fd c.in_ok-from.from (e.live (bytes_over [] h.store)) (e.open (bytes_over [] h.store)) c.requires.no_file
+    is_queue h c.args.by c.args.fd c.in_ok-from.from (e.live (bytes_over [] h.store)) (e.open (bytes_over [] h.store))
+    c.requires.no_file

@@ -21,12 +21,18 @@ returns-in-Err c =
     let pool = lands_in c.args.by c.args.fd (machine_of [] h) in
     let fails = c.in-Err.ensures.refused in
     record {
-      serves = (put_refused (written_to c.args.by c.args.fd) 0 0 c.args.by c.args.fd c.args.bytes.now h c.in-Err.refusal c.requires fails).serves;
-      queue = λ no_file. put_refused (written_to c.args.by c.args.fd) _ _ c.args.by c.args.fd c.args.bytes.now h c.in-Err.refusal c.requires fails;
+      serves =
+          (put_refused (written_to c.args.by c.args.fd) 0 0 c.args.by c.args.fd c.args.bytes.now h c.in-Err.refusal
+          c.requires fails).serves;
+      queue = λ no_file. put_refused (written_to c.args.by c.args.fd) _ _ c.args.by c.args.fd c.args.bytes.now h
+          c.in-Err.refusal c.requires fails;
       slices = λ no_file. tt;
       room = tt;
       no_room = λ p e. (let is : c.in-Err.refusal ≡ NoRoom p = cc in absurd (fails.roomy p is));
-      memory = (put_refused (written_to c.args.by c.args.fd) pool (calls.write (machine_of [] h) c.args.by c.args.fd c.args.bytes.now).answer c.args.by c.args.fd c.args.bytes.now h c.in-Err.refusal c.requires fails).memory;
+      memory =
+          (put_refused (written_to c.args.by c.args.fd) pool
+          (calls.write (machine_of [] h) c.args.by c.args.fd c.args.bytes.now).answer c.args.by c.args.fd
+          c.args.bytes.now h c.in-Err.refusal c.requires fails).memory;
       refused = inl refl;
       puts = puts_refused o pool (length c.args.bytes.now) h c.in-Err.refusal;
       lays = laid_refused o pool c.args.bytes.now h c.in-Err.refusal;
@@ -43,11 +49,16 @@ returns c =
     record {
       serves = placed.serves;
       queue = λ no_file. placed;
-      slices = λ no_file. subst (λ (o : Option Descriptor). OnOk c.put.result (QueuesFew (length c.args.bytes.now) o h k)) (sym open') c.put.ensures.slices;
+      slices =
+          λ no_file. subst (λ (o : Option Descriptor). OnOk c.put.result (QueuesFew (length c.args.bytes.now) o h k))
+          (sym open') c.put.ensures.slices;
       room = placed.room;
       no_room = placed.no_room;
       memory = placed.memory;
-      puts = subst (λ (o : Option Descriptor). PutsOn o pool (length c.args.bytes.now) h c.put.result k) (sym open') (puts_queue c.in-Some.to c.in_default-to.not-File pool (length c.args.bytes.now) h k c.put.result);
-      lays = subst (λ (o : Option Descriptor). LaysOn o pool c.args.bytes.now h c.put.result k) (sym open') (laid_queue c.in-Some.to c.in_default-to.not-File pool c.args.bytes.now h k c.put.result);
-      refused = left_placing pool (calls.write s c.args.by c.args.fd c.args.bytes.now).answer h k c.put.result placed.refused;
+      puts = subst (λ (o : Option Descriptor). PutsOn o pool (length c.args.bytes.now) h c.put.result k) (sym open')
+          (puts_queue c.in-Some.to c.in_default-to.not-File pool (length c.args.bytes.now) h k c.put.result);
+      lays = subst (λ (o : Option Descriptor). LaysOn o pool c.args.bytes.now h c.put.result k) (sym open')
+          (laid_queue c.in-Some.to c.in_default-to.not-File pool c.args.bytes.now h k c.put.result);
+      refused = left_placing pool (calls.write s c.args.by c.args.fd c.args.bytes.now).answer h k c.put.result
+          placed.refused;
     }

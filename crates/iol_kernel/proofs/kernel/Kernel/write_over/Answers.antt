@@ -22,25 +22,35 @@ write-requires c =
       sound = cache_sound h held.sound;
       file = in_cache h c.args.found.file held.sound (open_file held).there;
       short = agg_fits c.requires (sym (ap option_copied c.in-Some.is) ∙ c.agg.ensures);
-      held = agg_beside h c.args.by c.args.agg xs held.sound (live_held r h c.args.by (held.live r)) (sym (ap option_copied c.in-Some.is) ∙ c.agg.ensures);
-      readable = agg_readable h c.args.by c.args.agg xs held.sound (sym (ap option_copied c.in-Some.is) ∙ c.agg.ensures);
+      held = agg_beside h c.args.by c.args.agg xs held.sound (live_held r h c.args.by (held.live r))
+          (sym (ap option_copied c.in-Some.is) ∙ c.agg.ensures);
+      readable = agg_readable h c.args.by c.args.agg xs held.sound (sym (ap option_copied c.in-Some.is)
+          ∙ c.agg.ensures);
       few = counts_below h held.sound;
     }
 
 pub moved_by-requires : goal.moved_by-requires
-moved_by-requires c = omega (arith, agg_fits c.requires (sym (ap option_copied c.in-Some.is) ∙ c.agg.ensures), c.len-len.ensures)
+moved_by-requires c =
+    omega (arith, agg_fits c.requires (sym (ap option_copied c.in-Some.is) ∙ c.agg.ensures), c.len-len.ensures)
 
 pub returns-in-Err : goal.returns-in-Err
 returns-in-Err c =
     let w = c.in-Err.ensures in
-    unwritten (state_of c.args.self.now) c.write.new.store (cached_of c.write.new.self) c.args.by c.args.fd c.args.agg c.args.found.file c.args.found.at c.args.found.mode c.in-Some.source.now c.requires (sym (ap option_copied c.in-Some.is) ∙ c.agg.ensures)
-    w.moves w.lists w.reclaims w.pages w.sound w.mirrors c.in-Err.refusal w.evicts w.refused (λ p e. w.no_room p (ap Err e)) (λ p e. w.kept p (ap Err e)) w.late
+    unwritten (state_of c.args.self.now) c.write.new.store (cached_of c.write.new.self) c.args.by c.args.fd c.args.agg
+    c.args.found.file c.args.found.at c.args.found.mode c.in-Some.source.now c.requires
+    (sym (ap option_copied c.in-Some.is) ∙ c.agg.ensures)
+    w.moves w.lists w.reclaims w.pages w.sound w.mirrors c.in-Err.refusal w.evicts w.refused
+    (λ p e. w.no_room p (ap Err e)) (λ p e. w.kept p (ap Err e)) w.late
 
 pub returns : goal.returns
 returns c =
     let w = c.in_default-write.ensures in
-    overwritten (state_of c.args.self.now) c.write.new.store (cached_of c.write.new.self) c.args.by c.args.fd c.args.agg c.args.found.file c.args.found.at c.args.found.mode c.in-Some.source.now c.requires (sym (ap option_copied c.in-Some.is) ∙ c.agg.ensures)
-    w.moves w.lists w.reclaims w.pages w.sound w.mirrors w.lies w.writes w.nothing (domains_of c.set_fd.new.self) c.len-len.result w.written w.others c.len-len.ensures w.room (set_to (domains_of c.args.self.now.domains) c.args.by c.args.fd c.set_fd.ensures.set c.moved_by.ensures)
+    overwritten (state_of c.args.self.now) c.write.new.store (cached_of c.write.new.self) c.args.by c.args.fd c.args.agg
+    c.args.found.file c.args.found.at c.args.found.mode c.in-Some.source.now c.requires
+    (sym (ap option_copied c.in-Some.is) ∙ c.agg.ensures)
+    w.moves w.lists w.reclaims w.pages w.sound w.mirrors w.lies w.writes w.nothing (domains_of c.set_fd.new.self)
+    c.len-len.result w.written w.others c.len-len.ensures w.room
+    (set_to (domains_of c.args.self.now.domains) c.args.by c.args.fd c.set_fd.ensures.set c.moved_by.ensures)
 
 pub set_fd-requires-clause-there : goal.set_fd-requires-clause-there
 set_fd-requires-clause-there c none =

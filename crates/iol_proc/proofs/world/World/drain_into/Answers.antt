@@ -7,9 +7,20 @@ pub returns-clause-copied : goal.returns-clause-copied
 returns-clause-copied g c =
     rw (← c.self.view_is)
     (drained_copied g.P.Process.turns c.args.conn c.args.max _ _ c.drain_into.result
-    (record { machine = c.self.inside.system; process_slots = c.self.inside.process_slots.items; resource_failure = c.self.inside.resource_failure })
-    (record { machine = c.drain_into.new.self; process_slots = c.self.inside.process_slots.items; resource_failure = c.self.inside.resource_failure })
-    refl refl c.drain_into.ensures.serves.disk c.drain_into.ensures.serves.refuses.passed c.drain_into.ensures.serves.drains)
+    (record {
+      machine = c.self.inside.system;
+      process_slots = c.self.inside.process_slots.items;
+      resource_failure =
+          c.self.inside.resource_failure;
+    })
+    (record {
+      machine = c.drain_into.new.self;
+      process_slots = c.self.inside.process_slots.items;
+      resource_failure =
+          c.self.inside.resource_failure;
+    })
+    refl refl c.drain_into.ensures.serves.disk c.drain_into.ensures.serves.refuses.passed
+    c.drain_into.ensures.serves.drains)
 
 -- what it does to the system
 pub returns-clause-system : goal.returns-clause-system

@@ -8,4 +8,5 @@ pub returns : goal.returns
 returns g c =
     let found = rw c.deref.ensures.value at c.in_ok-place.ensures in
     rw (← c.self.view_is)
-    (in_slots_at _ c.args.by c.in_ok-place.place c.index.result.now (slice_get_read _ _ _ _ refl found.1 c.index.ensures) found.0)
+    (in_slots_at _ c.args.by c.in_ok-place.place c.index.result.now
+    (slice_get_read _ _ _ _ refl found.1 c.index.ensures) found.0)

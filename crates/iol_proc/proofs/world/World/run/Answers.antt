@@ -9,14 +9,18 @@ use Rattle.iol_proc.proofs.world.World.run.Goals as goal
 -- one more choice
 pub loop-choice-preserved : goal.loop-choice-preserved
 loop-choice-preserved g c = record {
-  ran = rw c.push_reserved.ensures.items (run_at sharing g.P.Process.turns _ _ _ _ _ _ _ _ (omega arith) c.choice-item.is c.loop-choice.invariant.ran c.step-reply.ensures);
+  ran =
+      rw c.push_reserved.ensures.items (run_at sharing g.P.Process.turns _ _ _ _ _ _ _ _ (omega arith) c.choice-item.is
+      c.loop-choice.invariant.ran c.step-reply.ensures);
   count = omega (arith, c.push_reserved.ensures.len);
   room = omega (arith, c.push_reserved.ensures.capacity);
 }
 
 -- all choices
 pub returns-clause-run : goal.returns-clause-run
-returns-clause-run g c = λ honest. run_copied g.P.Process.turns _ _ _ _ honest (rw (take_all c.loop-choice.choice-index c.args.choices.now (omega arith)) at c.loop-choice.invariant.ran)
+returns-clause-run g c =
+    λ honest. run_copied g.P.Process.turns _ _ _ _ honest
+    (rw (take_all c.loop-choice.choice-index c.args.choices.now (omega arith)) at c.loop-choice.invariant.ran)
 
 pub returns-clause-events : goal.returns-clause-events
 returns-clause-events g c = run_chained g.P.Process.turns _ _ _ _ c.loop-choice.invariant.ran

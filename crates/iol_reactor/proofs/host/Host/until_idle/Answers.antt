@@ -6,13 +6,17 @@ use Rattle.iol_reactor.proofs.host.Host.until_idle.Goals as goal
 
 pub invariant_of-self : goal.invariant_of-self
 invariant_of-self g c = record {
-  served = proceeds g.P.Process.turns g.V.Service.starts c.args.self.now.pool c.args.self.now.world c.until_idle.new.self c.until_idle.ensures.honest
-      (λ honest. continues_on g.P.Process.turns c.args.self.now.pool 0 [] [] false _ _ (goes_turns g.P.Process.turns 0 0 _ _ _ _ _ (c.until_idle.ensures.run honest).run)) c.args.self.now.served;
+  served = proceeds g.P.Process.turns g.V.Service.starts c.args.self.now.pool c.args.self.now.world
+      c.until_idle.new.self c.until_idle.ensures.honest
+      (λ honest. continues_on g.P.Process.turns c.args.self.now.pool 0 [] [] false _ _
+      (goes_turns g.P.Process.turns 0 0 _ _ _ _ _ (c.until_idle.ensures.run honest).run)) c.args.self.now.served;
 }
 
 pub returns-clause-alone : goal.returns-clause-alone
 returns-clause-alone g c = λ n honest. goes_turns g.P.Process.turns n 0 _ _ _ _ _ (c.until_idle.ensures.run honest).run
 
 pub returns-clause-visits : goal.returns-clause-visits
-returns-clause-visits g c = visits_stay g.P.Process.turns g.V.Service.starts c.args.self.now.pool c.args.self.now.world c.until_idle.new.self c.until_idle.ensures.honest
-    (λ n honest. carries_own g.P.Process.turns c.args.self.now.pool n [] [] false _ _ (goes_turns g.P.Process.turns n 0 _ _ _ _ _ (c.until_idle.ensures.run honest).run))
+returns-clause-visits g c = visits_stay g.P.Process.turns g.V.Service.starts c.args.self.now.pool c.args.self.now.world
+    c.until_idle.new.self c.until_idle.ensures.honest
+    (λ n honest. carries_own g.P.Process.turns c.args.self.now.pool n [] [] false _ _
+    (goes_turns g.P.Process.turns n 0 _ _ _ _ _ (c.until_idle.ensures.run honest).run))

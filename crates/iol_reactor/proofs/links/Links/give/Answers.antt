@@ -8,8 +8,13 @@ pub invariant_of-self : goal.invariant_of-self
 invariant_of-self c =
     let old = c.args.self.now in
     let l : Link = record { conn = c.args.conn; generation = old.generation } in
-    let more : old.last < c.args.conn = subst (λ (n : ℕ). old.last < n) c.number-number.ensures c.if-number-self.false in
+    let more : old.last < c.args.conn =
+    subst (λ (n : ℕ). old.last < n) c.number-number.ensures c.if-number-self.false in
     record {
-      apart = apart_given old.generation old.last old.table.items c.args.slot l old.came (new_link old.generation old.last l refl more) old.apart;
-      came = subst (λ (n : ℕ). HaveCome old.generation n (set old.table.items c.args.slot (Some l))) (sym c.number-number.ensures) (come_given old.generation old.last old.table.items c.args.slot l refl more old.came);
+      apart =
+          apart_given old.generation old.last old.table.items c.args.slot l old.came
+          (new_link old.generation old.last l refl more) old.apart;
+      came = subst (λ (n : ℕ). HaveCome old.generation n (set old.table.items c.args.slot (Some l)))
+          (sym c.number-number.ensures) (come_given old.generation old.last old.table.items c.args.slot l refl more
+          old.came);
     }

@@ -5,8 +5,12 @@ use Rattle.iol_reactor.proofs.worlds.Worlds.hang_up.Goals as goal
 pub returns-in-Some-retiring-clause-visits : goal.returns-in-Some-retiring-clause-visits
 returns-in-Some-retiring-clause-visits g c = (
   true,
-  slot_before g.P.Process.turns g.V.Service.starts _ c.in-Some-retiring.world.pool _ _ c.in-Some-retiring.world.world c.hang_up-in-Some-retiring.new.self.world _ _ c.in-Some.link c.conn-conn.result [] [] true (sym c.get.ensures ∙ c.in-Some.is) c.conn-conn.ensures
-      (rw c.in-Some-retiring.is at c.args.self.now.pools.1) (rw c.in-Some-retiring.is refl) (sym c.is_current-is_current.ensures ∙ c.if-is_current.false) (c.is_before.ensures c.if-is_before.true) c.hang_up-in-Some-retiring.ensures.visits,
+  slot_before g.P.Process.turns g.V.Service.starts _ c.in-Some-retiring.world.pool _ _ c.in-Some-retiring.world.world
+      c.hang_up-in-Some-retiring.new.self.world _ _ c.in-Some.link c.conn-conn.result [] [] true (sym c.get.ensures
+      ∙ c.in-Some.is) c.conn-conn.ensures
+      (rw c.in-Some-retiring.is at c.args.self.now.pools.1) (rw c.in-Some-retiring.is refl)
+      (sym c.is_current-is_current.ensures ∙ c.if-is_current.false) (c.is_before.ensures c.if-is_before.true)
+      c.hang_up-in-Some-retiring.ensures.visits,
 )
 
 pub returns-in_default-retiring-clause-visits : goal.returns-in_default-retiring-clause-visits

@@ -10,12 +10,15 @@ use Rattle.iol_sock.proofs.connections.Connection.release.Goals as goal
 pub clear-requires : goal.clear-requires
 clear-requires c =
     let inside = c.self.inside in
-    covers_front (bufs_of inside.incoming) (bufs_of inside.outgoing) (subst (λ (v : Conn (List Slice)). Covers c.args.store.now (held_by v)) (sym c.self.view_is) c.requires)
+    covers_front (bufs_of inside.incoming) (bufs_of inside.outgoing)
+    (subst (λ (v : Conn (List Slice)). Covers c.args.store.now (held_by v)) (sym c.self.view_is) c.requires)
 
 pub clear-requires-2 : goal.clear-requires-2
 clear-requires-2 c =
     let inside = c.self.inside in
-    covers_rest (bufs_of inside.incoming) (bufs_of inside.outgoing) (subst (λ (v : Conn (List Slice)). Covers c.args.store.now (held_by v)) (sym c.self.view_is) c.requires) c.clear.ensures.releases.moves
+    covers_rest (bufs_of inside.incoming) (bufs_of inside.outgoing)
+    (subst (λ (v : Conn (List Slice)). Covers c.args.store.now (held_by v)) (sym c.self.view_is) c.requires)
+    c.clear.ensures.releases.moves
 
 pub returns : goal.returns
 returns c =

@@ -2,7 +2,8 @@ use Rattle.iol_sock.proofs.AtPlace.{at_place, was_at}
 use Rattle.iol_sock.proofs.table.Connections.drain_into.Goals as goal
 
 pub drain_into-requires-clause-readable : goal.drain_into-requires-clause-readable
-drain_into-requires-clause-readable g c = rw (was_at c.args.c c.self.view_is c.conn_mut.ensures.found.value) c.requires.readable
+drain_into-requires-clause-readable g c =
+    rw (was_at c.args.c c.self.view_is c.conn_mut.ensures.found.value) c.requires.readable
 
 pub returns-clause-drains : goal.returns-clause-drains
 returns-clause-drains g c =

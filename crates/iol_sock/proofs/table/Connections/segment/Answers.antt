@@ -4,7 +4,13 @@ use Rattle.iol_sock.proofs.table.Connections.segment.Goals as goal
 pub segment-requires : goal.segment-requires
 segment-requires c =
     let was = was_at c.args.c c.self.view_is c.conn_mut.ensures.found.value in
-    record { covered = rw was c.requires.covered; countable = rw was c.requires.countable; readable = rw was c.requires.readable; right = c.requires.right }
+    record {
+      covered = rw was c.requires.covered;
+      countable = rw was c.requires.countable;
+      readable =
+          rw was c.requires.readable;
+      right = c.requires.right;
+    }
 
 pub returns : goal.returns
 returns c =

@@ -8,7 +8,8 @@ use Rattle.iol_system.proofs.system.System.drain_to.Goals as goal
 pub invariant_of-self : goal.invariant_of-self
 invariant_of-self g c =
     let e = c.drain_to.ensures in
-    drained_safe (state_of c.self.inside.kernel) (state_of c.drain_to.new.self) (g.B.Backing.disk c.self.inside.backing) c.args.conn _ _ _ c.drain_to.result c.self.invariant e.sound e.drains e.refuses.err
+    drained_safe (state_of c.self.inside.kernel) (state_of c.drain_to.new.self) (g.B.Backing.disk c.self.inside.backing)
+    c.args.conn _ _ _ c.drain_to.result c.self.invariant e.sound e.drains e.refuses.err
 
 pub returns : goal.returns
 returns g c =
@@ -18,10 +19,12 @@ returns g c =
     let disk = g.B.Backing.disk c.self.inside.backing in
     let held = g.W.Write.contents c.args.writer.now in
     let now = g.W.Write.contents c.drain_to.new.writer in
-    subst (λ (s : SystemState). ServesWriter c.args.conn c.args.max s (system_of k disk) c.args.writer.now c.drain_to.new.writer held now c.drain_to.result) c.self.view_is (record {
+    subst (λ (s : SystemState). ServesWriter c.args.conn c.args.max s (system_of k disk) c.args.writer.now
+    c.drain_to.new.writer held now c.drain_to.result) c.self.view_is (record {
       refuses = refuses_same old k disk c.args.conn _ _ c.drain_to.result e.refuses;
       drains = e.drains;
       disk = refl;
-      safe = drained_safe old k disk c.args.conn _ _ _ c.drain_to.result c.self.invariant e.sound e.drains e.refuses.err;
+      safe = drained_safe old k disk c.args.conn _ _ _ c.drain_to.result c.self.invariant e.sound e.drains
+          e.refuses.err;
       stays = e.stays;
     })

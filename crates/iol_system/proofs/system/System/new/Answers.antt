@@ -4,7 +4,9 @@ use Rattle.iol_system.proofs.Safe.{started_safe}
 use Rattle.iol_system.proofs.system.System.new.Goals as goal
 
 pub invariant_of-result : goal.invariant_of-result
-invariant_of-result g c = started_safe (state_of c.in_ok-kernel.kernel) (g.B.Backing.disk c.args.backing) c.in_ok-kernel.ensures.sound c.in_ok-kernel.ensures.new
+invariant_of-result g c =
+    started_safe (state_of c.in_ok-kernel.kernel) (g.B.Backing.disk c.args.backing) c.in_ok-kernel.ensures.sound
+    c.in_ok-kernel.ensures.new
 
 pub returns : goal.returns
 returns g c =

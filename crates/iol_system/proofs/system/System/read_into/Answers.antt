@@ -9,7 +9,11 @@ pub returns : goal.returns
 returns g c =
     let e = c.read.ensures in
     rw (← c.self.view_is) (record {
-      step = promises_kept _ _ _ _ c.self.invariant (copies_does c.args.by c.args.fd (min (length c.args.out.now) (2 ^ 32 - 1)) (g.B.Backing.disk c.self.inside.backing) (g.B.Backing.disk c.read.new.backing) (state_of c.self.inside.kernel) (state_of c.read.new.kernel) (first_of c.read.new.into c.read.result) e.serves e.copies);
+      step =
+          promises_kept _ _ _ _ c.self.invariant
+          (copies_does c.args.by c.args.fd (min (length c.args.out.now) (2 ^ 32 - 1))
+          (g.B.Backing.disk c.self.inside.backing) (g.B.Backing.disk c.read.new.backing) (state_of c.self.inside.kernel)
+          (state_of c.read.new.kernel) (first_of c.read.new.into c.read.result) e.serves e.copies);
       count = e.count;
       len = e.len;
       rest = e.rest;

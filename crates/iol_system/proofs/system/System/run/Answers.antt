@@ -7,14 +7,18 @@ use Rattle.iol_system.proofs.system.System.run.Goals as goal
 -- one more event
 pub loop-event-preserved : goal.loop-event-preserved
 loop-event-preserved g c = record {
-  chain = rw c.push_reserved.ensures.items (chain_more _ _ _ _ _ _ _ _ (omega arith) c.event-item.is c.loop-event.invariant.chain c.step_ref-reply.ensures);
+  chain =
+      rw c.push_reserved.ensures.items
+      (chain_more _ _ _ _ _ _ _ _ (omega arith) c.event-item.is c.loop-event.invariant.chain c.step_ref-reply.ensures);
   count = omega (arith, c.push_reserved.ensures.len);
   room = omega (arith, c.push_reserved.ensures.capacity);
 }
 
 -- all events
 pub returns-clause-run : goal.returns-clause-run
-returns-clause-run g c = chain_run _ _ _ _ (rw (take_all c.loop-event.event-index c.args.events.now (omega arith)) at c.loop-event.invariant.chain)
+returns-clause-run g c =
+    chain_run _ _ _ _ (rw (take_all c.loop-event.event-index c.args.events.now (omega arith)) at
+    c.loop-event.invariant.chain)
 
 pub returns-clause-honest : goal.returns-clause-honest
 returns-clause-honest g c = chain_honest _ _ _ _ c.loop-event.invariant.chain
@@ -26,4 +30,6 @@ pub returns-clause-stays : goal.returns-clause-stays
 returns-clause-stays g c = chain_stays _ _ _ _ c.loop-event.invariant.chain
 
 pub returns-clause-values : goal.returns-clause-values
-returns-clause-values g c = chain_values _ _ _ _ (rw (take_all c.loop-event.event-index c.args.events.now (omega arith)) at c.loop-event.invariant.chain)
+returns-clause-values g c =
+    chain_values _ _ _ _ (rw (take_all c.loop-event.event-index c.args.events.now (omega arith)) at
+    c.loop-event.invariant.chain)

@@ -23,8 +23,11 @@ returns g c =
     let x = c.show_into.ensures in
     let steps = shown_steps c.args.by c.args.agg memory filled h r x in
     let roomy = shown_roomy c.args.by c.args.agg memory filled h r x in
-    let does : Does disk h (event.Call c.args.by (call.Show c.args.agg)) (reported reply.Bytes (borrowed.shown x.bytes r)) disk h =
-    looks_does reply.Bytes (λ s. aggs.show s c.args.by c.args.agg) (λ a. refl) refl (λ s. reported_step reply.Bytes (λ a. refl) (aggs.show s c.args.by c.args.agg) s) tt tt (λ k. k) (λ s. refl) refl (λ s. refl) (λ s d a t is kept. is) (λ is. refl)
+    let does : Does disk h (event.Call c.args.by (call.Show c.args.agg))
+    (reported reply.Bytes (borrowed.shown x.bytes r)) disk h =
+    looks_does reply.Bytes (λ s. aggs.show s c.args.by c.args.agg) (λ a. refl) refl
+    (λ s. reported_step reply.Bytes (λ a. refl) (aggs.show s c.args.by c.args.agg) s) tt tt (λ k. k) (λ s. refl)
+    refl (λ s. refl) (λ s d a t is kept. is) (λ is. refl)
     (shown c.args.by c.args.agg disk h (borrowed.shown x.bytes r) c.self.invariant.sound steps roomy) in
     rw (← c.self.view_is) (record {
       shows = x;

@@ -6,4 +6,5 @@ use Rattle.iolite.proofs.lines.PrintedReportDisplay.fmt.Given as goal
 
 abbrev pub invariant-loop-of : goal.invariant-loop-of
 invariant-loop-of g l =
-    IsPlainFormatter l.initial.f → HasWritten g.W.Write.write_str_gives l.initial.f (flat_map pool_line (take l.of-index l.of-items)) l.f
+    IsPlainFormatter l.initial.f
+    → HasWritten g.W.Write.write_str_gives l.initial.f (flat_map pool_line (take l.of-index l.of-items)) l.f

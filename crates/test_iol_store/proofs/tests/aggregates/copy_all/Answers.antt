@@ -8,4 +8,6 @@ pub dup-requires-clause-countable : goal.dup-requires-clause-countable
 dup-requires-clause-countable g c = held_countable c.args.agg.now c.requires (omega arith)
 
 pub release-requires : goal.release-requires
-release-requires g c = made_covers (of_ok (λ a. Shares c.args.store.now c.dup.new.store [] (bufs_of a)) c.dup.result c.expect-copy.result c.dup.ensures.shares c.expect-copy.ensures)
+release-requires g c =
+    made_covers (of_ok (λ a. Shares c.args.store.now c.dup.new.store [] (bufs_of a)) c.dup.result c.expect-copy.result
+    c.dup.ensures.shares c.expect-copy.ensures)

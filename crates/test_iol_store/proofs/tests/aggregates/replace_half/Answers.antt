@@ -8,4 +8,6 @@ pub replace-requires-clause-countable : goal.replace-requires-clause-countable
 replace-requires-clause-countable g c = held_thrice c.args.agg.now c.requires (omega arith)
 
 pub release-requires : goal.release-requires
-release-requires g c = made_covers (of_ok (λ a. Shares c.args.store.now c.replace.new.store [] (bufs_of a)) c.replace.result c.expect-more.result c.replace.ensures.shares c.expect-more.ensures)
+release-requires g c =
+    made_covers (of_ok (λ a. Shares c.args.store.now c.replace.new.store [] (bufs_of a)) c.replace.result
+    c.expect-more.result c.replace.ensures.shares c.expect-more.ensures)

@@ -9,6 +9,7 @@ pub returns : goal.returns
 returns g c =
     let n = c.reserve.new.self.next in
     let before : c.reserve.new.self.conns ≡ [] = c.reserve.ensures.conns ∙ c.new-table.ensures.none in
-    let after : c.add-conn.new.self.conns ≡ (n, new_conn c.args.pool) ∷ [] = c.add-conn.ensures.conns ∙ ap (λ (l : List (ℕ × Conn (List Slice))). l ++ (n, new_conn c.args.pool) ∷ []) before in
+    let after : c.add-conn.new.self.conns ≡ (n, new_conn c.args.pool) ∷ [] = c.add-conn.ensures.conns
+    ∙ ap (λ (l : List (ℕ × Conn (List Slice))). l ++ (n, new_conn c.args.pool) ∷ []) before in
     subst (λ (k : ℕ). lookup c.add-conn.new.self.conns k ≡ Some (new_conn c.args.pool)) (sym c.add-conn.ensures.number)
     (ap (λ (l : List (ℕ × Conn (List Slice))). lookup l n) after ∙ first_there n (new_conn c.args.pool))

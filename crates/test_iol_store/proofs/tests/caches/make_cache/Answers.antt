@@ -11,10 +11,15 @@ use Rattle.test_iol_store.proofs.tests.caches.make_cache.Goals.{After-expect-cac
 
 -- the new cache
 none : (g : Over) (c : After-expect-cache g) → HasNoFile 32 (cached_of c.expect-cache.result)
-none g c = of_ok (λ (x : Cache). HasNoFile 32 (cached_of x)) c.new.result c.expect-cache.result c.new.ensures c.expect-cache.ensures
+none g c = of_ok (λ (x : Cache). HasNoFile 32 (cached_of x)) c.new.result c.expect-cache.result c.new.ensures
+    c.expect-cache.ensures
 
 pub add_file-requires : goal.add_file-requires
-add_file-requires g c = omega (arith, ap (λ (fs : List CachedFile). length fs) (none g (goal.at.add_file-requires g c).After-expect-cache).files)
+add_file-requires g c =
+    omega
+    (arith, ap (λ (fs : List CachedFile). length fs) (none g (goal.at.add_file-requires g c).After-expect-cache).files)
 
 pub returns : goal.returns
-returns g c = file_new c.args.store.now (cached_of c.expect-cache.result) (cached_of c.add_file.new.self) c.args.pool c.add_file.result c.expect.result c.requires (search (rules)) (none g (goal.at.returns g c).After-expect-cache) c.add_file.ensures c.expect.ensures
+returns g c = file_new c.args.store.now (cached_of c.expect-cache.result) (cached_of c.add_file.new.self) c.args.pool
+    c.add_file.result c.expect.result c.requires (search (rules)) (none g (goal.at.returns g c).After-expect-cache)
+    c.add_file.ensures c.expect.ensures

@@ -11,5 +11,8 @@ write-requires g c =
 
 pub returns : goal.returns
 returns g c =
-    let writes = subst (λ (n : ℕ). Writes n 0 c.args.source.now c.args.store.now c.args.cache.now c.write.new.store c.write.new.self c.write.result) c.new.ensures c.write.ensures in
-    may_read c.args.store.now c.write.new.store c.args.cache.now c.write.new.self c.args.source.now c.write.result c.expect.result c.requires.file c.requires.there (omega arith) writes c.expect.ensures
+    let writes =
+    subst (λ (n : ℕ). Writes n 0 c.args.source.now c.args.store.now c.args.cache.now c.write.new.store
+    c.write.new.self c.write.result) c.new.ensures c.write.ensures in
+    may_read c.args.store.now c.write.new.store c.args.cache.now c.write.new.self c.args.source.now c.write.result
+    c.expect.result c.requires.file c.requires.there (omega arith) writes c.expect.ensures

@@ -9,4 +9,5 @@ shared : (s t : Stored) (b d : BufId) → Shares s t [] (b ∷ []) → d ≡ b �
 shared s t b d m e = subst (λ (x : BufId). 0 < count_of t x) (sym e) (covers_first b [] (covers_given m.counts))
 
 pub count-requires-2 : goal.count-requires-2
-count-requires-2 g c = shared _ c.share-twin.new.store _ c.buf-2.result c.share-twin.ensures.shares (c.buf-2.ensures ∙ ap (λ (h : Buffer). h.buf) c.share-twin.ensures.hold)
+count-requires-2 g c = shared _ c.share-twin.new.store _ c.buf-2.result c.share-twin.ensures.shares (c.buf-2.ensures
+    ∙ ap (λ (h : Buffer). h.buf) c.share-twin.ensures.hold)

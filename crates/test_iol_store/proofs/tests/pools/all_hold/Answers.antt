@@ -11,5 +11,7 @@ use Rattle.test_iol_store.proofs.tests.pools.all_hold.Goals as goal
 pub create-requires-clause-owned : goal.create-requires-clause-owned
 create-requires-clause-owned g c =
     let a = c.expect-arena.result in
-    let taken = (of_ok (λ (s : State). IsAllFree s 3 4294967295) c.new.result a c.new.ensures.all_free c.expect-arena.ensures).taken in
+    let taken =
+    (of_ok (λ (s : State). IsAllFree s 3 4294967295) c.new.result a c.new.ensures.all_free
+    c.expect-arena.ensures).taken in
     subst (λ (l : List Pool). AreOwned a l) (sym c.new-pools.ensures) (owned_none a (none_taken a.taken 3 taken))

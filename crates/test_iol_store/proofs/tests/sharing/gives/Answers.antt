@@ -13,4 +13,6 @@ pub to_vec-requires : goal.to_vec-requires
 to_vec-requires g c =
     let old = c.args.conn.now.incoming in
     let new = c.front.new.self.incoming in
-    front_readable c.expect-front.result old new 3 c.new.result c.requires (of_ok (λ a. GivesFirst c.args.store.now c.front.new.store old a new 3 c.new.result) c.front.result c.expect-front.result c.front.ensures.gives c.expect-front.ensures)
+    front_readable c.expect-front.result old new 3 c.new.result c.requires
+    (of_ok (λ a. GivesFirst c.args.store.now c.front.new.store old a new 3 c.new.result) c.front.result
+    c.expect-front.result c.front.ensures.gives c.expect-front.ensures)

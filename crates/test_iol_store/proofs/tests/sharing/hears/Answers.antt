@@ -9,5 +9,8 @@ use Rattle.test_iol_store.proofs.tests.sharing.hears.Goals as goal
 pub returns : goal.returns
 returns g c =
     let conn = c.new-conn.result in
-    let adds = of_ok (AddsFitting c.args.store.now c.arrive.new.store conn.incoming c.arrive.new.self.incoming conn.pool _) c.arrive.result c.expect.result c.arrive.ensures.adds c.expect.ensures in
-    arrived c.args.store.now c.arrive.new.store conn.incoming c.arrive.new.self.incoming conn.pool c.expect.result _ (ap (λ (x : Conn (List Slice)). x.incoming) c.new-conn.ensures) c.requires adds
+    let adds =
+    of_ok (AddsFitting c.args.store.now c.arrive.new.store conn.incoming c.arrive.new.self.incoming conn.pool _)
+    c.arrive.result c.expect.result c.arrive.ensures.adds c.expect.ensures in
+    arrived c.args.store.now c.arrive.new.store conn.incoming c.arrive.new.self.incoming conn.pool c.expect.result _
+    (ap (λ (x : Conn (List Slice)). x.incoming) c.new-conn.ensures) c.requires adds

@@ -11,5 +11,6 @@ segment-requires g c =
       covered = there_covers queue c.requires;
       countable = there_countable queue c.requires;
       readable = c.requires.readable;
-      right = of_ok (λ (x : Sums). (s : State) → IsRight s x) c.new.result c.expect-sums.result c.new.ensures.right c.expect-sums.ensures c.args.store.now.arena;
+      right = of_ok (λ (x : Sums). (s : State) → IsRight s x) c.new.result c.expect-sums.result c.new.ensures.right
+          c.expect-sums.ensures c.args.store.now.arena;
     }

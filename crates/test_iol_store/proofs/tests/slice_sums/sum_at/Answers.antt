@@ -6,7 +6,8 @@ use Rattle.test_iol_store.proofs.tests.slice_sums.sum_at.Goals as goal
 pub sum-requires-clause-readable : goal.sum-requires-clause-readable
 sum-requires-clause-readable g c =
     let slices = c.slices-slices.result.now in
-    readable-item slices c.args.at c.index-slices-at.result (omega arith) c.index-slices-at.is (subst (AllReadable c.args.store.now) (sym c.slices-slices.ensures) c.requires.readable)
+    readable-item slices c.args.at c.index-slices-at.result (omega arith) c.index-slices-at.is
+    (subst (AllReadable c.args.store.now) (sym c.slices-slices.ensures) c.requires.readable)
 
 pub returns : goal.returns
 returns g c = c.sum.ensures.right

@@ -16,6 +16,10 @@ pub returns : goal.returns
 returns g c =
     let first = c.filled-first in
     let second = c.filled-second in
-    let stays = readable_stays first.result second.ensures.moves.stays (covers_on (moved_covers first.ensures.moves) second.ensures.moves) first.ensures.readable in
-    let joined : c.expect.result ≡ first.result ++ second.result = of_ok (λ a. a ≡ first.result ++ second.result) c.join.result c.expect.result c.join.ensures.joined c.expect.ensures in
+    let stays =
+    readable_stays first.result second.ensures.moves.stays
+    (covers_on (moved_covers first.ensures.moves) second.ensures.moves) first.ensures.readable in
+    let joined : c.expect.result ≡ first.result ++ second.result =
+    of_ok (λ a. a ≡ first.result ++ second.result) c.join.result c.expect.result c.join.ensures.joined
+    c.expect.ensures in
     subst (AllReadable second.new.store) (sym joined) (readable_joined stays second.ensures.readable)

@@ -10,8 +10,16 @@ pub loop-part-init : goal.loop-part-init
 loop-part-init c =
     let s = c.args.store.now in
     let agg = c.args.agg.now in
-    let all = ap (flat_map (λ w. w)) (c.into_iter-part-iterator.ensures.into_iter_gives ∙ c.parts-part-items.ensures) ∙ flat_map-parts_of s agg c.requires.readable in
+    let all = ap (flat_map (λ w. w)) (c.into_iter-part-iterator.ensures.into_iter_gives ∙ c.parts-part-items.ensures)
+    ∙ flat_map-parts_of s agg c.requires.readable in
     record {
       so_far = ap (λ w. c.args.bytes.now.items ++ w) all;
-      room = omega (arith, c.requires.room, ap length all, length-map (text_of s agg) (λ (b : ℕ × ℕ). b.0), length-text_of s agg);
+      room =
+          omega (
+            arith,
+            c.requires.room,
+            ap length all,
+            length-map (text_of s agg) (λ (b : ℕ × ℕ). b.0),
+            length-text_of s agg,
+          );
     }

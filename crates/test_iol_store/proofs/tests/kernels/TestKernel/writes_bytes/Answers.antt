@@ -2,4 +2,5 @@ use Rattle.std.proofs.Common.{[], false}
 use Rattle.test_iol_store.proofs.tests.kernels.TestKernel.writes_bytes.Goals as goal
 
 pub invariant_of-self : goal.invariant_of-self
-invariant_of-self c = (c.write_bytes.ensures.serves (record { slots = []; failures = 0; honest = false; reported = [] })).sound
+invariant_of-self c =
+    (c.write_bytes.ensures.serves (record { slots = []; failures = 0; honest = false; reported = [] })).sound
