@@ -1,9 +1,7 @@
 -- Aggregates are added under the numbers in replies, and consumed ones are gone.
-use Rattle.std.proofs.Common.{inl, inr, ◌≡◌, ◌≢◌, ◌≤◌, ℕ, ◌+◌, ◌==◌, ◌⊎◌, List, [], ◌∷◌, ◌++◌, take, drop, ap, ◌∙◌}
-use Rattle.std.proofs.Common.{refl, sym, subst, arith, Option, Some, None, true, false, Bool, append_assoc}
-use Rattle.std.specs.Prelude.{option_map, not, is_none, fold, ◌&&◌, ◌||◌}
-use Rattle.std.proofs.lemmas.Bool.Decides.{nat_tests}
-use Rattle.std.proofs.lemmas.Grind.{common_steps}
+use Rattle.std.proofs.Common.{inl, inr, ◌≡◌, ◌≢◌, ◌≤◌, ℕ, ◌+◌, ◌==◌, List, [], ◌∷◌, ◌++◌, take, drop, ap, ◌∙◌, refl}
+use Rattle.std.proofs.Common.{sym, subst, arith, Option, Some, None, true, false, Bool, append_assoc}
+use Rattle.std.specs.Prelude.{option_map, is_none, fold, ◌&&◌, ◌||◌}
 use Rattle.iol_core.specs.Text.{Text, bytes_of}
 use Rattle.iol_core.specs.NumberedLists.{lookup, without}
 use Rattle.iol_core.specs.State.{State, Domain, domain, is_live, aggregate, text, no_domain, with_domain}
@@ -27,9 +25,9 @@ use Rattle.iol_laws.specs.Caller.{readable_at}
 use Rattle.iol_laws.specs.Aggregates.{brings, is_refusal}
 use Rattle.iol_laws.proofs.AggsOfEach.{Brings, BringsIn, IsOfAggs, of_meant}
 use Rattle.iol_laws.proofs.Connections.{forgotten, once-without}
-use Rattle.iol_laws.proofs.Domains.{domain-with_other, domain-with_same, domains-all_closed, live-first}
+use Rattle.iol_laws.proofs.Domains.{domain-with_other, domain-with_same, domains-all_closed, live-first, both-live}
 use Rattle.iol_laws.proofs.Places.{lookup-push_other, lookup-without_none}
-use Rattle.iol_laws.proofs.Tests.{apart, both-true, same-number}
+use Rattle.iol_laws.proofs.Tests.{apart, both-true, same-number, differs, either}
 
 -- What a domain has not, after each event.
 
@@ -42,9 +40,6 @@ LacksIn d a e kept n = e ≡ d → lookup kept a ≡ None
 
 abbrev IsOther : (d a e n : ℕ) → Text → Type 0
 IsOther d a e n t = ((e == d) && (n == a)) ≡ false
-
-differs : (by d n a : ℕ) → ((by == d) && (n == a)) ≡ false → by ≡ d → n ≢ a
-differs by d n a un same equal = grind (arith, nat_tests, common_steps, un, same, equal)
 
 stays_lacking : (d a : ℕ) → IsOfAggs (LacksIn d a) (IsOther d a)
 stays_lacking d a = record {
@@ -161,10 +156,6 @@ gone_join s by x y a order live has_x has_y is = elim (either (x == a) (y == a) 
     both : Text
     both = text s by x ++ text s by y
 
-    either : (p q : Bool) → (p || q) ≡ true → (p ≡ true) ⊎ (q ≡ true)
-    either true q is = inl refl
-    either false q is = inr is
-
 gone_give : (s : State) (by a to : ℕ) → IsOrderly s → is_live s by ≡ true → aggs.lacks_agg s by a ≡ false
     → Lacks (aggs.agg_give s by a to).after by a
 gone_give s by a to order live has =
@@ -217,14 +208,7 @@ gone_called s by (call.AggGive b to) d a order passes is =
     when-none refuse.BadAgg (aggs.lacks_agg s by b) (passed (called s by (call.AggGive b to)).refusals 1 passes) in
     subst (λ n. Lacks (aggs.agg_give s by b to).after n a) own.0
     (subst (λ m. Lacks (aggs.agg_give s by b to).after by m) (same-number b a own.1)
-    (gone_give s by b to order
-    (lives (is_live s by) (is_live s to)
-    (when-none refuse.NoDomain (not (is_live s by) || not (is_live s to))
-    (passed (called s by (call.AggGive b to)).refusals 0 passes))) has))
-  where
-    lives : (x y : Bool) → (not x || not y) ≡ false → x ≡ true
-    lives true y is = refl
-    lives false y is = absurd (cc)
+    (gone_give s by b to order (both-live s by to _ passes).0 has))
 gone_called s by k d a order passes is = absurd (cc)
 
 gone_meant : (s : State) (e : Event) (d a : ℕ) → IsOrderly s → first (meaning s e).refusals ≡ None

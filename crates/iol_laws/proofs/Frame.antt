@@ -1,5 +1,6 @@
 pub mod Connections
 pub mod Pipes
+pub mod Queues
 pub mod Descriptors
 pub mod Files
 pub mod Domains

@@ -3,6 +3,7 @@ pub mod Runs
 pub mod Gives
 pub mod Places
 pub mod Domains
+pub mod Changes
 pub mod Connections
 pub mod ConnChanges
 pub mod Frame

@@ -1,24 +1,21 @@
 -- The numbers that a domain gets from its calls are new.
-use Rattle.std.proofs.Common.{◌≡◌, ℕ, ◌+◌, ◌==◌, List, length, drop, ap, ◌∙◌, refl, sym, arith, Option, Some, None}
-use Rattle.std.proofs.Common.{true, false}
-use Rattle.std.specs.Prelude.{option_map, slice_set}
+use Rattle.std.proofs.Common.{◌≡◌, ℕ, ◌==◌, List, length, ap, ◌∙◌, refl, sym, arith, Option, Some, None, true, false}
+use Rattle.std.specs.Prelude.{option_map}
 use Rattle.iol_core.specs.Text.{Text, bytes_of}
 use Rattle.iol_core.specs.NumberedLists.{lookup, without}
-use Rattle.iol_core.specs.State.{State, Domain, domain, descriptor, pipe_at, conn_at, is_live, with_pipe, with_conn}
+use Rattle.iol_core.specs.State.{State, domain, descriptor, is_live}
 use Rattle.iol_core.specs.Run.{StepsTo}
 use Rattle.iol_core.specs.Calls.Aggregates as aggs
 use Rattle.iol_core.specs.Calls.Reads as reading
 use Rattle.iol_core.specs.declared.descriptors.Descriptor.{Descriptor}
-use Rattle.iol_core.specs.declared.descriptors.Descriptor.TheVariants as on
 use Rattle.iol_core.specs.declared.events.Call.{Call}
 use Rattle.iol_core.specs.declared.events.Call.TheVariants as call
 use Rattle.iol_core.specs.declared.events.Event.TheVariants as event
 use Rattle.iol_core.specs.declared.events.Reply.{Reply}
 use Rattle.iol_core.specs.declared.events.Reply.TheVariants as reply
-use Rattle.iol_core.proofs.Lookups.{domain-same}
 use Rattle.iol_laws.specs.Order.{IsOrderly}
 use Rattle.iol_laws.specs.Caller.{readable_at, is_agg, is_fd, gives_away}
-use Rattle.iol_laws.proofs.Domains.{domain-with_same, domains-with_conn, domains-with_pipe, live-first}
+use Rattle.iol_laws.proofs.Domains.{live-first, kept-read_on}
 use Rattle.iol_laws.proofs.Numbers.{readable-made, number}
 use Rattle.iol_laws.proofs.Places.{lookup-without_none, lowest-free}
 use Rattle.iol_laws.proofs.Tests.{same-number}
@@ -53,34 +50,6 @@ fresh_fd s t d (call.AggGive x to) (reply.Fd b) g order step stays is = absurd (
 fresh_fd s t d (call.GiveFd f to) (reply.Fd b) g order step stays is = absurd (cc)
 fresh_fd s t d k (reply.Fd b) g order step stays is = (let e = step.1 in absurd (cc))
 fresh_fd s t d k r g order step stays is = absurd (cc)
-
-pub domain-read_on : (s : State) (d fd : ℕ) (o : Option Descriptor) (n : ℕ) → is_live s d ≡ true
-    → ((domain (reading.read_on s d fd o n) d).live ≡ true)
-    × ((domain (reading.read_on s d fd o n) d).aggs ≡ (domain s d).aggs)
-    × ((domain (reading.read_on s d fd o n) d).next_agg ≡ (domain s d).next_agg)
-domain-read_on s d fd (Some (on.File f at mode)) n live =
-    (let e =
-    domain-with_same s d (record (domain s d) { fds = slice_set (domain s d).fds fd (Some (on.File f (at + n) mode)) })
-    live in (
-      ap (λ (x : Domain Text). x.live) e ∙ live,
-      ap (λ (x : Domain Text). x.aggs) e,
-      ap (λ (x : Domain Text). x.next_agg) e,
-    ))
-domain-read_on s d fd (Some (on.ReadEnd p)) n live =
-    (let e = domain-same s (with_pipe s p (record (pipe_at s p) { queue = drop n (pipe_at s p).queue })) d
-    (domains-with_pipe s p _) in (
-      ap (λ (x : Domain Text). x.live) e ∙ live,
-      ap (λ (x : Domain Text). x.aggs) e,
-      ap (λ (x : Domain Text). x.next_agg) e,
-    ))
-domain-read_on s d fd (Some (on.Connection c)) n live =
-    (let e = domain-same s (with_conn s c (record (conn_at s c) { incoming = drop n (conn_at s c).incoming })) d
-    (domains-with_conn s c _) in (
-      ap (λ (x : Domain Text). x.live) e ∙ live,
-      ap (λ (x : Domain Text). x.aggs) e,
-      ap (λ (x : Domain Text). x.next_agg) e,
-    ))
-domain-read_on s d fd o n live = (live, refl, refl)
 
 abbrev Named : State → (d b : ℕ) → Type 0
 Named t d b = (bytes : List ℕ) × (readable_at t d b ≡ Some bytes)
@@ -117,12 +86,14 @@ named_agg s t d (call.AggJoin x y) (reply.Agg b) a order step stays is =
 named_agg s t d (call.IolRead f n) (reply.Agg b) a order step stays is =
     let o : Option Descriptor = descriptor s d f in
     let tx : Text = reading.read_text s d o n in
-    let same = domain-read_on s d f o (length tx) (live-first s d _ step.0) in
+    let next = kept-read_on (λ y. y.next_agg) (λ y xs. refl) s d f o (length tx) in
+    let live = kept-read_on (λ y. y.live) (λ y xs. refl) s d f o (length tx) ∙ live-first s d _ step.0 in
     let mid : State = reading.read_on s d f o (length tx) in
     let none : lookup (domain mid d).aggs (domain mid d).next_agg ≡ None =
-    ap (λ (l : List (ℕ × Text)). lookup l (domain mid d).next_agg) same.1
-    ∙ (ap (λ k. lookup (domain s d).aggs k) same.2 ∙ order.aggs d (aggs.next_agg s d) (omega arith)) in
-    named_new mid t d b a (domain mid d).aggs tx same.0 none step.2 (ap number step.1 ∙ sym same.2) is
+    ap (λ (l : List (ℕ × Text)). lookup l (domain mid d).next_agg)
+    (kept-read_on (λ y. y.aggs) (λ y xs. refl) s d f o (length tx))
+    ∙ (ap (λ k. lookup (domain s d).aggs k) next ∙ order.aggs d (aggs.next_agg s d) (omega arith)) in
+    named_new mid t d b a (domain mid d).aggs tx live none step.2 (ap number step.1 ∙ sym next) is
 named_agg s t d (call.AggGive x to) (reply.Agg b) a order step stays is = absurd (cc)
 named_agg s t d (call.GiveFd f to) (reply.Agg b) a order step stays is = absurd (cc)
 named_agg s t d k (reply.Agg b) a order step stays is = (let e = step.1 in absurd (cc))

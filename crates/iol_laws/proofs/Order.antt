@@ -1,12 +1,10 @@
 pub mod Ends
-pub mod OpenEnds
-pub mod EndsOfCalls
 pub mod DomainEnd
-pub mod OpenConns
-pub mod HeldOfCalls
 pub mod WaitingConns
 pub mod NumbersToCome
 pub mod PoolLists
 pub mod Steps
 pub mod NoneLive
 pub mod Closes
+pub mod Counts
+pub mod Balance

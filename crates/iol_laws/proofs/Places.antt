@@ -1,10 +1,10 @@
 -- Lookups by index and by number after a change.
-use Rattle.std.proofs.Common.{inl, inr, zero, suc, ◌≡◌, ◌≢◌, ℕ, ◌⊎◌, List, [], ◌∷◌, ◌++◌, length, ap, ◌∙◌, refl, sym, subst, arith, Option, Some, None}
+use Rattle.std.proofs.Common.{inl, inr, zero, suc, ◌≡◌, ◌≢◌, ℕ, ◌⊎◌, List, [], ◌∷◌, ◌++◌, length, ap, ◌∙◌, refl, sym, subst, arith, Option, Some, None, true}
 use Rattle.std.specs.Prelude.{slice_set}
 use Rattle.std.proofs.lemmas.Bool.{cases_eq, cases_lt}
 use Rattle.std.proofs.lemmas.Bool.Decides.{nat_tests}
 use Rattle.std.proofs.lemmas.Grind.{common_steps}
-use Rattle.iol_core.specs.NumberedLists.{lookup, without, changed, in_place, lowest, placed}
+use Rattle.iol_core.specs.NumberedLists.{lookup, without, changed, in_place, lowest, placed, is_numbered, numbered_or, with_numbered}
 use Rattle.iol_core.proofs.Places.{place-set_other}
 
 pub lookup-changed : {A : Type 0} (es : List (ℕ × A)) (m n : ℕ) (x : A) → m ≢ n → lookup (changed es m x) n ≡ lookup es n
@@ -126,3 +126,7 @@ pub lowest-free : {A : Type 0} (xs : List (Option A)) → in_place xs (lowest xs
 lowest-free [] = refl
 lowest-free (None ∷ xs) = refl
 lowest-free {A = A} (Some x ∷ xs) = (let e : lowest (Some x ∷ xs) ≡ suc (lowest xs) = grind (arith, nat_tests, common_steps) in ap (λ n. in_place (Some x ∷ xs) n) e ∙ lowest-free xs)
+
+-- under a number that there is
+pub numbered-set : {A : Type 0} (xs : List A) (n : ℕ) (x z : A) → is_numbered xs n ≡ true → numbered_or (with_numbered xs n x) n z ≡ x
+numbered-set xs n x z is = grind (arith, nat_tests, common_steps, is)

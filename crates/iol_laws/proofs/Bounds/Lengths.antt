@@ -32,7 +32,7 @@ use Rattle.iol_core.proofs.Positions.{placed_new, placed_step}
 use Rattle.iol_laws.proofs.Runs.{run_keeps}
 use Rattle.iol_laws.specs.Caller.{readable_at}
 use Rattle.iol_laws.specs.Lengths.{AreShort}
-use Rattle.iol_laws.proofs.Frame.Files.{files_written, store_meant}
+use Rattle.iol_laws.proofs.Frame.Files.{files_written, store_meant, content-same}
 use Rattle.iol_laws.proofs.Numbers.{text-of}
 use Rattle.iol_laws.proofs.Bounds.ShortAggregates.{fit_meant, fit_new_state, is-short, taken-less, text-fits}
 use Rattle.iol_laws.proofs.Bounds.ShortQueues.{conn-fits, linked_meant, piped_meant, piped_new_state, queue-short}
@@ -42,14 +42,10 @@ use Rattle.iol_laws.proofs.Texts.{length-bytes, length-labelled}
 abbrev FilesShort : State → Type 0
 FilesShort s = (f : ℕ) → is_numbered s.files f ≡ true → length (content s f) ≤ MAX_FILE_BYTES
 
-content-slots : (s t : State) (f : ℕ) → t.slots ≡ s.slots → content t f ≡ content s f
-unfolding content
-content-slots s t f same = ap (λ (l : List (List ℕ)). numbered_or l f []) same
-
 -- files and their bytes are the same
 short_same : (s t : State) → (t.files ≡ s.files) × (t.slots ≡ s.slots) → FilesShort s → FilesShort t
 short_same s t same short f there =
-    subst (λ (l : List ℕ). length l ≤ MAX_FILE_BYTES) (sym (content-slots s t f same.1))
+    subst (λ (l : List ℕ). length l ≤ MAX_FILE_BYTES) (sym (content-same s t f same.1))
     (short f (ap (λ (l : List File). is_numbered l f) (sym same.0) ∙ there))
 
 -- one file has other bytes
@@ -119,11 +115,10 @@ short_file_new : (s : State) (by : ℕ) (name : List ℕ) (p : ℕ) → first (f
     → FilesShort s → FilesShort (files.file_new s by name p).after
 short_file_new s by name p passes short f there = elim (pushed s.files _ f there) [
   | inl old ↦
-      subst (λ (l : List ℕ). length l ≤ MAX_FILE_BYTES)
-      (sym (content-slots s (files.file_new s by name p).after f refl)) (short f old)
+      subst (λ (l : List ℕ). length l ≤ MAX_FILE_BYTES) (sym (content-same s (files.file_new s by name p).after f refl))
+      (short f old)
   | inr new ↦
-      subst (λ (l : List ℕ). length l ≤ MAX_FILE_BYTES)
-      (sym (content-slots s (files.file_new s by name p).after f refl))
+      subst (λ (l : List ℕ). length l ≤ MAX_FILE_BYTES) (sym (content-same s (files.file_new s by name p).after f refl))
       (subst (λ n. length (content s n) ≤ MAX_FILE_BYTES) (sym new) fits)
 ]
   where

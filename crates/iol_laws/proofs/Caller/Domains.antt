@@ -1,6 +1,6 @@
 -- The effect of calls that create and end domains, and of calls on pools, for their caller.
-use Rattle.std.proofs.Common.{inl, inr, ◌≡◌, ◌≢◌, ℕ, ◌+◌, ◌-◌, ◌==◌, List, [], ◌∷◌, ◌++◌, length, ap, ◌∙◌, refl, sym}
-use Rattle.std.proofs.Common.{subst, arith, Option, Some, None, true, false, Bool}
+use Rattle.std.proofs.Common.{◌≡◌, ◌≢◌, ℕ, ◌+◌, ◌-◌, ◌==◌, List, [], ◌∷◌, ◌++◌, length, ap, ◌∙◌, refl, sym, subst}
+use Rattle.std.proofs.Common.{arith, Option, Some, None, true, false, Bool}
 use Rattle.std.specs.Prelude.{fold, nat_le, not, ◌&&◌, ◌||◌, if◌then◌else◌, MatchOption}
 use Rattle.std.specs.List.{list_any}
 use Rattle.std.proofs.lemmas.Bool.Decides.{nat_tests}
@@ -24,7 +24,7 @@ use Rattle.iol_core.specs.declared.events.Call.TheVariants as call
 use Rattle.iol_core.specs.declared.events.Event.TheVariants as event
 use Rattle.iol_core.specs.declared.events.Reply.{Reply}
 use Rattle.iol_core.specs.declared.events.Reply.TheVariants as reply
-use Rattle.iol_core.proofs.Lookups.{domain-same, numbered_or-with}
+use Rattle.iol_core.proofs.Lookups.{domain-same}
 use Rattle.iol_core.proofs.TestedLists.{passed, when-none, when-not}
 use Rattle.iol_laws.specs.Order.{IsOrderly}
 use Rattle.iol_laws.specs.Caller.{is_resource_failure}
@@ -36,6 +36,8 @@ use Rattle.iol_laws.proofs.Order.Closes.{write_end_ended, write_end_shut}
 use Rattle.iol_laws.proofs.Frame.Pipes.{pipes_same}
 use Rattle.iol_laws.proofs.Refusals.Rest.{past-live}
 use Rattle.iol_laws.proofs.Tests.{both-true}
+use Rattle.iol_laws.proofs.Places.{numbered-set}
+use Rattle.iol_laws.proofs.Frame.Files.{pool-other}
 
 -- the number of a domain or a pool in a reply
 abbrev made_in : Reply → ℕ
@@ -192,20 +194,10 @@ does_make_pool s t d chunks list (reply.Pool p) step =
 does_make_pool s t d chunks list (reply.Refused x) step = step.1
 does_make_pool s t d chunks list r step = (let e = step.1 in absurd (cc))
 
-numbered-changed : {A : Type 0} (xs : List A) (n : ℕ) (x z : A) → is_numbered xs n ≡ true
-    → numbered_or (with_numbered xs n x) n z ≡ x
-numbered-changed xs n x z is = grind (arith, nat_tests, common_steps, is)
-
 pool-shut : (s : State) (p : ℕ) (x : Pool) → is_pool s p ≡ true
     → pool (record s { pools = with_numbered s.pools p x }) p ≡ x
 unfolding pool
-pool-shut s p x is = numbered-changed s.pools p x no_pool is
-
-pool-beside : (s : State) (p : ℕ) (x : Pool) (q : ℕ) → p ≢ q
-    → pool (record s { pools = with_numbered s.pools p x }) q ≡ pool s q
-unfolding pool
-pool-beside s p x q differ =
-    elim (numbered_or-with s.pools p q x no_pool) [ inl both ↦ absurd (differ both.0) | inr same ↦ same ]
+pool-shut s p x is = numbered-set s.pools p x no_pool is
 
 pub does_close_pool : (s t : State) (d p : ℕ) (r : Reply) → StepsTo s (event.Call d (call.PoolClose p)) r t
     → ClosesPool s d p r t
@@ -217,7 +209,7 @@ does_close_pool s t d p reply.Done step =
       may = when-not (refuse.Denied p) (may_read s d p) (passed refusals 2 step.0);
       closed = ap (λ u. pool u p) step.2
           ∙ pool-shut s p x (when-not refuse.NoPool (is_pool s p) (passed refusals 1 step.0));
-      others = λ q differ. ap (λ u. pool u q) step.2 ∙ pool-beside s p x q differ;
+      others = λ q differ. ap (λ u. pool u q) step.2 ∙ pool-other s p q x differ;
     }
 does_close_pool s t d p (reply.Refused x) step = step.1
 does_close_pool s t d p r step = (let e = step.1 in absurd (cc))
@@ -265,7 +257,7 @@ does_admit s t d p e reply.Done step =
           (when-not refuse.NoDomain (is_live s d && is_live s e) (passed refusals 0 step.0))).1;
       may = λ f. ap (λ (y : Pool). list_any (λ n. n == f) y.domains) is ∙ with_name-names (pool s p).domains e f;
       closed = ap (λ (y : Pool). y.closed) is ∙ open_yet;
-      others = λ q differ. ap (λ u. pool u q) step.2 ∙ pool-beside s p x q differ;
+      others = λ q differ. ap (λ u. pool u q) step.2 ∙ pool-other s p q x differ;
       rest = subst (λ (u : State). u ≡ record s { pools = u.pools }) (sym step.2) refl;
       again = λ named. step.2 ∙ admitted-again s p e named;
     }

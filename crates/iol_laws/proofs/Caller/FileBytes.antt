@@ -6,7 +6,7 @@ use Rattle.std.proofs.lemmas.Bool.Decides.{nat_tests}
 use Rattle.std.proofs.lemmas.Grind.{common_steps}
 use Rattle.std.proofs.lemmas.List.{take_all}
 use Rattle.iol_core.specs.Text.{Text, bytes_of, labelled}
-use Rattle.iol_core.specs.NumberedLists.{lookup, numbered_or, with_numbered, is_numbered, in_place}
+use Rattle.iol_core.specs.NumberedLists.{lookup, is_numbered, in_place}
 use Rattle.iol_core.specs.State.{State, Domain, domain, text, aggregate, descriptor, content, file, may_read, is_live}
 use Rattle.iol_core.specs.State.{with_domain, with_content}
 use Rattle.iol_core.specs.Positions.{ArePlaced}
@@ -35,6 +35,7 @@ use Rattle.iol_laws.proofs.Domains.{domain-with_same}
 use Rattle.iol_laws.proofs.Numbers.{agg-there, readable-made, number, text-of}
 use Rattle.iol_laws.proofs.Refusals.Rest.{past, past-live}
 use Rattle.iol_laws.proofs.Texts.{bytes-labelled, length-bytes, length-labelled}
+use Rattle.iol_laws.proofs.Places.{numbered-set}
 
 -- Reading.
 
@@ -133,10 +134,6 @@ does_read_file s t d fd f at n mode (reply.Refused x) order live may reads is st
 does_read_file s t d fd f at n mode r order live may reads is step = (let e = step.1 in absurd (cc))
 
 -- Writing.
-
-numbered-set : {A : Type 0} (xs : List A) (n : ℕ) (x z : A) → is_numbered xs n ≡ true
-    → numbered_or (with_numbered xs n x) n z ≡ x
-numbered-set xs n x z is = grind (arith, nat_tests, common_steps, is)
 
 content-set : (s : State) (f : ℕ) (bytes : List ℕ) → is_numbered s.slots f ≡ true
     → content (with_content s f bytes) f ≡ bytes

@@ -1,43 +1,25 @@
 -- Giving to another domain.
-use Rattle.std.proofs.Common.{◌≡◌, ◌≢◌, ℕ, ◌==◌, List, ◌∷◌, ap, ◌∙◌, refl, sym, subst, arith, Option, Some, None, true}
+use Rattle.std.proofs.Common.{◌≡◌, ◌≢◌, ℕ, ◌==◌, List, ap, ◌∙◌, refl, sym, subst, arith, Option, Some, None, true}
 use Rattle.std.proofs.Common.{false, Bool}
-use Rattle.std.specs.Prelude.{option_map, not, ◌||◌, if◌then◌else◌}
+use Rattle.std.specs.Prelude.{option_map, if◌then◌else◌}
 use Rattle.std.specs.Option.{option_map_or}
 use Rattle.std.proofs.lemmas.Bool.Decides.{nat_tests}
 use Rattle.iol_core.specs.Text.{Text, bytes_of}
 use Rattle.iol_core.specs.NumberedLists.{lookup, without, in_place, lowest, placed}
 use Rattle.iol_core.specs.State.{State, Domain, domain, text, descriptor, is_live}
-use Rattle.iol_core.specs.Meaning.{first, ◌when◌}
 use Rattle.iol_core.specs.Run.{StepsTo}
 use Rattle.iol_core.specs.Calls.Aggregates as aggs
 use Rattle.iol_core.specs.Calls.Descriptors as fds
-use Rattle.iol_core.specs.declared.refusals.Refusal.{Refusal}
-use Rattle.iol_core.specs.declared.refusals.Refusal.TheVariants as refuse
 use Rattle.iol_core.specs.declared.descriptors.Descriptor.{Descriptor}
 use Rattle.iol_core.specs.declared.events.Call.TheVariants as call
 use Rattle.iol_core.specs.declared.events.Event.TheVariants as event
 use Rattle.iol_core.specs.declared.events.Reply.{Reply}
 use Rattle.iol_core.specs.declared.events.Reply.TheVariants as reply
-use Rattle.iol_core.proofs.TestedLists.{passed}
 use Rattle.iol_laws.specs.Order.{IsOrderly}
 use Rattle.iol_laws.specs.Caller.{readable_at, HandsOn, GivesFd, GivesAgg}
-use Rattle.iol_laws.proofs.Domains.{domain-with_other, domain-with_same}
+use Rattle.iol_laws.proofs.Domains.{domain-with_other, domain-with_same, both-live}
 use Rattle.iol_laws.proofs.Numbers.{readable-made, new-fd, number, text-of}
 use Rattle.iol_laws.proofs.Places.{lookup-without_none, lowest-free, place-new, place-set_free}
-
--- both domains live, since the call was not refused
-pub both_live : (s : State) (d to : ℕ) (rest : List (Option Refusal))
-    → first ((refuse.NoDomain when (not (is_live s d) || not (is_live s to))) ∷ rest) ≡ None
-    → (is_live s d ≡ true) × (is_live s to ≡ true)
-both_live s d to rest none =
-    by (is_live s d) (is_live s to) refl refl
-    (passed ((refuse.NoDomain when (not (is_live s d) || not (is_live s to))) ∷ rest) 0 none)
-  where
-    by : (a b : Bool) → is_live s d ≡ a → is_live s to ≡ b → (refuse.NoDomain when (not a || not b)) ≡ None
-        → (is_live s d ≡ true) × (is_live s to ≡ true)
-    by true true here there none = (here, there)
-    by true false here there none = absurd (cc)
-    by false b here there none = absurd (cc)
 
 -- within one domain
 hands_within : (s t : State) (d fd to : ℕ) (x : Descriptor) (g : ℕ) → is_live s d ≡ true → d ≡ to
@@ -80,7 +62,7 @@ pub does_give_fd : (s t : State) (d fd to : ℕ) (x : Descriptor) (r : Reply) �
 does_give_fd s t d fd to x (reply.Fd g) is step = by (d == to) refl same g_is
   where
     live : (is_live s d ≡ true) × (is_live s to ≡ true)
-    live = both_live s d to _ step.0
+    live = both-live s d to _ step.0
 
     same : t ≡ fds.given_to s d fd to x
     same = step.2 ∙ ap (λ o. option_map_or (fds.given_to s d fd to) o s) is
@@ -104,7 +86,7 @@ does_give_agg s t d a to bytes (reply.Agg n) order has step =
     (by (d == to) refl step.2, ap (λ k. readable_at s to k) n_is ∙ ap (λ (o : Option Text). option_map bytes_of o) none)
   where
     live : (is_live s d ≡ true) × (is_live s to ≡ true)
-    live = both_live s d to _ step.0
+    live = both-live s d to _ step.0
 
     n_is : n ≡ aggs.next_agg s to
     n_is = ap number step.1

@@ -2,11 +2,11 @@
 use Rattle.std.proofs.Common.{◌≡◌, ℕ, List, [], ◌++◌, length, take, drop, ap, ◌∙◌, refl, sym, arith, Option, Some, None}
 use Rattle.std.proofs.Common.{true, false, Bool}
 use Rattle.iol_core.specs.declared.limits.TheConstants.{MAX_QUEUE_BYTES}
-use Rattle.std.specs.Prelude.{◌-◌, slice_set, unwrap_or, not, ◌||◌, if◌then◌else◌}
+use Rattle.std.specs.Prelude.{◌-◌, not, ◌||◌}
 use Rattle.iol_core.specs.Text.{Text}
 use Rattle.iol_core.specs.NumberedLists.{in_place, lowest, placed}
-use Rattle.iol_core.specs.State.{State, Domain, Pipe, domain, text, descriptor, may_read, pipe_at, no_pipe, new_pipe}
-use Rattle.iol_core.specs.State.{is_live, with_domain, with_pipe}
+use Rattle.iol_core.specs.State.{State, Domain, Pipe, domain, text, descriptor, may_read, pipe_at, new_pipe, is_live}
+use Rattle.iol_core.specs.State.{with_domain, with_pipe}
 use Rattle.iol_core.specs.Run.{StepsTo}
 use Rattle.iol_core.specs.Calls.Aggregates as aggs
 use Rattle.iol_core.specs.Calls.Descriptors as fds
@@ -23,12 +23,11 @@ use Rattle.iol_laws.specs.Caller.{readable_at, PutsInPipe, ReadsPipe, WritesPipe
 use Rattle.iol_laws.specs.Caller.{ClosesWriteEnd}
 use Rattle.iol_laws.proofs.Caller.Queues.{FitsIn, fits_in, front, read_passes, takes_front, wrote_agg}
 use Rattle.iol_laws.proofs.Domains.{domain-with_same, domains-with_pipe, live-first}
-use Rattle.iol_laws.proofs.Order.Ends.{pipe-with_same}
-use Rattle.iol_laws.proofs.Order.EndsOfCalls.{pipe-there, pipe-twice}
+use Rattle.iol_laws.proofs.Order.Ends.{pipe-gone, pipe-there, pipe-twice, pipe-with_same}
 use Rattle.iol_laws.proofs.Frame.Pipes.{pipes_same}
 use Rattle.iol_laws.proofs.Numbers.{got-agg, new-fd, number, text-of}
-use Rattle.iol_laws.proofs.Places.{lowest-free, place-placed, place-set_free}
-use Rattle.iol_laws.proofs.Tests.{left-true, right-true}
+use Rattle.iol_laws.proofs.Places.{lowest-free, place-placed}
+use Rattle.iol_laws.proofs.Tests.{left-true, right-true, not-false}
 
 pipes-with_agg : (s : State) (d : ℕ) (x : Text) (p : ℕ) → pipe_at (aggs.with_agg s d x) p ≡ pipe_at s p
 unfolding with_domain
@@ -68,10 +67,6 @@ does_read_pipe s t d fd p n (reply.Agg a) order is step =
 does_read_pipe s t d fd p n (reply.Refused x) order is step = step.1
 does_read_pipe s t d fd p n r order is step = (let e = step.1 in absurd (cc))
 
-not-false : (b : Bool) → not b ≡ false → b ≡ true
-not-false true is = refl
-not-false false is = absurd (cc)
-
 -- a text goes behind what is to be read
 pub puts_pipe : (s t : State) (p : ℕ) (bytes : List ℕ) (k : ℕ) (x : Text)
     → FitsIn bytes (MAX_QUEUE_BYTES - length (pipe_at s p).queue) k x → not (pipe_at s p).reading ≡ false
@@ -100,13 +95,6 @@ does_write_pipe s t d fd p a bytes (reply.Count k) order is has step =
     wrote.2 wrote.1
 does_write_pipe s t d fd p a bytes (reply.Refused x) order is has step = step.1
 does_write_pipe s t d fd p a bytes r order is has step = (let e = step.1 in absurd (cc))
-
--- a pipe whose ends are both closed is gone
-pub pipe-gone : (s : State) (p : ℕ) (x : Pipe) → (x.reading || x.writing) ≡ false
-    → pipe_at (with_pipe s p x) p ≡ no_pipe
-unfolding pipe_at with_pipe
-pipe-gone s p x off = ap (λ b. unwrap_or (in_place (slice_set s.pipes p (if b then Some x else None)) p) no_pipe) off
-    ∙ ap (λ (o : Option Pipe). unwrap_or o no_pipe) (place-set_free s.pipes p)
 
 pub does_close_write_end : (s t : State) (d fd p : ℕ) (r : Reply) → IsOrderly s
     → descriptor s d fd ≡ Some (on.WriteEnd p) → StepsTo s (event.Call d (call.Close fd)) r t → ClosesWriteEnd s p r t

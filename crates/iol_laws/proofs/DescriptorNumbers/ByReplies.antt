@@ -32,7 +32,7 @@ use Rattle.iol_laws.specs.DescriptorNumbers.{opens}
 use Rattle.iol_laws.proofs.Domains.{domains-all_closed, domains-closed_on, domains-with_conn, domains-with_pipe}
 use Rattle.iol_laws.proofs.DescriptorNumbers.Lowest.{free-freed}
 use Rattle.iol_laws.proofs.Places.{place-placed_other}
-use Rattle.iol_laws.proofs.Tests.{same-number}
+use Rattle.iol_laws.proofs.Tests.{same-number, differs}
 
 -- What is not open, after each kind of change.
 
@@ -63,9 +63,6 @@ shut_aggs : (s : State) (by : ℕ) (y : Domain Text) (d fd : ℕ) → y.fds ≡ 
 shut_aggs s by y d fd same none =
     shut_domain s by y d fd (λ one. ap (λ (l : List (Option Descriptor)). in_place l fd) same ∙ own s by d fd none one)
     none
-
-differs : (by d g fd : ℕ) → ((by == d) && (g == fd)) ≡ false → by ≡ d → g ≢ fd
-differs by d g fd un same equal = grind (arith, nat_tests, common_steps, un, same, equal)
 
 shut_opened : (s : State) (by : ℕ) (x : Descriptor) (d fd : ℕ) → ((by == d) && (fds.next_fd s by == fd)) ≡ false
     → Shut s d fd → Shut (fds.opened s by x) d fd

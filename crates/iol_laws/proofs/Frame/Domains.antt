@@ -1,18 +1,11 @@
--- The domains that each event leaves live, and their default pools.
-use Rattle.std.proofs.Common.{inl, inr, ◌≡◌, ◌≢◌, ℕ, ◌+◌, List, ◌++◌, length, take, drop, ap, ◌∙◌, refl, Option, Some}
-use Rattle.std.proofs.Common.{None, true, false}
-use Rattle.std.specs.Prelude.{fold}
-use Rattle.std.specs.Option.{option_map_or}
-use Rattle.iol_core.specs.Text.{Text, bytes_of}
-use Rattle.iol_core.specs.NumberedLists.{without, lowest, placed}
-use Rattle.iol_core.specs.State.{State, Domain, domain, is_live, text, descriptor, content, new_domain, no_domain}
-use Rattle.iol_core.specs.State.{with_domain, with_conn, with_content}
-use Rattle.iol_core.specs.Run.{called, meaning}
-use Rattle.iol_core.specs.Calls.Domains.{domain_new, exit}
-use Rattle.iol_core.specs.Calls.Aggregates as aggs
-use Rattle.iol_core.specs.Calls.Descriptors as fds
-use Rattle.iol_core.specs.Calls.Reads as reading
-use Rattle.iol_core.specs.Calls.Writes as writing
+-- The domains that each event leaves unchanged.
+use Rattle.std.proofs.Common.{inl, inr, ◌≡◌, ℕ, ◌==◌, List, ap, ◌∙◌, refl, subst, sym, arith, Option, Some, None, true, false, Bool}
+use Rattle.std.specs.Prelude.{◌&&◌}
+use Rattle.std.specs.List.{list_any}
+use Rattle.std.proofs.lemmas.Bool.Decides.{nat_tests}
+use Rattle.iol_core.specs.Text.{Text}
+use Rattle.iol_core.specs.State.{State, Domain, domain, is_live, descriptor, new_domain, with_content}
+use Rattle.iol_core.specs.Run.{meaning}
 use Rattle.iol_core.specs.declared.descriptors.Descriptor.{Descriptor}
 use Rattle.iol_core.specs.declared.descriptors.Descriptor.TheVariants as on
 use Rattle.iol_core.specs.declared.events.Call.{Call}
@@ -20,167 +13,87 @@ use Rattle.iol_core.specs.declared.events.Call.TheVariants as call
 use Rattle.iol_core.specs.declared.events.Event.{Event}
 use Rattle.iol_core.specs.declared.events.Event.TheVariants as event
 use Rattle.iol_core.proofs.Lookups.{domain-with_domain, domain-same, domain-push}
-use Rattle.iol_laws.proofs.Gives.{agg_given, fd_given}
 use Rattle.iol_laws.specs.Frame.{ends, sets_default}
-use Rattle.iol_laws.proofs.Domains.{domains-all_closed, domains-closed_on, domains-with_conn, domains-with_pipe}
-use Rattle.iol_laws.proofs.Tests.{apart}
+use Rattle.iol_laws.proofs.Changes.{Change, OnDomain, OnPipe, OnConn, NewDomain, OfDomain, Ends, Prefers, Act, Writes, domain_by, changed, all_changed, changes, own, uses, used_as, hands, kept_all, changes-meant, none_at_all, none_changed}
+use Rattle.iol_laws.proofs.Domains.{domains-with_conn, domains-with_pipe}
+use Rattle.iol_laws.proofs.Tests.{both-false}
 
--- a domain that lives as before, and places what it makes as before
-pub record SameStanding (x y : Domain Text) : Type 0 where
-  pub live : y.live ≡ x.live
-  pub default : y.default ≡ x.default
+-- whether a change of this kind is made of the domain
+abbrev pub is_of : (OfDomain → Bool) → (d : ℕ) → Change → Bool
+is_of test d (OnDomain e x) = test x && (e == d)
+is_of test d c = false
 
-abbrev pub KeepsStanding : (s t : State) → Type 0
-KeepsStanding s t = (d : ℕ) → SameStanding (domain s d) (domain t d)
+untested : (test : Bool) (e d : ℕ) → (test && (e == d)) ≡ false → e ≡ d → test ≡ false
+untested test e d un same = grind (arith, nat_tests, un, same)
 
-pub standing_same : (s t : State) → t.domains ≡ s.domains → KeepsStanding s t
-standing_same s t same d =
-    (let e = domain-same s t d same in
-    record { live = ap (λ (x : Domain Text). x.live) e; default = ap (λ (x : Domain Text). x.default) e })
+-- Something about a domain that only some changes of it change.
+module _ {A : Type 0} (f : Domain Text → A) (test : OfDomain → Bool) (each : (x : OfDomain) (y : Domain Text) → test x ≡ false → (f (domain_by x y) ≡ f y) × ((domain_by x y).live ≡ y.live)) where
+  field_same : (s t : State) (d : ℕ) (v : A) → domain t d ≡ domain s d → (is_live s d ≡ true) × (f (domain s d) ≡ v) → (is_live t d ≡ true) × (f (domain t d) ≡ v)
+  field_same s t d v same was = subst (λ (x : Domain Text). (x.live ≡ true) × (f x ≡ v)) (sym same) was
 
-standing_domain : (s : State) (by : ℕ) (y : Domain Text) → SameStanding (domain s by) y
-    → KeepsStanding s (with_domain s by y)
-standing_domain s by y same d = elim (domain-with_domain s by d y) [
-  | inl both ↦ record {
-    live = ap (λ (x : Domain Text). x.live) both.1 ∙ (same.live ∙ ap (λ n. (domain s n).live) both.0);
-    default = ap (λ (x : Domain Text). x.default) both.1 ∙ (same.default ∙ ap (λ n. (domain s n).default) both.0);
-  }
-  | inr is ↦ record { live = ap (λ (x : Domain Text). x.live) is; default = ap (λ (x : Domain Text). x.default) is }
-]
+  field_changed : (d : ℕ) (v : A) (s : State) (c : Change) → is_of test d c ≡ false → (is_live s d ≡ true) × (f (domain s d) ≡ v) → (is_live (changed s c) d ≡ true) × (f (domain (changed s c) d) ≡ v)
+  unfolding with_content
+  field_changed d v s (OnDomain e x) un was = elim (domain-with_domain s e d (domain_by x (domain s e))) [
+    | inl both ↦ (let kept = each x (domain s e) (untested (test x) e d un both.0) in let old = subst (λ n. (is_live s n ≡ true) × (f (domain s n) ≡ v)) (sym both.0) was in
+        subst (λ (y : Domain Text). (y.live ≡ true) × (f y ≡ v)) (sym both.1) (kept.1 ∙ old.0, kept.0 ∙ old.1))
+    | inr same ↦ field_same s _ d v same was
+  ]
+  field_changed d v s (OnPipe p x) un was = field_same s _ d v (domain-same s _ d (domains-with_pipe s p _)) was
+  field_changed d v s (OnConn c x) un was = field_same s _ d v (domain-same s _ d (domains-with_conn s c _)) was
+  field_changed d v s NewDomain un was = elim (domain-push s new_domain d) [
+    | inl same ↦ field_same s _ d v same was
+    | inr both ↦ absurd (let e = ap (λ (x : Domain Text). x.live) both.0 in let l = was.0 in cc (e, l))
+  ]
+  field_changed d v s c un was = field_same s (changed s c) d v (domain-same s (changed s c) d refl) was
 
-standing_then : (s t u : State) → KeepsStanding s t → KeepsStanding t u → KeepsStanding s u
-standing_then s t u one two d =
-    record { live = (two d).live ∙ (one d).live; default = (two d).default ∙ (one d).default }
+  field_all : (s : State) (cs : List Change) (d : ℕ) → list_any (is_of test d) cs ≡ false → is_live s d ≡ true → (is_live (all_changed s cs) d ≡ true) × (f (domain (all_changed s cs) d) ≡ f (domain s d))
+  field_all s cs d un live = kept_all (λ t. (is_live t d ≡ true) × (f (domain t d) ≡ f (domain s d))) (is_of test d) (field_changed d (f (domain s d))) s cs un (live, refl)
 
-pub standing_fds : (s : State) (d : ℕ) (xs : List (Option Descriptor)) → KeepsStanding s (fds.with_fds s d xs)
-standing_fds s d xs = standing_domain s d (record (domain s d) { fds = xs }) (record { live = refl; default = refl })
+-- it ends, or, at true, its default pool is set
+abbrev pub ends_or : Bool → OfDomain → Bool
+ends_or b Ends = true
+ends_or b (Prefers p) = b
+ends_or b x = false
 
-pub standing_agg : (s : State) (d : ℕ) (kept : List (ℕ × Text)) (x : Text) → KeepsStanding s (aggs.with_new s d kept x)
-standing_agg s d kept x = standing_domain s d _ (record { live = refl; default = refl })
+none_used : (b : Bool) (s : State) (by fd d : ℕ) (o : Option Descriptor) (act : Act) → list_any (is_of (ends_or b) d) (used_as s by fd o act) ≡ false
+none_used b s by fd d (Some (on.File f at mode)) (Writes w) = refl
+none_used b s by fd d (Some (on.ReadEnd p)) (Writes w) = refl
+none_used b s by fd d (Some (on.WriteEnd p)) (Writes w) = refl
+none_used b s by fd d o act = refl
 
-standing_agg_give : (s : State) (by a to : ℕ) → KeepsStanding s (aggs.agg_give s by a to).after
-standing_agg_give s by a to =
-    agg_given (λ t. KeepsStanding s t) s by a to
-    (λ same. standing_agg s by (without (domain s by).aggs a) (text s by a))
-    (λ other. standing_then s (aggs.with_agg s to (text s by a)) _ (standing_agg s to (domain s to).aggs (text s by a))
-    (standing_domain (aggs.with_agg s to (text s by a)) by _ (record { live = refl; default = refl })))
+none_own : (b : Bool) (s : State) (by d : ℕ) (k : Call) → ends (event.Call by k) d ≡ false → (b && sets_default (event.Call by k) d) ≡ false → list_any (is_of (ends_or b) d) (own s by k) ≡ false
+none_own b s by d call.Exit un sets = both-false _ _ un refl
+none_own b s by d (call.SetPool p) un sets = both-false _ _ sets refl
+none_own b s by d (call.GiveFd fd to) un sets = elim (descriptor s by fd) as (λ o. list_any (is_of (ends_or b) d) (hands by fd to o) ≡ false) [ None ↦ refl | Some x ↦ refl ]
+none_own b s by d k un sets = refl
 
-standing_given : (s : State) (by fd to : ℕ) (o : Option Descriptor)
-    → KeepsStanding s (option_map_or (fds.given_to s by fd to) o s)
-standing_given s by fd to None = standing_same s s refl
-standing_given s by fd to (Some x) =
-    fd_given (λ t. KeepsStanding s t) s by fd to x (λ same. standing_fds s by _)
-    (λ other. standing_then s (fds.opened s to x) _ (standing_fds s to _) (standing_fds (fds.opened s to x) by _))
+none_meant : (b : Bool) (s : State) (e : Event) (d : ℕ) → ends e d ≡ false → (b && sets_default e d) ≡ false → list_any (is_of (ends_or b) d) (changes s e) ≡ false
+none_meant b s (event.Call by k) d un sets =
+    none_changed s by k (λ u. false) _ (λ u none. none_used b s u.by u.fd d u.end u.act) (none_at_all (uses s by k)) (none_own b s by d k un sets)
+none_meant b s e d un sets = refl
 
-pub standing_read_on : (s : State) (by fd : ℕ) (o : Option Descriptor) (n : ℕ)
-    → KeepsStanding s (reading.read_on s by fd o n)
-standing_read_on s by fd (Some (on.File f at mode)) n = standing_fds s by _
-standing_read_on s by fd (Some (on.ReadEnd p)) n = standing_same s _ (domains-with_pipe s p _)
-standing_read_on s by fd (Some (on.Connection c)) n = standing_same s _ (domains-with_conn s c _)
-standing_read_on s by fd o n = standing_same s s refl
-
-standing_written : (s : State) (by fd : ℕ) (o : Option Descriptor) (w : Text)
-    → KeepsStanding s (writing.written s by fd o w)
-unfolding with_content
-standing_written s by fd (Some (on.File f at mode)) w =
-    let filled : State = with_content s f (take at (content s f) ++ bytes_of w ++ drop (at + length w) (content s f)) in
-    standing_then s filled _ (standing_same s filled refl) (standing_fds filled by _)
-standing_written s by fd (Some (on.WriteEnd p)) w = standing_same s _ (domains-with_pipe s p _)
-standing_written s by fd (Some (on.Connection c)) w = standing_same s _ (domains-with_conn s c _)
-standing_written s by fd o w = standing_same s s refl
-
-standing_pipe : (s : State) (by : ℕ) → KeepsStanding s (fds.pipe s by).after
-standing_pipe s by =
-    let new = lowest s.pipes in
-    let ends = fds.with_read_end (domain s by).fds new in
-    let given : State = fds.with_fds s by (placed ends (lowest ends) (on.WriteEnd new)) in
-    standing_then s given (fds.pipe s by).after (standing_fds s by _) (standing_same given (fds.pipe s by).after refl)
+-- what ends a domain also changes its default pool
+not_ended : (e : Event) (d : ℕ) → sets_default e d ≡ false → ends e d ≡ false
+not_ended (event.Call by call.Exit) d un = un
+not_ended (event.Call by k) d un = refl
+not_ended e d un = refl
 
 -- which domains an event leaves
 pub record KeepsDomains (s : State) (e : Event) (t : State) : Type 0 where
   pub lives : (d : ℕ) → is_live s d ≡ true → ends e d ≡ false → is_live t d ≡ true
   pub defaults : (d : ℕ) → is_live s d ≡ true → sets_default e d ≡ false → (domain t d).default ≡ (domain s d).default
 
-domains_kept : (s t : State) (e : Event) → KeepsStanding s t → KeepsDomains s e t
-domains_kept s t e keeps =
-    record { lives = λ d live un. (keeps d).live ∙ live; defaults = λ d live un. (keeps d).default }
-
-domains_started : (s : State) (by : ℕ) → KeepsDomains s (event.Call by call.DomainNew) (domain_new s by).after
-domains_started s by = record {
-  lives = λ d live un. elim (domain-push s new_domain d) [
-    | inl same ↦ ap (λ (x : Domain Text). x.live) same ∙ live
-    | inr both ↦ absurd (let e = ap (λ (x : Domain Text). x.live) both.0 in cc (e, live))
-  ];
-  defaults = λ d live un. elim (domain-push s new_domain d) [
-    | inl same ↦ ap (λ (x : Domain Text). x.default) same
-    | inr both ↦ absurd (let e = ap (λ (x : Domain Text). x.live) both.0 in cc (e, live))
-  ];
-}
-
--- all others stand as they did
-others_stand : (s : State) (by : ℕ) (y : Domain Text) (d : ℕ) → by ≢ d → domain (with_domain s by y) d ≡ domain s d
-others_stand s by y d differ =
-    elim (domain-with_domain s by d y) [ inl both ↦ absurd (differ both.0) | inr same ↦ same ]
-
-domains_ended : (s : State) (by : ℕ) → KeepsDomains s (event.Call by call.Exit) (exit s by).after
-domains_ended s by =
-    let closed : State = fold fds.closed_on s (domain s by).fds in
-    let same : (d : ℕ) → by ≢ d → domain (exit s by).after d ≡ domain s d =
-    λ d differ. others_stand closed by no_domain d differ
-    ∙ domain-same s closed d (domains-all_closed s (domain s by).fds) in
-    record {
-      lives = λ d live un. ap (λ (x : Domain Text). x.live) (same d (apart by d un)) ∙ live;
-      defaults = λ d live un. ap (λ (x : Domain Text). x.default) (same d (apart by d un));
-    }
-
-domains_set : (s : State) (by p : ℕ)
-    → KeepsDomains s (event.Call by (call.SetPool p)) (called s by (call.SetPool p)).after
-domains_set s by p = record {
-  lives = λ d live un. elim (domain-with_domain s by d (record (domain s by) { default = Some p })) [
-    | inl both ↦ ap (λ (x : Domain Text). x.live) both.1 ∙ (ap (λ n. (domain s n).live) both.0 ∙ live)
-    | inr same ↦ ap (λ (x : Domain Text). x.live) same ∙ live
-  ];
-  defaults = λ d live un. ap (λ (x : Domain Text). x.default) (others_stand s by _ d (apart by d un));
-}
-
-domains_called : (s : State) (by : ℕ) (k : Call) → KeepsDomains s (event.Call by k) (called s by k).after
-domains_called s by call.DomainNew = domains_started s by
-domains_called s by call.Exit = domains_ended s by
-domains_called s by (call.SetPool p) = domains_set s by p
-domains_called s by (call.AggGive a to) = domains_kept s _ _ (standing_agg_give s by a to)
-domains_called s by call.Pipe = domains_kept s _ _ (standing_pipe s by)
-domains_called s by (call.GiveFd fd to) = domains_kept s _ _ (standing_given s by fd to (descriptor s by fd))
-domains_called s by (call.Close fd) =
-    let closed : State = fds.closed_on s (descriptor s by fd) in
-    domains_kept s _ _ (standing_then s closed _ (standing_same s closed (domains-closed_on s (descriptor s by fd)))
-    (standing_fds closed by _))
-domains_called s by (call.IolRead fd n) =
-    let from : Option Descriptor = descriptor s by fd in
-    let read : State = reading.read_on s by fd from (length (reading.read_text s by from n)) in
-    domains_kept s _ _ (standing_then s read _ (standing_read_on s by fd from (length (reading.read_text s by from n)))
-    (standing_agg read by _ _))
-domains_called s by (call.IolWrite fd a) = domains_kept s _ _ (standing_written s by fd (descriptor s by fd) _)
-domains_called s by (call.Read fd n) = domains_kept s _ _ (standing_read_on s by fd (descriptor s by fd) _)
-domains_called s by (call.Write fd bytes) = domains_kept s _ _ (standing_written s by fd (descriptor s by fd) _)
-domains_called s by call.Accept =
-    let taken : State = with_conn s _ _ in
-    domains_kept s _ _ (standing_then s taken _ (standing_same s taken (domains-with_conn s _ _))
-    (standing_fds taken by _))
-domains_called s by (call.PoolCreate chunks list) =
-    domains_kept s _ _ (standing_same s (called s by (call.PoolCreate chunks list)).after refl)
-domains_called s by (call.PoolClose p) =
-    domains_kept s _ _ (standing_same s (called s by (call.PoolClose p)).after refl)
-domains_called s by (call.PoolAdmit p d) =
-    domains_kept s _ _ (standing_same s (called s by (call.PoolAdmit p d)).after refl)
-domains_called s by (call.FileNew name p) =
-    domains_kept s _ _ (standing_same s (called s by (call.FileNew name p)).after refl)
-domains_called s by (call.Show a) = domains_kept s _ _ (standing_same s s refl)
-domains_called s by (call.Length fd) = domains_kept s _ _ (standing_same s s refl)
-domains_called s by (call.Fsync fd) = domains_kept s _ _ (standing_same s s refl)
-domains_called s by k =
-    domains_kept s (called s by k).after _ (standing_domain s by _ (record { live = refl; default = refl }))
-
 pub domains_meant : (s : State) (e : Event) → KeepsDomains s e (meaning s e).after
-unfolding with_conn
-domains_meant s (event.Call by k) = domains_called s by k
-domains_meant s e = domains_kept s (meaning s e).after e (standing_same s (meaning s e).after refl)
+domains_meant s e = subst (KeepsDomains s e) (sym (changes-meant s e)) (record {
+  lives = λ d live un. (field_all (λ x. x.live) (ends_or false) alive s (changes s e) d (none_meant false s e d un refl) live).0;
+  defaults = λ d live un. (field_all (λ x. x.default) (ends_or true) settled s (changes s e) d (none_meant true s e d (not_ended e d un) un) live).1;
+})
+  where
+    alive : (x : OfDomain) (y : Domain Text) → ends_or false x ≡ false → ((domain_by x y).live ≡ y.live) × ((domain_by x y).live ≡ y.live)
+    alive Ends y un = absurd (cc)
+    alive x y un = (refl, refl)
+
+    settled : (x : OfDomain) (y : Domain Text) → ends_or true x ≡ false → ((domain_by x y).default ≡ y.default) × ((domain_by x y).live ≡ y.live)
+    settled Ends y un = absurd (cc)
+    settled (Prefers p) y un = absurd (cc)
+    settled x y un = (refl, refl)

@@ -1,26 +1,20 @@
 -- The files and pools that each event leaves unchanged.
 use Rattle.std.proofs.Common.{inl, inr, ◌≡◌, ◌≢◌, ℕ, ◌+◌, ◌==◌, List, [], ◌∷◌, ◌++◌, length, take, drop, ap, ◌∙◌, refl}
 use Rattle.std.proofs.Common.{sym, subst, arith, Option, Some, None, true, false, Bool}
-use Rattle.std.specs.Prelude.{if◌then◌else◌, fold, option_map, position, bytes_eq}
+use Rattle.std.specs.Prelude.{if◌then◌else◌, option_map, position, bytes_eq}
 use Rattle.std.specs.List.{list_any}
-use Rattle.std.specs.Option.{option_map_or}
 use Rattle.std.proofs.lemmas.List.{append-nil}
 use Rattle.std.proofs.lemmas.Bool.{cases_eq}
 use Rattle.std.proofs.lemmas.Bool.Decides.{nat_tests}
 use Rattle.std.proofs.lemmas.Grind.{common_steps}
 use Rattle.iol_core.specs.Text.{Text, bytes_of}
 use Rattle.iol_core.specs.NumberedLists.{is_numbered, numbered_or, with_numbered}
-use Rattle.iol_core.specs.State.{State, Domain, Pool, File, domain, pool, is_pool, no_pool, file, no_file, content}
-use Rattle.iol_core.specs.State.{descriptor, no_domain, with_domain, with_pipe, with_conn, with_content}
+use Rattle.iol_core.specs.State.{State, Pool, File, pool, is_pool, no_pool, file, no_file, content, descriptor}
+use Rattle.iol_core.specs.State.{with_domain, with_pipe, with_conn, with_content}
 use Rattle.iol_core.specs.Run.{called, meaning}
-use Rattle.iol_core.specs.Calls.Domains.{exit}
 use Rattle.iol_core.specs.Calls.Pools.{admitting, with_name}
-use Rattle.iol_core.specs.Calls.Aggregates as aggs
-use Rattle.iol_core.specs.Calls.Descriptors as fds
 use Rattle.iol_core.specs.Calls.Files.{file_called}
-use Rattle.iol_core.specs.Calls.Reads as reading
 use Rattle.iol_core.specs.Calls.Writes as writing
-use Rattle.iol_core.specs.Calls.Writes.{is_file}
 use Rattle.iol_core.specs.declared.descriptors.Descriptor.{Descriptor}
 use Rattle.iol_core.specs.declared.descriptors.Descriptor.TheVariants as on
 use Rattle.iol_core.specs.declared.events.Call.{Call}
@@ -28,7 +22,8 @@ use Rattle.iol_core.specs.declared.events.Call.TheVariants as call
 use Rattle.iol_core.specs.declared.events.Event.{Event}
 use Rattle.iol_core.specs.declared.events.Event.TheVariants as event
 use Rattle.iol_core.proofs.Lookups.{file-same, numbered_or-with}
-use Rattle.iol_laws.proofs.Gives.{agg_given, fd_given}
+use Rattle.iol_laws.proofs.Changes.{Act, Change, OnDomain, Fills, Shuts, Admits, NewPool, NewFile, Reads, Writes}
+use Rattle.iol_laws.proofs.Changes.{changed, is_write, is_writing, kept_unwritten, none_handed, own, used_as}
 use Rattle.iol_laws.specs.Frame.{Grows, admits_to, changes_files, closes_pool, is_on_file, writes_file}
 use Rattle.iol_laws.proofs.Tests.{apart}
 
@@ -37,24 +32,6 @@ pub record SameStore (s t : State) : Type 0 where
   pub files : t.files ≡ s.files
   pub slots : t.slots ≡ s.slots
   pub pools : t.pools ≡ s.pools
-
-store_closed_on : (s : State) (o : Option Descriptor) → SameStore s (fds.closed_on s o)
-unfolding with_pipe with_conn
-store_closed_on s (Some (on.File f at mode)) = record { files = refl; slots = refl; pools = refl }
-store_closed_on s o = record { files = refl; slots = refl; pools = refl }
-
-store_all_closed : (s : State) (list : List (Option Descriptor)) → SameStore s (fold fds.closed_on s list)
-store_all_closed s [] = record { files = refl; slots = refl; pools = refl }
-store_all_closed s (o ∷ list) =
-    let one = store_closed_on s o in
-    let rest = store_all_closed (fds.closed_on s o) list in
-    record { files = rest.files ∙ one.files; slots = rest.slots ∙ one.slots; pools = rest.pools ∙ one.pools }
-
-store_read_on : (s : State) (by fd : ℕ) (from : Option Descriptor) (count : ℕ)
-    → SameStore s (reading.read_on s by fd from count)
-unfolding with_domain with_pipe with_conn
-store_read_on s by fd (Some (on.File f at mode)) count = record { files = refl; slots = refl; pools = refl }
-store_read_on s by fd o count = record { files = refl; slots = refl; pools = refl }
 
 pub files_written : (s : State) (by fd : ℕ) (to : Option Descriptor) (w : Text) → writing.is_file to ≡ false
     → ((writing.written s by fd to w).files ≡ s.files) × ((writing.written s by fd to w).slots ≡ s.slots)
@@ -68,7 +45,7 @@ record Wrote (s : State) (to : Option Descriptor) (t : State) : Type 0 where
   pools : t.pools ≡ s.pools
   contents : (f : ℕ) → is_on_file f to ≡ false → content t f ≡ content s f
 
-content-same : (s t : State) (f : ℕ) → t.slots ≡ s.slots → content t f ≡ content s f
+pub content-same : (s t : State) (f : ℕ) → t.slots ≡ s.slots → content t f ≡ content s f
 unfolding content
 content-same s t f same = ap (λ (ss : List (List ℕ)). numbered_or ss f []) same
 
@@ -105,23 +82,36 @@ store_written s by fd (Some (on.Connection e)) w =
     }
 store_written s by fd o w = record { files = refl; pools = refl; contents = λ f un. refl }
 
-store_then_domain : (s t : State) (d : ℕ) (x : Domain Text) → SameStore s t → SameStore s (with_domain t d x)
-unfolding with_domain
-store_then_domain s t d x same = record { files = same.files; slots = same.slots; pools = same.pools }
+-- whether a change is of a file or a pool, or makes one
+abbrev of_store : Change → Bool
+of_store (Fills f bytes) = true
+of_store (Shuts p) = true
+of_store (Admits p d) = true
+of_store (NewPool x) = true
+of_store (NewFile x) = true
+of_store c = false
 
-store_given : (s : State) (by fd to : ℕ) (o : Option Descriptor)
-    → SameStore s (option_map_or (fds.given_to s by fd to) o s)
-unfolding with_domain
-store_given s by fd to None = record { files = refl; slots = refl; pools = refl }
-store_given s by fd to (Some x) =
-    fd_given (λ t. SameStore s t) s by fd to x (λ same. record { files = refl; slots = refl; pools = refl })
-    (λ other. record { files = refl; slots = refl; pools = refl })
+store_changed : (s t : State) (c : Change) → of_store c ≡ false → SameStore s t → SameStore s (changed t c)
+unfolding with_domain with_pipe with_conn
+store_changed s t (Fills f bytes) un same = absurd (cc)
+store_changed s t (Shuts p) un same = absurd (cc)
+store_changed s t (Admits p d) un same = absurd (cc)
+store_changed s t (NewPool x) un same = absurd (cc)
+store_changed s t (NewFile x) un same = absurd (cc)
+store_changed s t (OnDomain d x) un same = record { files = same.files; slots = same.slots; pools = same.pools }
+store_changed s t c un same = record { files = same.files; slots = same.slots; pools = same.pools }
 
-store_agg_give : (s : State) (by a to : ℕ) → SameStore s (aggs.agg_give s by a to).after
-unfolding with_domain
-store_agg_give s by a to =
-    agg_given (λ t. SameStore s t) s by a to (λ same. record { files = refl; slots = refl; pools = refl })
-    (λ other. record { files = refl; slots = refl; pools = refl })
+store_unused : (s : State) (by fd : ℕ) (o : Option Descriptor) (act : Act) → is_write act ≡ false
+    → list_any of_store (used_as s by fd o act) ≡ false
+store_unused s by fd (Some (on.File f at mode)) (Reads n) un = refl
+store_unused s by fd o (Writes w) un = absurd (cc)
+store_unused s by fd o act un = refl
+
+store_left : (s : State) (by : ℕ) (k : Call) → is_writing k ≡ false → list_any of_store (own s by k) ≡ false
+    → SameStore s (called s by k).after
+store_left s by k un first =
+    kept_unwritten (SameStore s) of_store (store_changed s) store_unused s by k un first
+    (record { files = refl; slots = refl; pools = refl })
 
 -- whether it makes or changes a pool
 abbrev pub changes_pools : Event → Bool
@@ -242,7 +232,7 @@ called-more s x name f is = by (position (λ (y : File). bytes_eq y.name name) s
         ap (λ (o : Option ℕ). option_map (λ i. i + 1) o)
         (position-more (λ (y : File). bytes_eq y.name name) s.files (x ∷ []) i some ∙ sym some) ∙ is
 
-pool-other : (s : State) (q p : ℕ) (x : Pool) → q ≢ p
+pub pool-other : (s : State) (q p : ℕ) (x : Pool) → q ≢ p
     → pool (record s { pools = with_numbered s.pools q x }) p ≡ pool s p
 unfolding pool
 pool-other s q p x differ =
@@ -331,32 +321,18 @@ store_filed s by name p =
     }
 
 store_called : (s : State) (by : ℕ) (k : Call) → KeepsStore s (event.Call by k) (called s by k).after
-unfolding with_domain with_conn
-store_called s by call.Exit =
-    store_kept s (exit s by).after _ (store_then_domain s (fold fds.closed_on s (domain s by).fds) by no_domain
-    (store_all_closed s (domain s by).fds))
 store_called s by (call.PoolCreate chunks list) = store_pooled s by chunks list
 store_called s by (call.PoolClose p) = store_unpooled s by p
 store_called s by (call.PoolAdmit p d) = store_listed s by p d
 store_called s by (call.FileNew name p) = store_filed s by name p
-store_called s by (call.AggGive a to) = store_kept s (aggs.agg_give s by a to).after _ (store_agg_give s by a to)
-store_called s by (call.GiveFd fd to) =
-    store_kept s (fds.give_fd s by fd to).after _ (store_given s by fd to (descriptor s by fd))
-store_called s by (call.Close fd) =
-    store_kept s (fds.close s by fd).after _
-    (store_then_domain s (fds.closed_on s (descriptor s by fd)) by _ (store_closed_on s (descriptor s by fd)))
-store_called s by (call.IolRead fd n) =
-    let from : Option Descriptor = descriptor s by fd in
-    let count = length (reading.read_text s by from n) in
-    store_kept s (reading.iol_read s by fd n).after _
-    (store_then_domain s (reading.read_on s by fd from count) by _ (store_read_on s by fd from count))
 store_called s by (call.IolWrite fd a) =
     store_wrote s (event.Call by (call.IolWrite fd a)) by fd (descriptor s by fd) _ refl (λ f. refl)
-store_called s by (call.Read fd n) =
-    store_kept s (reading.read s by fd n).after _ (store_read_on s by fd (descriptor s by fd) _)
 store_called s by (call.Write fd bytes) =
     store_wrote s (event.Call by (call.Write fd bytes)) by fd (descriptor s by fd) _ refl (λ f. refl)
-store_called s by k = store_kept s (called s by k).after _ (record { files = refl; slots = refl; pools = refl })
+store_called s by (call.GiveFd fd to) =
+    store_kept s (called s by (call.GiveFd fd to)).after _
+    (store_left s by (call.GiveFd fd to) refl (none_handed of_store by fd to (descriptor s by fd) refl (λ x. refl)))
+store_called s by k = store_kept s (called s by k).after _ (store_left s by k refl refl)
 
 pub store_meant : (s : State) (e : Event) → KeepsStore s e (meaning s e).after
 unfolding with_conn

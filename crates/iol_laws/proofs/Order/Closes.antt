@@ -7,18 +7,18 @@ use Rattle.std.proofs.lemmas.Bool.Decides.{nat_tests}
 use Rattle.std.proofs.lemmas.Grind.{common_steps}
 use Rattle.iol_core.specs.Text.{Text}
 use Rattle.iol_core.specs.NumberedLists.{lookup, in_place}
-use Rattle.iol_core.specs.State.{State, Pipe, Connection, pipe_at, conn_at, no_conn, is_over, is_gone, with_pipe, with_conn}
+use Rattle.iol_core.specs.State.{State, Pipe, Connection, pipe_at, conn_at, no_conn, is_over, is_gone, with_pipe, with_conn, no_pipe}
 use Rattle.iol_core.specs.Calls.Descriptors as fds
 use Rattle.iol_core.specs.declared.descriptors.Descriptor.{Descriptor}
 use Rattle.iol_core.specs.declared.descriptors.Descriptor.TheVariants as on
 use Rattle.iol_laws.specs.Caller.{remains}
 use Rattle.iol_laws.specs.Frame.{is_conn}
 use Rattle.iol_laws.specs.Order.{Once}
-use Rattle.iol_laws.proofs.Connections.{conn-missing, conn-over, conn-remains, conn-there, conn-unmade, conns_conn, conns-with_pipe, conns_same, nothing-left, once-with_conn}
-use Rattle.iol_laws.proofs.Order.Ends.{pipe-with_same}
-use Rattle.iol_laws.proofs.Caller.Pipes.{pipe-gone}
-use Rattle.iol_laws.proofs.Frame.Pipes.{pipes_closed_on, pipes_pipe}
-use Rattle.iol_laws.proofs.Tests.{left-true, right-true}
+use Rattle.iol_laws.proofs.Connections.{conn-remains, conn-there, conn-unmade, conns_conn, conns-with_pipe, conns_same, nothing-left, once-with_conn}
+use Rattle.iol_laws.proofs.Order.Ends.{left_of, pipe-left}
+use Rattle.iol_laws.proofs.Changes.{none-open}
+use Rattle.iol_laws.proofs.Frame.Pipes.{pipes_pipe, pipes_same, pipes-with_conn}
+use Rattle.iol_laws.proofs.Tests.{left-true, right-true, left-false, right-false}
 
 -- what is open passes the test of some
 pub some-open : (test : Option Descriptor → Bool) (xs : List (Option Descriptor)) (n : ℕ) (x : Descriptor) → in_place xs n ≡ Some x → test (Some x) ≡ true → list_any test xs ≡ true
@@ -26,73 +26,18 @@ some-open test [] n x is passes = absurd (cc)
 some-open test (o ∷ xs) zero x is passes = (let e : test o ≡ true = ap test is ∙ passes in grind (arith, common_steps, e))
 some-open test (o ∷ xs) (suc n) x is passes = (let e = some-open test xs n x is passes in grind (arith, common_steps, e))
 
--- and where none is open, none does
-pub none-open : (test : Option Descriptor → Bool) (xs : List (Option Descriptor)) → test None ≡ false → ((n : ℕ) (x : Descriptor) → in_place xs n ≡ Some x → test (Some x) ≡ false) → list_any test xs ≡ false
-none-open test [] free none = refl
-none-open test (o ∷ xs) free none = (let e = here o (none 0) in let r = none-open test xs free (λ n. none (suc n)) in grind (arith, common_steps, e, r))
-  where
-    here : (o : Option Descriptor) → ((x : Descriptor) → o ≡ Some x → test (Some x) ≡ false) → test o ≡ false
-    here None none = free
-    here (Some x) none = none x refl
+any-cons : (test : Option Descriptor → Bool) (o : Option Descriptor) (list : List (Option Descriptor)) → list_any test (o ∷ list) ≡ (test o || list_any test list)
+any-cons test o list = grind (arith, common_steps)
 
 -- Connections.
-
--- a connection that may have been closed
-record MayClose (k u : Connection) (closes : Bool) : Type 0 where
-  outgoing : u.outgoing ≡ k.outgoing
-  closed : k.closed ≡ true → u.closed ≡ true
-  shuts : closes ≡ true → u.closed ≡ true
-
-pub shut : (s : State) (c : ℕ) → Once s.conns → let u : Connection = conn_at (fds.closed_on s (Some (on.Connection c))) c in (u.outgoing ≡ (conn_at s c).outgoing) × (u.closed ≡ true)
-shut s c once = by (is_over x) refl (lookup s.conns c) refl
-  where
-    x : Connection
-    x = record (conn_at s c) { incoming = []; closed = true }
-
-    by : (b : Bool) → is_over x ≡ b → (o : Option Connection) → lookup s.conns c ≡ o → ((conn_at (with_conn s c x) c).outgoing ≡ (conn_at s c).outgoing) × ((conn_at (with_conn s c x) c).closed ≡ true)
-    by true over o is =
-        let e = conn-over s c x once over in
-        let gone : x.outgoing ≡ [] = nothing-left x.outgoing (x.closed || (not x.accepted && is_gone x.peer)) over in
-        (ap (λ (z : Connection). z.outgoing) e ∙ sym gone, ap (λ (z : Connection). z.closed) e)
-    by false over (Some y) is = (let e = conn-there s c x y is over in (ap (λ (z : Connection). z.outgoing) e, ap (λ (z : Connection). z.closed) e))
-    by false over None is = (let e = conn-missing s c x is over in let was = conn-unmade s c is in (ap (λ (z : Connection). z.outgoing) e ∙ sym (ap (λ (z : Connection). z.outgoing) was), ap (λ (z : Connection). z.closed) e))
-
-stays : (k u : Connection) → u ≡ k → MayClose k u false
-stays k u same = record { outgoing = ap (λ (z : Connection). z.outgoing) same; closed = λ is. ap (λ (z : Connection). z.closed) same ∙ is; shuts = λ is. absurd (cc) }
-
-may_close : (s : State) (o : Option Descriptor) (c : ℕ) → Once s.conns → MayClose (conn_at s c) (conn_at (fds.closed_on s o) c) (is_conn c o)
-may_close s (Some (on.ReadEnd p)) c once = stays (conn_at s c) _ (conns_same s (fds.closed_on s (Some (on.ReadEnd p))) (λ k. false) (conns-with_pipe s p _) c refl)
-may_close s (Some (on.WriteEnd p)) c once = stays (conn_at s c) _ (conns_same s (fds.closed_on s (Some (on.WriteEnd p))) (λ k. false) (conns-with_pipe s p _) c refl)
-may_close s (Some (on.Connection e)) c once = elim (cases_eq e c) [
-  | inl same ↦ subst (λ n. MayClose (conn_at s n) (conn_at (fds.closed_on s (Some (on.Connection e))) n) (e == n)) same (let both = shut s e once in record { outgoing = both.0; closed = λ is. both.1; shuts = λ is. both.1 })
-  | inr differ ↦ (let un : (e == c) ≡ false = grind (arith, nat_tests, differ) in subst (λ b. MayClose (conn_at s c) (conn_at (fds.closed_on s (Some (on.Connection e))) c) b) (sym un) (stays (conn_at s c) _ (conns_conn s e _ c differ)))
-]
-may_close s o c once = stays (conn_at s c) (conn_at s c) refl
 
 pub once-closed_on : (s : State) (o : Option Descriptor) → Once s.conns → Once (fds.closed_on s o).conns
 unfolding with_pipe
 once-closed_on s (Some (on.Connection c)) once = once-with_conn s c _ once
 once-closed_on s o once = once
 
-all_close : (s : State) (list : List (Option Descriptor)) (c : ℕ) → Once s.conns → MayClose (conn_at s c) (conn_at (fold fds.closed_on s list) c) (list_any (is_conn c) list)
-all_close s [] c once = stays (conn_at s c) (conn_at s c) refl
-all_close s (o ∷ list) c once =
-    let one = may_close s o c once in
-    let rest = all_close (fds.closed_on s o) list c (once-closed_on s o once) in
-    record { outgoing = rest.outgoing ∙ one.outgoing; closed = λ is. rest.closed (one.closed is); shuts = λ is. by (is_conn c o) refl is one rest }
-  where
-    by : (b : Bool) → is_conn c o ≡ b → list_any (is_conn c) (o ∷ list) ≡ true → MayClose (conn_at s c) (conn_at (fds.closed_on s o) c) (is_conn c o) → MayClose (conn_at (fds.closed_on s o) c) (conn_at (fold fds.closed_on s (o ∷ list)) c) (list_any (is_conn c) list) → (conn_at (fold fds.closed_on s (o ∷ list)) c).closed ≡ true
-    by true here is one rest = rest.closed (one.shuts here)
-    by false there is one rest = rest.shuts (grind (arith, common_steps, there, is))
-
-pub conn_ended : (s : State) (list : List (Option Descriptor)) (fd c : ℕ) → Once s.conns → in_place list fd ≡ Some (on.Connection c) → let u : Connection = conn_at (fold fds.closed_on s list) c in (u.closed ≡ true) × (u.outgoing ≡ (conn_at s c).outgoing)
-conn_ended s list fd c once is =
-    let all = all_close s list c once in
-    let one : is_conn c (Some (on.Connection c)) ≡ true = grind (arith, nat_tests) in
-    (all.shuts (some-open (is_conn c) list fd (on.Connection c) is one), all.outgoing)
-
 -- what remains of a connection that is closed
-abbrev shut_as : Connection → Connection
+abbrev pub shut_as : Connection → Connection
 shut_as k = remains (record k { incoming = []; closed = true })
 
 shut-remains : (s : State) (c : ℕ) → Once s.conns → conn_at (fds.closed_on s (Some (on.Connection c))) c ≡ shut_as (conn_at s c)
@@ -105,6 +50,22 @@ shut-remains s c once = conn-remains s c x once (by (lookup s.conns c) refl)
     by (Some y) is over = conn-there s c x y is over
     by None is over = absurd (let e = ap (λ (k : Connection). is_over (record k { incoming = []; closed = true })) (conn-unmade s c is) in cc (e, over))
 
+-- It is closed, and has the same to send.
+
+pub shut_closed : (k : Connection) → (shut_as k).closed ≡ true
+shut_closed k = by (is_over (record k { incoming = []; closed = true }))
+  where
+    by : (b : Bool) → (let y : Connection = if b then no_conn else record k { incoming = []; closed = true } in y.closed) ≡ true
+    by true = refl
+    by false = refl
+
+shut_outgoing : (k : Connection) → (shut_as k).outgoing ≡ k.outgoing
+shut_outgoing k = by (is_over (record k { incoming = []; closed = true })) refl
+  where
+    by : (b : Bool) → is_over (record k { incoming = []; closed = true }) ≡ b → (let y : Connection = if b then no_conn else record k { incoming = []; closed = true } in y.outgoing) ≡ k.outgoing
+    by true over = sym (nothing-left k.outgoing (true || (not k.accepted && is_gone k.peer)) over)
+    by false over = refl
+
 -- closed twice, it is closed once
 shut-twice : (k : Connection) → shut_as (shut_as k) ≡ shut_as k
 shut-twice k = by (is_over x) refl
@@ -116,7 +77,7 @@ shut-twice k = by (is_over x) refl
     by true over = refl
     by false over = ap (λ b. if b then no_conn else x) over
 
-one_remains : (s : State) (o : Option Descriptor) (c : ℕ) → Once s.conns → conn_at (fds.closed_on s o) c ≡ (if is_conn c o then shut_as (conn_at s c) else conn_at s c)
+pub one_remains : (s : State) (o : Option Descriptor) (c : ℕ) → Once s.conns → conn_at (fds.closed_on s o) c ≡ (if is_conn c o then shut_as (conn_at s c) else conn_at s c)
 one_remains s (Some (on.ReadEnd p)) c once = conns_same s (fds.closed_on s (Some (on.ReadEnd p))) (λ k. false) (conns-with_pipe s p _) c refl
 one_remains s (Some (on.WriteEnd p)) c once = conns_same s (fds.closed_on s (Some (on.WriteEnd p))) (λ k. false) (conns-with_pipe s p _) c refl
 one_remains s (Some (on.Connection e)) c once = elim (cases_eq e c) [
@@ -140,13 +101,15 @@ all_remain s (o ∷ list) c once =
     both false true k = refl
     both b false k = refl
 
-    any-cons : (test : Option Descriptor → Bool) (o : Option Descriptor) (list : List (Option Descriptor)) → list_any test (o ∷ list) ≡ (test o || list_any test list)
-    any-cons test o list = grind (arith, common_steps)
-
 pub ended_remains : (s : State) (list : List (Option Descriptor)) (fd c : ℕ) → Once s.conns → in_place list fd ≡ Some (on.Connection c) → conn_at (fold fds.closed_on s list) c ≡ remains (record (conn_at s c) { incoming = []; closed = true })
 ended_remains s list fd c once is =
     let one : is_conn c (Some (on.Connection c)) ≡ true = grind (arith, nat_tests) in
     all_remain s list c once ∙ ap (λ b. if b then shut_as (conn_at s c) else conn_at s c) (some-open (is_conn c) list fd (on.Connection c) is one)
+
+pub conn_ended : (s : State) (list : List (Option Descriptor)) (fd c : ℕ) → Once s.conns → in_place list fd ≡ Some (on.Connection c) → let u : Connection = conn_at (fold fds.closed_on s list) c in (u.closed ≡ true) × (u.outgoing ≡ (conn_at s c).outgoing)
+conn_ended s list fd c once is =
+    let e = ended_remains s list fd c once is in
+    (ap (λ (k : Connection). k.closed) e ∙ shut_closed (conn_at s c), ap (λ (k : Connection). k.outgoing) e ∙ shut_outgoing (conn_at s c))
 
 -- Pipes.
 
@@ -166,86 +129,43 @@ pub record MayShut (k u : Pipe) (reads writes : Bool) : Type 0 where
   pub emptied : (reads ≡ true) ⊎ (k.queue ≡ []) → u.queue ≡ []
 
 and-true : (b : Bool) → b ≡ (b && true)
-and-true true = refl
-and-true false = refl
+and-true b = grind arith
 
 and-false : (b : Bool) → false ≡ (b && false)
-and-false true = refl
-and-false false = refl
+and-false b = grind arith
+
+or-empty : (q : Text) → (false ≡ true) ⊎ (q ≡ []) → q ≡ []
+or-empty q (inl is) = absurd (cc)
+or-empty q (inr is) = is
 
 unshut : (k u : Pipe) → u ≡ k → MayShut k u false false
-unshut k u same = record {
-  reading = ap (λ (z : Pipe). z.reading) same ∙ and-true k.reading;
-  writing = ap (λ (z : Pipe). z.writing) same ∙ and-true k.writing;
-  kept = λ is lives. ap (λ (z : Pipe). z.queue) same;
-  emptied = λ is. ap (λ (z : Pipe). z.queue) same ∙ empty is;
-}
+unshut k u same = subst (λ z. MayShut k z false false) (sym same) (record { reading = and-true k.reading; writing = and-true k.writing; kept = λ is lives. refl; emptied = or-empty k.queue })
+
+shut_reads : (k : Pipe) → MayShut k (left_of (record k { queue = []; reading = false })) true false
+shut_reads k = by k.writing refl
   where
-    empty : (false ≡ true) ⊎ (k.queue ≡ []) → k.queue ≡ []
-    empty (inl is) = absurd (cc)
-    empty (inr is) = is
+    by : (b : Bool) → k.writing ≡ b → MayShut k (if b then record k { queue = []; reading = false } else no_pipe) true false
+    by true writes = record { reading = and-false k.reading; writing = and-true k.writing; kept = λ is lives. absurd (cc); emptied = λ is. refl }
+    by false unwritten = record { reading = and-false k.reading; writing = sym unwritten ∙ and-true k.writing; kept = λ is lives. absurd (cc); emptied = λ is. refl }
 
-shut_reads : (s : State) (p : ℕ) → MayShut (pipe_at s p) (pipe_at (fds.closed_on s (Some (on.ReadEnd p))) p) true false
-shut_reads s p = by (pipe_at s p).writing refl
+shut_writes : (k : Pipe) → MayShut k (left_of (record k { writing = false })) false true
+shut_writes k = by k.reading refl
   where
-    x : Pipe
-    x = record (pipe_at s p) { queue = []; reading = false }
+    by : (b : Bool) → k.reading ≡ b → MayShut k (if b || false then record k { writing = false } else no_pipe) false true
+    by true reads = record { reading = and-true k.reading; writing = and-false k.writing; kept = λ is lives. refl; emptied = or-empty k.queue }
+    by false unread = record { reading = sym unread ∙ and-true k.reading; writing = and-false k.writing; kept = λ is lives. absurd (cc); emptied = λ is. refl }
 
-    by : (b : Bool) → (pipe_at s p).writing ≡ b → MayShut (pipe_at s p) (pipe_at (with_pipe s p x) p) true false
-    by true writes =
-        let e = pipe-with_same s p x (right-true (pipe_at s p).reading (pipe_at s p).writing writes) writes in
-        record {
-          reading = ap (λ (z : Pipe). z.reading) e ∙ and-false (pipe_at s p).reading;
-          writing = ap (λ (z : Pipe). z.writing) e ∙ and-true (pipe_at s p).writing;
-          kept = λ is lives. absurd (cc);
-          emptied = λ is. ap (λ (z : Pipe). z.queue) e;
-        }
-    by false unwritten =
-        let e = pipe-gone s p x unwritten in
-        record {
-          reading = ap (λ (z : Pipe). z.reading) e ∙ and-false (pipe_at s p).reading;
-          writing = ap (λ (z : Pipe). z.writing) e ∙ (sym unwritten ∙ and-true (pipe_at s p).writing);
-          kept = λ is lives. absurd (cc);
-          emptied = λ is. ap (λ (z : Pipe). z.queue) e;
-        }
-
-shut_writes : (s : State) (p : ℕ) → MayShut (pipe_at s p) (pipe_at (fds.closed_on s (Some (on.WriteEnd p))) p) false true
-shut_writes s p = by (pipe_at s p).reading refl
-  where
-    x : Pipe
-    x = record (pipe_at s p) { writing = false }
-
-    empty : (false ≡ true) ⊎ ((pipe_at s p).queue ≡ []) → (pipe_at s p).queue ≡ []
-    empty (inl is) = absurd (cc)
-    empty (inr is) = is
-
-    by : (b : Bool) → (pipe_at s p).reading ≡ b → MayShut (pipe_at s p) (pipe_at (with_pipe s p x) p) false true
-    by true reads =
-        let e = pipe-with_same s p x (left-true (pipe_at s p).reading (pipe_at s p).writing reads) (left-true (pipe_at s p).reading false reads) in
-        record {
-          reading = ap (λ (z : Pipe). z.reading) e ∙ and-true (pipe_at s p).reading;
-          writing = ap (λ (z : Pipe). z.writing) e ∙ and-false (pipe_at s p).writing;
-          kept = λ is lives. ap (λ (z : Pipe). z.queue) e;
-          emptied = λ is. ap (λ (z : Pipe). z.queue) e ∙ empty is;
-        }
-    by false unread =
-        let off : ((pipe_at s p).reading || false) ≡ false = ap (λ b. b || false) unread in
-        let e = pipe-gone s p x off in
-        record {
-          reading = ap (λ (z : Pipe). z.reading) e ∙ (sym unread ∙ and-true (pipe_at s p).reading);
-          writing = ap (λ (z : Pipe). z.writing) e ∙ and-false (pipe_at s p).writing;
-          kept = λ is lives. absurd (let gone = ap (λ (z : Pipe). z.reading || z.writing) e in cc (gone, lives));
-          emptied = λ is. ap (λ (z : Pipe). z.queue) e;
-        }
+still_on : (a b : Bool) → (a || false) ≡ true → (a || b) ≡ true
+still_on a b is = grind (arith, is)
 
 pub may_shut : (s : State) (o : Option Descriptor) (p : ℕ) → MayShut (pipe_at s p) (pipe_at (fds.closed_on s o) p) (is_read_end p o) (is_write_end p o)
-may_shut s (Some (on.Connection c)) p = unshut (pipe_at s p) _ (pipes_closed_on s (Some (on.Connection c)) p refl)
+may_shut s (Some (on.Connection c)) p = unshut (pipe_at s p) _ (pipes_same s (fds.closed_on s (Some (on.Connection c))) (λ q. false) (pipes-with_conn s c _) p refl)
 may_shut s (Some (on.ReadEnd q)) p = elim (cases_eq q p) [
-  | inl same ↦ (let e : (q == p) ≡ true = grind (arith, nat_tests, same) in subst (λ b. MayShut (pipe_at s p) (pipe_at (fds.closed_on s (Some (on.ReadEnd q))) p) b false) (sym e) (subst (λ n. MayShut (pipe_at s n) (pipe_at (fds.closed_on s (Some (on.ReadEnd q))) n) true false) same (shut_reads s q)))
+  | inl same ↦ (let e : (q == p) ≡ true = grind (arith, nat_tests, same) in subst (λ b. MayShut (pipe_at s p) (pipe_at (fds.closed_on s (Some (on.ReadEnd q))) p) b false) (sym e) (subst (λ n. MayShut (pipe_at s n) (pipe_at (fds.closed_on s (Some (on.ReadEnd q))) n) true false) same (subst (λ u. MayShut (pipe_at s q) u true false) (sym (pipe-left s q (record (pipe_at s q) { queue = []; reading = false }) (right-true (pipe_at s q).reading (pipe_at s q).writing))) (shut_reads (pipe_at s q)))))
   | inr differ ↦ (let e : (q == p) ≡ false = grind (arith, nat_tests, differ) in subst (λ b. MayShut (pipe_at s p) (pipe_at (fds.closed_on s (Some (on.ReadEnd q))) p) b false) (sym e) (unshut (pipe_at s p) _ (pipes_pipe s q _ p differ)))
 ]
 may_shut s (Some (on.WriteEnd q)) p = elim (cases_eq q p) [
-  | inl same ↦ (let e : (q == p) ≡ true = grind (arith, nat_tests, same) in subst (λ b. MayShut (pipe_at s p) (pipe_at (fds.closed_on s (Some (on.WriteEnd q))) p) false b) (sym e) (subst (λ n. MayShut (pipe_at s n) (pipe_at (fds.closed_on s (Some (on.WriteEnd q))) n) false true) same (shut_writes s q)))
+  | inl same ↦ (let e : (q == p) ≡ true = grind (arith, nat_tests, same) in subst (λ b. MayShut (pipe_at s p) (pipe_at (fds.closed_on s (Some (on.WriteEnd q))) p) false b) (sym e) (subst (λ n. MayShut (pipe_at s n) (pipe_at (fds.closed_on s (Some (on.WriteEnd q))) n) false true) same (subst (λ u. MayShut (pipe_at s q) u false true) (sym (pipe-left s q (record (pipe_at s q) { writing = false }) (still_on (pipe_at s q).reading (pipe_at s q).writing))) (shut_writes (pipe_at s q)))))
   | inr differ ↦ (let e : (q == p) ≡ false = grind (arith, nat_tests, differ) in subst (λ b. MayShut (pipe_at s p) (pipe_at (fds.closed_on s (Some (on.WriteEnd q))) p) false b) (sym e) (unshut (pipe_at s p) _ (pipes_pipe s q _ p differ)))
 ]
 may_shut s o p = unshut (pipe_at s p) (pipe_at s p) refl
@@ -255,16 +175,12 @@ shut_then : (k u v : Pipe) (r w x y : Bool) → MayShut k u r w → MayShut u v 
 shut_then k u v r w x y one two = record {
   reading = two.reading ∙ (ap (λ b. b && not x) one.reading ∙ both k.reading r x);
   writing = two.writing ∙ (ap (λ b. b && not y) one.writing ∙ both k.writing w y);
-  kept = λ is lives. (let parts = split r x is in two.kept parts.1 lives ∙ one.kept parts.0 (still u.reading u.writing (not x) (not y) (sym (ap (λ b. b || v.writing) two.reading ∙ ap (λ b. (u.reading && not x) || b) two.writing) ∙ lives)));
+  kept = λ is lives. (two.kept (right-false r x is) lives ∙ one.kept (left-false r x is) (still u.reading u.writing (not x) (not y) (sym (ap (λ b. b || v.writing) two.reading ∙ ap (λ b. (u.reading && not x) || b) two.writing) ∙ lives)));
   emptied = λ is. two.emptied (empties r x refl is);
 }
   where
     both : (a b c : Bool) → ((a && not b) && not c) ≡ (a && not (b || c))
     both a b c = grind (arith)
-
-    split : (a b : Bool) → (a || b) ≡ false → (a ≡ false) × (b ≡ false)
-    split false b is = (refl, is)
-    split true b is = absurd (cc)
 
     still : (a b c d : Bool) → ((a && c) || (b && d)) ≡ true → (a || b) ≡ true
     still a b c d is = grind (arith, is)
@@ -278,12 +194,9 @@ pub all_shut : (s : State) (list : List (Option Descriptor)) (p : ℕ) → MaySh
 all_shut s [] p = unshut (pipe_at s p) (pipe_at s p) refl
 all_shut s (o ∷ list) p =
     let both = shut_then (pipe_at s p) (pipe_at (fds.closed_on s o) p) (pipe_at (fold fds.closed_on s (o ∷ list)) p) (is_read_end p o) (is_write_end p o) (list_any (is_read_end p) list) (list_any (is_write_end p) list) (may_shut s o p) (all_shut (fds.closed_on s o) list p) in
-    rw (list_any-cons (is_read_end p) o list, list_any-cons (is_write_end p) o list) both
-  where
-    list_any-cons : (test : Option Descriptor → Bool) (o : Option Descriptor) (list : List (Option Descriptor)) → list_any test (o ∷ list) ≡ (test o || list_any test list)
-    list_any-cons test o list = grind (arith, common_steps)
+    rw (any-cons (is_read_end p) o list, any-cons (is_write_end p) o list) both
 
-and-not : (a b : Bool) → b ≡ true → (a && not b) ≡ false
+pub and-not : (a b : Bool) → b ≡ true → (a && not b) ≡ false
 and-not a b is = grind (arith, is)
 
 pub read_end_ended : (s : State) (list : List (Option Descriptor)) (fd p : ℕ) → in_place list fd ≡ Some (on.ReadEnd p) → let u : Pipe = pipe_at (fold fds.closed_on s list) p in (u.reading ≡ false) × (u.queue ≡ [])
@@ -309,10 +222,10 @@ not-writing p (Some (on.WriteEnd q)) never = elim (cases_eq q p) [ inl same ↦ 
 not-writing p o never = refl
 
 pub none-reading : (p : ℕ) (list : List (Option Descriptor)) → ((fd : ℕ) → in_place list fd ≡ Some (on.ReadEnd p) → ⊥) → list_any (is_read_end p) list ≡ false
-none-reading p list nobody = none-open (is_read_end p) list refl (λ n x is. sym (ap (is_read_end p) is) ∙ not-reading p (in_place list n) (nobody n))
+none-reading p list nobody = none-open (is_read_end p) list (λ n. not-reading p (in_place list n) (nobody n))
 
 pub none-writing : (p : ℕ) (list : List (Option Descriptor)) → ((fd : ℕ) → in_place list fd ≡ Some (on.WriteEnd p) → ⊥) → list_any (is_write_end p) list ≡ false
-none-writing p list nobody = none-open (is_write_end p) list refl (λ n x is. sym (ap (is_write_end p) is) ∙ not-writing p (in_place list n) (nobody n))
+none-writing p list nobody = none-open (is_write_end p) list (λ n. not-writing p (in_place list n) (nobody n))
 
 -- what nobody among them read stays to be read
 pub unread_ended : (s : State) (list : List (Option Descriptor)) (p : ℕ) → ((fd : ℕ) → in_place list fd ≡ Some (on.ReadEnd p) → ⊥) → (pipe_at s p).reading ≡ true → let u : Pipe = pipe_at (fold fds.closed_on s list) p in (u.reading ≡ true) × (u.queue ≡ (pipe_at s p).queue)

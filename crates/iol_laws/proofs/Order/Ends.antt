@@ -1,196 +1,130 @@
--- Each end of a pipe and each connection is open under one number of one domain, and exists: after each kind of change.
-use Rattle.std.proofs.Common.{inl, inr, zero, suc, ◌≡◌, ◌≢◌, ℕ, ◌⊎◌, List, [], ◌∷◌, ap, ◌∙◌, refl, sym, subst, Option}
-use Rattle.std.proofs.Common.{Some, None, true, false}
+-- A pipe after a change, and whether the object of a descriptor exists after it.
+use Rattle.std.proofs.Common.{inl, inr, zero, suc, ◌≡◌, ◌≢◌, ℕ, ◌⊎◌, List, [], ◌∷◌, ap, ◌∙◌, refl, sym, subst, Option, Some, None, true, false, Bool}
 use Rattle.std.specs.Prelude.{slice_set, unwrap_or, not, ◌&&◌, ◌||◌, if◌then◌else◌}
 use Rattle.std.proofs.lemmas.Bool.{cases_eq}
 use Rattle.iol_core.specs.Text.{Text}
-use Rattle.iol_core.specs.NumberedLists.{in_place, placed}
-use Rattle.iol_core.specs.State.{State, Domain, Pipe, Connection, domain, descriptor, pipe_at, conn_at, no_pipe}
-use Rattle.iol_core.specs.State.{with_domain, with_pipe, with_conn}
+use Rattle.iol_core.specs.NumberedLists.{in_place, lowest, placed}
+use Rattle.iol_core.specs.State.{State, Domain, Pipe, Connection, domain, is_live, pipe_at, conn_at, no_pipe, new_pipe, with_domain, with_pipe, with_conn}
 use Rattle.iol_core.specs.Calls.Descriptors as fds
-use Rattle.iol_core.specs.Calls.Writes.{is_file}
 use Rattle.iol_core.specs.declared.descriptors.Descriptor.{Descriptor}
 use Rattle.iol_core.specs.declared.descriptors.Descriptor.TheVariants as on
 use Rattle.iol_core.proofs.Lookups.{domain-same}
-use Rattle.iol_laws.specs.Order.{stands}
-use Rattle.iol_laws.proofs.Connections.{conns_conn, conns_same}
-use Rattle.iol_laws.proofs.Domains.{domains-closed_on, found-with}
+use Rattle.iol_laws.specs.Order.{Once, stands}
+use Rattle.iol_laws.proofs.Connections.{after-with_conn, conn-with_same, conns_conn, conns_same, not-over}
+use Rattle.iol_laws.proofs.Domains.{domain-with_same, with_domain-twice}
 use Rattle.iol_laws.proofs.Frame.Pipes.{pipes_pipe, pipes_same}
-use Rattle.iol_laws.proofs.Places.{place-old, place-set_none}
-use Rattle.iol_laws.proofs.Tests.{apart, left-true, right-true}
+use Rattle.iol_laws.proofs.Places.{lowest-free, place-new, place-placed_other, place-set_free}
+use Rattle.iol_laws.proofs.Tests.{both-true, left-false, not-true, right-false}
 
--- each end is under one number, and stands
-pub record IsSole (s : State) : Type 0 where
-  pub one : (d e f g : ℕ) (x : Descriptor) → is_file (Some x) ≡ false → descriptor s d f ≡ Some x
-      → descriptor s e g ≡ Some x → (d ≡ e) × (f ≡ g)
-  pub all_stand : (d f : ℕ) (x : Descriptor) → descriptor s d f ≡ Some x → stands s x ≡ true
+-- A pipe is as it was set, unless both its ends are closed.
 
--- an end is where it was, or the new one in its one place
-abbrev pub WasOr : State → (d0 f0 : ℕ) → Descriptor → (d f : ℕ) → Descriptor → Type 0
-WasOr s d0 f0 x d f y = ((descriptor s d f ≡ Some y) × (y ≢ x)) ⊎ ((d ≡ d0) × (f ≡ f0) × (y ≡ x))
+pub pipe-with_same : (s : State) (p : ℕ) (x : Pipe) → ((pipe_at s p).reading || (pipe_at s p).writing) ≡ true → (x.reading || x.writing) ≡ true → pipe_at (with_pipe s p x) p ≡ x
+unfolding pipe_at with_pipe
+pipe-with_same s p x was on = by s.pipes p was
+  where
+    by : (xs : List (Option Pipe)) (n : ℕ) → ((unwrap_or (in_place xs n) no_pipe).reading || (unwrap_or (in_place xs n) no_pipe).writing) ≡ true → unwrap_or (in_place (slice_set xs n (if x.reading || x.writing then Some x else None)) n) no_pipe ≡ x
+    by [] n was = absurd (cc)
+    by (z ∷ xs) zero was = ap (λ b. unwrap_or (if b then Some x else None) no_pipe) on
+    by (z ∷ xs) (suc n) was = by xs n was
 
-stands-file : (t : State) (y : Descriptor) → (is_file (Some y) ≡ false → stands t y ≡ true) → stands t y ≡ true
-stands-file t (on.File f at mode) end = refl
-stands-file t y end = end refl
+pub pipe-gone : (s : State) (p : ℕ) (x : Pipe) → (x.reading || x.writing) ≡ false → pipe_at (with_pipe s p x) p ≡ no_pipe
+unfolding pipe_at with_pipe
+pipe-gone s p x off = ap (λ b. unwrap_or (in_place (slice_set s.pipes p (if b then Some x else None)) p) no_pipe) off ∙ ap (λ (o : Option Pipe). unwrap_or o no_pipe) (place-set_free s.pipes p)
 
--- one end more
-pub sole_more : (s t : State) (d0 f0 : ℕ) (x : Descriptor) → IsSole s
-    → ((d f : ℕ) (y : Descriptor) → is_file (Some y) ≡ false → descriptor t d f ≡ Some y
-    → WasOr s d0 f0 x d f y × (stands t y ≡ true)) → IsSole t
-sole_more s t d0 f0 x sole each = record {
-  one = λ d e f g y end is_d is_e. elim (each d f y end is_d).0 [
-    | inl was ↦ elim (each e g y end is_e).0 [
-      | inl was_e ↦ sole.one d e f g y end was.0 was_e.0
-      | inr new_e ↦ absurd (was.1 new_e.2)
-    ]
-    | inr new ↦ elim (each e g y end is_e).0 [
-      | inl was_e ↦ absurd (was_e.1 new.2)
-      | inr new_e ↦ (new.0 ∙ sym new_e.0, new.1 ∙ sym new_e.1)
-    ]
-  ];
-  all_stand = λ d f y is. stands-file t y (λ end. (each d f y end is).1);
-}
+-- what is left of a pipe
+abbrev pub left_of : Pipe → Pipe
+left_of x = if x.reading || x.writing then x else no_pipe
 
--- no end more
-pub sole_less : (s t : State) → IsSole s
-    → ((d f : ℕ) (y : Descriptor) → is_file (Some y) ≡ false → descriptor t d f ≡ Some y → (descriptor s d f ≡ Some y)
-    × (stands t y ≡ true)) → IsSole t
-sole_less s t sole each = record {
-  one = λ d e f g y end is_d is_e. sole.one d e f g y end (each d f y end is_d).0 (each e g y end is_e).0;
-  all_stand = λ d f y is. stands-file t y (λ end. (each d f y end is).1);
-}
+pub pipe-left : (s : State) (p : ℕ) (x : Pipe) → ((x.reading || x.writing) ≡ true → ((pipe_at s p).reading || (pipe_at s p).writing) ≡ true) → pipe_at (with_pipe s p x) p ≡ left_of x
+pipe-left s p x was = by (x.reading || x.writing) refl
+  where
+    by : (b : Bool) → (x.reading || x.writing) ≡ b → pipe_at (with_pipe s p x) p ≡ (if b then x else no_pipe)
+    by true on = pipe-with_same s p x (was on) on
+    by false off = pipe-gone s p x off
 
--- the domains are the same, and all that stood stands
-pub sole_same : (s t : State) → IsSole s → t.domains ≡ s.domains
-    → ((y : Descriptor) → is_file (Some y) ≡ false → stands s y ≡ true → stands t y ≡ true) → IsSole t
-sole_same s t sole same still =
-    sole_less s t sole (λ d f y end is. let was =
-    sym (ap (λ (z : Domain Text). in_place z.fds f) (domain-same s t d same)) ∙ is in
-    (was, still y end (sole.all_stand d f y was)))
+pub pipe-either : (s : State) (p : ℕ) (x : Pipe) → (pipe_at (with_pipe s p x) p ≡ x) ⊎ (pipe_at (with_pipe s p x) p ≡ no_pipe)
+unfolding pipe_at with_pipe
+pipe-either s p x = by (x.reading || x.writing) refl s.pipes p
+  where
+    by : (b : Bool) → (x.reading || x.writing) ≡ b → (xs : List (Option Pipe)) (n : ℕ) → (unwrap_or (in_place (slice_set xs n (if b then Some x else None)) n) no_pipe ≡ x) ⊎ (unwrap_or (in_place (slice_set xs n (if b then Some x else None)) n) no_pipe ≡ no_pipe)
+    by b is [] n = inr refl
+    by true is (z ∷ xs) zero = inl refl
+    by false is (z ∷ xs) zero = inr refl
+    by b is (z ∷ xs) (suc n) = by b is xs n
+
+-- A new pipe.
+
+pub pipe-there : (s : State) → pipe_at (record s { pipes = placed s.pipes (lowest s.pipes) new_pipe }) (lowest s.pipes) ≡ new_pipe
+unfolding pipe_at
+pipe-there s = ap (λ o. unwrap_or o no_pipe) (place-new s.pipes new_pipe)
+
+pub pipe-none : (s : State) → pipe_at s (lowest s.pipes) ≡ no_pipe
+unfolding pipe_at
+pipe-none s = ap (λ o. unwrap_or o no_pipe) (lowest-free s.pipes)
+
+pub pipe-other : (s : State) (q : ℕ) → lowest s.pipes ≢ q → pipe_at (record s { pipes = placed s.pipes (lowest s.pipes) new_pipe }) q ≡ pipe_at s q
+unfolding pipe_at
+pipe-other s q differ = ap (λ o. unwrap_or o no_pipe) (place-placed_other s.pipes q new_pipe differ)
+
+-- opening the two ends one after another is the call
+pub pipe-twice : (s : State) (by : ℕ) → is_live s by ≡ true → fds.opened (fds.opened (record s { pipes = placed s.pipes (lowest s.pipes) new_pipe }) by (on.ReadEnd (lowest s.pipes))) by (on.WriteEnd (lowest s.pipes)) ≡ (fds.pipe s by).after
+unfolding with_domain
+pipe-twice s by live =
+    let new : ℕ = lowest s.pipes in
+    let u : State = record s { pipes = placed s.pipes new new_pipe } in
+    let dom : domain u by ≡ domain s by = domain-same s u by refl in
+    let x : Domain Text = record (domain u by) { fds = placed (domain u by).fds (fds.next_fd u by) (on.ReadEnd new) } in
+    let there : domain (with_domain u by x) by ≡ x = domain-with_same u by x (ap (λ (z : Domain Text). z.live) dom ∙ live) in
+    with_domain-twice u by x (record (domain (with_domain u by x) by) { fds = placed (domain (with_domain u by x) by).fds (lowest (domain (with_domain u by x) by).fds) (on.WriteEnd new) })
+    ∙ (ap (λ (z : Domain Text). with_domain u by (record z { fds = placed z.fds (lowest z.fds) (on.WriteEnd new) })) there
+    ∙ ap (λ (z : Domain Text). with_domain u by (record z { fds = placed (fds.with_read_end z.fds new) (lowest (fds.with_read_end z.fds new)) (on.WriteEnd new) })) dom)
+
+-- The objects of descriptors.
 
 pub stands-same : (s t : State) (y : Descriptor) → t.conns ≡ s.conns → t.pipes ≡ s.pipes → stands t y ≡ stands s y
 stands-same s t (on.File f at mode) conns pipes = refl
 stands-same s t (on.ReadEnd p) conns pipes = ap (λ (x : Pipe). x.reading) (pipes_same s t (λ k. false) pipes p refl)
 stands-same s t (on.WriteEnd p) conns pipes = ap (λ (x : Pipe). x.writing) (pipes_same s t (λ k. false) pipes p refl)
-stands-same s t (on.Connection c) conns pipes =
-    ap (λ (x : Connection). x.accepted && not x.closed) (conns_same s t (λ k. false) conns c refl)
+stands-same s t (on.Connection c) conns pipes = ap (λ (x : Connection). x.accepted && not x.closed) (conns_same s t (λ k. false) conns c refl)
 
--- a descriptor more, on what nobody has
-pub sole_opened : (s : State) (d : ℕ) (x : Descriptor) → IsSole s → ((e f : ℕ) → descriptor s e f ≡ Some x → ⊥)
-    → stands s x ≡ true → IsSole (fds.opened s d x)
-unfolding with_domain
-sole_opened s d x sole nobody new = sole_more s (fds.opened s d x) d (fds.next_fd s d) x sole each
+-- the ends of a pipe that opens none
+pipe-ends : (s : State) (p : ℕ) (x : Pipe) → x.reading ≡ (pipe_at s p).reading → x.writing ≡ (pipe_at s p).writing → ((pipe_at (with_pipe s p x) p).reading ≡ x.reading) × ((pipe_at (with_pipe s p x) p).writing ≡ x.writing)
+pipe-ends s p x reads writes = by (x.reading || x.writing) refl
   where
-    each : (e f : ℕ) (y : Descriptor) → is_file (Some y) ≡ false → descriptor (fds.opened s d x) e f ≡ Some y
-        → WasOr s d (fds.next_fd s d) x e f y × (stands (fds.opened s d x) y ≡ true)
-    each e f y end is =
-        elim (found-with s d (record (domain s d) { fds = placed (domain s d).fds (fds.next_fd s d) x }) e f y is) [
-          | inl here ↦ elim (place-old (domain s d).fds x f y here.1) [
-            | inl made ↦ (
-              inr (sym here.0, made.0, made.1),
-              stands-same s (fds.opened s d x) y refl refl
-                  ∙ (ap (λ z. stands s z) made.1 ∙ new),
-            )
-            | inr old ↦ (let was = subst (λ n. descriptor s n f ≡ Some y) here.0 old in (
-              inl (was, λ same. nobody e f (was ∙ ap (λ z. Some z) same)),
-              stands-same s (fds.opened s d x) y refl refl
-                  ∙ sole.all_stand e f y was,
-            ))
-          ]
-          | inr other ↦ (
-            inl (other.1, λ same. nobody e f (other.1 ∙ ap (λ z. Some z) same)),
-            stands-same s (fds.opened s d x) y refl refl ∙ sole.all_stand e f y other.1,
-          )
-        ]
+    by : (b : Bool) → (x.reading || x.writing) ≡ b → ((pipe_at (with_pipe s p x) p).reading ≡ x.reading) × ((pipe_at (with_pipe s p x) p).writing ≡ x.writing)
+    by true on = (let e = pipe-with_same s p x (ap (λ b. b || (pipe_at s p).writing) (sym reads) ∙ (ap (λ b. x.reading || b) (sym writes) ∙ on)) on in (ap (λ (k : Pipe). k.reading) e, ap (λ (k : Pipe). k.writing) e))
+    by false off = (let e = pipe-gone s p x off in (ap (λ (k : Pipe). k.reading) e ∙ sym (left-false x.reading x.writing off), ap (λ (k : Pipe). k.writing) e ∙ sym (right-false x.reading x.writing off)))
 
-pub pipe-with_same : (s : State) (p : ℕ) (x : Pipe) → ((pipe_at s p).reading || (pipe_at s p).writing) ≡ true
-    → (x.reading || x.writing) ≡ true → pipe_at (with_pipe s p x) p ≡ x
-unfolding pipe_at with_pipe
-pipe-with_same s p x was on = by s.pipes p was
-  where
-    by : (xs : List (Option Pipe)) (n : ℕ)
-        → ((unwrap_or (in_place xs n) no_pipe).reading || (unwrap_or (in_place xs n) no_pipe).writing) ≡ true
-        → unwrap_or (in_place (slice_set xs n (if x.reading || x.writing then Some x else None)) n) no_pipe ≡ x
-    by [] n was = absurd (cc)
-    by (z ∷ xs) zero was = ap (λ b. unwrap_or (if b then Some x else None) no_pipe) on
-    by (z ∷ xs) (suc n) was = by xs n was
-
--- what is closed does not stand; all else does
-pub stands-closed : (s : State) (x y : Descriptor) → x ≢ y → stands s y ≡ true
-    → stands (fds.closed_on s (Some x)) y ≡ true
-unfolding with_pipe with_conn
-stands-closed s (on.File f at mode) y differ is = is
-stands-closed s x (on.File f at mode) differ is = refl
-stands-closed s (on.Connection c) (on.Connection e) differ is =
-    ap (λ (k : Connection). k.accepted && not k.closed)
-    (conns_conn s c (record (conn_at s c) { incoming = []; closed = true }) e
-    (λ same. differ (ap (λ n. on.Connection n) same))) ∙ is
-stands-closed s (on.Connection c) (on.ReadEnd q) differ is = is_pipe
-  where
-    is_pipe : (pipe_at (fds.closed_on s (Some (on.Connection c))) q).reading ≡ true
-    is_pipe =
-        ap (λ (k : Pipe). k.reading) (pipes_same s (fds.closed_on s (Some (on.Connection c))) (λ k. false) refl q refl)
-        ∙ is
-stands-closed s (on.Connection c) (on.WriteEnd q) differ is =
-    ap (λ (k : Pipe). k.writing) (pipes_same s (fds.closed_on s (Some (on.Connection c))) (λ k. false) refl q refl) ∙ is
-stands-closed s (on.ReadEnd p) (on.Connection e) differ is =
-    ap (λ (k : Connection). k.accepted && not k.closed)
-    (conns_same s (fds.closed_on s (Some (on.ReadEnd p))) (λ k. false) refl e refl) ∙ is
-stands-closed s (on.WriteEnd p) (on.Connection e) differ is =
-    ap (λ (k : Connection). k.accepted && not k.closed)
-    (conns_same s (fds.closed_on s (Some (on.WriteEnd p))) (λ k. false) refl e refl) ∙ is
-stands-closed s (on.ReadEnd p) (on.ReadEnd q) differ is =
-    ap (λ (k : Pipe). k.reading) (pipes_pipe s p (record (pipe_at s p) { queue = []; reading = false }) q
-    (λ same. differ (ap (λ n. on.ReadEnd n) same))) ∙ is
-stands-closed s (on.WriteEnd p) (on.WriteEnd q) differ is =
-    ap (λ (k : Pipe). k.writing)
-    (pipes_pipe s p (record (pipe_at s p) { writing = false }) q (λ same. differ (ap (λ n. on.WriteEnd n) same))) ∙ is
-stands-closed s (on.ReadEnd p) (on.WriteEnd q) differ is = elim (cases_eq p q) [
-  | inl same ↦ (let w : (pipe_at s p).writing ≡ true = ap (λ n. (pipe_at s n).writing) same ∙ is in
-      ap (λ n. (pipe_at (fds.closed_on s (Some (on.ReadEnd p))) n).writing) (sym same)
-      ∙ (ap (λ (k : Pipe). k.writing) (pipe-with_same s p (record (pipe_at s p) { queue = []; reading = false })
-      (right-true (pipe_at s p).reading (pipe_at s p).writing w) w) ∙ w))
-  | inr apart ↦
-      ap (λ (k : Pipe). k.writing) (pipes_pipe s p (record (pipe_at s p) { queue = []; reading = false }) q apart) ∙ is
+pub stands-pipe : (s : State) (p : ℕ) (x : Pipe) → x.reading ≡ (pipe_at s p).reading → x.writing ≡ (pipe_at s p).writing → (y : Descriptor) → stands (with_pipe s p x) y ≡ stands s y
+unfolding with_pipe
+stands-pipe s p x reads writes (on.File f at mode) = refl
+stands-pipe s p x reads writes (on.Connection c) = ap (λ (k : Connection). k.accepted && not k.closed) (conns_same s (with_pipe s p x) (λ k. false) refl c refl)
+stands-pipe s p x reads writes (on.ReadEnd q) = elim (cases_eq p q) [
+  | inr differ ↦ ap (λ (k : Pipe). k.reading) (pipes_pipe s p x q differ)
+  | inl same ↦ subst (λ n. (pipe_at (with_pipe s p x) n).reading ≡ (pipe_at s n).reading) same ((pipe-ends s p x reads writes).0 ∙ reads)
 ]
-stands-closed s (on.WriteEnd p) (on.ReadEnd q) differ is = elim (cases_eq p q) [
-  | inl same ↦ (let r : (pipe_at s p).reading ≡ true = ap (λ n. (pipe_at s n).reading) same ∙ is in
-      ap (λ n. (pipe_at (fds.closed_on s (Some (on.WriteEnd p))) n).reading) (sym same)
-      ∙ (ap (λ (k : Pipe). k.reading)
-      (pipe-with_same s p (record (pipe_at s p) { writing = false })
-      (left-true (pipe_at s p).reading (pipe_at s p).writing r) (left-true (pipe_at s p).reading false r)) ∙ r))
-  | inr apart ↦ ap (λ (k : Pipe). k.reading) (pipes_pipe s p (record (pipe_at s p) { writing = false }) q apart) ∙ is
+stands-pipe s p x reads writes (on.WriteEnd q) = elim (cases_eq p q) [
+  | inr differ ↦ ap (λ (k : Pipe). k.writing) (pipes_pipe s p x q differ)
+  | inl same ↦ subst (λ n. (pipe_at (with_pipe s p x) n).writing ≡ (pipe_at s n).writing) same ((pipe-ends s p x reads writes).1 ∙ writes)
 ]
 
-pub sole_closed : (s : State) (d fd : ℕ) (x : Descriptor) → IsSole s → descriptor s d fd ≡ Some x
-    → is_file (Some x) ≡ false → IsSole (fds.with_fds (fds.closed_on s (Some x)) d (fds.freed s d fd))
-unfolding with_domain
-sole_closed s d fd x sole is_x end_x =
-    sole_less s (fds.with_fds (fds.closed_on s (Some x)) d (fds.freed s d fd)) sole each
-  where
-    mid : State
-    mid = fds.closed_on s (Some x)
+abbrev pub is_used : Connection → Bool
+is_used k = k.accepted && not k.closed
 
-    each : (e f : ℕ) (y : Descriptor) → is_file (Some y) ≡ false
-        → descriptor (fds.with_fds (fds.closed_on s (Some x)) d (fds.freed s d fd)) e f ≡ Some y
-        → (descriptor s e f ≡ Some y) × (stands (fds.with_fds (fds.closed_on s (Some x)) d (fds.freed s d fd)) y ≡ true)
-    each e f y end is = elim (found-with mid d (record (domain mid d) { fds = fds.freed s d fd }) e f y is) [
-      | inl here ↦ (let gone = place-set_none (domain s d).fds fd f y here.1 in let was =
-          subst (λ n. descriptor s n f ≡ Some y) here.0 gone.1 in (
-            was,
-            stands-same mid (fds.with_fds mid d (fds.freed s d fd)) y refl refl
-                ∙ stands-closed s x y
-                (λ same. gone.0 (sole.one d e fd f x end_x is_x (was ∙ ap (λ z. Some z) (sym same))).1)
-                (sole.all_stand e f y was),
-          ))
-      | inr other ↦
-          (let was =
-          sym (ap (λ (z : Domain Text). in_place z.fds f) (domain-same s mid e (domains-closed_on s (Some x))))
-          ∙ other.1 in (
-            was,
-            stands-same mid (fds.with_fds mid d (fds.freed s d fd)) y refl refl
-                ∙ stands-closed s x y
-                (λ same. other.0 (sole.one d e fd f x end_x is_x (was ∙ ap (λ z. Some z) (sym same))).0)
-                (sole.all_stand e f y was),
-          ))
-    ]
+-- a connection that is closed as before
+pub conn-used : (s : State) (c : ℕ) (x : Connection) → Once s.conns → x.closed ≡ (conn_at s c).closed → is_used (conn_at (with_conn s c x) c) ≡ is_used x
+conn-used s c x once closed = by (is_used x) refl
+  where
+    by : (b : Bool) → is_used x ≡ b → is_used (conn_at (with_conn s c x) c) ≡ is_used x
+    by true is = (let both = both-true x.accepted (not x.closed) is in let lives = not-true x.closed both.1 in ap is_used (conn-with_same s c x (sym closed ∙ lives) (not-over x both.0 lives)))
+    by false is = elim (after-with_conn s c x once) [ inl there ↦ ap is_used there | inr none ↦ ap is_used none ∙ sym is ]
+
+pub stands-conn : (s : State) (c : ℕ) (x : Connection) → Once s.conns → x.accepted ≡ (conn_at s c).accepted → x.closed ≡ (conn_at s c).closed → (y : Descriptor) → stands (with_conn s c x) y ≡ stands s y
+unfolding with_conn
+stands-conn s c x once accepted closed (on.File f at mode) = refl
+stands-conn s c x once accepted closed (on.ReadEnd p) = ap (λ (k : Pipe). k.reading) (pipes_same s (with_conn s c x) (λ k. false) refl p refl)
+stands-conn s c x once accepted closed (on.WriteEnd p) = ap (λ (k : Pipe). k.writing) (pipes_same s (with_conn s c x) (λ k. false) refl p refl)
+stands-conn s c x once accepted closed (on.Connection e) = elim (cases_eq c e) [
+  | inr differ ↦ ap is_used (conns_conn s c x e differ)
+  | inl same ↦ subst (λ n. is_used (conn_at (with_conn s c x) n) ≡ is_used (conn_at s n)) same (conn-used s c x once closed ∙ (ap (λ b. b && not x.closed) accepted ∙ ap (λ b. (conn_at s c).accepted && not b) closed))
+]

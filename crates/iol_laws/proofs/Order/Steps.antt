@@ -1,11 +1,11 @@
 -- A new state is orderly, and each step preserves this.
 use Rattle.std.proofs.Common.{inl, inr, ◌≡◌, ◌≤◌, ◌∙◌, ℕ, List, length, ap, refl, sym, subst, arith, Option, Some, None}
-use Rattle.std.proofs.Common.{true, false}
+use Rattle.std.proofs.Common.{true, false, Bool}
 use Rattle.std.specs.Prelude.{Result, Ok, Err, unwrap_or, not}
 use Rattle.iol_core.specs.Text.{Text}
 use Rattle.iol_core.specs.NumberedLists.{lookup, in_place}
-use Rattle.iol_core.specs.State.{State, Domain, Pool, Pipe, Connection, domain, descriptor, pool, pipe_at, conn_at}
-use Rattle.iol_core.specs.State.{no_pipe, new_state}
+use Rattle.iol_core.specs.State.{State, Domain, Pool, Pipe, Connection, domain, is_live, descriptor, pool, pipe_at}
+use Rattle.iol_core.specs.State.{conn_at, no_pipe, new_state}
 use Rattle.iol_core.specs.Meaning.{Step, first}
 use Rattle.iol_core.specs.Run.{meaning, StepsTo, outcome}
 use Rattle.iol_core.specs.declared.limits.TheConstants.{MAX_LISTED}
@@ -16,12 +16,12 @@ use Rattle.iol_core.specs.declared.descriptors.Descriptor.TheVariants as on
 use Rattle.iol_core.specs.declared.events.Event.{Event}
 use Rattle.iol_core.specs.declared.events.Reply.{Reply}
 use Rattle.iol_core.proofs.Lookups.{domain-new_state}
-use Rattle.iol_laws.specs.Order.{IsOrderly, Once, stands}
+use Rattle.iol_laws.specs.Order.{IsOpen, IsOrderly, Once, stands}
 use Rattle.iol_laws.proofs.Connections.{conn-unmade}
 use Rattle.iol_laws.proofs.Order.Ends.{stands-same}
-use Rattle.iol_laws.proofs.Order.EndsOfCalls.{sole_meant}
-use Rattle.iol_laws.proofs.Order.DomainEnd.{gone_meant, gone_of}
-use Rattle.iol_laws.proofs.Order.HeldOfCalls.{held_meant, open-is}
+use Rattle.iol_laws.proofs.Order.DomainEnd.{AllGone, gone_meant, gone_of}
+use Rattle.iol_laws.proofs.Order.Balance.{balanced_meant}
+use Rattle.iol_laws.proofs.Order.Counts.{HasOpen, all_stand_balanced, held_balanced, one_balanced}
 use Rattle.iol_laws.proofs.Order.PoolLists.{listed_meant, pool-unmade}
 use Rattle.iol_laws.proofs.Order.NumbersToCome.{below_meant}
 use Rattle.iol_laws.proofs.Tests.{both-true}
@@ -31,18 +31,26 @@ pipe-unmade : (s : State) (p : ℕ) → in_place s.pipes p ≡ None → pipe_at 
 unfolding pipe_at
 pipe-unmade s p none = ap (λ (o : Option Pipe). unwrap_or o no_pipe) none
 
+-- who has it open lives, since nothing is left of who does not
+open-is : (s : State) (y : Descriptor) → AllGone s → HasOpen s y → IsOpen s y
+open-is s y gone has = record { by = has.0; fd = has.1; live = lives (is_live s has.0) refl; there = has.2 }
+  where
+    lives : (b : Bool) → is_live s has.0 ≡ b → is_live s has.0 ≡ true
+    lives true is = is
+    lives false is = absurd (let e = ap (λ (z : Domain Text). in_place z.fds has.1) (gone.gone has.0 is) in let f =
+        has.2 in cc (e, f))
+
 orderly_meant : (s : State) (e : Event) → IsOrderly s → first (meaning s e).refusals ≡ None
     → IsOrderly (meaning s e).after
 orderly_meant s e order unrefused =
-    let sole = sole_meant s e order unrefused in
+    let balance = balanced_meant s e order unrefused in
     let q = quiet_meant s e order in
     let below = below_meant s e (λ d. record { below = order.aggs d; once = order.aggs_once d }) in
     let gone = gone_meant s e (gone_of s order) unrefused in
-    let held = held_meant s e order unrefused in
     record {
-      one = sole.one;
-      all_stand = sole.all_stand;
-      held = λ x end is. open-is (meaning s e).after x gone (held.each x end is);
+      one = one_balanced (meaning s e).after balance;
+      all_stand = all_stand_balanced (meaning s e).after balance;
+      held = λ x end is. open-is (meaning s e).after x gone (held_balanced (meaning s e).after balance x end is);
       ends = gone.ends;
       listed = listed_meant s e order.listed unrefused;
       gone = gone.gone;

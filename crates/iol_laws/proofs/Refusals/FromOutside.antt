@@ -1,7 +1,7 @@
 -- The refusals that an external event can still get, and the reason for which arriving bytes are refused with
 -- BrokenPipe.
-use Rattle.std.proofs.Common.{inl, inr, ◌≡◌, ℕ, ◌<◌, ◌⊎◌, List, [], ◌∷◌, ap, arith, Some, true, false, Bool}
-use Rattle.std.specs.Prelude.{not, is_some, ◌||◌}
+use Rattle.std.proofs.Common.{◌≡◌, ℕ, ◌<◌, ◌⊎◌, List, [], ◌∷◌, ap, arith, Some, true, false, Bool}
+use Rattle.std.specs.Prelude.{not, is_some}
 use Rattle.std.proofs.lemmas.Bool.Decides.{nat_tests}
 use Rattle.iol_core.specs.State.{State, is_pool, pool, conn_at}
 use Rattle.iol_core.specs.Meaning.{first, ◌when◌, Never, WantOfMemory, FaultIn}
@@ -16,6 +16,7 @@ use Rattle.iol_core.specs.declared.events.Reply.TheVariants as reply
 use Rattle.iol_laws.specs.RefusalsLeft.{CannotPutOrLacksRoom, HasNothingToSend, LacksNumbers}
 use Rattle.iol_laws.proofs.Refusals.Reasons.{broken-said, other, said, when-differs}
 use Rattle.iol_laws.proofs.Refusals.Calls.{left, may, not-so, of-memory, of-room}
+use Rattle.iol_laws.proofs.Tests.{either}
 
 pub left_connect : (s t : State) (p : ℕ) (x : Refusal) → is_pool s p ≡ true → (pool s p).closed ≡ false
     → StepsTo s (event.ConnNew p) (reply.Refused x) t → LacksNumbers x
@@ -67,10 +68,6 @@ second : (a b c : Bool) → first ((refuse.BadFd when a) ∷ (refuse.BrokenPipe 
 second a b c is =
     broken-said b c (other (refuse.BadFd when a) ((refuse.BrokenPipe when b) ∷ (refuse.WouldBlock when c) ∷ [])
     refuse.BrokenPipe (when-differs refuse.BadFd refuse.BrokenPipe a (λ e. cc)) is)
-
-either : (a b : Bool) → (a || b) ≡ true → (a ≡ true) ⊎ (b ≡ true)
-either true b is = inl is
-either false b is = inr is
 
 pub arrival_is_broken : (s t : State) (c : ℕ) (bytes : List ℕ)
     → StepsTo s (event.Arrive c bytes) (reply.Refused refuse.BrokenPipe) t → (is_some (conn_at s c).peer ≡ true)

@@ -24,6 +24,7 @@ use Rattle.iol_laws.proofs.Numbers.{agg-there, text-of}
 use Rattle.iol_laws.proofs.Refusals.Calls.{left, may, not-so, of-memory, of-room, alive, long, open-fd}
 use Rattle.iol_laws.proofs.Refusals.OfFiles.{pool-there}
 use Rattle.iol_laws.proofs.Texts.{bytes-append, bytes-drop, bytes-take, length-bytes}
+use Rattle.iol_laws.proofs.Tests.{both-false}
 
 -- it may come, and then its condition holds
 where-so : (Is : Refusal → Type 0) (y : Refusal) (b : Bool) → (b ≡ true → Is y) → MatchOption (y when b) ⊤ Is
@@ -135,7 +136,7 @@ left_replace s t d a from to b xs ys x live has_a has_b rising inside fits step 
     left Is WantOfMemory (called s d (call.AggReplace a from to b)).refusals x (
       not-so Is refuse.NoDomain _ (alive s d live),
       (
-        not-so Is refuse.BadAgg _ (neither (aggs.lacks_agg s d a) (aggs.lacks_agg s d b) (agg-there s d a xs has_a)
+        not-so Is refuse.BadAgg _ (both-false (aggs.lacks_agg s d a) (aggs.lacks_agg s d b) (agg-there s d a xs has_a)
             (agg-there s d b ys has_b)),
         (
           not-so Is refuse.BadRange _ (within (length (text s d a)) (length xs) (long s d a xs has_a) inside),
@@ -148,9 +149,6 @@ left_replace s t d a from to b xs ys x live has_a has_b rising inside fits step 
     )
     (of-memory Is x tt) step.0
   where
-    neither : (p q : Bool) → p ≡ false → q ≡ false → (p || q) ≡ false
-    neither p q one two = grind (arith, one, two)
-
     within : (n m : ℕ) → n ≡ m → to ≤ m → (nat_lt to from || nat_lt n to) ≡ false
     within n m same inside = grind (arith, nat_tests, rising, same, inside)
 

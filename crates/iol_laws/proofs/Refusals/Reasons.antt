@@ -28,6 +28,7 @@ use Rattle.iol_laws.specs.Reasons.{IsHidden}
 use Rattle.iol_laws.proofs.Connections.{conn-found, conn-unmade}
 use Rattle.iol_laws.proofs.Numbers.{agg-there}
 use Rattle.iol_laws.proofs.Refusals.Rest.{past, past-live}
+use Rattle.iol_laws.proofs.Tests.{not-true}
 
 -- a refusal that is no late one is the first that holds
 pub said : (o : Option Refusal) (x : Refusal) → MatchOption o ⊥ (λ y. x ≡ y) → o ≡ Some x
@@ -285,13 +286,9 @@ peer_is_gone s t d fd c a is step =
 pub nobody_reads : (s t : State) (d fd p a : ℕ) → descriptor s d fd ≡ Some (on.WriteEnd p)
     → StepsTo s (event.Call d (call.IolWrite fd a)) (reply.Refused refuse.BrokenPipe) t → (pipe_at s p).reading ≡ false
 nobody_reads s t d fd p a is step =
-    off (pipe_at s p).reading
+    not-true (pipe_at s p).reading
     (broken-said (not (pipe_at s p).reading) _ (write-said s d fd a (Some (on.WriteEnd p)) refuse.BrokenPipe is (λ e. e)
     (λ e. cc) (λ e. cc) (λ e. cc) (λ e. cc) (λ e. cc) step.0))
-  where
-    off : (b : Bool) → not b ≡ true → b ≡ false
-    off true is = absurd (cc)
-    off false is = refl
 
 -- Accepting.
 

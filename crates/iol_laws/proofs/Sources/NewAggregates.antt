@@ -25,10 +25,8 @@ use Rattle.iol_laws.specs.Aggregates.{brings, is_refusal}
 use Rattle.iol_laws.specs.Caller.{readable_at, gives_away}
 use Rattle.iol_laws.specs.Sources.{lie_in, read_from, taken_from}
 use Rattle.iol_laws.proofs.Caller.Aggregates.{first_agg, second_agg, two-found}
-use Rattle.iol_laws.proofs.Caller.Gifts.{both_live}
 use Rattle.iol_laws.proofs.ComeAndGo.{none_step, gone_step}
-use Rattle.iol_laws.proofs.Domains.{domain-with_other, domain-with_same, live-first}
-use Rattle.iol_laws.proofs.NewNumbers.{domain-read_on}
+use Rattle.iol_laws.proofs.Domains.{domain-with_other, domain-with_same, live-first, both-live, kept-read_on}
 use Rattle.iol_laws.proofs.Numbers.{new_agg, number}
 use Rattle.iol_laws.proofs.Places.{lookup-without_none}
 use Rattle.iol_laws.proofs.Tests.{apart, both-true, same-number}
@@ -155,7 +153,7 @@ module _ (pools : ℕ → Bool) where
   lie-given s t d a to n b order step is lies = by (d == to) refl step.2
     where
       live : (is_live s d ≡ true) × (is_live s to ≡ true)
-      live = both_live s d to _ step.0
+      live = both-live s d to _ step.0
 
       n_is : n ≡ aggs.next_agg s to
       n_is = ap number step.1
@@ -186,12 +184,14 @@ module _ (pools : ℕ → Bool) where
   lie-iol_read s t d f n b a order step is lies =
       let o : Option Descriptor = descriptor s d f in
       let tx : Text = reading.read_text s d o n in
-      let same = domain-read_on s d f o (length tx) (live-first s d _ step.0) in
+      let next = kept-read_on (λ y. y.next_agg) (λ y xs. refl) s d f o (length tx) in
+      let live = kept-read_on (λ y. y.live) (λ y xs. refl) s d f o (length tx) ∙ live-first s d _ step.0 in
       let mid : State = reading.read_on s d f o (length tx) in
       let none : lookup (domain mid d).aggs (domain mid d).next_agg ≡ None =
-      ap (λ (l : List (ℕ × Text)). lookup l (domain mid d).next_agg) same.1
-      ∙ (ap (λ k. lookup (domain s d).aggs k) same.2 ∙ order.aggs d (aggs.next_agg s d) (omega arith)) in
-      lie-made mid t d b a (domain mid d).aggs tx same.0 none (ap number step.1 ∙ sym same.2) step.2 is
+      ap (λ (l : List (ℕ × Text)). lookup l (domain mid d).next_agg)
+      (kept-read_on (λ y. y.aggs) (λ y xs. refl) s d f o (length tx))
+      ∙ (ap (λ k. lookup (domain s d).aggs k) next ∙ order.aggs d (aggs.next_agg s d) (omega arith)) in
+      lie-made mid t d b a (domain mid d).aggs tx live none (ap number step.1 ∙ sym next) step.2 is
       (lie-read s d o n lies)
 
   -- an aggregate that a call brings to its own domain

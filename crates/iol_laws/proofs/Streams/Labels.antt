@@ -7,17 +7,15 @@ use Rattle.std.proofs.lemmas.Bool.Decides.{nat_tests}
 use Rattle.std.proofs.lemmas.Grind.{common_steps}
 use Rattle.iol_core.specs.Text.{Text, barred, labelled}
 use Rattle.iol_core.specs.State.{State, Connection, descriptor, may_read, conn_at, new_conn, new_state, with_conn}
+use Rattle.iol_core.specs.State.{with_domain, with_pipe, with_content}
 use Rattle.iol_core.specs.Run.{called, meaning, Run, StepsTo}
-use Rattle.iol_core.specs.Calls.Outside.{closed_by}
 use Rattle.iol_core.specs.Calls.Reads as reading
 use Rattle.iol_core.specs.declared.limits.TheConstants.{MAX_QUEUE_BYTES}
 use Rattle.iol_core.specs.declared.refusals.Refusal.{Refusal}
 use Rattle.iol_core.specs.declared.refusals.Refusal.TheVariants as refuse
 use Rattle.iol_core.specs.declared.descriptors.Descriptor.{Descriptor}
 use Rattle.iol_core.specs.declared.descriptors.Descriptor.TheVariants as on
-use Rattle.iol_core.specs.declared.descriptors.How.{How}
 use Rattle.iol_core.specs.declared.descriptors.How.TheVariants as ways
-use Rattle.iol_core.specs.declared.events.Call.{Call}
 use Rattle.iol_core.specs.declared.events.Call.TheVariants as call
 use Rattle.iol_core.specs.declared.events.Event.{Event}
 use Rattle.iol_core.specs.declared.events.Event.TheVariants as event
@@ -27,9 +25,11 @@ use Rattle.iol_core.proofs.TestedLists.{list_all-both, list_all-drop, list_all-l
 use Rattle.iol_core.proofs.TestedLists.{list_all-take, list_all-weaker}
 use Rattle.iol_laws.proofs.Runs.{run_keeps}
 use Rattle.iol_laws.specs.Labels.{AreInOwnPool, lies_in}
-use Rattle.iol_laws.proofs.ConnChanges.{Change, Reads, Closes, all_turned, changed_by, changes, conns_turned, turned}
+use Rattle.iol_laws.proofs.Changes.{Change, OfConn, OnConn, NewConn, IsUsed, IsLeft, Receives, Reads, Closes, changed}
+use Rattle.iol_laws.proofs.Changes.{conn_by, kept_always}
 use Rattle.iol_laws.proofs.Refusals.Calls.{left, may}
 use Rattle.iol_laws.proofs.Bounds.ShortQueues.{list_all-with_conn}
+use Rattle.iol_laws.proofs.Tests.{itself}
 
 abbrev is_in_pool : Connection → Bool
 is_in_pool k = lies_in k.pool k.incoming
@@ -41,45 +41,29 @@ home_each s c home = list_all-lookup is_in_pool s.conns c _ refl home
 home_conn : (s : State) (c : ℕ) (x : Connection) → is_in_pool x ≡ true → AreInOwnPool s → AreInOwnPool (with_conn s c x)
 home_conn s c x new home = list_all-with_conn is_in_pool s c x new home
 
--- however a call changes a connection
-home_changed : (x : Change) (k : Connection) → is_in_pool k ≡ true → is_in_pool (changed_by x k) ≡ true
-home_changed (Reads n) k home = list_all-drop (λ b. b.1 == k.pool) n k.incoming home
-home_changed Closes k home = refl
-home_changed x k home = home
-
-home_all : (s : State) (es : List (ℕ × Change)) → AreInOwnPool s → AreInOwnPool (all_turned s es)
-home_all s [] home = home
-home_all s (e ∷ es) home =
-    home_all (turned s e) es (home_conn s e.0 _ (home_changed e.1 (conn_at s e.0) (home_each s e.0 home)) home)
-
-home_called : (s : State) (by : ℕ) (k : Call) → AreInOwnPool s → AreInOwnPool (called s by k).after
-home_called s by k home =
-    subst (λ (l : List (ℕ × Connection)). list_all (λ e. is_in_pool e.1) l ≡ true) (sym (conns_turned s by k).conns)
-    (home_all s (changes s by k) home)
-
-itself : (p : ℕ) → (p == p) ≡ true
-itself p = grind (arith, nat_tests)
-
 -- bytes come in behind the others
 home-more : (p : ℕ) (t : Text) (bytes : List ℕ) → lies_in p t ≡ true → lies_in p (t ++ labelled p bytes) ≡ true
 home-more p t bytes home =
     list_all-both (λ b. b.1 == p) t (labelled p bytes) home (list_all-labelled (λ q. q == p) p bytes (itself p))
 
-home_ended : (s : State) (c : ℕ) (how : How) → AreInOwnPool s
-    → AreInOwnPool (with_conn s c (closed_by (conn_at s c) how))
-home_ended s c ways.Done home = home_conn s c _ (home_each s c home) home
-home_ended s c ways.Gone home = home_conn s c _ (home_each s c home) home
+home_by : (x : OfConn) (k : Connection) → is_in_pool k ≡ true → is_in_pool (conn_by x k) ≡ true
+home_by (IsUsed (Reads n)) k home = list_all-drop (λ b. b.1 == k.pool) n k.incoming home
+home_by (IsUsed Closes) k home = refl
+home_by (Receives bytes) k home =
+    home-more k.pool k.incoming (take (min (length bytes) (MAX_QUEUE_BYTES - length k.incoming)) bytes) home
+home_by (IsLeft ways.Done) k home = home
+home_by (IsLeft ways.Gone) k home = home
+home_by x k home = home
+
+home_changed : (s : State) (c : Change) → AreInOwnPool s → AreInOwnPool (changed s c)
+unfolding with_domain with_pipe with_content
+home_changed s (OnConn c x) home = home_conn s c _ (home_by x (conn_at s c) (home_each s c home)) home
+home_changed s (NewConn p) home =
+    list_all-push {A = ℕ × Connection} (λ e. is_in_pool e.1) s.conns (s.next_conn, new_conn p) home refl
+home_changed s c home = home
 
 home_meant : (s : State) (e : Event) → AreInOwnPool s → AreInOwnPool (meaning s e).after
-home_meant s (event.Call by k) home = home_called s by k home
-home_meant s (event.ConnNew p) home =
-    list_all-push {A = ℕ × Connection} (λ e. is_in_pool e.1) s.conns (s.next_conn, new_conn p) home refl
-home_meant s (event.Arrive c bytes) home =
-    let count : ℕ = min (length bytes) (MAX_QUEUE_BYTES - length (conn_at s c).incoming) in
-    home_conn s c _ (home-more (conn_at s c).pool (conn_at s c).incoming (take count bytes) (home_each s c home)) home
-home_meant s (event.PeerClosed c how) home = home_ended s c how home
-home_meant s (event.Transmit c max) home = home_conn s c _ (home_each s c home) home
-home_meant s e home = home
+home_meant s e home = kept_always AreInOwnPool home_changed s e home
 
 pub home_new : (slots : List (List ℕ)) → AreInOwnPool (new_state slots)
 home_new slots = refl

@@ -1,29 +1,24 @@
 -- No event lowers the next number of a connection.
-use Rattle.std.proofs.Common.{◌≡◌, ℕ, ◌≤◌, List, [], ◌∷◌, ◌∙◌, refl, sym, subst, arith}
+use Rattle.std.proofs.Common.{◌≤◌, sym, subst, arith}
 use Rattle.std.specs.Prelude.{Result, Ok, Err}
-use Rattle.iol_core.specs.State.{State, conn_at, with_conn}
+use Rattle.iol_core.specs.State.{State, with_conn, with_domain, with_pipe, with_content}
 use Rattle.iol_core.specs.Meaning.{Meaning, Step}
-use Rattle.iol_core.specs.Run.{called, meaning, StepsTo, outcome}
+use Rattle.iol_core.specs.Run.{meaning, StepsTo, outcome}
 use Rattle.iol_core.specs.declared.refusals.Refusal.{Refusal}
-use Rattle.iol_core.specs.declared.events.Call.{Call}
 use Rattle.iol_core.specs.declared.events.Event.{Event}
-use Rattle.iol_core.specs.declared.events.Event.TheVariants as event
 use Rattle.iol_core.specs.declared.events.Reply.{Reply}
-use Rattle.iol_laws.proofs.ConnChanges.{Change, changed_by, turned, all_turned, changes, conns_turned}
-use Rattle.iol_laws.proofs.Connections.{next-with_conn}
+use Rattle.iol_laws.proofs.Changes.{Change, NewConn, changed, kept_always}
 
-next_turned : (s : State) (es : List (ℕ × Change)) → (all_turned s es).next_conn ≡ s.next_conn
-next_turned s [] = refl
-next_turned s (e ∷ es) = next_turned (turned s e) es ∙ next-with_conn s e.0 (changed_by e.1 (conn_at s e.0))
-
-next_called : (s : State) (d : ℕ) (k : Call) → (called s d k).after.next_conn ≡ s.next_conn
-next_called s d k = (conns_turned s d k).next ∙ next_turned s (changes s d k)
+next_changed : (s : State) (c : Change) → s.next_conn ≤ (changed s c).next_conn
+unfolding with_domain with_pipe with_conn with_content
+next_changed s (NewConn p) = omega arith
+next_changed s c = omega arith
 
 -- the next number rises, or stays
 next_meant : (s : State) (e : Event) → s.next_conn ≤ (meaning s e).after.next_conn
-unfolding with_conn
-next_meant s (event.Call d k) = let same = next_called s d k in omega (arith, same)
-next_meant s e = omega arith
+next_meant s e =
+    kept_always (λ t. s.next_conn ≤ t.next_conn)
+    (λ t c more. (let rises = next_changed t c in omega (arith, more, rises))) s e (omega arith)
 
 next_outcome : (m : Meaning Reply) (old new : State) (r : Result Reply Refusal) → old.next_conn ≤ m.after.next_conn
     → Step m old r new → old.next_conn ≤ new.next_conn

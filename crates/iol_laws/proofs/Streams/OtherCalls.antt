@@ -1,12 +1,10 @@
 -- The effect of calls of another domain on a connection.
-use Rattle.std.proofs.Common.{inl, inr, suc, ◌≡◌, ℕ, ◌==◌, ◌⊎◌, List, [], ◌∷◌, ap, ◌∙◌, refl, sym, arith, Option, Some, true, false}
+use Rattle.std.proofs.Common.{inl, inr, ◌≡◌, ℕ, ◌==◌, ◌⊎◌, ap, ◌∙◌, refl, sym, arith, Option, Some, true, false}
 use Rattle.std.specs.Prelude.{unwrap_or, not, is_none, ◌&&◌}
 use Rattle.std.specs.List.{list_any}
 use Rattle.std.proofs.lemmas.Bool.{cases_eq}
 use Rattle.std.proofs.lemmas.Bool.Decides.{nat_tests}
-use Rattle.std.proofs.lemmas.Grind.{common_steps}
-use Rattle.iol_core.specs.NumberedLists.{in_place}
-use Rattle.iol_core.specs.State.{State, Connection, domain, descriptor, may_read, conn_at}
+use Rattle.iol_core.specs.State.{State, Connection, descriptor, may_read, conn_at}
 use Rattle.iol_core.specs.Run.{called, StepsTo, outcome}
 use Rattle.iol_core.specs.Calls.Descriptors as fds
 use Rattle.iol_core.specs.declared.refusals.Refusal.TheVariants as refuse
@@ -23,6 +21,7 @@ use Rattle.iol_laws.specs.Order.{IsOrderly}
 use Rattle.iol_laws.specs.Caller.{Accepts}
 use Rattle.iol_laws.proofs.Streams.Accept.{accepted_called, accepted_outcome}
 use Rattle.iol_laws.proofs.Caller.Descriptors.{does_accept}
+use Rattle.iol_laws.proofs.Changes.{operands-none}
 use Rattle.iol_laws.proofs.Frame.Steps.{leaves_step}
 use Rattle.iol_laws.proofs.Tests.{both-false, is_some-or}
 use Rattle.iol_laws.proofs.Streams.WaitingConn.{waiting-is}
@@ -30,23 +29,6 @@ use Rattle.iol_laws.proofs.Streams.WaitingConn.{waiting-is}
 not-on : (c : ℕ) (o : Option Descriptor) → (o ≡ Some (on.Connection c) → ⊥) → is_conn c o ≡ false
 not-on c (Some (on.Connection e)) never = elim (cases_eq e c) [ inl same ↦ absurd (never (ap (λ n. Some (on.Connection n)) same)) | inr differ ↦ grind (arith, nat_tests, differ) ]
 not-on c o never = refl
-
-one-of : (c : ℕ) (o : Option Descriptor) → (o ≡ Some (on.Connection c) → ⊥) → list_any (is_conn c) (o ∷ []) ≡ false
-one-of c o never = (let e = not-on c o never in grind (arith, common_steps, e))
-
-none-of : (c : ℕ) (list : List (Option Descriptor)) → ((f : ℕ) → in_place list f ≡ Some (on.Connection c) → ⊥) → list_any (is_conn c) list ≡ false
-none-of c [] never = refl
-none-of c (o ∷ list) never = (let e = not-on c o (never 0) in let r = none-of c list (λ f. never (suc f)) in grind (arith, common_steps, e, r))
-
--- a call uses no connection that its domain has not
-operands-none : (s : State) (d : ℕ) (k : Call) (c : ℕ) → ((f : ℕ) → descriptor s d f ≡ Some (on.Connection c) → ⊥) → list_any (is_conn c) (operands s (event.Call d k)) ≡ false
-operands-none s d call.Exit c never = none-of c (domain s d).fds never
-operands-none s d (call.Close f) c never = one-of c (descriptor s d f) (never f)
-operands-none s d (call.IolRead f n) c never = one-of c (descriptor s d f) (never f)
-operands-none s d (call.IolWrite f x) c never = one-of c (descriptor s d f) (never f)
-operands-none s d (call.Read f n) c never = one-of c (descriptor s d f) (never f)
-operands-none s d (call.Write f bytes) c never = one-of c (descriptor s d f) (never f)
-operands-none s d k c never = refl
 
 -- a connection that the domain neither has nor may accept
 pub other_conn : (s t : State) (d : ℕ) (k : Call) (r : Reply) (c : ℕ) → IsOrderly s → StepsTo s (event.Call d k) r t → ((f : ℕ) → descriptor s d f ≡ Some (on.Connection c) → ⊥)
@@ -66,7 +48,7 @@ other_conn s t d call.Accept (reply.Fd fd) c order step never free =
       ])
     ]
 other_conn s t d call.Accept r c order step never free = (let e = step.1 in absurd (cc))
-other_conn s t d k r c order step never free = (leaves_step s t (event.Call d k) r step).conns c (both-false (list_any (is_conn c) (operands s (event.Call d k))) false (operands-none s d k c never) refl)
+other_conn s t d k r c order step never free = (leaves_step s t (event.Call d k) r step).conns c (both-false (list_any (is_conn c) (operands s (event.Call d k))) false (operands-none (is_conn c) s d k (λ f. not-on c (descriptor s d f) (never f))) refl)
 
 -- a connection that waits is left, or accepted
 pub other_waiting : (s t : State) (d : ℕ) (k : Call) (r : Reply) (c : ℕ) → IsOrderly s → StepsTo s (event.Call d k) r t → (conn_at s c).accepted ≡ false → (conn_at t c ≡ conn_at s c) ⊎ ((conn_at t c).accepted ≡ true)
@@ -85,7 +67,7 @@ other_waiting s t d k r c order step waits = by k r step
 
     by : (k : Call) (r : Reply) → StepsTo s (event.Call d k) r t → (conn_at t c ≡ conn_at s c) ⊎ ((conn_at t c).accepted ≡ true)
     by call.Accept r step = accepts r (does_accept s t d r order step)
-    by k r step = inl ((leaves_step s t (event.Call d k) r step).conns c (both-false (list_any (is_conn c) (operands s (event.Call d k))) false (operands-none s d k c nobody) refl))
+    by k r step = inl ((leaves_step s t (event.Call d k) r step).conns c (both-false (list_any (is_conn c) (operands s (event.Call d k))) false (operands-none (is_conn c) s d k (λ f. not-on c (descriptor s d f) (nobody f))) refl))
 
 pub other_accepted : (s t : State) (d : ℕ) (k : Call) (r : Reply) (c : ℕ) → IsOrderly s → StepsTo s (event.Call d k) r t → (conn_at s c).accepted ≡ true → (conn_at t c).accepted ≡ true
 other_accepted s t d k r c order step was = accepted_outcome (called s d k) s t (outcome r) c (accepted_called s d k c order.once was) was step

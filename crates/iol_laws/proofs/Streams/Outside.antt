@@ -9,7 +9,7 @@ use Rattle.iol_core.specs.NumberedLists.{lookup}
 use Rattle.iol_core.specs.State.{State, Connection, pool, conn_at, is_gone, with_conn}
 use Rattle.iol_core.specs.Meaning.{first, ◌when◌}
 use Rattle.iol_core.specs.Run.{StepsTo}
-use Rattle.iol_core.specs.Calls.Outside.{conn_new, closed_by, arrive, transmit, peer_closed}
+use Rattle.iol_core.specs.Calls.Outside.{conn_new, closed_by, transmit}
 use Rattle.iol_core.specs.Calls.Outside as outside
 use Rattle.iol_core.specs.declared.limits.TheConstants.{MAX_QUEUE_BYTES}
 use Rattle.iol_core.specs.declared.refusals.Refusal.{Refusal}
@@ -24,6 +24,7 @@ use Rattle.iol_laws.specs.Others.{MakesConn, Arrives, Transmits, PeerCloses}
 use Rattle.iol_laws.proofs.Connections.{conn-made, conn-remains, conn-unmade, conn-there, conn-with_same}
 use Rattle.iol_laws.proofs.Numbers.{number}
 use Rattle.iol_laws.proofs.Texts.{bytes-append, bytes-labelled, length-bytes}
+use Rattle.iol_laws.proofs.Tests.{left-false, right-false}
 
 abbrev sent_in : Reply → List ℕ
 sent_in (reply.Segment bytes sum) = bytes
@@ -60,7 +61,8 @@ does_arrive s t c bytes (reply.Count k) order step =
     let broken =
     when-none refuse.BrokenPipe (is_some (conn_at s c).peer || (conn_at s c).closed)
     (passed (outside.arrive s c bytes).refusals 1 step.0) in
-    let yet = split (is_some (conn_at s c).peer) (conn_at s c).closed broken in
+    let peer_open = left-false (is_some (conn_at s c).peer) (conn_at s c).closed broken in
+    let open_yet = right-false (is_some (conn_at s c).peer) (conn_at s c).closed broken in
     let x : Connection =
     record (conn_at s c) { incoming = (conn_at s c).incoming ++ labelled (conn_at s c).pool (take k bytes) } in
     let same : t ≡ with_conn s c x =
@@ -71,24 +73,20 @@ does_arrive s t c bytes (reply.Count k) order step =
     (record (conn_at s c) { incoming = (conn_at s c).incoming ++ labelled (conn_at s c).pool (take n bytes) }))
     (sym (ap number step.1)) in
     record {
-      open_yet = yet.1;
-      peer_open = none-there (conn_at s c).peer yet.0;
+      open_yet = open_yet;
+      peer_open = none-there (conn_at s c).peer peer_open;
       incoming = (conn_at s c).incoming ++ labelled (conn_at s c).pool (take k bytes);
       bytes_are = bytes-append (conn_at s c).incoming (labelled (conn_at s c).pool (take k bytes))
           ∙ ap (λ (l : List ℕ). bytes_of (conn_at s c).incoming ++ l)
           (bytes-labelled (conn_at s c).pool (take k bytes));
       conn = ap (λ u. conn_at u c) same
-          ∙ conn-with_same s c x yet.1 (still (length x.outgoing == 0) (conn_at s c).closed (conn_at s c).accepted
-          (conn_at s c).peer yet.1 yet.0);
+          ∙ conn-with_same s c x open_yet (still (length x.outgoing == 0) (conn_at s c).closed (conn_at s c).accepted
+          (conn_at s c).peer open_yet peer_open);
     }
   where
     none-there : (o : Option How) → is_some o ≡ false → o ≡ None
     none-there None is = refl
     none-there (Some h) is = absurd (cc)
-
-    split : (a b : Bool) → (a || b) ≡ false → (a ≡ false) × (b ≡ false)
-    split false b is = (refl, is)
-    split true b is = absurd (cc)
 
     still : (e closed accepted : Bool) (peer : Option How) → closed ≡ false → is_some peer ≡ false
         → (e && (closed || (not accepted && is_gone peer))) ≡ false
