@@ -10,6 +10,9 @@ use http::StatusCode;
 use std::alloc::{AllocError, Global};
 use std::fmt;
 
+// The initial capacity of the text of a head. Most heads have fewer bytes, so that it does not grow.
+const HEAD_ROOM: usize = 160;
+
 /// The indication of the end of a response's body (RFC 9112, section 6.3).
 #[derive(Clone, Copy, Debug, PartialEq, Eq)]
 pub enum Framing {
@@ -203,8 +206,11 @@ impl ResponseHead {
         let range = RangeLine(self.range);
         let allow = allow_line(self.status);
         let connection = connection_line(self.close);
-        format!(in alloc;
+        let mut text = String::with_capacity(alloc, HEAD_ROOM)?;
+        write!(
+            text,
             "HTTP/1.1 {status}\r\nContent-Type: {media_type}\r\n{framing}{range}{allow}{connection}\r\n"
-        )
+        )?;
+        Ok(text)
     }
 }
