@@ -3,7 +3,7 @@ ghost use Rattle.std.specs.Prelude.{◌≡◌, IfOk, OnErr};
 ghost use Rattle.iol_back.specs.Prelude.{IfHonest};
 ghost use Rattle.iol_proc.specs.Streams.{SendsAs, TakenArrive};
 ghost use Rattle.iol_proc.specs.World.{copied};
-ghost use Rattle.iol_sock.specs.Gathers.{EndsShort};
+ghost use Rattle.iol_sock.specs.Gathers.{EndsShort, IsCalled};
 ghost use Rattle.iol_system.specs.Prelude.{ServesFrom, ServesTo};
 
 use crate::process::Process;
@@ -73,6 +73,7 @@ impl<B: Backing + Drop, P: Process> World<B, P> {
             (λ d. SendsAs P.turns conn d.taken (copied self.old) (copied self.new)) }
         ensures process_slots { self.new.process_slots ≡ self.old.process_slots }
         ensures resource_failure { self.new.resource_failure ≡ self.old.resource_failure }
+        ensures calls { IsCalled G.gathers taker.old taker.new }
         ensures failed { IfOk result (λ d. EndsShort G.gathers taker.new d.failed) }
 
         // The effect on the system.

@@ -1,4 +1,5 @@
 pub mod AtPlace
+pub mod GatherCalls
 pub mod Gathers
 pub mod QueueEnds
 pub mod MachineConns

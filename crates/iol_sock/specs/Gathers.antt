@@ -1,5 +1,5 @@
 -- Bytes of a queue, offered several slices at once.
-use Rattle.std.specs.Prelude.{◌≡◌, ◌<◌, ℕ, Bool, true, List, length, take, drop}
+use Rattle.std.specs.Prelude.{◌≡◌, ◌<◌, ℕ, Bool, true, List, [], ◌∷◌, length, take, drop}
 use Rattle.iol_core.specs.Text.{bytes_of}
 use Rattle.iol_hold.specs.StoreState.{Stored}
 use Rattle.iol_hold.specs.Texts.{text_of}
@@ -13,3 +13,19 @@ part_of s xs i most = take most (bytes_of (text_of s (take 1 (drop i xs))))
 abbrev pub EndsShort : {G : Type 0} → (gathers : G → List ℕ → ℕ → G → Type 0) → (after : G) → (failed : Bool) → Type 0
 EndsShort {G} gathers after failed = failed ≡ true → (before : G) × (offered : List ℕ) × (n : ℕ)
     × gathers before offered n after × (n < length offered)
+
+-- A call of a taker: the bytes that it was offered, the number of them that it took, and its state after the call.
+pub record Gathering (G : Type 0) : Type 0 where
+  pub offered : List ℕ
+  pub taken : ℕ
+  pub after : G
+
+-- These calls lead from one state of a taker to another.
+abbrev pub AreCalls : {G : Type 0} → (gathers : G → List ℕ → ℕ → G → Type 0) → (before : G) → List (Gathering G)
+    → (after : G) → Type 0
+AreCalls gathers before [] after = after ≡ before
+AreCalls gathers before (c ∷ cs) after = gathers before c.offered c.taken c.after × AreCalls gathers c.after cs after
+
+-- Some calls do.
+abbrev pub IsCalled : {G : Type 0} → (gathers : G → List ℕ → ℕ → G → Type 0) → (before after : G) → Type 0
+IsCalled {G} gathers before after = (calls : List (Gathering G)) × AreCalls gathers before calls after

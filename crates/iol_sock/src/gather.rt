@@ -3,7 +3,7 @@ ghost use Rattle.std.specs.Prelude.{◌≡◌, ◌≤◌, ◌++◌, length, take
 ghost use Rattle.std.specs.Io.KnownBytes.{Appends};
 ghost use Rattle.iol_hold.specs.Prelude.{Covers, bufs_of, AllReadable};
 ghost use Rattle.iol_sock.specs.Calls.{Drains};
-ghost use Rattle.iol_sock.specs.Gathers.{EndsShort, part_of};
+ghost use Rattle.iol_sock.specs.Gathers.{EndsShort, IsCalled, part_of};
 ghost use Rattle.iol_sock.specs.SentBytes.{Writes};
 
 use crate::connections::Connection;
@@ -39,6 +39,7 @@ impl Connection {
         requires readable { AllReadable store.old self.old.outgoing }
         ensures drains { Drains G.contents taker.old taker.new store.old store.new self.old self.new max
             result }
+        ensures calls { IsCalled G.gathers taker.old taker.new }
         ensures failed { EndsShort G.gathers taker.new result.failed }
     {
         let drained = gather_first(&self.outgoing, store, taker, max);
@@ -51,6 +52,7 @@ impl Connection {
 fn gather_first<G: Gather>(queue: &Pipe, store: &Store, taker: &mut G, max: u32) -> Drained
     requires { AllReadable store.now queue.now }
     ensures writes { Writes G.contents taker.old taker.new store.now queue.now max result }
+    ensures calls { IsCalled G.gathers taker.old taker.new }
     ensures failed { EndsShort G.gathers taker.new result.failed }
 {
     let most = queue.len().min(max) as usize;

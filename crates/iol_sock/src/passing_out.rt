@@ -3,7 +3,7 @@ ghost use Rattle.iol_core.specs.Prelude.{lookup};
 ghost use Rattle.iol_hold.specs.Prelude.{Covers, IsCountable, AllReadable, bufs_of};
 ghost use Rattle.iol_pool.specs.Prelude.{pool_in};
 ghost use Rattle.iol_sock.specs.Calls.{ClosesPeer, Drains, QueuesNew, QueuesShared, Segments};
-ghost use Rattle.iol_sock.specs.Gathers.{EndsShort};
+ghost use Rattle.iol_sock.specs.Gathers.{EndsShort, IsCalled};
 ghost use Rattle.iol_sock.specs.Table.{ChangesAs, conn_in};
 ghost use Rattle.iol_sum.specs.Prelude.{IsRight};
 ghost use Rattle.std.specs.Prelude.{None, false, ◌≡◌, ◌≢◌};
@@ -117,6 +117,7 @@ impl Connections {
         requires readable { AllReadable store.old (conn_in self.old.conns c).outgoing }
         ensures drains { ChangesAs self.old self.new c (λ x y. Drains G.contents taker.old taker.new
             store.old store.new x y max result) }
+        ensures calls { IsCalled G.gathers taker.old taker.new }
         ensures failed { EndsShort G.gathers taker.new result.failed }
     {
         conn_mut(&mut self.live, c).drain_into(store, taker, max)

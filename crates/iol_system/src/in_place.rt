@@ -1,5 +1,5 @@
 //! Connections that are served from outside in place, from readers and to writers.
-ghost use Rattle.iol_sock.specs.Gathers.{EndsShort};
+ghost use Rattle.iol_sock.specs.Gathers.{EndsShort, IsCalled};
 ghost use Rattle.iol_system.specs.Streams.{ServesFrom, ServesTo};
 ghost use Rattle.std.specs.Prelude.{IfOk};
 
@@ -56,6 +56,7 @@ impl<B: Backing> System<B> {
         max: u32,
     ) -> Result<Drained, Refusal>
         ensures serves { ServesTo G.contents taker.old taker.new conn max self.old self.new result }
+        ensures calls { IsCalled G.gathers taker.old taker.new }
         ensures failed { IfOk result (λ d. EndsShort G.gathers taker.new d.failed) }
     {
         self.kernel.drain_into(conn, taker, max)

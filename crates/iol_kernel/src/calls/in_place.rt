@@ -5,7 +5,7 @@ ghost use Rattle.iol_kernel.specs.Streams.{FailsToRead, MayBringIn};
 ghost use Rattle.iol_kernel.specs.InPlace.{DrainsToWriter, LendsToWriter, ReadsFromReader, TakesFromReader};
 ghost use Rattle.iol_kernel.specs.KernelState.{IsSound};
 ghost use Rattle.iol_kernel.specs.Outside.{HasConn};
-ghost use Rattle.iol_sock.specs.Gathers.{EndsShort};
+ghost use Rattle.iol_sock.specs.Gathers.{EndsShort, IsCalled};
 
 use crate::kernel::Kernel;
 use iol_core::numbers::{ConnId, PoolId};
@@ -122,6 +122,7 @@ impl Kernel {
         requires { IsSound (state_of self.old) }
         ensures drains { DrainsToWriter conn max G.contents taker.old taker.new self.old result
             self.new }
+        ensures calls { IsCalled G.gathers taker.old taker.new }
         ensures failed { IfOk result (λ d. EndsShort G.gathers taker.new d.failed) }
     {
         if self.lacks_conn(conn) {
@@ -136,6 +137,7 @@ impl Kernel {
         requires { HasConn (state_of self.old) conn }
         ensures lends { LendsToWriter conn max G.contents taker.old taker.new self.old self.new
             result }
+        ensures calls { IsCalled G.gathers taker.old taker.new }
         ensures failed { EndsShort G.gathers taker.new result.failed }
     {
         let sent = self.conns.drain_into(&mut self.store, conn, taker, max);

@@ -10,7 +10,7 @@ use iol_core::numbers::{DomainId, Fd};
 use iol_core::refusals::Refusal;
 
 impl Kernel {
-    ghost use Rattle.iol_kernel.specs.Kernel.{state_of, CopiesFileInto, IsOpenOn};
+    ghost use Rattle.iol_kernel.specs.Kernel.{CopiesFileInto, IsOpenOn};
 
     /// Copies bytes of a file from a descriptor's position on to the front of `into`, as many as the
     /// file has and `into` has room for, and returns their number. The position moves past them. No

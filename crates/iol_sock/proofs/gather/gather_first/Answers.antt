@@ -5,6 +5,7 @@ use Rattle.iol_core.specs.Text.{bytes_of}
 use Rattle.iol_hold.specs.Places.{byte_len}
 use Rattle.iol_hold.specs.Texts.{text_of}
 use Rattle.iol_hold.proofs.SlicePlaces.{byte_len-take-le}
+use Rattle.iol_sock.proofs.GatherCalls.{one_more}
 use Rattle.iol_sock.proofs.Gathers.{Offers, offers, part_short, four_long, slice_near}
 use Rattle.iol_sock.proofs.gather.gather_first.Given.{Over}
 use Rattle.iol_sock.proofs.gather.gather_first.Goals.{After-gather-count, After-part-first}
@@ -109,4 +110,13 @@ returns-then-count-offered-clause-writes g c =
 pub loop-taken-preserved : goal.loop-taken-preserved
 loop-taken-preserved g c =
     let t = step g (goal.at.loop-taken-preserved g c).After-gather-count in
-    record { full = omega (arith, t.few, t.full, t.size, c.if-count-offered.false); written = t.written }
+    record {
+      full = omega (arith, t.few, t.full, t.size, c.if-count-offered.false);
+      written = t.written;
+      calls =
+          one_more g.G.Gather.gathers _ _ _ _ _ c.loop-taken.invariant.calls c.gather-count.ensures.call;
+    }
+
+pub returns-then-count-offered-clause-calls : goal.returns-then-count-offered-clause-calls
+returns-then-count-offered-clause-calls g c =
+    one_more g.G.Gather.gathers _ _ _ _ _ c.loop-taken.invariant.calls c.gather-count.ensures.call
