@@ -27,7 +27,7 @@ fn answer(host: &mut Host, conn: ConnId) -> Result<u64, Refusal> {
     let _arrived = host.arrive_from(conn, &mut request, 4_096)?;
     let mut sent = 0u64;
     for _ in 0..TIMES {
-        let _is_idle = host.settle();
+        let _is_idle = host.quiesce();
         let count = send(host, conn)?;
         if count == 0 {
             break;

@@ -88,7 +88,7 @@ pub struct Plan {
 
 // Gives turns until all are idle, and takes the output; returns the number of bytes.
 fn settle_and_send(host: &mut Host, conn: ConnId) -> u32 {
-    if host.settle() { send(host, conn) } else { 0 }
+    if host.quiesce() { send(host, conn) } else { 0 }
 }
 
 // A request with its whole response: the number of times that turns were given, and the number of
@@ -148,7 +148,7 @@ fn connect_beside(host: &mut Host, others: u32) -> Option<ConnId> {
         let _other = connect(host)?;
     }
     let conn = connect(host)?;
-    if host.settle() { Some(conn) } else { None }
+    if host.quiesce() { Some(conn) } else { None }
 }
 
 /// The measurement: the number of calls of a request, or the number of bytes sent. None if no

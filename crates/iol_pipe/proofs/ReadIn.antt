@@ -164,7 +164,7 @@ module _ (s u t : Stored) (parts : List Part) (pool n : ℕ) (w : List ℕ)
   none_made left after given publishes tidy unraised after_others returned =
       let pools = publishes.pools ∙ written.pools in
       let grows = grows_trans written.grows publishes.grows in
-      let raised = λ (q : ℕ). unraised q ∙ written.unraised q in
+      let incremented = λ (q : ℕ). unraised q ∙ written.unraised q in
       let rest = all_others after_others in
       let none : (q : ℕ) → Contains (let l : List ℕ = [] in l) q → ⊥ = λ q h. in_contains [] q h in
       record {
@@ -176,11 +176,11 @@ module _ (s u t : Stored) (parts : List Part) (pool n : ℕ) (w : List ℕ)
         few = omega arith;
         value = refl;
         moves = fill_publish written publishes tidy;
-        made_on = made_since raised (made_none t.arena (free_of s pool));
+        made_on = made_since incremented (made_none t.arena (free_of s pool));
         pages = subst (KeepsPages s t) (sym (ap (λ k. take k (free_of s pool)) no_pages)) (record {
           count = grows.count;
           limit = grows.limit;
-          raises = record { raised = λ q h. absurd (none q h); kept = λ q out. raised q };
+          raises = record { incremented = λ q h. absurd (none q h); kept = λ q out. incremented q };
           others = λ q out. elim (in_or_out (part_pages parts) q) [
             | inl i ↦
                 inr

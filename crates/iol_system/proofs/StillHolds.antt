@@ -107,7 +107,7 @@ module _ (s t : Stored) (tidy : IsTidy s) (still : IsStill s.arena) (alike : Hel
   same_page q =
       let x = arena.entry_at t.arena q in
       let y = arena.entry_at s.arena q in
-      ap (λ g. let z : Entry = record { generation = g; kind = x.kind } in z) (alike.frees.raised q)
+      ap (λ g. let z : Entry = record { generation = g; kind = x.kind } in z) (alike.frees.incremented q)
       ∙ ap (λ k. let z : Entry = record { generation = y.generation; kind = k } in z) (same_kind q)
 
   -- A pool without its chunks had none in which anything lay.

@@ -176,7 +176,7 @@ frees_then {a = a} {b = b} {c = c} m n fewer = record {
   chunks = λ p. all_or_none a b c p (m.chunks p) (n.chunks p);
   count = n.count ∙ m.count;
   limit = n.limit ∙ m.limit;
-  raised = λ q. n.raised q ∙ m.raised q;
+  incremented = λ q. n.incremented q ∙ m.incremented q;
   each = λ q. elim (n.each q) [
     | inl same ↦ elim (m.each q) [ inl was ↦ inl (same ∙ was) | inr free ↦ inr (same ∙ free) ]
     | inr free ↦ inr free
@@ -185,7 +185,7 @@ frees_then {a = a} {b = b} {c = c} m n fewer = record {
     | inl was ↦ (
         let there = ap (λ (k : kind.PageKind). first_on k q) was ∙ some in
         let buf : buf_at b.arena p ≡ buf_at a.arena p =
-        λ i. (let x : BufId = record { page = p; generation = m.raised p i } in x) in
+        λ i. (let x : BufId = record { page = p; generation = m.incremented p i } in x) in
         ap (count_of c) (sym buf) ∙ n.freed q p free there)
     | inr gone ↦ (let z = m.freed q p gone some in omega (arith, z, fewer (buf_at a.arena p)))
   ];

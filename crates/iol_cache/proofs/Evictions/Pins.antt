@@ -34,7 +34,7 @@ begun_same : {s t : Stored} {clean left : List BufId} (o : Option ℕ) → Frees
     → is_begun t left o ≡ is_begun s clean o
 begun_same None f g = refl
 begun_same {s = s} {t = t} {left = left} (Some p) f g =
-    ap (is_held_beside t left) (buf_same s.arena t.arena p (f.raised p)) ∙ beside_same (buf_at s.arena p) g
+    ap (is_held_beside t left) (buf_same s.arena t.arena p (f.incremented p)) ∙ beside_same (buf_at s.arena p) g
 
 none_begun : {s t : Stored} {clean left : List BufId} (o : Option ℕ) → Counts s t clean left
     → ((p : ℕ) → o ≡ Some p → count_of t (buf_at s.arena p) ≡ 0) → is_begun s clean o ≡ false
@@ -51,7 +51,7 @@ pub pinned_same : {s t : Stored} {clean left : List BufId} (q : ℕ) → FreesOn
     → is_pinned t left q ≡ is_pinned s clean q
 unfolding is_pinned
 pinned_same {s = s} {t = t} {clean = clean} {left = left} q f g =
-    let last = ap not (ap (λ n. nat_lt n t.arena.limit) (f.raised q) ∙ ap (nat_lt (generation_at s.arena q)) f.limit) in
+    let last = ap not (ap (λ n. nat_lt n t.arena.limit) (f.incremented q) ∙ ap (nat_lt (generation_at s.arena q)) f.limit) in
     let held : is_begun t left (first_on (entry_at t.arena q).kind q)
     ≡ is_begun s clean (first_on (entry_at s.arena q).kind q) = elim (f.each q) [
       | inl same ↦ ap (λ (k : kind.PageKind). is_begun t left (first_on k q)) same

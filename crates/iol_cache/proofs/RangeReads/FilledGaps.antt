@@ -83,11 +83,11 @@ places_then {s = s} {t = t} {u = u} {p = p} {k = k} {n = n} a b =
         count = b.pages.count ∙ a.pages.count;
         limit = b.pages.limit ∙ a.pages.limit;
         raises = record {
-          raised = λ q h. elim (inside q h) [
+          incremented = λ q h. elim (inside q h) [
             | inl i ↦ (let c = contains_in P q i in b.pages.raises.kept q (λ j. filled_once n a q c j)
-                ∙ a.pages.raises.raised q c)
+                ∙ a.pages.raises.incremented q c)
             | inr i ↦
-                (let c = contains_in Q q i in b.pages.raises.raised q c
+                (let c = contains_in Q q i in b.pages.raises.incremented q c
                 ∙ ap (λ g. g + 1) (a.pages.raises.kept q (λ j. filled_once n a q j c)))
           ];
           kept = λ q out. b.pages.raises.kept q (out_right q out) ∙ a.pages.raises.kept q (out_left q out);
@@ -394,8 +394,8 @@ placed_some {s = s} {t = t} {u = u} {v = v} {p = p} {k = k} n few a b c same =
         count = c.count ∙ b.count ∙ a.pages.count;
         limit = c.limit ∙ b.limit ∙ a.pages.limit;
         raises = record {
-          raised = λ q h. c.raised q ∙ b.raises.kept q (out q) ∙ a.pages.raises.raised q h;
-          kept = λ q h. c.raised q ∙ b.raises.kept q (out q) ∙ a.pages.raises.kept q h;
+          incremented = λ q h. c.incremented q ∙ b.raises.kept q (out q) ∙ a.pages.raises.incremented q h;
+          kept = λ q h. c.incremented q ∙ b.raises.kept q (out q) ∙ a.pages.raises.kept q h;
         };
         others = λ q h. elim (c.each q) [
           | inl x ↦ elim (b.others q (out q)) [

@@ -45,7 +45,7 @@ keeps_freed : {a b c : Stored} {placed : List ℕ}
 keeps_freed {a = a} {b = b} {c = c} keeps m n = record {
   count = n.count ∙ m.count;
   limit = n.limit ∙ m.limit;
-  raises = record { raised = λ q h. n.raised q ∙ m.raises.raised q h; kept = λ q h. n.raised q ∙ m.raises.kept q h };
+  raises = record { incremented = λ q h. n.incremented q ∙ m.raises.incremented q h; kept = λ q h. n.incremented q ∙ m.raises.kept q h };
   others = λ q h. elim (n.each q) [
     | inl x ↦ elim (m.others q h) [ inl y ↦ inl (x ∙ y) | inr y ↦ inr (x ∙ y) ]
     | inr x ↦ inr x
@@ -60,9 +60,9 @@ keeps_roomy {a = a} {b = b} {c = c} m n = record {
   count = n.count ∙ m.count;
   limit = n.limit ∙ m.limit;
   raises = record {
-    raised = λ q h. n.raises.raised q h ∙ ap (λ g. g + 1) (m.raised q);
+    incremented = λ q h. n.raises.incremented q h ∙ ap (λ g. g + 1) (m.incremented q);
     kept = λ q h. n.raises.kept q h
-        ∙ m.raised q;
+        ∙ m.incremented q;
   };
   others = λ q h. elim (n.others q h) [
     | inl x ↦ elim (m.each q) [ inl y ↦ inl (x ∙ y) | inr y ↦ inr (x ∙ y) ]

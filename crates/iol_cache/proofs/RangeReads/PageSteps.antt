@@ -68,7 +68,7 @@ keeps_abandoned {a = a} {b = b} {c = c} {d = d} ps qs placed parts is one but tw
         count = grows.count;
         limit = grows.limit;
         raises = record {
-          raised = λ q h. absurd (no_member q h);
+          incremented = λ q h. absurd (no_member q h);
           kept = λ q out. unraised q ∙ two.unraised q
               ∙ one.unraised q;
         };

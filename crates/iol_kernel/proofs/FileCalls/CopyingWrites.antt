@@ -98,7 +98,7 @@ filled_then {a = a} {b = b} {c = c} same m n = record {
   count = n.count ∙ m.count;
   limit = n.limit ∙ m.limit;
   raises = record {
-    raised = λ q h. n.raises.kept q (no_member q) ∙ m.raises.raised q h;
+    incremented = λ q h. n.raises.kept q (no_member q) ∙ m.raises.incremented q h;
     kept =
         λ q out. n.raises.kept q (no_member q) ∙ m.raises.kept q out;
   };
