@@ -28,3 +28,5 @@ pub mod piece;
 mod replies;
 pub mod script;
 pub mod worker;
+
+pub use calls::{JOBS, WORK_POOL};

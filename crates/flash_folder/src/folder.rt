@@ -2,8 +2,7 @@
 ghost use Rattle.std.specs.Prelude.{◌≡◌, ◌<◌, IfErr, IfOk, Some, true, false, length, slice_get};
 ghost use Rattle.iol_core.specs.declared.limits.TheConstants.{MAX_FILES};
 ghost use Rattle.flash_folder.specs.Fault.{StopsStart};
-ghost use Rattle.flash_folder.specs.Folder.{AreFilesOf};
-ghost use Rattle.flash_lite.specs.Prelude.{is_in_range};
+ghost use Rattle.flash_lite.specs.Prelude.{AreFilesOf, is_in_range};
 
 use crate::fault::Fault;
 use flash_lite::actor::Actor;
@@ -15,9 +14,6 @@ use iol_core::refusals::Refusal;
 use iol_proc::world::World;
 use std::alloc::{AllocError, Global};
 use std::rt::Files;
-
-/// The pool for the input of connections.
-pub const NET: u32 = 2;
 
 /// Creates a world that serves the files of a folder, with their current contents.
 pub fn world_of<R: Files + AllocGlobal + Clone + Drop>(
@@ -62,25 +58,15 @@ fn file_at<R: Files>(
     let Some(name) = store.name(FileId::new(place as u32 + 1)) else {
         unreachable!();
     };
-    let name = Vec::from_slice(alloc, name.as_bytes())?;
-    let private = false;
-    Ok(SiteFile { name, private })
+    SiteFile::shared(alloc, name)
 }
 
-// A site with four workers, with every file readable by all, and with all chunks of the system.
+// The site of the files of a store.
 fn site_of<R: Files>(alloc: Global, store: &FolderBacking<R>) -> Result<Site, AllocError>
     ensures files { IfOk result (λ site. AreFilesOf store.now.names site.files.items) }
     ensures range { IfOk result (λ site. is_in_range site ≡ true) }
 {
-    Ok(Site {
-        workers: 4,
-        guests: 0,
-        site_chunks: 128,
-        net_chunks: 64,
-        work_chunks: 64,
-        vault_chunks: 0,
-        files: files_of(alloc, store)?,
-    })
+    Ok(Site::of_shared(files_of(alloc, store)?))
 }
 
 // Creates the world of a site over a store's files.

@@ -3,8 +3,9 @@ ghost use Rattle.std.specs.Prelude.{◌≡◌, ◌⊎◌, ◌≤◌, ◌↔◌, 
 ghost use Rattle.iol_serve.specs.Prelude.{hung_up};
 
 use crate::fault::{Fault, ended};
-use crate::folder::{NET, world_of};
+use crate::folder::world_of;
 use flash_lite::actor::Actor;
+use flash_lite::layout::NET_POOL;
 use iol_back::folder::FolderBacking;
 use iol_core::events::{Event, Reply};
 use iol_core::numbers::{ConnId, PoolId};
@@ -195,7 +196,7 @@ fn new_connection<R: Files + Drop>(
 ) -> Result<ConnId, Fault>
     ensures { IfErr result (λ fault. fault ≡ Fault.Memory) }
 {
-    let pool = PoolId::new(NET);
+    let pool = PoolId::new(NET_POOL);
     let reply = world.step_outside(Event::ConnNew { pool });
     match &reply {
         Reply::Conn(conn) => Ok(*conn),

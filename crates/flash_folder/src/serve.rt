@@ -4,9 +4,10 @@ ghost use Rattle.flash_folder.specs.Fault.{StopsServing, StopsStart};
 ghost use Rattle.flash_folder.specs.Announcement.{Announces, AnnouncesPort};
 
 use crate::fault::{Fault, ended};
-use crate::folder::{NET, world_of};
+use crate::folder::world_of;
 use crate::service::FolderService;
 use flash_lite::actor::Actor;
+use flash_lite::layout::NET_POOL;
 use iol_back::backing::Backing;
 use iol_back::folder::FolderBacking;
 use iol_core::numbers::PoolId;
@@ -88,7 +89,7 @@ impl<R: Files + Drop> Server<FolderBacking<R>, FolderService> {
     {
         let world = world_of(rt, root)?;
         let address = SocketAddr::from((Ipv4Addr::LOCALHOST, port));
-        let pool = PoolId::new(NET);
+        let pool = PoolId::new(NET_POOL);
         match Reactor::new(rt, rt.alloc(), address, pool, world, limits_of(count)) {
             Ok(reactor) => Ok(Server { reactor }),
             Err(e) => Err(Fault::of(&e, Fault::Listen)),

@@ -1,4 +1,5 @@
 pub mod GatheredLists
+pub mod SharedFiles
 pub mod Places
 pub mod Marks
 pub mod Order

@@ -10,6 +10,7 @@ pub mod Workers
 pub mod Actors
 pub mod Accounts
 pub mod Setup
+pub mod SharedFiles
 pub mod SiteState
 pub mod SiteContents
 pub mod NewWorld

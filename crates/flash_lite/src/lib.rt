@@ -19,6 +19,7 @@ mod find;
 mod held;
 pub mod host;
 pub mod laws;
+pub mod layout;
 mod pick;
 mod place_list;
 mod received;

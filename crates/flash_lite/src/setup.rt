@@ -9,6 +9,7 @@ ghost use Rattle.flash_lite.specs.SiteState.{LeavesSite};
 
 use crate::actor::{Actor, Role, Worker};
 use crate::laws::set_up_is_a_new_world;
+use crate::layout::{FIRST_WORKER, JOBS, SERVER, SITE_POOL, VAULT_POOL, WORK_POOL};
 use crate::server::Server;
 use crate::site::{MAX_GUESTS, MAX_WORKERS, Site, SiteFile};
 use iol_back::backing::Backing;
@@ -63,7 +64,7 @@ fn pool(alloc: Global, chunks: u32, first: u32, count: u32) -> Result<Event, All
     ensures { IfOk result (λ e. e ≡ spec.pool chunks first count) }
 {
     let domains = domains(alloc, first, count)?;
-    Ok(call(1, Call::PoolCreate { chunks, domains }))
+    Ok(call(SERVER, Call::PoolCreate { chunks, domains }))
 }
 
 // Creates domains.
@@ -71,7 +72,7 @@ fn add_domains(events: &mut Vec<Event>, count: u32) -> Result<(), AllocError>
     ensures { OnOk result (events.new.items ≡ events.old.items ++ spec.domains_made count) }
 {
     for _ in 0..count {
-        events.push(call(1, Call::DomainNew))?;
+        events.push(call(SERVER, Call::DomainNew))?;
     }
     Ok(())
 }
@@ -82,11 +83,11 @@ fn add_pools(alloc: Global, events: &mut Vec<Event>, site: &Site) -> Result<(), 
     ensures { OnOk result (events.new.items ≡ events.old.items ++ spec.pools_made site.now) }
 {
     let count = 1 + site.workers + site.guests;
-    events.push(pool(alloc, site.site_chunks, 1, count)?)?;
-    events.push(pool(alloc, site.net_chunks, 1, 1)?)?;
-    events.push(pool(alloc, site.work_chunks, 1, count)?)?;
+    events.push(pool(alloc, site.site_chunks, SERVER, count)?)?;
+    events.push(pool(alloc, site.net_chunks, SERVER, 1)?)?;
+    events.push(pool(alloc, site.work_chunks, SERVER, count)?)?;
     if is_private(site) {
-        events.push(pool(alloc, site.vault_chunks, 2 + site.workers, 1)?)?;
+        events.push(pool(alloc, site.vault_chunks, FIRST_WORKER + site.workers, 1)?)?;
     }
     Ok(())
 }
@@ -97,8 +98,8 @@ fn add_defaults(events: &mut Vec<Event>, count: u32) -> Result<(), AllocError>
     ensures { OnOk result (events.new.items ≡ events.old.items ++ spec.defaults_set count) }
 {
     for k in 0..count {
-        let pool = PoolId::new(3);
-        events.push(call(1 + k, Call::SetPool { pool }))?;
+        let pool = PoolId::new(WORK_POOL);
+        events.push(call(SERVER + k, Call::SetPool { pool }))?;
     }
     Ok(())
 }
@@ -108,7 +109,11 @@ fn file_call(alloc: Global, file: &SiteFile, guest: u32) -> Result<Event, AllocE
     ensures { IfOk result (λ e. e ≡ spec.file_named guest file.now) }
 {
     let name = Bytes::from_vec(Vec::from_slice(alloc, file.name.as_slice())?);
-    let (by, number) = if file.private { (guest, 4) } else { (1, 1) };
+    let (by, number) = if file.private {
+        (guest, VAULT_POOL)
+    } else {
+        (SERVER, SITE_POOL)
+    };
     let pool = PoolId::new(number);
     Ok(call(by, Call::FileNew { name, pool }))
 }
@@ -136,9 +141,9 @@ fn add_pipes(events: &mut Vec<Event>, workers: u32) -> Result<(), AllocError>
     ensures { OnOk result (events.new.items ≡ events.old.items ++ spec.pipes_made workers) }
 {
     for k in 0..workers {
-        events.push(call(1, Call::Pipe))?;
-        let (fd, to) = (Fd::new(0), DomainId::new(2 + k));
-        events.push(call(1, Call::GiveFd { fd, to }))?;
+        events.push(call(SERVER, Call::Pipe))?;
+        let (fd, to) = (Fd::new(JOBS), DomainId::new(FIRST_WORKER + k));
+        events.push(call(SERVER, Call::GiveFd { fd, to }))?;
     }
     Ok(())
 }
@@ -153,7 +158,12 @@ fn calls(alloc: Global, site: &Site) -> Result<Vec<Event>, AllocError>
     add_domains(&mut events, others)?;
     add_pools(alloc, &mut events, site)?;
     add_defaults(&mut events, 1 + others)?;
-    add_files(alloc, &mut events, site.files.as_slice(), 2 + site.workers)?;
+    add_files(
+        alloc,
+        &mut events,
+        site.files.as_slice(),
+        FIRST_WORKER + site.workers,
+    )?;
     add_pipes(&mut events, site.workers)?;
     Ok(events)
 }
@@ -220,7 +230,7 @@ fn add_workers(
 {
     for k in 0..count {
         let role = Role::Worker(Worker::new(alloc));
-        actors.push((DomainId::new(2 + k), Actor { role }))?;
+        actors.push((DomainId::new(FIRST_WORKER + k), Actor { role }))?;
     }
     Ok(())
 }
@@ -231,7 +241,7 @@ fn server(alloc: Global, workers: u32) -> (DomainId, Actor)
     ensures { result ≡ (1, Serving (spec.server_with workers)) }
 {
     let role = Role::Server(Server::with_workers(alloc, workers));
-    (DomainId::new(1), Actor { role })
+    (DomainId::new(SERVER), Actor { role })
 }
 
 // The server, and the workers that run the site's scripts.

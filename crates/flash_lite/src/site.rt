@@ -1,7 +1,11 @@
 //! The parameters of a site.
-ghost use Rattle.std.specs.Prelude.{◌≡◌};
+ghost use Rattle.std.specs.Prelude.{◌≡◌, IfOk, false, true};
+ghost use Rattle.std.specs.List.{list_any};
 ghost use Rattle.flash_http.specs.MediaType as names;
 ghost use Rattle.flash_lite.specs.Setup as spec;
+
+use crate::layout::{NET_CHUNKS, SITE_CHUNKS, WORK_CHUNKS, WORKERS};
+use std::alloc::{AllocError, Global};
 
 /// The maximum number of workers of a site.
 pub const MAX_WORKERS: u32 = 8;
@@ -17,6 +21,16 @@ pub struct SiteFile {
 }
 
 impl SiteFile {
+    /// A file of this name that all domains may read.
+    pub fn shared(alloc: Global, name: &str) -> Result<SiteFile, AllocError>
+        ensures name { IfOk result (λ f. f.name.items ≡ name.now) }
+        ensures shared { IfOk result (λ f. f.private ≡ false) }
+    {
+        let name = Vec::from_slice(alloc, name.as_bytes())?;
+        let private = false;
+        Ok(SiteFile { name, private })
+    }
+
     /// Returns whether its name is that of a script: it ends in `.cgi`.
     pub fn is_script(&self) -> bool
         ensures { result ≡ names.is_script self.now.name.items }
@@ -39,6 +53,24 @@ pub struct Site {
 }
 
 impl Site {
+    /// A site of files that all domains may read, with four workers and no guest, whose pools have
+    /// all chunks of a system.
+    pub fn of_shared(files: Vec<SiteFile>) -> Site
+        requires { list_any (λ f. f.private) files.items ≡ false }
+        ensures files { result.files ≡ files }
+        ensures range { spec.is_in_range result ≡ true }
+    {
+        Site {
+            workers: WORKERS,
+            guests: 0,
+            site_chunks: SITE_CHUNKS,
+            net_chunks: NET_CHUNKS,
+            work_chunks: WORK_CHUNKS,
+            vault_chunks: 0,
+            files,
+        }
+    }
+
     /// Returns whether one of its files is a script.
     pub fn has_script(&self) -> bool
         ensures { result ≡ spec.has_script self.now }

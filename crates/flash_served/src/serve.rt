@@ -7,6 +7,7 @@ ghost use Rattle.flash_served.specs.Served.{ServesNone, ServesRight};
 use crate::sessions_are_right;
 use flash_lite::actor::Actor;
 use flash_lite::laws::connections_do_not_meet;
+use flash_lite::layout::NET_POOL;
 use iol_back::backing::Backing;
 use iol_core::events::{Event, Reply};
 use iol_core::numbers::PoolId;
@@ -14,9 +15,6 @@ use iol_proc::world::World;
 use iol_serve::ending::Ending;
 use iol_serve::serve::serve_connection;
 use std::io::{Read, Write};
-
-/// The pool for the input of connections.
-const NET: u32 = 2;
 
 /// Creates a connection of the net and serves it, from a reader and to a writer. Returns its
 /// ending, or none if there is no room or no memory for it. Over an honest store, the bytes that
@@ -37,7 +35,7 @@ pub fn serve_client<B: Backing + Drop, R: Read, W: Write>(
 {
     sessions_are_right();
     connections_do_not_meet();
-    let pool = PoolId::new(NET);
+    let pool = PoolId::new(NET_POOL);
     let reply = world.step_outside(Event::ConnNew { pool });
     match &reply {
         Reply::Conn(conn) => Some(serve_connection(world, *conn, reader, writer)),

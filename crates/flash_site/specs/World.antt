@@ -1,6 +1,5 @@
 -- The world of a site of files.
-use Rattle.std.specs.Prelude.{◌≡◌, ℕ, Bool, false, List, [], map}
-use Rattle.std.specs.List.{list_any}
+use Rattle.std.specs.Prelude.{ℕ, Bool, List, []}
 use Rattle.iol_back.specs.Disk.{Disk}
 use Rattle.iol_core.specs.declared.configuration.Config.{Config}
 use Rattle.iol_core.specs.declared.events.Reply.{Reply}
@@ -9,13 +8,8 @@ use Rattle.iol_system.specs.Machine.{SystemState}
 use Rattle.flash_cgi.specs.declared.worker.Worker.{Worker}
 use Rattle.flash_laws.specs.World.Consistency.{Actor}
 use Rattle.flash_lite.specs.HostedSite.{HostsIfHonest, HostsOver}
+use Rattle.flash_lite.specs.Prelude.{AreFilesOf}
 use Rattle.flash_lite.specs.declared.site.Site.{Site}
-use Rattle.flash_lite.specs.declared.site.SiteFile.{SiteFile}
-
--- files of these names, in order, readable by all
-pub record AreFilesOf (names : List (List ℕ)) (files : List SiteFile) : Type 0 where
-  pub named : map (λ f. f.name.items) files ≡ names
-  pub shared : list_any (λ f. f.private) files ≡ false
 
 -- The world of a site of these files over a store, before its first turn: it was set up in a new system without any
 -- other event. Over an honest store it is the site's world in the copying machine, to which the server's laws apply.

@@ -1,8 +1,8 @@
 //! A site of the files of a store, and the world that serves it.
 ghost use Rattle.std.specs.Prelude.{◌≡◌, ◌<◌, IfOk, Some, true, false, length, slice_get};
 ghost use Rattle.iol_tree.specs.Store.{disk_of};
-ghost use Rattle.flash_lite.specs.Prelude.{is_in_range};
-ghost use Rattle.flash_site.specs.World.{AreFilesOf, IsWorldOf};
+ghost use Rattle.flash_lite.specs.Prelude.{AreFilesOf, is_in_range};
+ghost use Rattle.flash_site.specs.World.{IsWorldOf};
 
 use flash_lite::actor::Actor;
 use flash_lite::host::host;
@@ -14,9 +14,6 @@ use iol_tree::backing::TreeBacking;
 use iol_tree::index::Index;
 use std::alloc::{AllocError, Global};
 use std::rt::Files;
-
-/// The number of the pool for the input of connections of a site's world.
-pub const NET_POOL: u32 = 2;
 
 // The files of an index, in order, readable by all.
 fn files_of(alloc: Global, index: &Index) -> Result<Vec<SiteFile>, AllocError>
@@ -35,25 +32,15 @@ fn file_at(alloc: Global, index: &Index, place: usize) -> Result<SiteFile, Alloc
     ensures name { IfOk result (λ f. slice_get index.now.names place ≡ Some f.name.items) }
     ensures shared { IfOk result (λ f. f.private ≡ false) }
 {
-    let name = Vec::from_slice(alloc, index.name(place).as_bytes())?;
-    let private = false;
-    Ok(SiteFile { name, private })
+    SiteFile::shared(alloc, index.name(place))
 }
 
-// A site with four workers, with every file readable by all, and with all chunks of the system.
+// The site of these files.
 fn site_of(alloc: Global, index: &Index) -> Result<Site, AllocError>
     ensures files { IfOk result (λ site. AreFilesOf index.now.names site.files.items) }
     ensures range { IfOk result (λ site. is_in_range site ≡ true) }
 {
-    Ok(Site {
-        workers: 4,
-        guests: 0,
-        site_chunks: 128,
-        net_chunks: 64,
-        work_chunks: 64,
-        vault_chunks: 0,
-        files: files_of(alloc, index)?,
-    })
+    Ok(Site::of_shared(files_of(alloc, index)?))
 }
 
 /// Creates a world that serves the files of a store to all, over that store.

@@ -2,8 +2,8 @@
 use crate::options::Options;
 use crate::service::SiteService;
 use flash_lite::actor::Actor;
+use flash_lite::layout::NET_POOL;
 use flash_log::log::AccessLog;
-use flash_site::site::NET_POOL;
 use flash_site::source::{Loaded, Source};
 use iol_core::numbers::PoolId;
 use iol_reactor::reactor::Reactor;

@@ -1,5 +1,5 @@
 use Rattle.std.proofs.Common.{take}
-use Rattle.flash_folder.specs.Folder.{AreFilesOf}
+use Rattle.flash_lite.specs.Prelude.{AreFilesOf}
 use Rattle.flash_folder.proofs.folder.files_of.Given as goal
 
 abbrev pub invariant-loop-place : goal.invariant-loop-place

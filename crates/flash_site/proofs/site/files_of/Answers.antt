@@ -1,6 +1,6 @@
 use Rattle.std.proofs.Common.{◌+◌, List, subst, sym, take}
-use Rattle.flash_site.proofs.FileList.{filed_more}
-use Rattle.flash_site.specs.World.{AreFilesOf}
+use Rattle.flash_lite.proofs.SharedFiles.{filed_more}
+use Rattle.flash_lite.specs.Prelude.{AreFilesOf}
 use Rattle.flash_site.proofs.site.files_of.Goals as goal
 use Rattle.flash_lite.specs.declared.site.SiteFile.{SiteFile}
 

@@ -1,5 +1,5 @@
 use Rattle.std.proofs.Common.{List, ℕ, subst}
-use Rattle.flash_site.specs.World.{AreFilesOf}
+use Rattle.flash_lite.specs.Prelude.{AreFilesOf}
 use Rattle.flash_site.proofs.site.world_of.Goals as goal
 
 pub returns : goal.returns

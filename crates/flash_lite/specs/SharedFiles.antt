@@ -1,4 +1,4 @@
--- The site that serves a folder.
+-- The files of a site that all domains may read.
 use Rattle.std.specs.Prelude.{◌≡◌, ℕ, false, List, map}
 use Rattle.std.specs.List.{list_any}
 use Rattle.flash_lite.specs.declared.site.SiteFile.{SiteFile}

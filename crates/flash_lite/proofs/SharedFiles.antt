@@ -1,10 +1,10 @@
--- Files that are listed in order.
+-- The files of a site, one after another.
 use Rattle.std.proofs.Common.{◌≡◌, ◌∙◌, ◌+◌, ℕ, Bool, false, ◌||◌, List, [], ◌∷◌, ◌++◌, Some, ap, sym, map, take}
 use Rattle.std.proofs.lemmas.List.{map-append, take_more}
 use Rattle.std.proofs.lemmas.List.Folds.{list_any-append}
 use Rattle.std.proofs.lemmas.Option.{get_or_from_slice_get, slice_get_within}
 use Rattle.std.specs.List.{list_any, slice_get}
-use Rattle.flash_site.specs.World.{AreFilesOf}
+use Rattle.flash_lite.specs.SharedFiles.{AreFilesOf}
 use Rattle.flash_lite.specs.declared.site.SiteFile.{SiteFile}
 
 -- one file more
