@@ -116,7 +116,7 @@ free_turn m n process_slot next yields r live free (inr did) =
     (readable-live m process_slot.by live) did.proceeds in
     let same : process_slot_at process_slot.by next.process r ≡ next =
     ap (λ (x : ℕ). process_slot_at x next.process r) (sym did.domain_stays)
-    ∙ ap (λ (l : Reply). process_slot_at next.by next.process l) (sym did.after_reply) in
+    ∙ ap (λ (l : Reply). process_slot_at next.by next.process l) (sym did.reported) in
     let went = moves m n process_slot.by next.process r did.turn yields did.comes process_slot.process process_slot.last
     process_slot.process.standing refl free.not_over free.waits free.not_given goes in
     subst (λ (x : ProcessSlot Worker). FreeTurn m n process_slot.by x r) same went
@@ -185,7 +185,7 @@ skips m n a b bs process_slot next yields r live waits asked last is_readable no
 
     same : process_slot_at process_slot.by next.process r ≡ next
     same = ap (λ (x : ℕ). process_slot_at x next.process r) (sym did.domain_stays)
-        ∙ ap (λ (l : Reply). process_slot_at next.by next.process l) (sym did.after_reply)
+        ∙ ap (λ (l : Reply). process_slot_at next.by next.process l) (sym did.reported)
 
 pub workers_stay_free : CallsServeTheirDomain → WorkersStayFree
 workers_stay_free own = record {

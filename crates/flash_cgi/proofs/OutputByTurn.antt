@@ -352,7 +352,7 @@ module _ (feeds_on : FeedsOn) (taken : JobsAreTaken) (true_to : OutcomesAreTrue)
       (readable-live m process_slot.by (has_life m p process_slot unseen job)) did.proceeds in
       let same : process_slot_at process_slot.by next.process r ≡ next =
       ap (λ (x : ℕ). process_slot_at x next.process r) (sym did.domain_stays)
-      ∙ ap (λ (l : Reply). process_slot_at next.by next.process l) (sym did.after_reply) in
+      ∙ ap (λ (l : Reply). process_slot_at next.by next.process l) (sym did.reported) in
       subst (λ (x : ProcessSlot Worker). Proceeds m n p x r unseen (outcomes_to_come m p process_slot unseen job)
       (ReadsItsFile m p process_slot unseen job) ⊎ IsOver m n process_slot.by p x unseen r
       ⊎ ((pipe_at n p).reading ≡ false)) same

@@ -532,7 +532,7 @@ turns labels steps files pools_come pools m n p process_slot next yields r unsee
 
     same : process_slot_at process_slot.by next.process r ≡ next
     same = ap (λ (x : ℕ). process_slot_at x next.process r) (sym did.domain_stays)
-        ∙ ap (λ (l : Reply). process_slot_at next.by next.process l) (sym did.after_reply)
+        ∙ ap (λ (l : Reply). process_slot_at next.by next.process l) (sym did.reported)
 
     by : RunsJob m p process_slot unseen
         → works w process_slot.last (readable_at m process_slot.by) did.turn next.process

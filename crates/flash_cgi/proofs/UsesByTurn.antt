@@ -286,7 +286,7 @@ turn_keeps own why come m n fds aggs process_slot next yields r order live h (in
     (readable-live m process_slot.by live) did.proceeds in
     let same : process_slot_at process_slot.by next.process r ≡ next =
     ap (λ (x : ℕ). process_slot_at x next.process r) (sym did.domain_stays)
-    ∙ ap (λ (l : Reply). process_slot_at next.by next.process l) (sym did.after_reply) in
+    ∙ ap (λ (l : Reply). process_slot_at next.by next.process l) (sym did.reported) in
     subst (λ (x : ProcessSlot Worker). KeepsJust n fds aggs x) same
     (moves own why come m n process_slot.by fds aggs order live next.process r did.turn yields did.comes
     process_slot.process process_slot.last process_slot.process.standing refl h goes)

@@ -293,7 +293,7 @@ module _ (orders : EachStepKeepsOrder) (descriptors : DescriptorsComeByReplies) 
                   proceeds = (refl, (refl, refl), refl);
                   comes =
                       (refl, (refl, refl, refl));
-                  after_reply = refl;
+                  reported = refl;
                   domain_stays = refl;
                 });
             others_stay = refl;

@@ -213,7 +213,7 @@ module _ (site_contents : SiteContents) (worker_set : WorkerSet) (laws : AllLaws
                   ∙ ap (λ (z : ProcessSlot (Actor worker_set.Worker)). z ∷ [])
                   (ap (λ z. record { by = z; process = next.process; last = next.last }) moves.domain_stays
                   ∙ (ap (λ (x : Actor worker_set.Worker). record { by = server; process = x; last = next.last }) is
-                  ∙ ap (λ (z : Reply). record { by = server; process = Serving t; last = z }) moves.after_reply));
+                  ∙ ap (λ (z : Reply). record { by = server; process = Serving t; last = z }) moves.reported));
             }
 
     abbrev number : ℕ

@@ -185,7 +185,7 @@ module _ (may : Policy) (site_contents : SiteContents) (worker_set : WorkerSet) 
             next_is : next ≡ record { by = server; process = Serving t; last = r }
             next_is = ap (λ z. record { by = z; process = next.process; last = next.last }) moves.domain_stays
                 ∙ (ap (λ (z : Actor worker_set.Worker). record { by = server; process = z; last = next.last }) is
-                ∙ ap (λ (z : Reply). record { by = server; process = Serving t; last = z }) moves.after_reply)
+                ∙ ap (λ (z : Reply). record { by = server; process = Serving t; last = z }) moves.reported)
 
     -- A worker's turn.
     module _ (r : Reply) (i : ℕ) (process_slot : ProcessSlot worker_set.Worker)
@@ -291,7 +291,7 @@ module _ (may : Policy) (site_contents : SiteContents) (worker_set : WorkerSet) 
                 turn = moves.turn;
                 proceeds = proceeds;
                 comes = comes-alone w.machine after.machine process_slot.by moves.turn yields r moves.comes;
-                after_reply = moves.after_reply;
+                reported = moves.reported;
                 domain_stays = moves.domain_stays;
               }))
               (process_slots ∙ (ap (λ (z : ProcessSlot (Actor worker_set.Worker)). first ∷ slice_set others i z) next_is
