@@ -1,6 +1,6 @@
 -- Bytes that a socket accepts and supplies.
 use Rattle.std.proofs.Common.{◌≡◌, ◌∙◌, ℕ, ◌+◌, ◌-◌, ◌≤◌, inl, inr, min, length, List, [], ◌++◌, Option, None, Some}
-use Rattle.std.proofs.Common.{refl, sym, ap, take, drop, append_assoc, append-nil, arith, subst}
+use Rattle.std.proofs.Common.{refl, sym, ap, take, drop, append_assoc, append-nil, arith}
 use Rattle.std.proofs.Math.ListN.{drop_of_length-le}
 use Rattle.std.proofs.Math.Seq.{drop-append_seam, take-length}
 use Rattle.std.proofs.lemmas.Bool.{cases_lt}

@@ -1,23 +1,21 @@
 -- The bytes and the connections of a client, step by step.
-use Rattle.std.proofs.Common.{◌≡◌, ◌∙◌, ◌≤◌, ◌-◌, ◌+◌, ℕ, Bool, true, false, List, [], ◌∷◌, ◌++◌, length, min, take}
+use Rattle.std.proofs.Common.{◌≡◌, ◌∙◌, ◌≤◌, ◌-◌, ◌+◌, ℕ, Bool, false, List, [], ◌∷◌, ◌++◌, length, min, take}
 use Rattle.std.proofs.Common.{drop, map, Option, None, Some, refl, sym, ap, subst, arith, append_assoc, append-nil}
 use Rattle.std.specs.List.{AllByRecursion, concat}
 use Rattle.std.proofs.Math.Seq.{take-length}
 use Rattle.std.proofs.lemmas.List.{length-append, length-take, take-append-drop, take-append-le, take_min}
-use Rattle.iol_core.specs.Calls.Outside.{lacks_conn}
 use Rattle.iol_system.specs.Machine.{SystemState}
 use Rattle.iol_proc.specs.Turns.{TransitionRelation}
-use Rattle.iol_proc.specs.World.{Stage, copied}
-use Rattle.iol_reactor.specs.Bytes.{IsBegun, IsGiven}
-use Rattle.iol_reactor.specs.Clients.{AreWhole, BytesMove, ConnectionsFollow, Holds, IsAsking, IsClosed, IsDone, IsLeft}
-use Rattle.iol_reactor.specs.Clients.{IsOpen, Request, Visit, WereLeft, bytes_of, bytes_of_all, frame_as}
-use Rattle.iol_reactor.specs.Visits.{HasVisited}
-use Rattle.iol_reactor.specs.LinkVisits.{HasLinkVisited, IsOver, IsOverIn, IsVisitOf, LinkProceeds, LinksStay, Serving}
+use Rattle.iol_proc.specs.World.{Stage}
+use Rattle.iol_reactor.specs.Bytes.{IsGiven}
+use Rattle.iol_reactor.specs.Clients.{AreWhole, BytesMove, ConnectionsFollow, Holds, IsAsking, IsDone, IsLeft}
+use Rattle.iol_reactor.specs.Clients.{Request, Visit, WereLeft, bytes_of}
+use Rattle.iol_reactor.specs.LinkVisits.{HasLinkVisited, IsOver, IsOverIn, IsVisitOf, LinkProceeds, Serving}
 use Rattle.iol_reactor.specs.LinkVisits.{world_of}
 use Rattle.iol_reactor.specs.declared.input.Input.{Input}
 use Rattle.iol_reactor.specs.declared.links.Link.{Link}
 use Rattle.iol_reactor.specs.declared.service.Frame.{Frame}
-use Rattle.iol_reactor.specs.declared.service.Frame.TheVariants.{Complete, Last}
+use Rattle.iol_reactor.specs.declared.service.Frame.TheVariants.{Complete}
 
 -- ---- the bytes
 
@@ -90,7 +88,7 @@ take_part n xs first rest split count = ap (λ k. take k xs) count
     ∙ (take-append-le (length first) first rest (omega arith) ∙ take-length first))
 
 -- of the first `asked` bytes, after the first `given` some more are followed by a rest
-given_more : (asked given now : ℕ) (bytes more rest : List ℕ) → asked ≤ length bytes → given ≤ asked
+pub given_more : (asked given now : ℕ) (bytes more rest : List ℕ) → asked ≤ length bytes → given ≤ asked
     → drop given (take asked bytes) ≡ more ++ rest → now ≡ asked - length rest
     → take now bytes ≡ take given bytes ++ more
 given_more asked given now bytes more rest within less split place =

@@ -5,3 +5,5 @@ pub mod Serving
 pub mod Visits
 pub mod Clients
 pub mod LinkVisits
+pub mod Served
+pub mod Passing

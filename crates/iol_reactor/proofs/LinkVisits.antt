@@ -6,9 +6,8 @@ use Rattle.std.proofs.lemmas.Bool.Decides.{nat_tests}
 use Rattle.iol_system.specs.Machine.{SystemState}
 use Rattle.iol_proc.specs.Turns.{TransitionRelation}
 use Rattle.iol_proc.specs.World.{Stage}
-use Rattle.iol_reactor.specs.Visits.{HasVisited, VisitsAdvance, VisitsStay}
+use Rattle.iol_reactor.specs.Visits.{VisitsAdvance, VisitsStay}
 use Rattle.iol_reactor.specs.LinkVisits.{HasLinkVisited, IsVisitOf, LinkProceeds, LinksStay, Serving, SlotProceeds}
-use Rattle.iol_reactor.specs.LinkVisits.{world_of}
 use Rattle.iol_reactor.specs.declared.links.Link.{Link}
 
 -- the world that two tests find, of the current one and the one before

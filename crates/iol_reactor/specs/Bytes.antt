@@ -1,6 +1,7 @@
 -- The bytes that a client's socket supplied and accepted, and those that are buffered.
 use Rattle.std.specs.Prelude.{◌≡◌, ℕ, ◌-◌, min, List, ◌++◌, length, take, drop, Option, Result, MatchResult}
 use Rattle.std.specs.Io.KnownBytes.{Appends, Keeps}
+use Rattle.iol_reactor.specs.declared.client.Client.{Client}
 use Rattle.iol_reactor.specs.declared.input.Input.{Input}
 use Rattle.iol_reactor.specs.declared.output.Output.{Output}
 
@@ -67,3 +68,12 @@ pub record IsFinished (input after : Input) : Type 0 where
 -- the bytes of an output that the socket has not accepted
 abbrev pub unsent_of : Output → List ℕ
 unsent_of output = drop output.at output.left.items
+
+-- A client without unsent bytes passes bytes of the world's output to its socket, and keeps none of them.
+pub record IsPassing {S : Type 0} (supplied : S → Option (List ℕ)) (client after : Client S) : Type 0 where
+  pub came : Keeps (supplied client.socket) (supplied after.socket)
+  pub unsent : unsent_of after.output ≡ unsent_of client.output
+  pub phase : after.phase ≡ client.phase
+  pub input : after.input ≡ client.input
+  pub last : after.is_last ≡ client.is_last
+  pub whole : after.is_whole ≡ client.is_whole

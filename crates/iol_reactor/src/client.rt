@@ -1,12 +1,14 @@
 //! A client: its socket, and the bytes that are buffered between it and its connection of a world.
-ghost use Rattle.std.specs.Prelude.{◌≡◌, ◌≢◌, [], drop, nat_le, nat_lt};
+ghost use Rattle.std.specs.Prelude.{◌≡◌, ◌≢◌, [], drop, nat_le, nat_lt, true};
 ghost use Rattle.std.specs.Io.KnownBytes.{Keeps};
-ghost use Rattle.iol_reactor.specs.Bytes.{Gains, Grows, IsBegun, IsFinished, IsGiven, IsSameInput, Passes, PassesSome, request_of, unsent_of};
+ghost use Rattle.iol_reactor.specs.Bytes.{Gains, Grows, IsBegun, IsFinished, IsGiven, IsSameInput};
+ghost use Rattle.iol_reactor.specs.Bytes.{Passes, PassesSome, request_of, unsent_of};
 
 use crate::input::{Input, Reading};
 use crate::output::{Output, Sending};
 use crate::service::Exchange;
 use crate::socket::Socket;
+use iol_sock::Gather;
 use std::alloc::Global;
 use std::net::SocketAddr;
 
@@ -42,21 +44,11 @@ pub enum Phase {
     Over,
 }
 
-/// The queues of deadlines in which a client has an entry.
-#[derive(Clone, Copy, Debug, PartialEq, Eq)]
-pub struct Armed {
-    pub head: bool,
-    pub rate: bool,
-    pub drain: bool,
-    pub park: bool,
-}
-
 /// A client on a socket.
 #[derive(Drop)]
 pub struct Client<S> {
     socket: S,
     peer: SocketAddr,
-    serial: u64,
     phase: Phase,
     input: Input,
     output: Output,
@@ -64,25 +56,15 @@ pub struct Client<S> {
     // Whether the processes close the connection after the request in progress.
     is_last: bool,
 
-    /// Whether it is in the list of clients that are visited in the next round, and in the list of
-    /// those with a pending response.
-    pub is_ready: bool,
-    pub is_pending: bool,
+    // Whether its requests were answered to the end, in the phases after its last connection.
+    is_whole: bool,
 
-    pub armed: Armed,
-
-    /// The time at which bytes last arrived or were accepted.
+    // The time at which bytes last arrived or were accepted.
     last: u64,
-
-    /// Since when a request is incomplete, if one is.
-    pub head_since: Option<u64>,
-
-    /// How many bytes the socket had accepted when its rate was measured last.
-    pub rate_mark: u64,
 }
 
 impl<S: Socket> Client<S> {
-    pub fn new(alloc: Global, socket: S, peer: SocketAddr, serial: u64, now: u64) -> Client<S>
+    pub fn new(alloc: Global, socket: S, peer: SocketAddr, now: u64) -> Client<S>
         ensures socket { result.socket ≡ socket }
         ensures phase { result.phase ≡ Phase.Parked }
         ensures bytes { result.input.bytes.items ≡ [] }
@@ -93,22 +75,12 @@ impl<S: Socket> Client<S> {
         Client {
             socket,
             peer,
-            serial,
             phase: Phase::Parked,
             input: Input::new(alloc),
             output: Output::new(alloc),
             is_last: false,
-            is_ready: false,
-            is_pending: false,
-            armed: Armed {
-                head: false,
-                rate: false,
-                drain: false,
-                park: false,
-            },
+            is_whole: false,
             last: now,
-            head_since: None,
-            rate_mark: 0,
         }
     }
 
@@ -116,10 +88,6 @@ impl<S: Socket> Client<S> {
         ensures { result.now ≡ self.now.socket }
     {
         &self.socket
-    }
-
-    pub fn serial(&self) -> u64 {
-        self.serial
     }
 
     pub fn phase(&self) -> Phase
@@ -133,8 +101,37 @@ impl<S: Socket> Client<S> {
         ensures socket { self.new.socket ≡ self.old.socket }
         ensures input { self.new.input ≡ self.old.input }
         ensures output { self.new.output ≡ self.old.output }
+        ensures last { self.new.is_last ≡ self.old.is_last }
+        ensures whole { self.new.is_whole ≡ self.old.is_whole }
     {
         self.phase = phase;
+    }
+
+    /// It has no connection any more: the rest of its output is sent. Whether its requests were
+    /// answered to the end.
+    pub fn end(&mut self, is_whole: bool)
+        ensures phase { self.new.phase ≡ Phase.Flushing }
+        ensures whole { self.new.is_whole ≡ is_whole }
+        ensures socket { self.new.socket ≡ self.old.socket }
+        ensures input { self.new.input ≡ self.old.input }
+        ensures output { self.new.output ≡ self.old.output }
+    {
+        self.phase = Phase::Flushing;
+        self.is_whole = is_whole;
+    }
+
+    /// Whether its requests were answered to the end, after its last connection.
+    pub fn is_whole(&self) -> bool
+        ensures { result ≡ self.now.is_whole }
+    {
+        self.is_whole
+    }
+
+    /// Whether its socket accepted all bytes.
+    pub fn is_flushed(&self) -> bool
+        ensures { result ≡ true → unsent_of self.now.output ≡ [] }
+    {
+        self.output.is_flushed()
     }
 
     /// All of its request was handed in, except for this number of bytes.
@@ -143,6 +140,8 @@ impl<S: Socket> Client<S> {
         ensures socket { self.new.socket ≡ self.old.socket }
         ensures phase { self.new.phase ≡ self.old.phase }
         ensures output { self.new.output ≡ self.old.output }
+        ensures last { self.new.is_last ≡ self.old.is_last }
+        ensures whole { self.new.is_whole ≡ self.old.is_whole }
     {
         self.input.give(left);
     }
@@ -168,6 +167,9 @@ impl<S: Socket> Client<S> {
         ensures unsent { unsent_of self.new.output ≡ unsent_of self.old.output }
         ensures socket { self.new.socket ≡ self.old.socket }
         ensures phase { self.new.phase ≡ self.old.phase }
+        ensures last { self.new.is_last ≡ self.old.is_last }
+        ensures whole { self.new.is_whole ≡ self.old.is_whole }
+        ensures ended { self.new.input.ended ≡ self.old.input.ended }
     {
         self.input.note(reads, ends);
         let was_awaited = writes && self.output.unblock();
@@ -180,7 +182,9 @@ impl<S: Socket> Client<S> {
     }
 
     /// Whether the peer's end was read.
-    pub fn is_ended(&self) -> bool {
+    pub fn is_ended(&self) -> bool
+        ensures { result ≡ self.now.input.ended }
+    {
         self.input.is_ended()
     }
 
@@ -199,6 +203,8 @@ impl<S: Socket> Client<S> {
         ensures given { self.new.input.given ≡ self.old.input.given }
         ensures phase { self.new.phase ≡ self.old.phase }
         ensures output { self.new.output ≡ self.old.output }
+        ensures last { self.new.is_last ≡ self.old.is_last }
+        ensures whole { self.new.is_whole ≡ self.old.is_whole }
     {
         let reading = self.input.read_from(&mut self.socket, piece);
         if matches!(reading, Reading::Bytes(_)) {
@@ -221,17 +227,13 @@ impl<S: Socket> Client<S> {
         ensures last { self.new.is_last ≡ is_last }
         ensures unsent { unsent_of self.new.output ≡ unsent_of self.old.output }
         ensures socket { self.new.socket ≡ self.old.socket }
-        ensures phase { self.new.phase ≡ self.old.phase }
+        ensures phase { self.new.phase ≡ Phase.Answering }
+        ensures whole { self.new.is_whole ≡ self.old.is_whole }
     {
+        self.phase = Phase::Answering;
         self.input.begin(size);
         self.is_last = is_last;
         self.output.begin();
-        self.head_since = None;
-    }
-
-    /// Whether the rest of a request is awaited.
-    pub fn is_awaited(&self) -> bool {
-        self.head_since.is_some()
     }
 
     /// Whether all of its request was handed in.
@@ -256,6 +258,8 @@ impl<S: Socket> Client<S> {
         ensures came { Keeps (S.supplied self.old.socket) (S.supplied self.new.socket) }
         ensures phase { self.new.phase ≡ self.old.phase }
         ensures input { self.new.input ≡ self.old.input }
+        ensures last { self.new.is_last ≡ self.old.is_last }
+        ensures whole { self.new.is_whole ≡ self.old.is_whole }
     {
         let before = self.output.accepted();
         let sending = self.output.flush(&mut self.socket);
@@ -274,17 +278,35 @@ impl<S: Socket> Client<S> {
         ensures came { Keeps (S.supplied self.old.socket) (S.supplied self.new.socket) }
         ensures phase { self.new.phase ≡ self.old.phase }
         ensures input { self.new.input ≡ self.old.input }
+        ensures last { self.new.is_last ≡ self.old.is_last }
+        ensures whole { self.new.is_whole ≡ self.old.is_whole }
     {
         self.last = now;
         self.output.send(&mut self.socket, bytes)
     }
 
-    /// The number of bytes that may be collected for it. 0: there is no memory.
-    pub fn room(&mut self) -> u32
-        ensures unsent { unsent_of self.new.output ≡ unsent_of self.old.output }
+    /// Bytes were passed to its socket, or were to be.
+    pub fn touch(&mut self, now: u64)
+        ensures output { self.new.output ≡ self.old.output }
         ensures socket { self.new.socket ≡ self.old.socket }
         ensures phase { self.new.phase ≡ self.old.phase }
         ensures input { self.new.input ≡ self.old.input }
+        ensures last { self.new.is_last ≡ self.old.is_last }
+        ensures whole { self.new.is_whole ≡ self.old.is_whole }
+    {
+        self.last = now;
+    }
+
+    /// The number of bytes that may be collected for it. 0: there is no memory, or bytes are left
+    /// from before.
+    pub fn room(&mut self) -> u32
+        ensures unsent { unsent_of self.new.output ≡ unsent_of self.old.output }
+        ensures none { result ≢ 0 → unsent_of self.old.output ≡ [] }
+        ensures socket { self.new.socket ≡ self.old.socket }
+        ensures phase { self.new.phase ≡ self.old.phase }
+        ensures input { self.new.input ≡ self.old.input }
+        ensures last { self.new.is_last ≡ self.old.is_last }
+        ensures whole { self.new.is_whole ≡ self.old.is_whole }
     {
         self.output.room()
     }
@@ -295,6 +317,8 @@ impl<S: Socket> Client<S> {
         ensures socket { self.new.socket ≡ self.old.socket }
         ensures phase { self.new.phase ≡ self.old.phase }
         ensures input { self.new.input ≡ self.old.input }
+        ensures last { self.new.is_last ≡ self.old.is_last }
+        ensures whole { self.new.is_whole ≡ self.old.is_whole }
     {
         self.output.release();
     }
@@ -318,7 +342,9 @@ impl<S: Socket> Client<S> {
     }
 
     /// Whether the processes close the connection after the request in progress.
-    pub fn is_last(&self) -> bool {
+    pub fn is_last(&self) -> bool
+        ensures { result ≡ self.now.is_last }
+    {
         self.is_last
     }
 
@@ -335,6 +361,8 @@ impl<S: Socket> Client<S> {
         ensures socket { self.new.socket ≡ self.old.socket }
         ensures phase { self.new.phase ≡ self.old.phase }
         ensures output { self.new.output ≡ self.old.output }
+        ensures last { self.new.is_last ≡ self.old.is_last }
+        ensures whole { self.new.is_whole ≡ self.old.is_whole }
     {
         self.input.finish();
         self.last = now;
@@ -347,6 +375,8 @@ impl<S: Socket> Client<S> {
         ensures phase { self.new.phase ≡ self.old.phase }
         ensures input { self.new.input ≡ self.old.input }
         ensures output { self.new.output ≡ self.old.output }
+        ensures last { self.new.is_last ≡ self.old.is_last }
+        ensures whole { self.new.is_whole ≡ self.old.is_whole }
     {
         self.socket.end_output().is_ok()
     }
@@ -364,6 +394,7 @@ impl<S: Socket> Client<S> {
         ensures sent { Keeps (S.accepted self.old.socket) (S.accepted self.new.socket) }
         ensures phase { self.new.phase ≡ self.old.phase }
         ensures output { self.new.output ≡ self.old.output }
+        ensures whole { self.new.is_whole ≡ self.old.is_whole }
     {
         for _ in 0..MAX_DROPPED {
             match self.input.drop_from(&mut self.socket, piece) {
@@ -373,5 +404,19 @@ impl<S: Socket> Client<S> {
             }
         }
         false
+    }
+}
+
+// The socket of a client without unsent bytes takes bytes of the world's output.
+impl<S: Socket> Gather for Client<S> {
+    ghost use Rattle.iol_reactor.specs.Bytes.{IsPassing};
+
+    ghost contents = { λ client. S.accepted client.socket };
+
+    ghost gathers = { λ client offered taken after. IsPassing S.supplied client after };
+
+    fn gather(&mut self, first: &[u8], second: &[u8], third: &[u8], fourth: &[u8]) -> usize {
+        self.output
+            .pass(&mut self.socket, first, second, third, fourth)
     }
 }

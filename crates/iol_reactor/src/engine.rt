@@ -1,7 +1,12 @@
 //! The clients and the worlds that serve them, for all kinds of sockets.
+ghost use Rattle.std.specs.Prelude.{◌≡◌, [], get_or, None, Some, IfSome};
+ghost use Rattle.iol_reactor.specs.Served.{HasKnownHistory, IsEmpty};
+
 use crate::client::Client;
 use crate::limits::{Limits, ROOM_MILLIS};
+use crate::marks::Marks;
 use crate::outbox::Outbox;
+use crate::places::Places;
 use crate::room::Room;
 use crate::service::Service;
 use crate::socket::Socket;
@@ -17,13 +22,13 @@ use std::net::SocketAddr;
 
 /// The clients, the worlds, and the next step of each client.
 #[derive(Drop)]
-pub struct Engine<S, B: Backing, P: Process, V: Service<B, P>> {
+pub struct Engine<S: Socket, B: Backing, P: Process, V: Service<B, P>> {
     pub(crate) alloc: Global,
     pub(crate) limits: Limits,
-    pub(crate) worlds: Worlds<B, P, V>,
+    pub(crate) places: Places<S, B, P, V>,
 
-    // The clients in their places, and the places that are free.
-    pub(crate) clients: Vec<Option<Client<S>>>,
+    // The marks of each client, by its place, and the places that are free.
+    pub(crate) marks: Vec<Option<Marks>>,
     pub(crate) free: Vec<usize>,
     serial: u64,
 
@@ -80,13 +85,14 @@ impl<S: Socket + Drop, B: Backing + Drop, P: Process, V: Service<B, P>> Engine<S
         pool: PoolId,
         limits: Limits,
     ) -> Engine<S, B, P, V>
-        requires { V.starts world }
+        requires starts { V.starts world }
+        requires empty { room.clients.items ≡ [] }
     {
         Engine {
             alloc,
             limits,
-            worlds: Worlds::new(world, pool, room.links),
-            clients: room.clients,
+            places: Places::new(room.clients, Worlds::new(world, pool, room.links)),
+            marks: room.marks,
             free: room.free,
             serial: 0,
             ready: room.ready,
@@ -105,7 +111,7 @@ impl<S: Socket + Drop, B: Backing + Drop, P: Process, V: Service<B, P>> Engine<S
 
     /// The number of clients.
     pub fn count(&self) -> usize {
-        self.clients.len().saturating_sub(self.free.len())
+        self.places.len().saturating_sub(self.free.len())
     }
 
     /// The time, in milliseconds since the service began.
@@ -119,15 +125,33 @@ impl<S: Socket + Drop, B: Backing + Drop, P: Process, V: Service<B, P>> Engine<S
     }
 
     /// The worlds.
-    pub fn worlds(&mut self) -> &mut Worlds<B, P, V> {
-        &mut self.worlds
+    pub fn worlds(&self) -> &Worlds<B, P, V> {
+        self.places.worlds()
+    }
+
+    /// New requests go to this world from now on, and those in progress finish in the present one.
+    /// No world is retiring.
+    pub fn renew(&mut self, world: World<B, P>)
+        requires { V.starts world }
+    {
+        self.places.renew(world);
+    }
+
+    /// The client in this place.
+    pub fn client(&self, slot: usize) -> Option<&Client<S>>
+        ensures place { IfSome result
+            (λ c. get_or self.entry.now.places.clients.items slot None ≡ Some c.now) }
+        ensures history { IfSome result (λ c. HasKnownHistory P.turns V.starts V.frames
+            self.entry.now.places.worlds.pool S.supplied S.accepted c.now) }
+    {
+        self.places.get(slot)
     }
 
     /// The socket of the client in this place.
     pub fn socket(&self, slot: usize) -> Option<&S> {
-        match self.clients.get(slot) {
-            Some(Some(client)) => Some(client.socket()),
-            _ => None,
+        match self.places.get(slot) {
+            Some(client) => Some(client.socket()),
+            None => None,
         }
     }
 
@@ -150,10 +174,10 @@ impl<S: Socket + Drop, B: Backing + Drop, P: Process, V: Service<B, P>> Engine<S
 
     // Adds a place, if there may be one more: which it is.
     fn add_place(&mut self) -> Option<usize> {
-        let slot = self.clients.len();
+        let slot = self.places.len();
         if slot >= self.limits.max_clients
-            || self.worlds.add_place().is_err()
-            || self.clients.push(None).is_err()
+            || self.places.add_place().is_err()
+            || self.marks.push(None).is_err()
             || self.free.push(slot).is_err()
         {
             return None;
@@ -162,13 +186,15 @@ impl<S: Socket + Drop, B: Backing + Drop, P: Process, V: Service<B, P>> Engine<S
     }
 
     /// A new client, in the place that `vacancy` gave.
-    pub fn admit(&mut self, socket: S, peer: SocketAddr) {
+    pub fn admit(&mut self, socket: S, peer: SocketAddr)
+        requires supplied { IsEmpty (S.supplied socket) }
+        requires accepted { IsEmpty (S.accepted socket) }
+    {
         let Some(slot) = self.free.pop() else {
             return;
         };
         self.serial = self.serial.saturating_add(1);
         let serial = self.serial;
-        let client = Client::new(self.alloc, socket, peer, serial, self.now);
         if self
             .timers
             .silences
@@ -178,9 +204,10 @@ impl<S: Socket + Drop, B: Backing + Drop, P: Process, V: Service<B, P>> Engine<S
             let _ = self.free.push(slot);
             return;
         }
-        if let Some(place) = self.clients.get_mut(slot) {
-            *place = Some(client);
+        if let Some(place) = self.marks.get_mut(slot) {
+            *place = Some(Marks::new(serial));
         }
+        self.places.admit(slot, self.alloc, socket, peer, self.now);
     }
 
     /// The socket of the client in this place was reported ready.
@@ -191,10 +218,7 @@ impl<S: Socket + Drop, B: Backing + Drop, P: Process, V: Service<B, P>> Engine<S
         ends: bool,
         writes: bool,
     ) -> Result<(), AllocError> {
-        let Some(Some(client)) = self.clients.get_mut(slot) else {
-            return Ok(());
-        };
-        if client.note(reads, ends, writes) {
+        if self.places.note(slot, reads, ends, writes) {
             self.list(slot)?;
         }
         Ok(())
@@ -202,9 +226,9 @@ impl<S: Socket + Drop, B: Backing + Drop, P: Process, V: Service<B, P>> Engine<S
 
     /// The client at this index is visited in the next round.
     pub(crate) fn list(&mut self, slot: usize) -> Result<(), AllocError> {
-        if let Some(Some(client)) = self.clients.get_mut(slot) {
-            if !client.is_ready {
-                client.is_ready = true;
+        if let Some(Some(marks)) = self.marks.get_mut(slot) {
+            if !marks.is_ready {
+                marks.is_ready = true;
                 self.ready.push(slot)?;
             }
         }
@@ -222,7 +246,7 @@ impl<S: Socket + Drop, B: Backing + Drop, P: Process, V: Service<B, P>> Engine<S
     pub fn is_busy(&self) -> bool {
         !self.ready.is_empty()
             || !self.is_idle
-            || (!self.waiting.is_empty() && self.worlds.links() < self.limits.live)
+            || (!self.waiting.is_empty() && self.worlds().links() < self.limits.live)
     }
 
     /// The first time at which something is expected that no socket reports.

@@ -1,10 +1,17 @@
-//! One client's exchange with its world: its request goes in, its response comes out.
+//! One client's exchange with its world: its response goes to its socket.
+ghost use Rattle.std.specs.Prelude.{◌≡◌, ◌≤◌, true, false};
+ghost use Rattle.iol_reactor.specs.Bytes.{unsent_of};
+ghost use Rattle.iol_reactor.specs.Connections.{link_at};
+ghost use Rattle.iol_reactor.specs.LinkVisits.{IsOver, serving};
+ghost use Rattle.iol_reactor.specs.Served.{IsCompleted};
+
 use crate::client::{Client, Phase};
 use crate::outbox::Outbox;
 use crate::output::Sending;
+use crate::places::Places;
+use crate::sending::Passed;
 use crate::service::{Progress, Service};
 use crate::socket::Socket;
-use crate::worlds::{Collected, Worlds};
 use iol_back::backing::Backing;
 use iol_proc::process::Process;
 
@@ -36,174 +43,309 @@ pub struct Moment {
     pub is_idle: bool,
 }
 
-/// Hands in more of the request of the client in this place. False: there is no room for all of it
-/// now.
-pub fn hand_in<S: Socket, B: Backing + Drop, P: Process, V: Service<B, P>>(
-    worlds: &mut Worlds<B, P, V>,
-    slot: usize,
-    client: &mut Client<S>,
-) -> bool {
-    let left = worlds.hand_in(slot, client.rest()).len();
-    client.give(left);
-    left == 0 || worlds.is_over(slot)
-}
-
-/// Sends the world's output for the client at this index, which has a connection, as far as its
-/// socket accepts it.
-pub fn answer<S: Socket, B: Backing + Drop, P: Process, V: Service<B, P>>(
-    worlds: &mut Worlds<B, P, V>,
-    outbox: &mut Outbox,
-    slot: usize,
-    client: &mut Client<S>,
-    service: &mut V,
-    moment: Moment,
-) -> Step {
-    match client.flush(moment.now) {
-        Sending::All => {}
-        Sending::Blocked => return Step::Rests,
-        Sending::Failed => return abandon(worlds, slot, client, service),
-    }
-    let most = client.room();
-    if most == 0 {
-        return Step::Starved;
-    }
-    outbox.clear();
-    let taken = match worlds.collect(slot, outbox, most) {
-        Collected::Bytes(count) => count,
-        Collected::Closed => return ended(worlds, slot, client, service, moment.now),
-        Collected::Gone => return abandon(worlds, slot, client, service),
-    };
-    if taken > 0 {
-        match client.send(outbox.bytes(), moment.now) {
+impl<S: Socket + Drop, B: Backing + Drop, P: Process, V: Service<B, P>> Places<S, B, P, V> {
+    /// Sends the world's output for the client in this place, which has a connection, as far as
+    /// its socket accepts it.
+    pub fn answer(
+        &mut self,
+        outbox: &mut Outbox,
+        slot: usize,
+        service: &mut V,
+        moment: Moment,
+    ) -> Step {
+        match self.flush(slot, moment.now) {
             Sending::All => {}
             Sending::Blocked => return Step::Rests,
-            Sending::Failed => return abandon(worlds, slot, client, service),
+            Sending::Failed => return self.abandon(slot, service),
+        }
+        match self.pass_on(outbox, slot, moment.now) {
+            Passed::All => self.after_all(slot, service, moment),
+            Passed::Part => Step::Again,
+            Passed::Blocked => Step::Rests,
+            Passed::Starved => Step::Starved,
+            Passed::Closed => self.ended(slot, service, moment.now),
+            Passed::Failed => self.abandon(slot, service),
         }
     }
-    if taken >= most {
-        return Step::Again;
-    }
-    if worlds.is_over(slot) {
-        return ended(worlds, slot, client, service, moment.now);
-    }
-    if is_complete(client, service, moment.is_idle) {
-        complete(client, service, moment.now);
-        return next_step(client);
-    }
-    Step::Pending
-}
 
-// Whether a response is complete, all of which so far was sent. The last one ends with the connection.
-fn is_complete<S: Socket, B: Backing + Drop, P: Process, V: Service<B, P>>(
-    client: &Client<S>,
-    service: &V,
-    is_idle: bool,
-) -> bool {
-    if client.phase() != Phase::Answering
-        || !client.has_begun()
-        || !client.is_given()
-        || client.is_last()
+    // The socket of the client in this place has accepted all that the world sent so far.
+    fn after_all(&mut self, slot: usize, service: &mut V, moment: Moment) -> Step {
+        if self.is_over(slot) {
+            return self.ended(slot, service, moment.now);
+        }
+        if self.complete(slot, service, moment) {
+            return self.next_step(slot);
+        }
+        Step::Pending
+    }
+
+    // If the response of the client in this place was sent whole, the client is quiet, and its next
+    // request may be handed in.
+    fn complete(&mut self, slot: usize, service: &mut V, moment: Moment) -> bool {
+        if slot >= self.clients.len() {
+            return false;
+        }
+        match &mut self.clients[slot] {
+            Some(client) => complete(client, service, moment),
+            None => false,
+        }
+    }
+
+    // The next step of a client with a complete response.
+    fn next_step(&self, slot: usize) -> Step {
+        match self.get(slot) {
+            Some(client) if client.has_next() => Step::Again,
+            _ => Step::Rests,
+        }
+    }
+
+    // The processes have closed the connection of the client in this place, and all that they sent
+    // on it was written.
+    fn ended(&mut self, slot: usize, service: &mut V, now: u64) -> Step
+        requires { IsOver (link_at self.old.worlds.links.table.items slot)
+            (serving self.old.worlds.links.generation self.old.worlds.current.world
+            (λ h. h.world) self.old.worlds.retiring) }
     {
-        return false;
+        match self.phase(slot) {
+            Phase::Leaving => {
+                self.was_left(slot);
+                self.next_step(slot)
+            }
+            _ => {
+                self.was_closed(slot, service, now);
+                Step::Again
+            }
+        }
     }
-    if is_idle {
-        return true;
+
+    // The processes have closed the connection that the client in this place gave back.
+    fn was_left(&mut self, slot: usize)
+        requires { IsOver (link_at self.old.worlds.links.table.items slot)
+            (serving self.old.worlds.links.generation self.old.worlds.current.world
+            (λ h. h.world) self.old.worlds.retiring) }
+    {
+        if slot >= self.clients.len() {
+            return;
+        }
+        match &mut self.clients[slot] {
+            Some(client) => match client.phase() {
+                Phase::Leaving => {
+                    self.worlds.release(slot);
+                    client.release();
+                    client.set_phase(Phase::Parked);
+                }
+                _ => {}
+            },
+            None => {}
+        }
     }
-    matches!(service.progress(&client.exchange(true)), Progress::Complete)
+
+    // The processes have closed the connection of the client in this place, which has a request in
+    // progress.
+    fn was_closed(&mut self, slot: usize, service: &mut V, now: u64)
+        requires { IsOver (link_at self.old.worlds.links.table.items slot)
+            (serving self.old.worlds.links.generation self.old.worlds.current.world
+            (λ h. h.world) self.old.worlds.retiring) }
+    {
+        if slot >= self.clients.len() {
+            return;
+        }
+        match &mut self.clients[slot] {
+            Some(client) => match client.phase() {
+                Phase::Answering => {
+                    self.worlds.release(slot);
+                    end(client, service, now);
+                }
+                _ => {}
+            },
+            None => {}
+        }
+    }
+
+    /// The socket of the client in this place failed, or the client broke a limit: nothing more is
+    /// handed in or sent.
+    pub fn abandon(&mut self, slot: usize, service: &mut V) -> Step {
+        self.give_up(slot, service);
+        self.hang_up(slot);
+        self.release(slot);
+        Step::Over
+    }
+
+    // The client in this place is over.
+    fn give_up(&mut self, slot: usize, service: &mut V) {
+        if slot >= self.clients.len() {
+            return;
+        }
+        match &mut self.clients[slot] {
+            Some(client) => give_up(client, service),
+            None => {}
+        }
+    }
+
+    // The processes are told that the client in this place, which is over, is gone.
+    fn hang_up(&mut self, slot: usize) {
+        match self.phase(slot) {
+            Phase::Over => self.worlds.hang_up(slot),
+            _ => {}
+        }
+    }
+
+    // The client in this place, which is over, gives up its connection.
+    fn release(&mut self, slot: usize) {
+        match self.phase(slot) {
+            Phase::Over => self.worlds.release(slot),
+            _ => {}
+        }
+    }
+
+    /// The client in this place, which has no connection, ends: the rest is sent, its output is
+    /// ended, and its peer's end is awaited.
+    pub fn close(&mut self, slot: usize, piece: &mut [u8], now: u64) -> Step {
+        match self.flush(slot, now) {
+            Sending::All => {}
+            Sending::Blocked => return Step::Rests,
+            Sending::Failed => return Step::Over,
+        }
+        if !self.end_output(slot) {
+            return Step::Over;
+        }
+        self.drain(slot, piece)
+    }
+
+    // Ends the output of the client in this place, once, if all was sent. False: the socket failed.
+    fn end_output(&mut self, slot: usize) -> bool {
+        if slot >= self.clients.len() {
+            return true;
+        }
+        match &mut self.clients[slot] {
+            Some(client) => match client.phase() {
+                Phase::Flushing => {
+                    if !client.is_flushed() {
+                        return true;
+                    }
+                    client.set_phase(Phase::Closing);
+                    client.end_output()
+                }
+                _ => true,
+            },
+            None => true,
+        }
+    }
+
+    // Awaits the peer's end of the client in this place, whose output was ended.
+    fn drain(&mut self, slot: usize, piece: &mut [u8]) -> Step {
+        if self.drop_input(slot, piece) {
+            return Step::Over;
+        }
+        match self.get(slot) {
+            Some(client) if client.is_readable() => Step::Again,
+            _ => Step::Rests,
+        }
+    }
+
+    // Drops input of the client in this place, whose output was ended. True: its peer's end was
+    // read, or its socket failed.
+    fn drop_input(&mut self, slot: usize, piece: &mut [u8]) -> bool {
+        if slot >= self.clients.len() {
+            return true;
+        }
+        match &mut self.clients[slot] {
+            Some(client) => match client.phase() {
+                Phase::Closing => {
+                    if client.is_ended() {
+                        return true;
+                    }
+                    client.drop_input(piece)
+                }
+                _ => true,
+            },
+            None => true,
+        }
+    }
 }
 
-// A response was sent whole: the client is quiet, and its next request may be handed in.
+// Whether a client in this phase has a request in progress.
+fn is_answering(phase: Phase) -> bool
+    ensures { result ≡ true → phase ≡ Phase.Answering }
+{
+    matches!(phase, Phase::Answering)
+}
+
+// If a response was sent whole, the client is quiet.
 fn complete<S: Socket, B: Backing + Drop, P: Process, V: Service<B, P>>(
     client: &mut Client<S>,
     service: &mut V,
+    moment: Moment,
+) -> bool
+    ensures waits { result ≡ false → client.new ≡ client.old }
+    ensures done { result ≡ true → IsCompleted client.old client.new }
+{
+    if !is_complete(client, service, moment.is_idle) {
+        return false;
+    }
+    service.record(&client.exchange(true));
+    client.finish(moment.now);
+    client.set_phase(Phase::Quiet);
+    true
+}
+
+// The processes have closed the connection of a client with a request in progress.
+fn end<S: Socket, B: Backing + Drop, P: Process, V: Service<B, P>>(
+    client: &mut Client<S>,
+    service: &mut V,
     now: u64,
-) {
+)
+    ensures last { client.new.is_whole ≡ true → client.old.is_last ≡ true }
+    ensures given { client.new.is_whole ≡ true → client.old.input.asked ≤ client.old.input.given }
+    ensures phase { client.new.phase ≡ Phase.Flushing }
+    ensures socket { client.new.socket ≡ client.old.socket }
+    ensures unsent { unsent_of client.new.output ≡ unsent_of client.old.output }
+{
+    let is_whole = is_done(client);
     service.record(&client.exchange(true));
     client.finish(now);
-    client.set_phase(Phase::Quiet);
-}
-
-// The next step of a client with a complete response.
-fn next_step<S: Socket>(client: &Client<S>) -> Step {
-    if client.has_next() {
-        Step::Again
-    } else {
-        Step::Rests
-    }
-}
-
-// The world has closed the connection of the client in this place, and all that it sent on it was
-// written.
-fn ended<S: Socket, B: Backing + Drop, P: Process, V: Service<B, P>>(
-    worlds: &mut Worlds<B, P, V>,
-    slot: usize,
-    client: &mut Client<S>,
-    service: &mut V,
-    now: u64,
-) -> Step {
-    worlds.release(slot);
-    let was_leaving = client.phase() == Phase::Leaving;
-    if client.is_asking() {
-        service.record(&client.exchange(true));
-        client.finish(now);
-    }
     client.release();
-    if was_leaving {
-        client.set_phase(Phase::Parked);
-        return next_step(client);
-    }
-    client.set_phase(Phase::Flushing);
-    Step::Again
+    client.end(is_whole);
 }
 
-/// The socket of the client in this place failed, or the client broke a limit: nothing more is
-/// handed in or sent.
-pub fn abandon<S: Socket, B: Backing + Drop, P: Process, V: Service<B, P>>(
-    worlds: &mut Worlds<B, P, V>,
-    slot: usize,
+// A client is over.
+fn give_up<S: Socket, B: Backing + Drop, P: Process, V: Service<B, P>>(
     client: &mut Client<S>,
     service: &mut V,
-) -> Step {
-    worlds.hang_up(slot);
-    worlds.release(slot);
+)
+    ensures phase { client.new.phase ≡ Phase.Over }
+    ensures socket { client.new.socket ≡ client.old.socket }
+{
     if client.is_asking() {
         service.record(&client.exchange(false));
     }
     client.set_phase(Phase::Over);
-    Step::Over
 }
 
-/// The client at this index is quiet, and gives back its connection: the world gets the end of its
-/// input.
-pub fn leave<S: Socket, B: Backing + Drop, P: Process, V: Service<B, P>>(
-    worlds: &mut Worlds<B, P, V>,
-    slot: usize,
-    client: &mut Client<S>,
-) {
-    worlds.close(slot);
-    client.set_phase(Phase::Leaving);
+// Whether the request in progress was handed in whole, and is the last.
+fn is_done<S: Socket>(client: &Client<S>) -> bool
+    ensures last { result ≡ true → client.now.is_last ≡ true }
+    ensures given { result ≡ true → client.now.input.asked ≤ client.now.input.given }
+{
+    client.is_last() && client.is_given()
 }
 
-/// A client without a connection ends: the rest is sent, its output is ended, and its peer's end
-/// is awaited.
-pub fn close<S: Socket>(client: &mut Client<S>, piece: &mut [u8], now: u64) -> Step {
-    match client.flush(now) {
-        Sending::All => {}
-        Sending::Blocked => return Step::Rests,
-        Sending::Failed => return Step::Over,
+// Whether a response is complete, all of which so far was sent. The last one ends with the
+// connection.
+fn is_complete<S: Socket, B: Backing + Drop, P: Process, V: Service<B, P>>(
+    client: &Client<S>,
+    service: &V,
+    is_idle: bool,
+) -> bool
+    ensures phase { result ≡ true → client.now.phase ≡ Phase.Answering }
+    ensures given { result ≡ true → client.now.input.asked ≤ client.now.input.given }
+    ensures keeps { result ≡ true → client.now.is_last ≡ false }
+{
+    if !is_answering(client.phase()) || !client.is_given() || client.is_last() {
+        return false;
     }
-    if client.phase() == Phase::Flushing {
-        client.set_phase(Phase::Closing);
-        if !client.end_output() {
-            return Step::Over;
-        }
+    if !client.has_begun() {
+        return false;
     }
-    if client.is_ended() || client.drop_input(piece) {
-        return Step::Over;
-    }
-    if client.is_readable() {
-        Step::Again
-    } else {
-        Step::Rests
-    }
+    is_idle || matches!(service.progress(&client.exchange(true)), Progress::Complete)
 }

@@ -1,7 +1,7 @@
 //! The effect of expired deadlines.
 use crate::client::{Client, Phase};
 use crate::engine::Engine;
-use crate::exchange::{abandon, leave};
+use crate::marks::Marks;
 use crate::service::Service;
 use crate::socket::Socket;
 use crate::timers::Key;
@@ -27,10 +27,10 @@ impl<S: Socket + Drop, B: Backing + Drop, P: Process, V: Service<B, P>> Engine<S
                 break;
             };
             let most = self.limits.idle_millis;
-            let Some(client) = self.client(key) else {
+            if !self.is_there(key) {
                 continue;
-            };
-            let is_silent = is_between(client) && client.silence(now) >= most;
+            }
+            let is_silent = self.is_silent(key.slot, now, most);
             if is_silent || self.timers.silences.set(now, key).is_err() {
                 self.end(key, service)?;
             }
@@ -46,11 +46,11 @@ impl<S: Socket + Drop, B: Backing + Drop, P: Process, V: Service<B, P>> Engine<S
                 break;
             };
             let most = self.limits.head_millis;
-            let Some(client) = self.client(key) else {
+            let Some(marks) = self.marks(key) else {
                 continue;
             };
-            let Some(since) = client.head_since else {
-                client.armed.head = false;
+            let Some(since) = marks.head_since else {
+                marks.armed.head = false;
                 continue;
             };
             let is_late = now.saturating_sub(since) >= most;
@@ -69,15 +69,20 @@ impl<S: Socket + Drop, B: Backing + Drop, P: Process, V: Service<B, P>> Engine<S
             let Some(key) = self.timers.rates.take_due(now) else {
                 break;
             };
-            let Some(client) = self.client(key) else {
+            let Some(client) = self.places.get(key.slot) else {
                 continue;
             };
-            if !client.is_blocked() {
-                client.armed.rate = false;
+            let is_blocked = client.is_blocked();
+            let count = client.accepted();
+            let Some(marks) = self.marks(key) else {
+                continue;
+            };
+            if !is_blocked {
+                marks.armed.rate = false;
                 continue;
             }
-            let accepted = client.accepted().saturating_sub(client.rate_mark);
-            client.rate_mark = client.accepted();
+            let accepted = count.saturating_sub(marks.rate_mark);
+            marks.rate_mark = count;
             if accepted < least || self.timers.rates.set(now, key).is_err() {
                 self.end(key, service)?;
             }
@@ -120,42 +125,62 @@ impl<S: Socket + Drop, B: Backing + Drop, P: Process, V: Service<B, P>> Engine<S
     fn park(&mut self, key: Key, is_full: bool) -> Result<(), AllocError> {
         let now = self.now();
         let most = self.limits.park_millis;
-        let Some(Some(client)) = self.clients.get_mut(key.slot) else {
+        let has_link = self.worlds().has_link(key.slot);
+        let is_quiet = self.is_quiet(key.slot, now, if is_full { 0 } else { most });
+        let Some(marks) = self.marks(key) else {
             return Ok(());
         };
-        if client.serial() != key.serial {
+        if !has_link {
+            marks.armed.park = false;
             return Ok(());
         }
-        if !self.worlds.has_link(key.slot) {
-            client.armed.park = false;
-            return Ok(());
-        }
-        let is_quiet = client.phase() == Phase::Quiet && !client.is_ready;
-        if is_quiet && (is_full || client.silence(now) >= most) {
-            client.armed.park = false;
-            leave(&mut self.worlds, key.slot, client);
+        if is_quiet && !marks.is_ready {
+            marks.armed.park = false;
+            self.places.leave(key.slot);
             return self.list(key.slot);
         }
         self.timers.parks.set(now, key)
     }
 
-    // The client of a deadline, if it is still there.
-    fn client(&mut self, key: Key) -> Option<&mut Client<S>> {
-        match self.clients.get_mut(key.slot) {
-            Some(Some(client)) if client.serial() == key.serial => Some(client),
+    // The marks of the client of a deadline, if it is still there.
+    fn marks(&mut self, key: Key) -> Option<&mut Marks> {
+        match self.marks.get_mut(key.slot) {
+            Some(Some(marks)) if marks.serial == key.serial => Some(marks),
             _ => None,
+        }
+    }
+
+    // Whether the client of a deadline is still there.
+    pub(crate) fn is_there(&self, key: Key) -> bool {
+        match self.marks.get(key.slot) {
+            Some(Some(marks)) => marks.serial == key.serial,
+            _ => false,
+        }
+    }
+
+    // Whether the client in this place is between two requests, has sent nothing of the next one,
+    // and was silent for this time.
+    fn is_silent(&self, slot: usize, now: u64, most: u64) -> bool {
+        match self.places.get(slot) {
+            Some(client) => is_between(client) && client.silence(now) >= most,
+            None => false,
+        }
+    }
+
+    // Whether the client in this place is quiet, and was silent for this time.
+    fn is_quiet(&self, slot: usize, now: u64, most: u64) -> bool {
+        match self.places.get(slot) {
+            Some(client) => client.phase() == Phase::Quiet && client.silence(now) >= most,
+            None => false,
         }
     }
 
     // Ends a client. It is removed in the next round.
     fn end(&mut self, key: Key, service: &mut V) -> Result<(), AllocError> {
-        let Some(Some(client)) = self.clients.get_mut(key.slot) else {
-            return Ok(());
-        };
-        if client.serial() != key.serial {
+        if !self.is_there(key) {
             return Ok(());
         }
-        abandon(&mut self.worlds, key.slot, client, service);
+        self.places.abandon(key.slot, service);
         self.list(key.slot)
     }
 }

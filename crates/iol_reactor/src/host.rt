@@ -3,6 +3,7 @@ ghost use Rattle.std.specs.Prelude.{◌≡◌, ℕ, [], true, false, IfSome, IsN
 ghost use Rattle.iol_core.specs.Prelude.{lacks_conn};
 ghost use Rattle.iol_proc.specs.Prelude.{copied};
 ghost use Rattle.iol_serve.specs.Service.{ProceedsIn, SendsIn};
+ghost use Rattle.iol_sock.specs.Gathers.{IsCalled};
 ghost use Rattle.iol_reactor.specs.Serving.{ArrivesIn, EndsIn, HasServed};
 ghost use Rattle.iol_reactor.specs.Visits.{ConnectsIn, HasVisited, VisitsArrive, VisitsAdvance};
 ghost use Rattle.iol_reactor.specs.Visits.{VisitsSend, VisitsStay};
@@ -15,6 +16,7 @@ use iol_core::events::{Event, Reply};
 use iol_core::numbers::{ConnId, PoolId};
 use iol_proc::process::Process;
 use iol_proc::world::World;
+use iol_sock::{Drained, Gather};
 use std::io::Write;
 use std::marker::PhantomData;
 
@@ -79,7 +81,8 @@ impl<B: Backing + Drop, P: Process, V: Service<B, P>> Host<B, P, V> {
     pub fn close(&mut self, conn: ConnId)
         ensures reported { EndsIn P.turns conn How.Done self.old.world self.new.world }
         ensures alone { ProceedsIn P.turns conn [] [] false self.old.world self.new.world }
-        ensures visits { VisitsAdvance P.turns V.starts self.old.pool conn [] [] false self.old.world
+        ensures visits { VisitsAdvance P.turns V.starts self.old.pool conn [] [] false
+            self.old.world
             self.new.world }
         ensures pool { self.new.pool ≡ self.old.pool }
     {
@@ -128,5 +131,19 @@ impl<B: Backing + Drop, P: Process, V: Service<B, P>> Host<B, P, V> {
         ensures pool { self.new.pool ≡ self.old.pool }
     {
         steps::collect(&mut self.world, conn, writer, most)
+    }
+
+    /// Offers the queued output of a connection to a taker, at most this number of bytes. None: the
+    /// processes have closed the connection.
+    pub fn offer<G: Gather>(&mut self, conn: ConnId, taker: &mut G, most: u32) -> Option<Drained>
+        ensures over { IsNone result → lacks_conn (copied self.new.world).machine conn ≡ true }
+        ensures alone { SendsIn P.turns conn G.contents taker.old taker.new self.old.world
+            self.new.world }
+        ensures visits { VisitsSend P.turns V.starts self.old.pool conn (G.contents taker.old)
+            (G.contents taker.new) self.old.world self.new.world }
+        ensures calls { IsCalled G.gathers taker.old taker.new }
+        ensures pool { self.new.pool ≡ self.old.pool }
+    {
+        steps::offer(&mut self.world, conn, taker, most)
     }
 }

@@ -1,7 +1,8 @@
 //! The bytes that a client sent and for which the world has not responded yet.
 ghost use Rattle.std.specs.Prelude.{◌≡◌, ◌≢◌, ◌≤◌, ◌++◌, [], IfSome, drop, nat_le, nat_lt};
 ghost use Rattle.std.specs.Io.KnownBytes.{Keeps};
-ghost use Rattle.iol_reactor.specs.Bytes.{Gains, Grows, IsBegun, IsFinished, IsGiven, IsSameInput, request_of};
+ghost use Rattle.iol_reactor.specs.Bytes.{Gains, Grows, IsBegun, IsFinished, IsGiven, IsSameInput};
+ghost use Rattle.iol_reactor.specs.Bytes.{request_of};
 
 use crate::limits::{MAX_BUFFERED, MIN_READ_BYTES};
 use crate::socket::Socket;
@@ -68,14 +69,17 @@ impl Input {
 
     /// The socket was reported readable, or at its peer's end.
     pub fn note(&mut self, reads: bool, ends: bool)
-        ensures { IsSameInput self.old self.new }
+        ensures same { IsSameInput self.old self.new }
+        ensures ended { self.new.ended ≡ self.old.ended }
     {
         self.readable |= reads;
         self.ending |= ends;
     }
 
     /// Whether the peer's end was read.
-    pub fn is_ended(&self) -> bool {
+    pub fn is_ended(&self) -> bool
+        ensures { result ≡ self.now.ended }
+    {
         self.ended
     }
 

@@ -54,8 +54,19 @@ impl Limits {
 /// The events that one poll reports at most.
 pub const EVENTS: usize = 256;
 
-/// The number of process turns between two polls of the sockets: one or two milliseconds.
-pub const TURNS: usize = 4_096;
+/// Between two polls of the sockets the processes have turns until all are idle, but for at most
+/// about this time. A clock is read between two portions of turns.
+pub const RUN_MICROS: u64 = 1_000;
+
+/// The turns of a portion in each world. There are more while turns are short, and fewer while they
+/// are long, as those that count the lines of a large file. A process in the first places has one
+/// turn more in a portion than others, so the least is above the number of a site's processes.
+pub const MIN_TURNS: usize = 8;
+
+pub const MAX_TURNS: usize = 64;
+
+/// The portions between two polls at most.
+pub const PORTIONS: usize = 64;
 
 /// The bytes of one read at most.
 pub const READ_BYTES: usize = 16_384;

@@ -1,5 +1,6 @@
 //! The connections of clients.
-ghost use Rattle.std.specs.Prelude.{◌≡◌, ◌+◌, ◌++◌, ◌∷◌, ◌==◌, [], None, Some, true, false, set, OnErr, OnOk};
+ghost use Rattle.std.specs.Prelude.{◌≡◌, ◌+◌, ◌++◌, ◌∷◌, ◌==◌, [], None, Some, true, false, set};
+ghost use Rattle.std.specs.Prelude.{OnErr, OnOk};
 ghost use Rattle.iol_reactor.specs.Connections.{AreApart, HaveCome, link_at};
 
 use iol_core::numbers::ConnId;

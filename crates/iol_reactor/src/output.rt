@@ -1,6 +1,6 @@
 //! The bytes of a response that the world sent and that a client has not accepted yet.
-ghost use Rattle.std.specs.Prelude.{◌≡◌, ◌≢◌, ◌≤◌, [], length};
-ghost use Rattle.std.specs.Io.KnownBytes.{Keeps};
+ghost use Rattle.std.specs.Prelude.{◌≡◌, ◌≢◌, ◌≤◌, [], length, true, ◌++◌, take};
+ghost use Rattle.std.specs.Io.KnownBytes.{Appends, Keeps};
 ghost use Rattle.iol_reactor.specs.Bytes.{Passes, PassesSome, unsent_of};
 
 use crate::limits::{HEAD_BYTES, MIN_KEPT_BYTES, TAIL_BYTES};
@@ -78,6 +78,13 @@ impl Output {
         was_blocked
     }
 
+    /// Whether the socket accepted all bytes.
+    pub fn is_flushed(&self) -> bool
+        ensures { result ≡ true → unsent_of self.now ≡ [] }
+    {
+        self.at >= self.left.len()
+    }
+
     /// The first bytes of the response.
     pub fn head(&self) -> &[u8] {
         &self.head
@@ -135,20 +142,20 @@ impl Output {
     }
 
     /// The number of bytes that may be collected from the world: there is memory for them, should
-    /// the socket accept none. 0: there is no memory. Nothing is left from before.
+    /// the socket accept none. 0: there is no memory, or bytes are left from before.
     pub fn room(&mut self) -> u32
-        ensures { unsent_of self.new ≡ unsent_of self.old }
+        ensures same { unsent_of self.new ≡ unsent_of self.old }
+        ensures none { result ≢ 0 → unsent_of self.old ≡ [] }
     {
-        let least = if self.produced == 0 {
+        if !self.is_flushed() {
+            return 0;
+        }
+        let least = if self.produced < MIN_KEPT_BYTES as u64 {
             MIN_KEPT_BYTES
         } else {
             QUEUE as usize
         };
-        if self
-            .head
-            .reserve(HEAD_BYTES.saturating_sub(self.head.len()))
-            .is_err()
-        {
+        if self.reserve().is_err() {
             return 0;
         }
         let _ = self.left.reserve(least);
@@ -187,6 +194,56 @@ impl Output {
         sending
     }
 
+    /// Writes the first bytes of pieces that the world is to send, as far as the socket accepts
+    /// them, and returns their number. Nothing is left from before, and nothing is kept.
+    pub fn pass<S: Socket>(
+        &mut self,
+        socket: &mut S,
+        first: &[u8],
+        second: &[u8],
+        third: &[u8],
+        fourth: &[u8],
+    ) -> usize
+        ensures most { result ≤ length (first.now ++ second.now ++ third.now ++ fourth.now) }
+        ensures unsent { unsent_of self.new ≡ unsent_of self.old }
+        ensures sent { Appends (S.accepted socket.old) (S.accepted socket.new)
+            (take result (first.now ++ second.now ++ third.now ++ fourth.now)) }
+        ensures came { Keeps (S.supplied socket.old) (S.supplied socket.new) }
+    {
+        if self.reserve().is_err() {
+            return 0;
+        }
+        let Ok(accepted) = socket.send_pieces(first, second, third, fourth) else {
+            return 0;
+        };
+        let left = self.show_first(first, accepted);
+        let left = self.show_first(second, left);
+        let left = self.show_first(third, left);
+        let _ = self.show_first(fourth, left);
+        self.count(accepted);
+        accepted
+    }
+
+    // Keeps the part of the first bytes of a piece that an exchange shows, for which there is
+    // memory. Returns how many of this number are of the next pieces.
+    fn show_first(&mut self, piece: &[u8], accepted: usize) -> usize
+        ensures left { self.new.left.items ≡ self.old.left.items }
+        ensures at { self.new.at ≡ self.old.at }
+    {
+        let count = accepted.min(piece.len());
+        let _ = self.show(&piece[..count]);
+        accepted.saturating_sub(count)
+    }
+
+    // Takes memory for the first bytes of the response.
+    fn reserve(&mut self) -> Result<(), AllocError>
+        ensures left { self.new.left.items ≡ self.old.left.items }
+        ensures at { self.new.at ≡ self.old.at }
+    {
+        self.head
+            .reserve(HEAD_BYTES.saturating_sub(self.head.len()))
+    }
+
     // The socket accepted this number of bytes.
     fn count(&mut self, accepted: usize)
         ensures left { self.new.left.items ≡ self.old.left.items }
@@ -205,7 +262,12 @@ impl Output {
         self.head
             .extend_from_slice(&bytes[..room.min(bytes.len())])?;
         self.produced = self.produced.saturating_add(bytes.len() as u64);
-        for byte in &bytes[bytes.len().saturating_sub(TAIL_BYTES)..] {
+        let last = &bytes[bytes.len().saturating_sub(TAIL_BYTES)..];
+        if last.len() == TAIL_BYTES {
+            self.tail.copy_from_slice(last);
+            return Ok(());
+        }
+        for byte in last {
             self.tail.rotate_left(1);
             self.tail[TAIL_BYTES - 1] = *byte;
         }

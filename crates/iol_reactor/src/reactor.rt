@@ -4,7 +4,7 @@ ghost use Rattle.iol_reactor.specs.Accepting.{StaysWithin};
 
 use crate::accept::{Acceptor, Listener};
 use crate::engine::Engine;
-use crate::limits::{EVENTS, Limits, RENEW_MILLIS};
+use crate::limits::{EVENTS, Limits, MAX_TURNS, MIN_TURNS, PORTIONS, RENEW_MILLIS, RUN_MICROS};
 use crate::service::Service;
 use iol_back::backing::Backing;
 use iol_core::numbers::PoolId;
@@ -33,6 +33,9 @@ pub struct Reactor<L, B: Backing, P: Process, V: Service<B, P>> {
 
     // When the service is asked for a new world.
     renew_at: u64,
+
+    // The turns that the processes have between two readings of the clock.
+    portion: usize,
 }
 
 impl<B: Backing + Drop, P: Process, V: Service<B, P>> Reactor<TcpListener, B, P, V> {
@@ -81,6 +84,7 @@ impl<B: Backing + Drop, P: Process, V: Service<B, P>> Reactor<TcpListener, B, P,
                 acceptor,
                 engine,
                 renew_at: RENEW_MILLIS,
+                portion: MAX_TURNS,
             }),
             Err(error) => Err(io::Error::from(error)),
         }
@@ -130,9 +134,10 @@ where
     {
         let wait = self.wait();
         self.poll.poll(events, Some(wait))?;
-        self.engine.set_now(millis_of(start.elapsed(clock)?));
+        let now = start.elapsed(clock)?;
+        self.engine.set_now(millis_of(now));
         self.note_all(events)?;
-        self.turn(service)
+        self.turn(now, start, clock, service)
     }
 
     // Sockets were reported ready.
@@ -194,16 +199,45 @@ where
         Ok(())
     }
 
-    // The work between two polls.
-    fn turn(&mut self, service: &mut V) -> io::Result<()>
+    // The work between two polls, of which the first was at this time.
+    fn turn(
+        &mut self,
+        polled: Duration,
+        start: &Instant,
+        clock: &impl Clock,
+        service: &mut V,
+    ) -> io::Result<()>
         ensures { StaysWithin (L.given self.old.acceptor.listener) self.old.acceptor.left
             (L.given self.new.acceptor.listener) self.new.acceptor.left }
     {
         self.accept_all();
         self.check_accepting()?;
-        self.engine.round(service)?;
+        if self.engine.begin_round(service)? {
+            self.run(polled, start, clock)?;
+            self.engine.end_round(service)?;
+        }
         self.engine.expire(service)?;
         self.renew(service);
+        Ok(())
+    }
+
+    // The turns of the processes in it.
+    fn run(&mut self, polled: Duration, start: &Instant, clock: &impl Clock) -> io::Result<()>
+        ensures listener { self.new.acceptor.listener ≡ self.old.acceptor.listener }
+        ensures left { self.new.acceptor.left ≡ self.old.acceptor.left }
+    {
+        let mut before = polled;
+        for _ in 0..PORTIONS {
+            if self.engine.take_turns(self.portion) {
+                return Ok(());
+            }
+            let now = start.elapsed(clock)?;
+            self.portion = portion_after(self.portion, now.saturating_sub(before));
+            if now.saturating_sub(polled) >= Duration::from_micros(RUN_MICROS) {
+                return Ok(());
+            }
+            before = now;
+        }
         Ok(())
     }
 
@@ -279,7 +313,7 @@ where
             return;
         }
         match service.renew(worlds.is_worn()) {
-            Some(world) => worlds.renew(world),
+            Some(world) => self.engine.renew(world),
             None => {}
         }
     }
@@ -299,4 +333,15 @@ fn millis_of(time: Duration) -> u64 {
     time.as_secs()
         .saturating_mul(1000)
         .saturating_add(u64::from(time.subsec_millis()))
+}
+
+// The turns of the portion after one that took this time.
+fn portion_after(portion: usize, took: Duration) -> usize {
+    if took >= Duration::from_micros(RUN_MICROS / 2) {
+        (portion / 2).max(MIN_TURNS)
+    } else if took < Duration::from_micros(RUN_MICROS / 8) {
+        portion.saturating_mul(2).min(MAX_TURNS)
+    } else {
+        portion
+    }
 }

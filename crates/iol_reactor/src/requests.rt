@@ -1,7 +1,9 @@
 //! The input of a client, and its requests.
+ghost use Rattle.std.specs.Prelude.{◌≡◌, true};
+ghost use Rattle.iol_reactor.specs.Served.{IsFrameAt};
+
 use crate::client::Phase;
 use crate::engine::Engine;
-use crate::exchange::{abandon, hand_in, leave};
 use crate::input::Reading;
 use crate::service::{Frame, Service};
 use crate::socket::Socket;
@@ -18,11 +20,6 @@ fn length_of(frame: &Frame) -> usize {
     }
 }
 
-// Whether bytes that a client sends may still be used.
-fn is_open(phase: Phase) -> bool {
-    !matches!(phase, Phase::Flushing | Phase::Closing | Phase::Over)
-}
-
 impl<S: Socket + Drop, B: Backing + Drop, P: Process, V: Service<B, P>> Engine<S, B, P, V> {
     /// Reads the input of a client's socket, and hands in its next request if it has a complete
     /// one.
@@ -30,7 +27,7 @@ impl<S: Socket + Drop, B: Backing + Drop, P: Process, V: Service<B, P>> Engine<S
         if !self.read(slot, service) {
             return Ok(());
         }
-        match self.phase(slot) {
+        match self.places.phase(slot) {
             Phase::Parked | Phase::Quiet => self.ask(slot, service),
             Phase::Answering => {
                 self.give(slot);
@@ -40,26 +37,12 @@ impl<S: Socket + Drop, B: Backing + Drop, P: Process, V: Service<B, P>> Engine<S
         }
     }
 
-    // The phase of the client at this index.
-    fn phase(&self, slot: usize) -> Phase {
-        match self.clients.get(slot) {
-            Some(Some(client)) => client.phase(),
-            _ => Phase::Over,
-        }
-    }
-
     // Reads once from a client's socket, if it may have bytes. False: nothing is left to do now.
     fn read(&mut self, slot: usize, service: &mut V) -> bool {
         let now = self.now();
-        let Some(Some(client)) = self.clients.get_mut(slot) else {
-            return false;
-        };
-        if !is_open(client.phase()) || !client.may_read() {
-            return true;
-        }
-        match client.read(self.piece.as_mut_slice(), now) {
+        match self.places.read(slot, self.piece.as_mut_slice(), now) {
             Reading::Failed => {
-                abandon(&mut self.worlds, slot, client, service);
+                self.places.abandon(slot, service);
                 false
             }
             Reading::Starved => {
@@ -72,100 +55,117 @@ impl<S: Socket + Drop, B: Backing + Drop, P: Process, V: Service<B, P>> Engine<S
 
     // Begins a client's next request, if it is complete.
     fn ask(&mut self, slot: usize, service: &mut V) -> Result<(), AllocError> {
-        let Some(Some(client)) = self.clients.get_mut(slot) else {
-            return Ok(());
-        };
-        let Ok(frame) = service.frame(self.alloc, client.next()) else {
+        let Ok(frame) = self.places.frame(slot, self.alloc, service) else {
             self.starve();
             return Ok(());
         };
-        let length = length_of(&frame);
-        if length == 0 {
-            self.lacks_request(slot);
+        if length_of(&frame) == 0 {
+            self.lacks_request(slot, &frame);
             return Ok(());
         }
-        if self.worlds.is_outdated(slot) {
-            leave(&mut self.worlds, slot, client);
+        if self.worlds().is_outdated(slot) {
+            self.places.leave(slot);
             return Ok(());
         }
-        if !self.worlds.has_link(slot) && !self.connect(slot) {
-            return Ok(());
+        if self.links(slot) {
+            self.begin(slot, &frame);
         }
-        self.begin(slot, length, matches!(frame, Frame::Last(_)));
         Ok(())
     }
 
-    // Begins a request of this length, and hands it in.
-    fn begin(&mut self, slot: usize, length: usize, is_last: bool) {
-        if let Some(Some(client)) = self.clients.get_mut(slot) {
-            client.begin(length, is_last);
-            client.set_phase(Phase::Answering);
+    // Whether a client with a complete request has a connection, or gets one.
+    fn links(&mut self, slot: usize) -> bool
+        ensures { result ≡ true → self.new.places.clients ≡ self.old.places.clients }
+    {
+        self.worlds().has_link(slot) || self.connect(slot)
+    }
+
+    // Begins a request, and hands it in.
+    fn begin(&mut self, slot: usize, frame: &Frame)
+        requires { IsFrameAt V.frames slot self.old.places.clients.items frame.now }
+    {
+        if let Some(Some(marks)) = self.marks.get_mut(slot) {
+            marks.head_since = None;
         }
+        self.places.begin(slot, frame);
         self.give(slot);
     }
 
     // A client has no complete request. One that sends no more ends; else the rest of its request
     // is awaited for a limited time.
-    fn lacks_request(&mut self, slot: usize) {
-        let now = self.now();
-        let Some(Some(client)) = self.clients.get_mut(slot) else {
+    fn lacks_request(&mut self, slot: usize, frame: &Frame)
+        requires { IsFrameAt V.frames slot self.old.places.clients.items frame.now }
+    {
+        let Some(client) = self.places.get(slot) else {
             return;
         };
         if client.is_ended() {
-            if self.worlds.has_link(slot) {
-                leave(&mut self.worlds, slot, client);
+            if self.worlds().has_link(slot) {
+                self.places.leave(slot);
             } else {
-                client.set_phase(Phase::Flushing);
+                self.places.end_input(slot, frame);
             }
             return;
         }
-        if client.next().is_empty() || client.is_awaited() {
+        if !client.next().is_empty() {
+            self.await_rest(slot);
+        }
+    }
+
+    // The rest of a client's request is awaited from now on, if it was not before.
+    fn await_rest(&mut self, slot: usize) {
+        let now = self.now();
+        let Some(Some(marks)) = self.marks.get_mut(slot) else {
+            return;
+        };
+        if marks.head_since.is_some() {
             return;
         }
-        if !client.armed.head {
-            let serial = client.serial();
+        if !marks.armed.head {
+            let serial = marks.serial;
             if self.timers.heads.set(now, Key { slot, serial }).is_err() {
                 self.starve();
                 return;
             }
-            client.armed.head = true;
+            marks.armed.head = true;
         }
-        client.head_since = Some(now);
+        marks.head_since = Some(now);
     }
 
     // A client with a complete request gets a connection, or waits for one. False: it has none now.
-    fn connect(&mut self, slot: usize) -> bool {
+    fn connect(&mut self, slot: usize) -> bool
+        ensures { result ≡ true → self.new.places.clients ≡ self.old.places.clients }
+    {
         let now = self.now();
-        let Some(Some(client)) = self.clients.get_mut(slot) else {
+        let is_full = self.worlds().links() >= self.limits.live;
+        let Some(Some(marks)) = self.marks.get_mut(slot) else {
             return false;
         };
-        let serial = client.serial();
+        let serial = marks.serial;
         let key = Key { slot, serial };
-        client.head_since = None;
-        if self.worlds.links() >= self.limits.live {
+        marks.head_since = None;
+        if is_full {
             if self.waiting.push_back(key).is_err() {
                 self.starve();
             } else {
-                client.set_phase(Phase::Waiting);
+                self.places.wait(slot);
             }
             return false;
         }
-        if self.timers.parks.reserve().is_err() || !self.worlds.connect(slot) {
+        if self.timers.parks.reserve().is_err() || !self.places.connect(slot) {
             self.starve();
             return false;
         }
-        if !client.armed.park {
-            client.armed.park = self.timers.parks.set(now, key).is_ok();
+        if !marks.armed.park {
+            marks.armed.park = self.timers.parks.set(now, key).is_ok();
         }
         true
     }
 
     // Hands in the rest of a client's request.
     fn give(&mut self, slot: usize) {
-        if let Some(Some(client)) = self.clients.get_mut(slot) {
-            if !client.is_given() && !hand_in(&mut self.worlds, slot, client) {
-                self.starve();
-            }
+        if !self.places.hand_in(slot) && !self.places.is_over(slot) {
+            self.starve();
         }
     }
 }

@@ -1,7 +1,10 @@
 //! Memory for all clients, which is reserved before the first comes.
+ghost use Rattle.std.specs.Prelude.{◌≡◌, [], IfOk};
+
 use crate::client::Client;
 use crate::limits::{Limits, READ_BYTES};
 use crate::links::Links;
+use crate::marks::Marks;
 use crate::outbox::Outbox;
 use crate::steps::QUEUE;
 use crate::timers::{Key, Timers};
@@ -12,6 +15,7 @@ use std::collections::VecDeque;
 #[derive(Drop)]
 pub struct Room<S> {
     pub clients: Vec<Option<Client<S>>>,
+    pub marks: Vec<Option<Marks>>,
     pub free: Vec<usize>,
     pub ready: Vec<usize>,
     pub pending: Vec<usize>,
@@ -26,10 +30,13 @@ pub struct Room<S> {
 
 impl<S: Drop> Room<S> {
     /// Room for as many clients as the limits allow.
-    pub fn new(alloc: Global, limits: &Limits) -> Result<Room<S>, AllocError> {
+    pub fn new(alloc: Global, limits: &Limits) -> Result<Room<S>, AllocError>
+        ensures { IfOk result (λ room. room.clients.items ≡ []) }
+    {
         let most = limits.max_clients;
         Ok(Room {
             clients: Vec::with_capacity(alloc, most)?,
+            marks: Vec::with_capacity(alloc, most)?,
             free: Vec::with_capacity(alloc, most)?,
             ready: Vec::with_capacity(alloc, most)?,
             pending: Vec::with_capacity(alloc, most)?,

@@ -1,8 +1,7 @@
 //! A round: the work between two polls of the sockets.
 use crate::client::Phase;
 use crate::engine::Engine;
-use crate::exchange::{Moment, Step, answer, close};
-use crate::limits::TURNS;
+use crate::exchange::{Moment, Step};
 use crate::service::Service;
 use crate::socket::Socket;
 use crate::timers::Key;
@@ -12,15 +11,36 @@ use std::alloc::AllocError;
 use std::mem;
 
 impl<S: Socket + Drop, B: Backing + Drop, P: Process, V: Service<B, P>> Engine<S, B, P, V> {
-    /// Hands in complete requests, gives the processes their turns, and sends their output.
-    pub fn round(&mut self, service: &mut V) -> Result<(), AllocError> {
+    /// A round: hands in complete requests, gives the processes this number of turns at most, and
+    /// sends their output.
+    pub fn round(&mut self, turns: usize, service: &mut V) -> Result<(), AllocError> {
+        if self.begin_round(service)? {
+            self.take_turns(turns);
+            self.end_round(service)?;
+        }
+        Ok(())
+    }
+
+    /// Begins a round: hands in complete requests. False: it has nothing to do.
+    pub(crate) fn begin_round(&mut self, service: &mut V) -> Result<bool, AllocError> {
         self.retry_all()?;
         self.call_waiting()?;
         if !self.is_busy() {
-            return Ok(());
+            return Ok(false);
         }
         self.receive_ready(service)?;
-        self.is_idle = self.worlds.until_idle(TURNS);
+        Ok(true)
+    }
+
+    /// Gives turns to the processes until all are idle, but at most this number in each world, and
+    /// returns whether all are.
+    pub(crate) fn take_turns(&mut self, turns: usize) -> bool {
+        self.is_idle = self.places.until_idle(turns);
+        self.is_idle
+    }
+
+    /// Ends a round: sends the output of the processes.
+    pub(crate) fn end_round(&mut self, service: &mut V) -> Result<(), AllocError> {
         mem::swap(&mut self.ready, &mut self.ready_before);
         mem::swap(&mut self.pending, &mut self.pending_before);
         self.unlist_pending();
@@ -42,8 +62,8 @@ impl<S: Socket + Drop, B: Backing + Drop, P: Process, V: Service<B, P>> Engine<S
     // The clients of the list of pending responses are in it no longer.
     fn unlist_pending(&mut self) {
         for slot in &self.pending_before {
-            if let Some(Some(client)) = self.clients.get_mut(*slot) {
-                client.is_pending = false;
+            if let Some(Some(marks)) = self.marks.get_mut(*slot) {
+                marks.is_pending = false;
             }
         }
     }
@@ -53,8 +73,8 @@ impl<S: Socket + Drop, B: Backing + Drop, P: Process, V: Service<B, P>> Engine<S
         for place in 0..self.ready_before.len() {
             if let Some(slot) = self.ready_before.get(place) {
                 let slot = *slot;
-                if let Some(Some(client)) = self.clients.get_mut(slot) {
-                    client.is_ready = false;
+                if let Some(Some(marks)) = self.marks.get_mut(slot) {
+                    marks.is_ready = false;
                 }
                 let step = self.send(slot, service);
                 self.after(slot, step)?;
@@ -81,8 +101,8 @@ impl<S: Socket + Drop, B: Backing + Drop, P: Process, V: Service<B, P>> Engine<S
 
     // Whether the client in this place is in a list of the next round, or there is none.
     fn is_listed(&self, slot: usize) -> bool {
-        match self.clients.get(slot) {
-            Some(Some(client)) => client.is_ready || client.is_pending,
+        match self.marks.get(slot) {
+            Some(Some(marks)) => marks.is_ready || marks.is_pending,
             _ => true,
         }
     }
@@ -96,7 +116,7 @@ impl<S: Socket + Drop, B: Backing + Drop, P: Process, V: Service<B, P>> Engine<S
             return Ok(());
         }
         self.retry_at = None;
-        for slot in 0..self.clients.len() {
+        for slot in 0..self.marks.len() {
             self.list(slot)?;
         }
         Ok(())
@@ -104,16 +124,13 @@ impl<S: Socket + Drop, B: Backing + Drop, P: Process, V: Service<B, P>> Engine<S
 
     // Visits those that waited for a connection, as many as may have one.
     fn call_waiting(&mut self) -> Result<(), AllocError> {
-        let vacant = self.limits.live.saturating_sub(self.worlds.links());
+        let vacant = self.limits.live.saturating_sub(self.worlds().links());
         for _ in 0..vacant {
             let Some(first) = self.waiting.pop_front() else {
                 break;
             };
-            if let Some(Some(client)) = self.clients.get_mut(first.slot) {
-                if client.serial() == first.serial && client.phase() == Phase::Waiting {
-                    client.set_phase(Phase::Parked);
-                    self.list(first.slot)?;
-                }
+            if self.is_there(first) && self.places.call(first.slot) {
+                self.list(first.slot)?;
             }
         }
         Ok(())
@@ -125,20 +142,21 @@ impl<S: Socket + Drop, B: Backing + Drop, P: Process, V: Service<B, P>> Engine<S
             now: self.now(),
             is_idle: self.is_idle,
         };
-        let Some(Some(client)) = self.clients.get_mut(slot) else {
+        let Some(client) = self.places.get(slot) else {
             return Step::Rests;
         };
         match client.phase() {
             Phase::Over => Step::Over,
-            Phase::Answering | Phase::Leaving => {
-                let outbox = &mut self.outbox;
-                answer(&mut self.worlds, outbox, slot, client, service, moment)
-            }
-            Phase::Flushing | Phase::Closing => {
-                close(client, self.piece.as_mut_slice(), moment.now)
-            }
             Phase::Parked | Phase::Quiet if client.may_read() => Step::Again,
             Phase::Parked | Phase::Quiet | Phase::Waiting => Step::Rests,
+            Phase::Answering | Phase::Leaving => {
+                let outbox = &mut self.outbox;
+                self.places.answer(outbox, slot, service, moment)
+            }
+            Phase::Flushing | Phase::Closing => {
+                let piece = self.piece.as_mut_slice();
+                self.places.close(slot, piece, moment.now)
+            }
         }
     }
 
@@ -161,9 +179,9 @@ impl<S: Socket + Drop, B: Backing + Drop, P: Process, V: Service<B, P>> Engine<S
 
     // Visits a client's response after each series of process turns.
     fn list_pending(&mut self, slot: usize) -> Result<(), AllocError> {
-        if let Some(Some(client)) = self.clients.get_mut(slot) {
-            if !client.is_pending {
-                client.is_pending = true;
+        if let Some(Some(marks)) = self.marks.get_mut(slot) {
+            if !marks.is_pending {
+                marks.is_pending = true;
                 self.pending.push(slot)?;
             }
         }
@@ -172,11 +190,11 @@ impl<S: Socket + Drop, B: Backing + Drop, P: Process, V: Service<B, P>> Engine<S
 
     // A client is removed.
     fn forget(&mut self, slot: usize) -> Result<(), AllocError> {
-        if let Some(place) = self.clients.get_mut(slot) {
-            if place.is_some() {
+        if self.places.remove(slot).is_some() {
+            if let Some(place) = self.marks.get_mut(slot) {
                 *place = None;
-                self.free.push(slot)?;
             }
+            self.free.push(slot)?;
         }
         Ok(())
     }
@@ -184,24 +202,25 @@ impl<S: Socket + Drop, B: Backing + Drop, P: Process, V: Service<B, P>> Engine<S
     // A client rests: the deadline of its phase is set.
     fn watch(&mut self, slot: usize) {
         let now = self.now();
-        let Some(Some(client)) = self.clients.get_mut(slot) else {
+        let (Some(client), Some(Some(marks))) = (self.places.get(slot), self.marks.get_mut(slot))
+        else {
             return;
         };
-        let serial = client.serial();
+        let serial = marks.serial;
         let key = Key { slot, serial };
-        if client.is_blocked() && !client.armed.rate {
+        if client.is_blocked() && !marks.armed.rate {
             if self.timers.rates.set(now, key).is_err() {
                 self.starve();
                 return;
             }
-            client.armed.rate = true;
-            client.rate_mark = client.accepted();
-        } else if client.phase() == Phase::Closing && !client.armed.drain {
+            marks.armed.rate = true;
+            marks.rate_mark = client.accepted();
+        } else if client.phase() == Phase::Closing && !marks.armed.drain {
             if self.timers.drains.set(now, key).is_err() {
                 self.starve();
                 return;
             }
-            client.armed.drain = true;
+            marks.armed.drain = true;
         }
     }
 }

@@ -1,12 +1,12 @@
 //! Sockets of clients.
-ghost use Rattle.std.specs.Prelude.{ℕ, List, Option, None};
+ghost use Rattle.std.specs.Prelude.{ℕ, List, Option, None, ◌++◌};
 ghost use Rattle.std.specs.Io.{ReadsAtMost, WritesAtMost};
 ghost use Rattle.std.specs.Io.KnownBytes.{Keeps, WriteAppends};
 ghost use Rattle.iol_reactor.specs.Bytes.{Supplies};
 
 use mio::net::TcpStream;
 use std::io;
-use std::io::{Read, Write};
+use std::io::{IoSlice, Read, Write};
 use std::net::Shutdown;
 
 /// A bidirectional byte stream that never blocks: a call that would wait fails with `WouldBlock`.
@@ -30,6 +30,19 @@ pub trait Socket {
         ensures came { Keeps (supplied self.old) (supplied self.new) }
         ensures sent { WriteAppends (accepted self.old) (accepted self.new) result bytes.now };
 
+    /// Writes the first bytes of these pieces, one piece after another, and returns their number.
+    fn send_pieces(
+        &mut self,
+        first: &[u8],
+        second: &[u8],
+        third: &[u8],
+        fourth: &[u8],
+    ) -> io::Result<usize>
+        ensures bound { WritesAtMost result (first.now ++ second.now ++ third.now ++ fourth.now) }
+        ensures came { Keeps (supplied self.old) (supplied self.new) }
+        ensures sent { WriteAppends (accepted self.old) (accepted self.new) result
+            (first.now ++ second.now ++ third.now ++ fourth.now) };
+
     /// Ends the bytes to the peer. The peer may still send.
     fn end_output(&mut self) -> io::Result<()>
         ensures came { Keeps (supplied self.old) (supplied self.new) }
@@ -43,6 +56,22 @@ impl Socket for TcpStream {
 
     fn send(&mut self, bytes: &[u8]) -> io::Result<usize> {
         self.write(bytes)
+    }
+
+    fn send_pieces(
+        &mut self,
+        first: &[u8],
+        second: &[u8],
+        third: &[u8],
+        fourth: &[u8],
+    ) -> io::Result<usize> {
+        let pieces = [
+            IoSlice::new(first),
+            IoSlice::new(second),
+            IoSlice::new(third),
+            IoSlice::new(fourth),
+        ];
+        self.write_vectored(&pieces)
     }
 
     fn end_output(&mut self) -> io::Result<()> {

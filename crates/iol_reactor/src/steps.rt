@@ -3,6 +3,7 @@ ghost use Rattle.std.specs.Prelude.{◌≡◌, [], true, false, IsNone};
 ghost use Rattle.iol_core.specs.Prelude.{lacks_conn};
 ghost use Rattle.iol_proc.specs.Prelude.{KeepsHonesty, copied};
 ghost use Rattle.iol_serve.specs.Service.{ProceedsIn, SendsIn};
+ghost use Rattle.iol_sock.specs.Gathers.{IsCalled};
 ghost use Rattle.iol_reactor.specs.Bytes.{IsRestOf};
 ghost use Rattle.iol_reactor.specs.Serving.{ArrivesIn, EndsIn};
 
@@ -13,6 +14,7 @@ use iol_core::limits::{MAX_QUEUE_BYTES, PAGE_BYTES};
 use iol_core::numbers::ConnId;
 use iol_proc::process::Process;
 use iol_proc::world::World;
+use iol_sock::{Drained, Gather};
 use std::io;
 use std::io::Write;
 
@@ -110,6 +112,25 @@ pub fn collect<B: Backing + Drop, P: Process, W: Write>(
 {
     match world.drain_to(conn, writer, most) {
         Ok(drained) => Some(drained.taken),
+        Err(_) => None,
+    }
+}
+
+/// Offers queued output to a taker, at most this number of bytes. None: the connection does not
+/// exist.
+pub fn offer<B: Backing + Drop, P: Process, G: Gather>(
+    world: &mut World<B, P>,
+    conn: ConnId,
+    taker: &mut G,
+    most: u32,
+) -> Option<Drained>
+    ensures honest { KeepsHonesty world.old.machine world.new.machine }
+    ensures over { IsNone result → lacks_conn (copied world.new).machine conn ≡ true }
+    ensures alone { SendsIn P.turns conn G.contents taker.old taker.new world.old world.new }
+    ensures calls { IsCalled G.gathers taker.old taker.new }
+{
+    match world.drain_into(conn, taker, most) {
+        Ok(drained) => Some(drained),
         Err(_) => None,
     }
 }

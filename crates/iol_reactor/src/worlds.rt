@@ -1,9 +1,12 @@
 //! The world for new requests, and the one in which earlier requests finish.
-ghost use Rattle.std.specs.Prelude.{◌≡◌, Bool, ◌++◌, ◌∷◌, ◌+◌, ◌==◌, List, ℕ, [], None, Some, true, false, IfSome, IsNone, set, OnErr, OnOk};
+ghost use Rattle.std.specs.Prelude.{◌≡◌, Bool, ◌++◌, ◌∷◌, ◌+◌, ◌==◌, List, ℕ, [], None, Some, true};
+ghost use Rattle.std.specs.Prelude.{false, IfSome, IsNone, is_some, set, OnErr, OnOk};
 ghost use Rattle.std.proofs.Props.{props};
+ghost use Rattle.std.specs.Io.KnownBytes.{Appends};
+ghost use Rattle.iol_sock.specs.Gathers.{IsCalled};
 ghost use Rattle.iol_reactor.specs.Connections.{link_at};
 ghost use Rattle.iol_reactor.specs.Visits.{HasVisited};
-ghost use Rattle.iol_reactor.specs.LinkVisits.{HasLinkVisited, IsOver, LinksStay, SlotProceeds, serving};
+ghost use Rattle.iol_reactor.specs.LinkVisits.{IsOver, LinksStay, SlotProceeds, serving};
 
 use crate::host::Host;
 use crate::limits::WORN_CONNECTION;
@@ -14,6 +17,7 @@ use iol_back::backing::Backing;
 use iol_core::numbers::PoolId;
 use iol_proc::process::Process;
 use iol_proc::world::World;
+use iol_sock::{Drained, Gather};
 use std::alloc::AllocError;
 use std::mem;
 
@@ -22,6 +26,22 @@ use std::mem;
 pub enum Collected {
     /// This number of bytes was moved.
     Bytes(u32),
+
+    /// The processes have closed the connection.
+    Closed,
+
+    /// There is no connection, or its world no longer serves.
+    Gone,
+}
+
+/// How the output of a client's connection was offered to a taker.
+#[derive(Clone, Copy, Debug, PartialEq, Eq)]
+pub enum Offered {
+    /// It took all, this number of bytes.
+    All(u32),
+
+    /// It took this number of bytes, and not the next ones.
+    Part(u32),
 
     /// The processes have closed the connection.
     Closed,
@@ -69,8 +89,10 @@ impl<B: Backing + Drop, P: Process, V: Service<B, P>> Worlds<B, P, V> {
             self.old.links.table.items ++ None ∷ []) }
         ensures err { OnErr result (self.new.links.table.items ≡ self.old.links.table.items) }
         ensures visits { LinksStay P.turns V.starts self.old.pool
-            (serving self.old.links.generation self.old.current.world (λ h. h.world) self.old.retiring)
-            (serving self.new.links.generation self.new.current.world (λ h. h.world) self.new.retiring) }
+            (serving self.old.links.generation self.old.current.world
+            (λ h. h.world) self.old.retiring)
+            (serving self.new.links.generation self.new.current.world
+            (λ h. h.world) self.new.retiring) }
         ensures pool { self.new.pool ≡ self.old.pool }
     {
         self.links.add_place()
@@ -82,7 +104,9 @@ impl<B: Backing + Drop, P: Process, V: Service<B, P>> Worlds<B, P, V> {
     }
 
     /// Whether the client in this place has a connection.
-    pub fn has_link(&self, slot: usize) -> bool {
+    pub fn has_link(&self, slot: usize) -> bool
+        ensures { result ≡ is_some (link_at self.now.links.table.items slot) }
+    {
         self.links.get(slot).is_some()
     }
 
@@ -110,8 +134,10 @@ impl<B: Backing + Drop, P: Process, V: Service<B, P>> Worlds<B, P, V> {
         requires { V.starts world }
         ensures table { self.new.links.table.items ≡ self.old.links.table.items }
         ensures visits { LinksStay P.turns V.starts self.old.pool
-            (serving self.old.links.generation self.old.current.world (λ h. h.world) self.old.retiring)
-            (serving self.new.links.generation self.new.current.world (λ h. h.world) self.new.retiring) }
+            (serving self.old.links.generation self.old.current.world
+            (λ h. h.world) self.old.retiring)
+            (serving self.new.links.generation self.new.current.world
+            (λ h. h.world) self.new.retiring) }
         ensures pool { self.new.pool ≡ self.old.pool }
     {
         if !self.links.renew() {
@@ -132,8 +158,10 @@ impl<B: Backing + Drop, P: Process, V: Service<B, P>> Worlds<B, P, V> {
         ensures links { self.new.links ≡ self.old.links }
         ensures pool { self.new.pool ≡ self.old.pool }
         ensures visits { LinksStay P.turns V.starts self.old.pool
-            (serving self.old.links.generation self.old.current.world (λ h. h.world) self.old.retiring)
-            (serving self.new.links.generation self.new.current.world (λ h. h.world) self.new.retiring) }
+            (serving self.old.links.generation self.old.current.world
+            (λ h. h.world) self.old.retiring)
+            (serving self.new.links.generation self.new.current.world
+            (λ h. h.world) self.new.retiring) }
     {
         if self.retiring_links == 0 {
             drop(self.retiring.take());
@@ -152,8 +180,10 @@ impl<B: Backing + Drop, P: Process, V: Service<B, P>> Worlds<B, P, V> {
         ensures refused { result ≡ false →
             self.new.links.table.items ≡ self.old.links.table.items }
         ensures visits { LinksStay P.turns V.starts self.old.pool
-            (serving self.old.links.generation self.old.current.world (λ h. h.world) self.old.retiring)
-            (serving self.new.links.generation self.new.current.world (λ h. h.world) self.new.retiring) }
+            (serving self.old.links.generation self.old.current.world
+            (λ h. h.world) self.old.retiring)
+            (serving self.new.links.generation self.new.current.world
+            (λ h. h.world) self.new.retiring) }
         ensures pool { self.new.pool ≡ self.old.pool }
     {
         let Some(conn) = self.current.connect() else {
@@ -171,8 +201,10 @@ impl<B: Backing + Drop, P: Process, V: Service<B, P>> Worlds<B, P, V> {
     pub fn release(&mut self, slot: usize)
         ensures table { self.new.links.table.items ≡ set self.old.links.table.items slot None }
         ensures visits { LinksStay P.turns V.starts self.old.pool
-            (serving self.old.links.generation self.old.current.world (λ h. h.world) self.old.retiring)
-            (serving self.new.links.generation self.new.current.world (λ h. h.world) self.new.retiring) }
+            (serving self.old.links.generation self.old.current.world
+            (λ h. h.world) self.old.retiring)
+            (serving self.new.links.generation self.new.current.world
+            (λ h. h.world) self.new.retiring) }
         ensures pool { self.new.pool ≡ self.old.pool }
     {
         let Some(link) = self.links.take(slot) else {
@@ -192,8 +224,10 @@ impl<B: Backing + Drop, P: Process, V: Service<B, P>> Worlds<B, P, V> {
         ensures links { self.new.links ≡ self.old.links }
         ensures pool { self.new.pool ≡ self.old.pool }
         ensures visits { LinksStay P.turns V.starts self.old.pool
-            (serving self.old.links.generation self.old.current.world (λ h. h.world) self.old.retiring)
-            (serving self.new.links.generation self.new.current.world (λ h. h.world) self.new.retiring) }
+            (serving self.old.links.generation self.old.current.world
+            (λ h. h.world) self.old.retiring)
+            (serving self.new.links.generation self.new.current.world
+            (λ h. h.world) self.new.retiring) }
     {
         let is_idle = self.current.until_idle(turns);
         match &mut self.retiring {
@@ -208,8 +242,10 @@ impl<B: Backing + Drop, P: Process, V: Service<B, P>> Worlds<B, P, V> {
         ensures pool { self.new.pool ≡ self.old.pool }
         ensures visits { SlotProceeds P.turns V.starts self.old.pool
             (link_at self.old.links.table.items slot) [] [] false
-            (serving self.old.links.generation self.old.current.world (λ h. h.world) self.old.retiring)
-            (serving self.new.links.generation self.new.current.world (λ h. h.world) self.new.retiring) }
+            (serving self.old.links.generation self.old.current.world
+            (λ h. h.world) self.old.retiring)
+            (serving self.new.links.generation self.new.current.world
+            (λ h. h.world) self.new.retiring) }
     {
         let Some(link) = self.links.get(slot) else {
             return;
@@ -231,8 +267,10 @@ impl<B: Backing + Drop, P: Process, V: Service<B, P>> Worlds<B, P, V> {
         ensures pool { self.new.pool ≡ self.old.pool }
         ensures visits { (gone : Bool) × SlotProceeds P.turns V.starts self.old.pool
             (link_at self.old.links.table.items slot) [] [] gone
-            (serving self.old.links.generation self.old.current.world (λ h. h.world) self.old.retiring)
-            (serving self.new.links.generation self.new.current.world (λ h. h.world) self.new.retiring) }
+            (serving self.old.links.generation self.old.current.world
+            (λ h. h.world) self.old.retiring)
+            (serving self.new.links.generation self.new.current.world
+            (λ h. h.world) self.new.retiring) }
     {
         let Some(link) = self.links.get(slot) else {
             return;
@@ -251,12 +289,15 @@ impl<B: Backing + Drop, P: Process, V: Service<B, P>> Worlds<B, P, V> {
     /// Whether the client in this place has a connection that the processes have closed.
     pub fn is_over(&mut self, slot: usize) -> bool
         ensures over { result ≡ true → IsOver (link_at self.old.links.table.items slot)
-            (serving self.new.links.generation self.new.current.world (λ h. h.world) self.new.retiring) }
+            (serving self.new.links.generation self.new.current.world
+            (λ h. h.world) self.new.retiring) }
         ensures links { self.new.links ≡ self.old.links }
         ensures pool { self.new.pool ≡ self.old.pool }
         ensures visits { LinksStay P.turns V.starts self.old.pool
-            (serving self.old.links.generation self.old.current.world (λ h. h.world) self.old.retiring)
-            (serving self.new.links.generation self.new.current.world (λ h. h.world) self.new.retiring) }
+            (serving self.old.links.generation self.old.current.world
+            (λ h. h.world) self.old.retiring)
+            (serving self.new.links.generation self.new.current.world
+            (λ h. h.world) self.new.retiring) }
     {
         let Some(link) = self.links.get(slot) else {
             return false;
@@ -282,8 +323,10 @@ impl<B: Backing + Drop, P: Process, V: Service<B, P>> Worlds<B, P, V> {
         ensures visits { (came : List ℕ) × (bytes.now ≡ came ++ result.now)
             × SlotProceeds P.turns V.starts self.old.pool
             (link_at self.old.links.table.items slot) came [] false
-            (serving self.old.links.generation self.old.current.world (λ h. h.world) self.old.retiring)
-            (serving self.new.links.generation self.new.current.world (λ h. h.world) self.new.retiring) }
+            (serving self.old.links.generation self.old.current.world
+            (λ h. h.world) self.old.retiring)
+            (serving self.new.links.generation self.new.current.world
+            (λ h. h.world) self.new.retiring) }
     {
         let Some(link) = self.links.get(slot) else {
             return bytes;
@@ -309,11 +352,14 @@ impl<B: Backing + Drop, P: Process, V: Service<B, P>> Worlds<B, P, V> {
         ensures visits { (sent : List ℕ) × (outbox.new.bytes.items ≡ outbox.old.bytes.items ++ sent)
             × SlotProceeds P.turns V.starts self.old.pool
             (link_at self.old.links.table.items slot) [] sent false
-            (serving self.old.links.generation self.old.current.world (λ h. h.world) self.old.retiring)
-            (serving self.new.links.generation self.new.current.world (λ h. h.world) self.new.retiring) }
+            (serving self.old.links.generation self.old.current.world
+            (λ h. h.world) self.old.retiring)
+            (serving self.new.links.generation self.new.current.world
+            (λ h. h.world) self.new.retiring) }
         ensures over { result ≡ Collected.Closed →
             IsOver (link_at self.old.links.table.items slot)
-            (serving self.new.links.generation self.new.current.world (λ h. h.world) self.new.retiring) }
+            (serving self.new.links.generation self.new.current.world
+            (λ h. h.world) self.new.retiring) }
     {
         let Some(link) = self.links.get(slot) else {
             return Collected::Gone;
@@ -329,6 +375,52 @@ impl<B: Backing + Drop, P: Process, V: Service<B, P>> Worlds<B, P, V> {
             Some(world) => outcome_of(world.collect(conn, outbox, most)),
             None => Collected::Gone,
         }
+    }
+
+    /// Offers the queued output of the connection of the client at this index to a taker, at most
+    /// this number of bytes.
+    pub fn offer<G: Gather>(&mut self, slot: usize, taker: &mut G, most: u32) -> Offered
+        ensures links { self.new.links ≡ self.old.links }
+        ensures pool { self.new.pool ≡ self.old.pool }
+        ensures visits { (sent : List ℕ)
+            × Appends (G.contents taker.old) (G.contents taker.new) sent
+            × SlotProceeds P.turns V.starts self.old.pool
+            (link_at self.old.links.table.items slot) [] sent false
+            (serving self.old.links.generation self.old.current.world
+            (λ h. h.world) self.old.retiring)
+            (serving self.new.links.generation self.new.current.world
+            (λ h. h.world) self.new.retiring) }
+        ensures calls { IsCalled G.gathers taker.old taker.new }
+        ensures over { result ≡ Offered.Closed →
+            IsOver (link_at self.old.links.table.items slot)
+            (serving self.new.links.generation self.new.current.world
+            (λ h. h.world) self.new.retiring) }
+    {
+        let Some(link) = self.links.get(slot) else {
+            return Offered::Gone;
+        };
+        let conn = link.conn();
+        if self.links.is_current(link) {
+            return offered_of(self.current.offer(conn, taker, most));
+        }
+        if !self.links.is_before(link) {
+            return Offered::Gone;
+        }
+        match &mut self.retiring {
+            Some(world) => offered_of(world.offer(conn, taker, most)),
+            None => Offered::Gone,
+        }
+    }
+}
+
+// How the output of a connection was offered. None: it was closed.
+fn offered_of(drained: Option<Drained>) -> Offered
+    ensures { result ≡ Offered.Closed → IsNone drained }
+{
+    match drained {
+        Some(drained) if drained.failed => Offered::Part(drained.taken),
+        Some(drained) => Offered::All(drained.taken),
+        None => Offered::Closed,
     }
 }
 

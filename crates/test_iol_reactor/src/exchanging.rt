@@ -23,22 +23,31 @@ use test_worlds::systems::{TestSystem, call_of};
 
 const LINES: &[u8] = b"first\n\nthird line\n4\n";
 
+// The number of bytes up to the end of the empty line.
+const UP_TO_EMPTY: usize = 7;
+
 const CONFIG: Config = Config {
     chunks: 1,
     gen_limit: u32::MAX,
     sums: 8,
 };
 
-// A service whose requests are lines. It counts the responses that were sent whole.
+// The turns of a round.
+const TURNS: usize = 4_096;
+
+// A service whose requests are lines. It counts the responses that were sent whole. An empty line
+// may be the last request of a connection.
 #[derive(Drop)]
 struct Lines {
     whole: u32,
+    closes: bool,
 }
 
 impl Service<MemoryBacking, Echo> for Lines {
     fn frame(&self, alloc: Global, bytes: &[u8]) -> Result<Frame, AllocError> {
         let _ = alloc;
         Ok(match bytes.iter().position(|byte| *byte == b'\n') {
+            Some(0) if self.closes => Frame::Last(1),
             Some(place) => Frame::Complete(place.saturating_add(1)),
             None => Frame::Incomplete,
         })
@@ -132,13 +141,14 @@ fn exchange_all(engine: &mut Echoes<'_>, service: &mut Lines) -> Result<usize, A
         }
         accepted = socket.accepted().len();
         engine.note(0, true, false, true)?;
-        engine.round(service)?;
+        engine.round(TURNS, service)?;
         engine.expire(service)?;
     }
     Ok(accepted)
 }
 
-fn exchange(alloc: Global, engine: &mut Echoes<'_>, row: &Row) -> Result<bool, AllocError> {
+// A client whose socket is that of a row comes. False: there is no place for it.
+fn admit(alloc: Global, engine: &mut Echoes<'_>, row: &Row) -> bool {
     let (read, write, blocks, ends) = *row;
     let manner = Manner {
         read,
@@ -148,14 +158,39 @@ fn exchange(alloc: Global, engine: &mut Echoes<'_>, row: &Row) -> Result<bool, A
         ends,
     };
     if engine.vacancy() != Some(0) {
-        return Ok(false);
+        return false;
     }
     let peer = SocketAddr::from((Ipv4Addr::LOCALHOST, 1));
     engine.admit(MemorySocket::new(alloc, LINES, manner), peer);
-    let mut service = Lines { whole: 0 };
+    true
+}
+
+// Whether each line has its response, and the client ends as its peer does.
+fn exchange(alloc: Global, engine: &mut Echoes<'_>, row: &Row) -> Result<bool, AllocError> {
+    if !admit(alloc, engine, row) {
+        return Ok(false);
+    }
+    let mut service = Lines {
+        whole: 0,
+        closes: false,
+    };
     let accepted = exchange_all(engine, &mut service)?;
     let remains = engine.count() == 1;
-    Ok(accepted == LINES.len() && service.whole == 4 && remains == !ends)
+    Ok(accepted == LINES.len() && service.whole == 4 && remains == !row.3)
+}
+
+// Whether no line is handed in after the empty one, which is the last request. The process does not
+// close the connection after it, so the client stays.
+fn stop(alloc: Global, engine: &mut Echoes<'_>, row: &Row) -> Result<bool, AllocError> {
+    if !admit(alloc, engine, row) {
+        return Ok(false);
+    }
+    let mut service = Lines {
+        whole: 0,
+        closes: true,
+    };
+    let accepted = exchange_all(engine, &mut service)?;
+    Ok(accepted == UP_TO_EMPTY && service.whole == 1 && engine.count() == 1)
 }
 
 fn exchanges(alloc: Global, row: &Row) -> Result<bool, Refusal> {
@@ -165,8 +200,21 @@ fn exchanges(alloc: Global, row: &Row) -> Result<bool, Refusal> {
     Ok(holds?)
 }
 
+fn stops(alloc: Global, row: &Row) -> Result<bool, Refusal> {
+    let mut engine = engine_of(alloc)?;
+    let holds = stop(alloc, &mut engine, row);
+    drop(engine);
+    Ok(holds?)
+}
+
 #[test]
 fn each_exchange(rt: HostRuntime) -> Result<(), Fail> {
     let alloc = rt.alloc();
     pass_each(&ROWS, |row| exchanges(alloc, row))
+}
+
+#[test]
+fn each_stop(rt: HostRuntime) -> Result<(), Fail> {
+    let alloc = rt.alloc();
+    pass_each(&ROWS, |row| stops(alloc, row))
 }

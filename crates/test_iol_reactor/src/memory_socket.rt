@@ -1,8 +1,10 @@
-//! A socket in memory.
+//! A socket in memory, whose bytes are known.
+ghost use Rattle.std.specs.Prelude.{Some};
+
 use iol_reactor::socket::Socket;
 use std::alloc::Global;
 use std::io;
-use std::io::{ErrorKind, Read};
+use std::io::ErrorKind;
 
 /// How a socket reads and writes.
 #[derive(Clone, Copy)]
@@ -23,10 +25,11 @@ pub struct Manner {
     pub ends: bool,
 }
 
-/// A socket that supplies given bytes, and keeps the bytes that it accepts.
+/// A socket that supplies given bytes, and keeps the bytes that it supplied and accepted.
 #[derive(Drop)]
 pub struct MemorySocket<'a> {
     supply: &'a [u8],
+    supplied: Vec<u8>,
     accepted: Vec<u8>,
     manner: Manner,
     reads: u32,
@@ -38,6 +41,7 @@ impl<'a> MemorySocket<'a> {
     pub fn new(alloc: Global, supply: &'a [u8], manner: Manner) -> MemorySocket<'a> {
         MemorySocket {
             supply,
+            supplied: Vec::new(alloc),
             accepted: Vec::new(alloc),
             manner,
             reads: 0,
@@ -71,6 +75,10 @@ impl Manner {
 }
 
 impl<'a> Socket for MemorySocket<'a> {
+    ghost supplied = { λ socket. Some socket.supplied.items };
+
+    ghost accepted = { λ socket. Some socket.accepted.items };
+
     fn receive(&mut self, buffer: &mut [u8]) -> io::Result<usize> {
         self.reads = self.reads.saturating_add(1);
         if let Some(kind) = self.manner.refusal(self.reads) {
@@ -80,7 +88,11 @@ impl<'a> Socket for MemorySocket<'a> {
             return Err(io::Error::from(ErrorKind::WouldBlock));
         }
         let most = buffer.len().min(self.manner.read);
-        self.supply.read(&mut buffer[..most])
+        let (first, rest) = self.supply.split_at(most.min(self.supply.len()));
+        self.supplied.extend_from_slice(first)?;
+        buffer[..first.len()].copy_from_slice(first);
+        self.supply = rest;
+        Ok(first.len())
     }
 
     fn send(&mut self, bytes: &[u8]) -> io::Result<usize> {
@@ -90,6 +102,26 @@ impl<'a> Socket for MemorySocket<'a> {
         }
         let taken = bytes.len().min(self.manner.write);
         self.accepted.extend_from_slice(&bytes[..taken])?;
+        Ok(taken)
+    }
+
+    fn send_pieces(
+        &mut self,
+        first: &[u8],
+        second: &[u8],
+        third: &[u8],
+        fourth: &[u8],
+    ) -> io::Result<usize> {
+        self.writes = self.writes.saturating_add(1);
+        if let Some(kind) = self.manner.refusal(self.writes) {
+            return Err(io::Error::from(kind));
+        }
+        let mut taken = 0usize;
+        for piece in [first, second, third, fourth] {
+            let count = piece.len().min(self.manner.write.saturating_sub(taken));
+            self.accepted.extend_from_slice(&piece[..count])?;
+            taken = taken.saturating_add(count);
+        }
         Ok(taken)
     }
 

@@ -7,6 +7,7 @@ loop-init g c = record {
   same = record { bytes = refl; asked = refl; given = refl };
   came = grows_none _ _ (keeps_same _);
   sent = keeps_same _;
+  whole = refl;
   phase = refl;
   output = refl;
 }
@@ -16,6 +17,7 @@ loop-preserved g c = record {
   same = same_input_then _ _ _ c.loop.invariant.same c.drop_from.ensures.same;
   came = grows_then _ _ _ c.loop.invariant.came c.drop_from.ensures.came;
   sent = keeps_then _ _ _ c.loop.invariant.sent c.drop_from.ensures.sent;
+  whole = c.loop.invariant.whole;
   phase = c.loop.invariant.phase;
   output = c.loop.invariant.output;
 }

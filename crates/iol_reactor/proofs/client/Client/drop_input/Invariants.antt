@@ -8,6 +8,7 @@ invariant-loop g l = record {
   same : IsSameInput l.fn.self.input l.self.input;
   came : Grows (g.S.Socket.supplied l.fn.self.socket) (g.S.Socket.supplied l.self.socket);
   sent : Keeps (g.S.Socket.accepted l.fn.self.socket) (g.S.Socket.accepted l.self.socket);
+  whole : l.self.is_whole ≡ l.fn.self.is_whole;
   phase : l.self.phase ≡ l.fn.self.phase;
   output : l.self.output ≡ l.fn.self.output;
 }

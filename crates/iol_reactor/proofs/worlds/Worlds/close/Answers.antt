@@ -1,4 +1,4 @@
-use Rattle.std.proofs.Common.{◌≡◌, ◌∙◌, ap, refl, sym, []}
+use Rattle.std.proofs.Common.{◌∙◌, refl, sym, []}
 use Rattle.iol_reactor.proofs.LinkVisits.{slot_before}
 use Rattle.iol_reactor.proofs.worlds.Worlds.close.Goals as goal
 

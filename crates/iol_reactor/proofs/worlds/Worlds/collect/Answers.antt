@@ -1,4 +1,4 @@
-use Rattle.std.proofs.Common.{◌≡◌, ◌∙◌, ap, refl, sym, [], append-nil, arith, false}
+use Rattle.std.proofs.Common.{◌∙◌, ap, refl, sym, [], append-nil, arith, false}
 use Rattle.iol_reactor.proofs.LinkVisits.{slot_before, slot_current, slot_same}
 use Rattle.iol_reactor.proofs.worlds.Worlds.collect.Goals as goal
 

@@ -1,4 +1,4 @@
-use Rattle.std.proofs.Common.{◌≡◌, ◌∙◌, ap, refl, sym, []}
+use Rattle.std.proofs.Common.{refl, []}
 use Rattle.iol_reactor.proofs.LinkVisits.{slot_same}
 use Rattle.iol_reactor.proofs.worlds.Worlds.hand_in.Goals as goal
 

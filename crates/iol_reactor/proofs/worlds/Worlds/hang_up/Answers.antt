@@ -1,5 +1,5 @@
-use Rattle.std.proofs.Common.{◌≡◌, ◌∙◌, ap, refl, sym, [], false, true}
-use Rattle.iol_reactor.proofs.LinkVisits.{slot_before, slot_current, slot_same}
+use Rattle.std.proofs.Common.{◌∙◌, refl, sym, [], false, true}
+use Rattle.iol_reactor.proofs.LinkVisits.{slot_before, slot_same}
 use Rattle.iol_reactor.proofs.worlds.Worlds.hang_up.Goals as goal
 
 pub returns-in-Some-retiring-clause-visits : goal.returns-in-Some-retiring-clause-visits

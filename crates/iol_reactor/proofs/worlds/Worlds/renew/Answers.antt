@@ -1,4 +1,4 @@
-use Rattle.std.proofs.Common.{◌≡◌, ◌+◌, ◌≤◌, arith, refl, true}
+use Rattle.std.proofs.Common.{◌≡◌, ◌+◌, arith, refl}
 use Rattle.iol_reactor.proofs.LinkVisits.{links_renewed_as, links_then}
 use Rattle.iol_reactor.proofs.worlds.Worlds.renew.Goals as goal
 

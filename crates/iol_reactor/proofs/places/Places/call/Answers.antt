@@ -1,0 +1,32 @@
+use Rattle.std.proofs.Common.{◌∙◌, ap, arith, refl, sym}
+use Rattle.iol_reactor.specs.Served.{is_free}
+use Rattle.iol_reactor.specs.declared.client.Phase.TheVariants as phase
+use Rattle.iol_reactor.proofs.Served.{all_same, free_followed, one_moves}
+use Rattle.iol_reactor.proofs.places.Places.call.Goals as goal
+
+pub invariant_of-self : goal.invariant_of-self
+invariant_of-self g c = record {
+  followed = one_moves g.P.Process.turns g.V.Service.starts g.V.Service.frames _ g.S.Socket.supplied g.S.Socket.accepted
+      _ _ _ _ _ c.in-Some.client c.set_phase.new.self
+      (omega (arith, c.if-slot-len.false, c.len.ensures)) c.index_mut.ensures.value c.in-Some.is
+      (λ h. free_followed g.P.Process.turns g.V.Service.starts g.V.Service.frames _ g.S.Socket.supplied
+      g.S.Socket.accepted _ _ phase.Parked c.in-Some.client c.set_phase.new.self
+      (ap (λ k. is_free k) (sym c.phase.ensures ∙ c.in-Waiting.is)) refl c.set_phase.ensures.phase
+      c.set_phase.ensures.socket c.set_phase.ensures.input c.set_phase.ensures.output h)
+      c.args.self.now.followed;
+}
+
+pub invariant_of-self-in_default : goal.invariant_of-self-in_default
+invariant_of-self-in_default g c = record {
+  followed = one_moves g.P.Process.turns g.V.Service.starts g.V.Service.frames _ g.S.Socket.supplied g.S.Socket.accepted
+      _ _ _ _ _ c.in-Some.client c.in-Some.client
+      (omega (arith, c.if-slot-len.false, c.len.ensures)) c.index_mut.ensures.value c.in-Some.is
+      (λ h. h)
+      c.args.self.now.followed;
+}
+
+pub invariant_of-self-in-None : goal.invariant_of-self-in-None
+invariant_of-self-in-None g c = record {
+  followed = all_same g.P.Process.turns g.V.Service.starts g.V.Service.frames _ g.S.Socket.supplied g.S.Socket.accepted
+      _ _ _ _ _ (omega (arith, c.if-slot-len.false, c.len.ensures)) c.index_mut.ensures.value c.args.self.now.followed;
+}
