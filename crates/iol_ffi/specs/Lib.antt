@@ -2,6 +2,7 @@
 pub mod Creation
 pub mod Events
 pub mod Handles
+pub mod Memory
 pub mod Parts
 pub mod Replies
 pub mod Reports

@@ -5,6 +5,7 @@ use Rattle.iol_core.specs.declared.events.Reply.{Reply}
 use Rattle.iol_system.specs.Machine.{SystemState}
 use Rattle.iol_system.specs.Promises.{Promises}
 use Rattle.iol_ffi.specs.Events.{CopiesList, IsEvent, IsNoEvent}
+use Rattle.iol_ffi.specs.Memory.{NeedsNoMemory}
 use Rattle.iol_ffi.specs.Replies.{Encodes}
 use Rattle.iol_ffi.specs.Room.{LacksRoom, TakesBytes, most_bytes}
 use Rattle.iol_ffi.specs.declared.Machine.{Machine}
@@ -32,13 +33,15 @@ pub record TakesStep (event : Event) (r : IolReply) (out : List ℕ) (old new : 
   pub encodes : Encodes reply r out
   pub fits : TakesBytes event → r.refusal ≡ 101 → ⊥
 
--- the machine takes a step by the event that C passed, for whose bytes `out` has room
+-- The machine takes a step by the event that C passed, for whose bytes `out` has room. If this event needs no memory, C
+-- does not get its lack.
 pub record CarriesOut (e : IolEvent) (bytes names : List ℕ) (r : IolReply) (out : List ℕ) (old new : Option Machine) :
     Type 0 where
   pub event : Event
   pub is : IsEvent event e bytes names
   pub room : most_bytes event ≤ length out
   pub takes : TakesStep event r out old new
+  pub needs : NeedsNoMemory e old → r.refusal ≡ 17 → ⊥
 
 -- Why nothing was done: there was no memory for the event's list, C passed no event, or `out` has less room than the
 -- event may need for the bytes that it takes.

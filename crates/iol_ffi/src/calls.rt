@@ -5,6 +5,7 @@ ghost use Rattle.iol_core.specs.declared.events.Call.TheVariants as call;
 ghost use Rattle.iol_core.specs.declared.events.Event.TheVariants as event;
 ghost use Rattle.iol_ffi.specs.Creation.{Creates, CreatesInMemory, CreatesOver, CreatesOverFiles, IsCreated, sizes};
 ghost use Rattle.iol_ffi.specs.Events.{event_with};
+ghost use Rattle.iol_ffi.specs.Memory.{IsNotMemory, NeedsNoneIn, ReadsNoFile};
 ghost use Rattle.iol_ffi.specs.Parts.{BorrowsTo};
 ghost use Rattle.iol_ffi.specs.Reports.{ReportsTo};
 ghost use Rattle.iol_ffi.specs.Room as spec;
@@ -77,6 +78,7 @@ fn read_front(
     ensures len { length out.new ≡ length out.old }
     ensures executes { Executes (event.Call by (call.Read fd count)) result out.new
         system.old system.new }
+    ensures needs { ReadsNoFile by fd count system.old → result.refusal ≡ 17 → ⊥ }
 {
     read_reply(system.read_into(by, fd, &mut out[..count as usize]))
 }
@@ -93,6 +95,7 @@ fn execute(
     ensures len { length out.new ≡ length out.old }
     ensures executes { Executes (event_with request.now bytes.now) result out.new
         system.old system.new }
+    ensures needs { IsNotMemory request.now system.old result }
 {
     match request {
         Request::Event(event) => reply_of(&system.step_ref(event), out),
@@ -116,6 +119,7 @@ fn carry_out(
     ensures len { length out.new ≡ length out.old }
     ensures takes { TakesStep (event_with request.now bytes.now) result out.new
         handle.old.value handle.new.value }
+    ensures needs { NeedsNoneIn request.now handle.old.value → result.refusal ≡ 17 → ⊥ }
 {
     let mut machine = mem::replace(handle, Handle::none(alloc)).into_box();
     let reply = execute(&mut machine.system, request, bytes, out);

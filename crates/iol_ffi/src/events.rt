@@ -1,6 +1,7 @@
 //! Events as passed by C: a struct of numbers, and slices for bytes and domains.
 ghost use Rattle.std.specs.Prelude.{◌≡◌, ◌≢◌, ◌<◌, IfErr, IfNone, IfOk, IfSome};
 ghost use Rattle.iol_ffi.specs.Events.{CopiesInCall, CopiesList, IsCall, IsEvent, IsNoCall, IsNoEvent, IsNoPlainKind, IsPlainCall, IsUnread, event_with, how_number, mode_number};
+ghost use Rattle.iol_ffi.specs.Memory.{NeedsAsPassed};
 ghost use Rattle.iol_ffi.specs.Room.{IsMost};
 ghost use Rattle.iol_ffi.specs.Room as spec;
 
@@ -214,6 +215,7 @@ pub(crate) fn request_of(
 ) -> Result<Request, Unread>
     ensures ok { IfOk result
         (λ request. IsEvent (event_with request bytes.now) e.now bytes.now names.now) }
+    ensures needs { IfOk result (λ request. NeedsAsPassed e.now request) }
     ensures err { IfErr result (λ why. IsUnread why (IsNoEvent e.now) (CopiesList e.now)) }
 {
     let (by, agg, fd) = (DomainId::new(e.by), AggId::new(e.agg), Fd::new(e.id));

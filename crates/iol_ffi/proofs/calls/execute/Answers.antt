@@ -7,12 +7,14 @@ use Rattle.iol_system.specs.Machine.{SystemState}
 use Rattle.iol_system.specs.Promises.{Promises}
 use Rattle.iol_system.specs.Replies.{reported}
 use Rattle.iol_ffi.specs.Events.{event_with}
+use Rattle.iol_ffi.specs.Memory.{NeedsNone}
 use Rattle.iol_ffi.specs.Replies.{CountsShown, Encodes}
 use Rattle.iol_ffi.specs.Room.{most_bytes}
 use Rattle.iol_ffi.specs.Steps.{Executes}
 use Rattle.iol_ffi.specs.declared.events.Request.{Request}
 use Rattle.iol_ffi.specs.declared.replies.IolReply.{IolReply}
 use Rattle.iol_ffi.proofs.Executed.{executed, shown_in}
+use Rattle.iol_ffi.proofs.Memory.{not_needed, shown_not_memory}
 use Rattle.iol_ffi.proofs.calls.execute.Goals as goal
 
 -- the step of a request by the event that it means
@@ -65,3 +67,26 @@ returns-in-Write-clause-executes c =
     meant c.args.request.now _ c.args.bytes.now c.args.out.now c.reply_of-in-Write.new.out c.args.system.now
     c.write_bytes.new.self c.write_bytes.result c.reply_of-in-Write.result c.in-Write.is c.write_bytes.ensures
     c.reply_of-in-Write.ensures.encodes c.requires c.reply_of-in-Write.ensures.len
+
+pub returns-in-Event-clause-needs : goal.returns-in-Event-clause-needs
+returns-in-Event-clause-needs c =
+    λ none is. not_needed c.args.request.now _ c.args.system.now c.reply_of.result c.in-Event.is (λ n. absurd n) none is
+
+pub returns-in-AggMake-clause-needs : goal.returns-in-AggMake-clause-needs
+returns-in-AggMake-clause-needs c =
+    λ none is. not_needed c.args.request.now _ c.args.system.now c.reply_of-in-AggMake.result c.in-AggMake.is
+    (λ n. absurd n) none is
+
+pub returns-in-Write-clause-needs : goal.returns-in-Write-clause-needs
+returns-in-Write-clause-needs c =
+    λ none is. not_needed c.args.request.now _ c.args.system.now c.reply_of-in-Write.result c.in-Write.is
+    (λ n. absurd n) none is
+
+pub returns-in-Show-clause-needs : goal.returns-in-Show-clause-needs
+returns-in-Show-clause-needs c =
+    λ none is. shown_not_memory c.show_into.result _ c.shown_reply.result c.shown_reply.ensures
+    c.show_into.ensures.not_memory is
+
+pub returns-in-Read-clause-needs : goal.returns-in-Read-clause-needs
+returns-in-Read-clause-needs c =
+    λ none is. c.read_front.ensures.needs (subst (λ (w : Request). NeedsNone w c.args.system.now) c.in-Read.is none) is

@@ -8,6 +8,7 @@ use Rattle.iol_kernel.specs.FileReads.{first_of}
 use Rattle.iol_system.specs.Promises.{Promises}
 use Rattle.iol_system.specs.Replies.{reported}
 use Rattle.iol_ffi.proofs.Executed.{executed, read_in}
+use Rattle.iol_ffi.proofs.Memory.{read_not_memory}
 use Rattle.iol_ffi.proofs.calls.read_front.Goals as goal
 
 pub returns-clause-executes : goal.returns-clause-executes
@@ -27,3 +28,8 @@ returns-clause-executes c =
     c.read_reply.result refl e c.read_reply.ensures in
     executed old new (event.Call c.args.by (call.Read c.args.fd c.args.count)) x c.read_reply.result (filled ++ rest)
     step encodes (omega (arith, length-append filled rest, e.len, long))
+
+pub returns-clause-needs : goal.returns-clause-needs
+returns-clause-needs c =
+    λ none is. read_not_memory c.read_into.result c.read_reply.result c.read_reply.ensures
+    (c.read_into.ensures.not_memory none) is
