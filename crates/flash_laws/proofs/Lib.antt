@@ -2,6 +2,7 @@ pub mod Lists
 pub mod Forms
 pub mod TheLaws
 pub mod Counts
+pub mod Moves
 pub mod Conn
 pub mod Run
 pub mod Client

@@ -30,6 +30,8 @@ use Rattle.flash_laws.specs.declared.phase.Phase.{Phase}
 use Rattle.flash_laws.specs.declared.phase.Phase.TheVariants.{Rests, Got, Opens, Reads, Shuts, Picks, Spares, Heads}
 use Rattle.flash_laws.specs.declared.phase.Phase.TheVariants.{Joins, Sends, Cuts, Offers, Swaps, Sent, Breaks, Drops}
 use Rattle.flash_laws.specs.declared.phase.Phase.TheVariants.{Closes, Over}
+use Rattle.flash_laws.specs.Moves.{or_stay, or_else, on_done, on_agg, on_count, on_fd, on_refused, unless_blocked}
+use Rattle.flash_laws.specs.Moves.{if_broken}
 use Rattle.flash_laws.specs.Answers.{keeps, body_unless, file_text, script_text, error_text, unsatisfiable, Next}
 
 -- the aggregate to be sent after the current one, with its length
@@ -178,23 +180,22 @@ status_of (no.Denied p) = 403
 status_of (no.Fault f) = 500
 status_of x = 503
 
+abbrev pub received_of_client : List ℕ → Answer → (agg : ℕ) → (received : List ℕ) → Conn
+received_of_client kept q n [] = record { kept = kept; q = q; phase = Drops n None }
+received_of_client kept q n (b ∷ received) = record { kept = kept ++ (b ∷ received); q = q; phase = Got n }
+
 abbrev pub after_receive : List ℕ → Answer → Reply → (received : List ℕ) → Conn
-after_receive kept q (reply.Agg n) [] = record { kept = kept; q = q; phase = Drops n None }
-after_receive kept q (reply.Agg n) (b ∷ received) = record { kept = kept ++ (b ∷ received); q = q; phase = Got n }
-after_receive kept q r received = record { kept = kept; q = q; phase = Rests }
+after_receive kept q r received =
+    or_stay (record { kept = kept; q = q; phase = Rests }) (on_agg r (λ n. received_of_client kept q n received))
 
 abbrev pub after_open : Reply → Phase
-after_open (reply.Fd f) = Reads f
-after_open (reply.Refused no.WouldBlock) = Opens
-after_open (reply.Refused x) = Heads (Error (status_of x))
-after_open r = Opens
+after_open r = or_stay Opens
+    (or_else (on_fd r Reads) (on_refused r (λ x. unless_blocked (Heads (Error (status_of x))) x)))
 
 abbrev pub after_read : (file : ℕ) → Reply → (received : List ℕ) → Phase
-after_read f (reply.Agg n) received = Shuts f (File n (count_of received))
-after_read f (reply.Count n) received = Shuts f (Length n)
-after_read f (reply.Refused no.WouldBlock) received = Reads f
-after_read f (reply.Refused x) received = Shuts f (Fails (status_of x))
-after_read f r received = Reads f
+after_read f r received = or_stay (Reads f) (or_else (on_agg r (λ n. Shuts f (File n (count_of received))))
+    (or_else (on_count r (λ n. Shuts f (Length n)))
+    (on_refused r (λ x. unless_blocked (Shuts f (Fails (status_of x))) x))))
 
 -- the phase that sends the selected part of a file that was read
 abbrev pub sends_of : Selection → (agg len : ℕ) → Phase
@@ -215,16 +216,13 @@ resolved q (Fails status) = Heads (Error status)
 resolved q (Text a runs) = Spares a (put_out runs)
 
 abbrev pub after_close_file : Answer → (file : ℕ) → FileResult → Reply → Phase
-after_close_file q f k reply.Done = resolved q k
-after_close_file q f k r = Shuts f k
+after_close_file q f k r = or_stay (Shuts f k) (on_done r (resolved q k))
 
 abbrev pub after_slice : (agg from to len : ℕ) → Reply → Phase
-after_slice a from to len (reply.Agg n) = Spares a (Body n (to - from) len)
-after_slice a from to len r = Picks a from to len
+after_slice a from to len r = or_stay (Picks a from to len) (on_agg r (λ n. Spares a (Body n (to - from) len)))
 
 abbrev pub after_drop_whole : (agg : ℕ) → Payload → Reply → Phase
-after_drop_whole a k reply.Done = Heads k
-after_drop_whole a k r = Spares a k
+after_drop_whole a k r = or_stay (Spares a k) (on_done r (Heads k))
 
 abbrev pub following : Payload → Following
 following (Body b size len) = Some (b, size)
@@ -237,37 +235,34 @@ headed a size (Some x) =
     if nat_le (size + x.1) MAX_AGGREGATE_BYTES then Joins a size x.0 x.1 else Sends a size 0 (Some x)
 
 abbrev pub after_head : Payload → Reply → (received : List ℕ) → Phase
-after_head k (reply.Agg n) received = headed n (count_of received) (following k)
-after_head k r received = Heads k
+after_head k r received = or_stay (Heads k) (on_agg r (λ n. headed n (count_of received) (following k)))
 
 abbrev pub after_join : (head size body len : ℕ) → Reply → Phase
-after_join a size body len (reply.Agg n) = Sends n (size + len) 0 None
-after_join a size body len r = Joins a size body len
+after_join a size body len r = or_stay (Joins a size body len) (on_agg r (λ n. Sends n (size + len) 0 None))
 
 -- all is taken, or the rest is sent in pieces
 abbrev pub after_send : (agg len taken : ℕ) → Following → Reply → Phase
-after_send a len taken more (reply.Count n) =
-    if nat_lt n len then Cuts a n len (taken + n) more else Sent a (taken + len) more
-after_send a len taken more (reply.Refused no.BrokenPipe) = Drops a more
-after_send a len taken more r = Sends a len taken more
+after_send a len taken more r = or_stay (Sends a len taken more)
+    (or_else (on_count r (λ n. if nat_lt n len then Cuts a n len (taken + n) more else Sent a (taken + len) more))
+    (on_refused r (if_broken (Drops a more))))
 
 abbrev pub after_cut : (agg from len taken : ℕ) → Following → Reply → Phase
-after_cut a from len taken more (reply.Agg n) = Offers a from len n taken more
-after_cut a from len taken more r = Cuts a from len taken more
+after_cut a from len taken more r =
+    or_stay (Cuts a from len taken more) (on_agg r (λ n. Offers a from len n taken more))
 
 -- count more bytes are taken
 abbrev pub moved_on : (agg from len piece taken : ℕ) → Following → (count : ℕ) → Phase
 moved_on a from len piece taken more count = Swaps a (from + count) len piece (taken + count) more
 
 abbrev pub after_offer : (agg from len piece taken : ℕ) → Following → Reply → Phase
-after_offer a from len piece taken more (reply.Count n) = moved_on a from len piece taken more (min n (len - from))
-after_offer a from len piece taken more (reply.Refused no.BrokenPipe) = Breaks piece a more
-after_offer a from len piece taken more r = Offers a from len piece taken more
+after_offer a from len piece taken more r = or_stay (Offers a from len piece taken more)
+    (or_else (on_count r (λ n. moved_on a from len piece taken more (min n (len - from))))
+    (on_refused r (if_broken (Breaks piece a more))))
 
 abbrev pub after_swap : (agg from len piece taken : ℕ) → Following → Reply → Phase
-after_swap a from len piece taken more reply.Done =
-    if nat_lt from len then Cuts a from len taken more else Sent a taken more
-after_swap a from len piece taken more r = Swaps a from len piece taken more
+after_swap a from len piece taken more r =
+    or_stay (Swaps a from len piece taken more)
+    (on_done r (if nat_lt from len then Cuts a from len taken more else Sent a taken more))
 
 -- the aggregate after it, or the end of the response
 abbrev pub proceeds : Answer → (taken : ℕ) → Following → Phase
@@ -275,28 +270,23 @@ proceeds q taken (Some x) = Sends x.0 x.1 taken None
 proceeds q taken None = if keeps q then Rests else Closes
 
 abbrev pub after_taken : Answer → (agg taken : ℕ) → Following → Reply → Phase
-after_taken q a taken more reply.Done = proceeds q taken more
-after_taken q a taken more r = Sent a taken more
+after_taken q a taken more r = or_stay (Sent a taken more) (on_done r (proceeds q taken more))
 
 abbrev pub after_break : (piece agg : ℕ) → Following → Reply → Phase
-after_break piece a more reply.Done = Drops a more
-after_break piece a more r = Breaks piece a more
+after_break piece a more r = or_stay (Breaks piece a more) (on_done r (Drops a more))
 
 abbrev pub drops_next : Following → Phase
 drops_next (Some x) = Drops x.0 None
 drops_next None = Closes
 
 abbrev pub after_drop : (agg : ℕ) → Following → Reply → Phase
-after_drop a more reply.Done = drops_next more
-after_drop a more r = Drops a more
+after_drop a more r = or_stay (Drops a more) (on_done r (drops_next more))
 
 abbrev pub after_discard : (agg : ℕ) → Reply → Phase
-after_discard a reply.Done = Rests
-after_discard a r = Got a
+after_discard a r = or_stay (Got a) (on_done r Rests)
 
 abbrev pub after_disconnect : Reply → Phase
-after_disconnect reply.Done = Over
-after_disconnect r = Closes
+after_disconnect r = or_stay Closes (on_done r Over)
 
 abbrev pub after_reply : Conn → Reply → (received : List ℕ) → Conn
 after_reply x r received = by x.phase

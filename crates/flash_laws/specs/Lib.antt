@@ -1,4 +1,5 @@
 pub mod Answers
+pub mod Moves
 pub mod Conn
 pub mod Run
 pub mod Client

@@ -16,6 +16,7 @@ use Rattle.iol_core.specs.declared.events.Call.TheVariants as call
 use Rattle.iol_core.specs.declared.events.Reply.{Reply}
 use Rattle.iol_core.specs.declared.events.Reply.TheVariants as reply
 use Rattle.flash_http.specs.Request.{serve, Wanted}
+use Rattle.flash_laws.specs.Moves.{or_stay, or_else, on_done, on_agg, on_count, on_fd, on_fds, on_refused, if_denied}
 use Rattle.flash_laws.specs.Conn as conn
 use Rattle.flash_laws.specs.Conn.{Following, Conn, has_followed, count_of}
 use Rattle.flash_laws.specs.Answers.Scripts.{script_text, frame_of, place_in_frame, end_around}
@@ -176,30 +177,25 @@ broken run = record run { broken = true }
 
 -- a free worker runs it
 abbrev pub after_wait : (worker : ℕ) → Reply → Running
-after_wait worker (reply.Fds from write) = Runs (record { worker = worker; from = from; broken = false }) (Gives write)
-after_wait worker r = Awaits
+after_wait worker r = or_stay Awaits
+    (on_fds r (λ from write. Runs (record { worker = worker; from = from; broken = false }) (Gives write)))
 
 abbrev pub after_give : (write : ℕ) → Reply → Step
-after_give write (reply.Fd f) = Makes f
-after_give write (reply.Refused x) = if is_again x then Gives write else Returns write
-after_give write r = Gives write
+after_give write r = or_stay (Gives write)
+    (or_else (on_fd r Makes) (on_refused r (λ x. Some (if is_again x then Gives write else Returns write))))
 
 abbrev pub after_make : (fd : ℕ) → Reply → Step
-after_make f (reply.Agg n) = Hands n f
-after_make f r = Makes f
+after_make f r = or_stay (Makes f) (on_agg r (λ n. Hands n f))
 
 abbrev pub after_hand : (job fd : ℕ) → Reply → Step
-after_hand j f (reply.Count n) = Lets j
-after_hand j f (reply.Refused x) = if is_again x then Hands j f else Lapses j
-after_hand j f r = Hands j f
+after_hand j f r = or_stay (Hands j f)
+    (or_else (on_count r (λ n. Lets j)) (on_refused r (λ x. Some (if is_again x then Hands j f else Lapses j))))
 
 abbrev pub after_release_job : (job : ℕ) → Reply → Step
-after_release_job j reply.Done = Heads
-after_release_job j r = Lets j
+after_release_job j r = or_stay (Lets j) (on_done r Heads)
 
 abbrev pub after_head : Reply → (received : List ℕ) → Step
-after_head (reply.Agg n) received = Sending (phase.Sends n (count_of received) 0 None) None
-after_head r received = Heads
+after_head r received = or_stay Heads (on_agg r (λ n. Sending (phase.Sends n (count_of received) 0 None) None))
 
 -- a part is sent by the same phases as the response of a file
 abbrev pub after_part : Phase → Reply → Phase
@@ -236,44 +232,43 @@ abbrev pub unread : Following → (frame : Option ℕ) → Step
 unread None frame = Stops None frame
 unread (Some x) frame = Unholds x.0 frame
 
+-- no output is its end
+abbrev pub received_of_script : Wanted → Run → Following → (frame : Option ℕ) → (agg : ℕ) → (received : List ℕ) → Step
+received_of_script w run held frame n [] = Ended n held frame
+received_of_script w run held frame n (b ∷ received) =
+    hearing run.broken w.chunked held frame n (count_of (b ∷ received))
+
 abbrev pub after_output : Wanted → Run → Following → (frame : Option ℕ) → Reply → (received : List ℕ) → Running
-after_output w run held frame (reply.Agg n) [] = Runs run (Ended n held frame)
-after_output w run held frame (reply.Agg n) (b ∷ received) =
-    Runs run (hearing run.broken w.chunked held frame n (count_of (b ∷ received)))
-after_output w run held frame (reply.Refused (no.Denied p)) received = Runs (broken run) (unread held frame)
-after_output w run held frame r received = Runs run (Receives held frame)
+after_output w run held frame r received = or_stay (Runs run (Receives held frame))
+    (or_else (on_agg r (λ n. Runs run (received_of_script w run held frame n received)))
+    (on_refused r (if_denied (Runs (broken run) (unread held frame)))))
 
 abbrev pub after_spill : (agg : ℕ) → (frame : Option ℕ) → Reply → Step
-after_spill a frame reply.Done = Receives None frame
-after_spill a frame r = Spills a frame
+after_spill a frame r = or_stay (Spills a frame) (on_done r (Receives None frame))
 
 -- the total length of two aggregates, as a 32-bit number
 abbrev pub both : (size len : ℕ) → ℕ
 both size len = min (size + len) 4294967295
 
 abbrev pub after_gather : (held size piece len : ℕ) → (frame : Option ℕ) → Reply → Step
-after_gather held size piece len frame (reply.Agg n) = holding n (both size len) frame
-after_gather held size piece len frame r = Gathers held size piece len frame
+after_gather held size piece len frame r =
+    or_stay (Gathers held size piece len frame) (on_agg r (λ n. holding n (both size len) frame))
 
 abbrev pub after_frame : (held : ℕ) → Reply → Step
-after_frame held (reply.Agg n) = Wraps held n
-after_frame held r = Frames held
+after_frame held r = or_stay (Frames held) (on_agg r (λ n. Wraps held n))
 
 abbrev pub after_wrap : (held frame : ℕ) → Reply → (received : List ℕ) → Step
-after_wrap held frame (reply.Agg n) received = Trims held n (count_of received) frame
-after_wrap held frame r received = Wraps held frame
+after_wrap held frame r received = or_stay (Wraps held frame) (on_agg r (λ n. Trims held n (count_of received) frame))
 
 abbrev pub after_trim : (held chunk len frame : ℕ) → Reply → Step
-after_trim held chunk len frame reply.Done = Sending (phase.Sends chunk len 0 None) (Some frame)
-after_trim held chunk len frame r = Trims held chunk len frame
+after_trim held chunk len frame r =
+    or_stay (Trims held chunk len frame) (on_done r (Sending (phase.Sends chunk len 0 None) (Some frame)))
 
 abbrev pub after_ended : (agg : ℕ) → Following → (frame : Option ℕ) → Reply → Step
-after_ended a held frame reply.Done = Stops held frame
-after_ended a held frame r = Ended a held frame
+after_ended a held frame r = or_stay (Ended a held frame) (on_done r (Stops held frame))
 
 abbrev pub after_release_held : (held : ℕ) → (frame : Option ℕ) → Reply → Step
-after_release_held held frame reply.Done = Stops None frame
-after_release_held held frame r = Unholds held frame
+after_release_held held frame r = or_stay (Unholds held frame) (on_done r (Stops None frame))
 
 -- the end of the body is made, if the body is in chunks and is still sent
 abbrev pub finishing : (broken chunked : Bool) → Run → Following → Running
@@ -285,12 +280,11 @@ stopped w run held (Some f) = Runs run (Unframes f held)
 stopped w run held None = finishing run.broken w.chunked run held
 
 abbrev pub after_stop : Wanted → Run → Following → (frame : Option ℕ) → Reply → Running
-after_stop w run held frame reply.Done = stopped w run held frame
-after_stop w run held frame r = Runs run (Stops held frame)
+after_stop w run held frame r = or_stay (Runs run (Stops held frame)) (on_done r (stopped w run held frame))
 
 abbrev pub after_release_frame : Wanted → Run → (frame : ℕ) → Following → Reply → Running
-after_release_frame w run f held reply.Done = finishing run.broken w.chunked run held
-after_release_frame w run f held r = Runs run (Unframes f held)
+after_release_frame w run f held r =
+    or_stay (Runs run (Unframes f held)) (on_done r (finishing run.broken w.chunked run held))
 
 -- the end of the body is sent by itself, or is set around the buffered output
 abbrev pub ending : Run → Following → (agg len : ℕ) → Running
@@ -298,33 +292,28 @@ ending run None a len = Leaves (phase.Sends a len 0 None)
 ending run (Some x) a len = Runs run (WrapsLast x.0 x.1 a)
 
 abbrev pub after_last : Run → Following → Reply → (received : List ℕ) → Running
-after_last run held (reply.Agg n) received = ending run held n (count_of received)
-after_last run held r received = Runs run (Lasts held)
+after_last run held r received = or_stay (Runs run (Lasts held)) (on_agg r (λ n. ending run held n (count_of received)))
 
 abbrev pub after_wrap_last : (held size frame : ℕ) → Reply → (received : List ℕ) → Step
-after_wrap_last held size frame (reply.Agg n) received = TrimsLast held n (count_of received) frame
-after_wrap_last held size frame r received = WrapsLast held size frame
+after_wrap_last held size frame r received =
+    or_stay (WrapsLast held size frame) (on_agg r (λ n. TrimsLast held n (count_of received) frame))
 
 abbrev pub after_trim_last : (held chunk len frame : ℕ) → Reply → Step
-after_trim_last held chunk len frame reply.Done = Unwraps frame chunk len
-after_trim_last held chunk len frame r = TrimsLast held chunk len frame
+after_trim_last held chunk len frame r = or_stay (TrimsLast held chunk len frame) (on_done r (Unwraps frame chunk len))
 
 abbrev pub after_unwrap : Run → (frame chunk len : ℕ) → Reply → Running
-after_unwrap run frame chunk len reply.Done = Leaves (phase.Sends chunk len 0 None)
-after_unwrap run frame chunk len r = Runs run (Unwraps frame chunk len)
+after_unwrap run frame chunk len r =
+    or_stay (Runs run (Unwraps frame chunk len)) (on_done r (Leaves (phase.Sends chunk len 0 None)))
 
 abbrev pub after_return : (write : ℕ) → Reply → Step
-after_return write reply.Done = Fails
-after_return write r = Returns write
+after_return write r = or_stay (Returns write) (on_done r Fails)
 
 abbrev pub after_lapse : (job : ℕ) → Reply → Step
-after_lapse j reply.Done = Fails
-after_lapse j r = Lapses j
+after_lapse j r = or_stay (Lapses j) (on_done r Fails)
 
 -- a script that cannot run now gets an error response (RFC 9110, section 15.6.4)
 abbrev pub after_fail : Run → Reply → Running
-after_fail run reply.Done = Leaves (phase.Heads (Error 503))
-after_fail run r = Runs run Fails
+after_fail run r = or_stay (Runs run Fails) (on_done r (Leaves (phase.Heads (Error 503))))
 
 abbrev pub after_step : Wanted → Run → Step → Reply → (received : List ℕ) → Running
 after_step w run (Gives write) r received = Runs run (after_give write r)

@@ -50,6 +50,7 @@ use Rattle.flash_laws.proofs.Conn.ReadableBytes.{text-same}
 use Rattle.flash_laws.proofs.Conn.Responses.{WindowLaws, some-inj}
 use Rattle.std.proofs.lemmas.List.{length-map}
 use Rattle.flash_progress.proofs.Measure.{request_turns, ahead, reads_on, kept_turns, unread_turns, turns_left}
+use Rattle.flash_laws.proofs.Moves.{either-way}
 
 -- ---- what is made is no longer than the response
 
@@ -149,11 +150,9 @@ Goes q d e = (is_early e ≡ false) × (reads_on q d ≡ false → reads_on q e 
 
 headed-goes : (q : Answer) (k : Payload) (a size : ℕ) (more : Following) → Goes q (Heads k) (headed a size more)
 headed-goes q k a size None = (refl, λ is. is)
-headed-goes q k a size (Some x) = by (nat_le (size + x.1) MAX_AGGREGATE_BYTES)
-  where
-    by : (b : Bool) → Goes q (Heads k) (if b then Joins a size x.0 x.1 else Sends a size 0 (Some x))
-    by true = (refl, λ is. is)
-    by false = (refl, λ is. is)
+headed-goes q k a size (Some x) =
+    either-way (λ (e : Phase). Goes q (Heads k) e) (nat_le (size + x.1) MAX_AGGREGATE_BYTES) (refl, λ is. is)
+    (refl, λ is. is)
 
 ends-goes : (q : Answer) (a taken : ℕ) (more : Following) → Goes q (Sent a taken more) (proceeds q taken more)
 ends-goes q a taken (Some x) = (refl, λ is. is)
@@ -175,12 +174,8 @@ goes kept q (Heads k) (reply.Agg n) received is = headed-goes q k n (count_of re
 goes kept q (Heads k) r received is = (refl, λ no. no)
 goes kept q (Joins a size body len) (reply.Agg n) received is = (refl, λ no. no)
 goes kept q (Joins a size body len) r received is = (refl, λ no. no)
-goes kept q (Sends a len taken more) (reply.Count n) received is = by (nat_lt n len)
-  where
-    by : (b : Bool)
-        → Goes q (Sends a len taken more) (if b then Cuts a n len (taken + n) more else Sent a (taken + len) more)
-    by true = (refl, λ no. no)
-    by false = (refl, λ no. no)
+goes kept q (Sends a len taken more) (reply.Count n) received is =
+    either-way (λ (e : Phase). Goes q (Sends a len taken more) e) (nat_lt n len) (refl, λ no. no) (refl, λ no. no)
 goes kept q (Sends a len taken more) (reply.Refused no.BrokenPipe) received is = (refl, λ no. refl)
 goes kept q (Sends a len taken more) r received is = (refl, λ no. no)
 goes kept q (Cuts a from len taken more) (reply.Agg n) received is = (refl, λ no. no)
@@ -188,12 +183,9 @@ goes kept q (Cuts a from len taken more) r received is = (refl, λ no. no)
 goes kept q (Offers a from len piece taken more) (reply.Count n) received is = (refl, λ no. no)
 goes kept q (Offers a from len piece taken more) (reply.Refused no.BrokenPipe) received is = (refl, λ no. refl)
 goes kept q (Offers a from len piece taken more) r received is = (refl, λ no. no)
-goes kept q (Swaps a from len piece taken more) reply.Done received is = by (nat_lt from len)
-  where
-    by : (b : Bool)
-        → Goes q (Swaps a from len piece taken more) (if b then Cuts a from len taken more else Sent a taken more)
-    by true = (refl, λ no. no)
-    by false = (refl, λ no. no)
+goes kept q (Swaps a from len piece taken more) reply.Done received is =
+    either-way (λ (e : Phase). Goes q (Swaps a from len piece taken more) e) (nat_lt from len) (refl, λ no. no)
+    (refl, λ no. no)
 goes kept q (Swaps a from len piece taken more) r received is = (refl, λ no. no)
 goes kept q (Sent a taken more) reply.Done received is = ends-goes q a taken more
 goes kept q (Sent a taken more) r received is = (refl, λ no. no)

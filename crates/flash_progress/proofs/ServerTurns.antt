@@ -1,6 +1,6 @@
 -- A call of the server that is not retried later decreases the measure.
 use Rattle.std.proofs.Common.{inl, inr, ◌≡◌, ℕ, ◌<◌, ◌≤◌, List, ap, ◌∙◌, refl, sym, subst, arith, Option, Some, None}
-use Rattle.std.proofs.Common.{true, false, Bool, length, if◌then◌else◌}
+use Rattle.std.proofs.Common.{true, false, Bool, length}
 use Rattle.iol_core.specs.NumberedLists.{in_place}
 use Rattle.iol_core.specs.State.{State, descriptor, conn_at}
 use Rattle.iol_core.specs.Run.{StepsTo}
@@ -54,6 +54,7 @@ use Rattle.flash_laws.proofs.World.Accept.{ready_turn}
 use Rattle.flash_laws.proofs.World.AllLaws.{AllLaws}
 use Rattle.flash_laws.proofs.World.Calls.{is_client_call, calls-alone}
 use Rattle.flash_laws.proofs.World.ServerTurn.{client-awaits}
+use Rattle.flash_laws.proofs.Moves.{either-way}
 
 -- What is known of the machine: heads can be made, the server may read the unread bytes of its connections, numbers are
 -- low, and a call adds no unread bytes.
@@ -74,12 +75,8 @@ made-call turn.Yield = call.Accept
 -- a connection's call closes no pool
 closes-none : (fd : ℕ) (kept : List ℕ) (q : Answer) (d : Phase) (p : ℕ)
     → closes_pool (event.Call server (conn.wants fd (conn-at kept q d))) p ≡ false
-closes-none fd kept q (phase.Reads f) p = by (conn.is_head_only q)
-  where
-    by : (b : Bool) → closes_pool (event.Call server (if b then call.Length f else call.IolRead f conn.most_read)) p
-        ≡ false
-    by true = refl
-    by false = refl
+closes-none fd kept q (phase.Reads f) p =
+    either-way (λ (k : Call). closes_pool (event.Call server k) p ≡ false) (conn.is_head_only q) refl refl
 closes-none fd kept q d p = refl
 
 module _ (site_contents : SiteContents) (worker_set : WorkerSet) (laws : AllLaws worker_set)

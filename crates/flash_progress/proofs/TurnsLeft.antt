@@ -50,6 +50,7 @@ use Rattle.flash_laws.proofs.Site.OpenDescriptors.{no-true, held-open}
 use Rattle.flash_laws.proofs.World.AllLaws.{AllLaws}
 use Rattle.flash_laws.proofs.World.Calls.{CallsAlone, calls-alone, opens-on, there-fd}
 use Rattle.flash_laws.proofs.World.OwnAlone.{alone_step}
+use Rattle.flash_laws.proofs.Moves.{either-way}
 
 -- ---- sums
 
@@ -135,11 +136,8 @@ pub can-make : (site_contents : SiteContents) (m : State) (fd : ℕ) (kept : Lis
     (d : Phase) → IsProper q → Finds site_contents m q script d
     → HasRoom m → CanMake m (conn.wants fd (at kept q d))
 can-make site_contents m fd kept q script (phase.Heads k) fine finds room = room q k fine finds
-can-make site_contents m fd kept q script (phase.Reads f) fine finds room = by (conn.is_head_only q)
-  where
-    by : (b : Bool) → CanMake m (if b then call.Length f else call.IolRead f conn.most_read)
-    by true = tt
-    by false = tt
+can-make site_contents m fd kept q script (phase.Reads f) fine finds room =
+    either-way (λ (k : Call). CanMake m k) (conn.is_head_only q) tt tt
 can-make site_contents m fd kept q script d fine finds room = tt
 
 pub expected-short : (site_contents : SiteContents) (longest : ℕ) (q : Answer) (expected : List ℕ) (d : Phase)

@@ -36,8 +36,8 @@ use Rattle.flash_laws.specs.Client.ResponseState.{HasNoRun, HasFile, HasKnown}
 use Rattle.flash_laws.specs.Conn.OfferedBytes as single
 use Rattle.flash_laws.specs.Run.Fits.{Progress, nothing_yet}
 use Rattle.flash_laws.specs.Site.{server}
+use Rattle.flash_laws.proofs.Conn.AnswerParts as having
 use Rattle.flash_laws.proofs.Forms.{at, of as client}
-use Rattle.flash_laws.proofs.Client.Phases as phases
 use Rattle.flash_laws.proofs.Client.Phases.{asks-after_reply, unread-after_reply, read-after_reply}
 use Rattle.flash_laws.proofs.Lists.{clash}
 use Rattle.flash_laws.proofs.Conn.OfferedBytes as offering
@@ -231,7 +231,7 @@ module _ (steps : EachStepLeavesTheRest) (own : CallsServeTheirDomain) (files : 
         → StepsTo m (event.Call server (conn.wants fd (at kept (serve w) d))) r n → Names n r received
         → Has n (serve w) (script_text w) (conn.after_reply (at kept (serve w) d) r received).phase
     phase d has busy step names =
-        phases.phase steps own m n order kept fd c (serve w) d (script_text w) r received open_on has.read busy has.has
+        having.phase steps own m n order kept fd c (serve w) d (script_text w) r received open_on has.read busy has.has
         step names
 
     -- with no text that is still to run

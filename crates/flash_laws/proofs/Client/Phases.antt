@@ -1,23 +1,19 @@
 -- The phases of a client, for every expected response: the data in the machine, the offered bytes, and the text of a
 -- script that was read.
-use Rattle.std.proofs.Common.{◌≡◌, ℕ, ◌+◌, ◌-◌, List, [], ◌∷◌, ◌++◌, drop, ap, ◌∙◌, refl, sym, subst, Some, None, true}
+use Rattle.std.proofs.Common.{◌≡◌, ℕ, ◌+◌, ◌-◌, List, [], ◌∷◌, ◌++◌, drop, ap, ◌∙◌, refl, sym, Some, None, true}
 use Rattle.std.proofs.Common.{false, Bool, append_assoc, if◌then◌else◌}
 use Rattle.std.specs.Prelude.{◌||◌, nat_lt, nat_le, slice_range}
 use Rattle.std.proofs.lemmas.List.{take-append-drop}
-use Rattle.iol_core.specs.State.{State, descriptor}
-use Rattle.iol_core.specs.Run.{StepsTo}
+use Rattle.iol_core.specs.State.{State}
 use Rattle.iol_core.specs.declared.limits.TheConstants.{MAX_AGGREGATE_BYTES}
 use Rattle.iol_core.specs.declared.descriptors.Descriptor.TheVariants as on
 use Rattle.iol_core.specs.declared.refusals.Refusal.TheVariants as no
 use Rattle.iol_core.specs.declared.events.Call.{Call}
 use Rattle.iol_core.specs.declared.events.Call.TheVariants as call
-use Rattle.iol_core.specs.declared.events.Event.TheVariants as event
 use Rattle.iol_core.specs.declared.events.Reply.{Reply}
 use Rattle.iol_core.specs.declared.events.Reply.TheVariants as reply
-use Rattle.iol_laws.specs.Frame.{EachStepLeavesTheRest}
-use Rattle.iol_laws.specs.Order.{IsOrderly}
 use Rattle.iol_laws.specs.Caller as o
-use Rattle.iol_laws.specs.Caller.{CallsServeTheirDomain, readable_at}
+use Rattle.iol_laws.specs.Caller.{readable_at}
 use Rattle.flash_http.specs.declared.ranges.Selection.{Selection}
 use Rattle.flash_http.specs.declared.ranges.Selection.TheVariants.{Bytes}
 use Rattle.flash_http.specs.Range.{selected}
@@ -25,74 +21,19 @@ use Rattle.flash_http.specs.Request.{Answer, serve, refuse}
 use Rattle.flash_laws.specs.Answers.{keeps}
 use Rattle.flash_laws.specs.Client.{conn_wants}
 use Rattle.flash_laws.specs.Conn.{Following, is_head_only, most_read, piece_end, count_of, wants, sends_of, resolved}
-use Rattle.flash_laws.specs.Conn.{following, headed, after_receive, after_reply}
+use Rattle.flash_laws.specs.Conn.{following, headed, after_reply}
 use Rattle.flash_laws.specs.declared.phase.FileResult.{FileResult}
 use Rattle.flash_laws.specs.declared.phase.FileResult.TheVariants.{File, Text as TextOf}
 use Rattle.flash_laws.specs.declared.phase.Phase.{Phase}
 use Rattle.flash_laws.specs.declared.phase.Phase.TheVariants.{Rests, Got, Opens, Reads as Reading, Shuts, Picks, Spares}
 use Rattle.flash_laws.specs.declared.phase.Phase.TheVariants.{Heads, Joins, Sends, Cuts, Offers, Swaps, Sent, Breaks}
 use Rattle.flash_laws.specs.declared.phase.Phase.TheVariants.{Drops, Closes, Over}
-use Rattle.flash_laws.specs.Conn.Fits.{Has, is_closing, Names}
+use Rattle.flash_laws.specs.Conn.Fits.{Has}
 use Rattle.flash_laws.specs.Client.ResponseState.{is_read, is_opening}
 use Rattle.flash_laws.specs.Conn.OfferedBytes.{taken_of}
 use Rattle.flash_laws.specs.Site.{server}
 use Rattle.flash_laws.proofs.Forms.{at}
-use Rattle.flash_laws.proofs.Conn.AnswerParts as having
-
--- ---- what the machine has after a call, but for those that open and read
-
-module _ (steps : EachStepLeavesTheRest) (own : CallsServeTheirDomain) (m n : State) (order : IsOrderly m)
-    (kept : List ℕ) where
-  rests : (q : Answer) (expected : List ℕ) (r : Reply) (received : List ℕ) → Names n r received
-      → Has n q expected (after_receive kept q r received).phase
-  rests q expected (reply.Agg a) [] names = record { after = []; readable = ([], names); follows = refl; apart = refl }
-  rests q expected (reply.Agg a) (b ∷ l) names = (b ∷ l, names)
-  rests q expected r received names = tt
-
-  got : (q : Answer) (expected : List ℕ) (a : ℕ) (r : Reply) (received : List ℕ) → Has m q expected (Got a)
-      → StepsTo m (event.Call server (call.AggDrop a)) r n
-      → Has n q expected (after_reply (at kept q (Got a)) r received).phase
-  got q expected a r received has step = by r (own.drops m n server a r order step)
-    where
-      by : (r : Reply) → o.Drops m server a r n → Has n q expected (after_reply (at kept q (Got a)) r received).phase
-      by reply.Done did = tt
-      by (reply.Refused y) did = subst (λ (s : State). Has s q expected (Got a)) (sym did) has
-      by r did = absurd did
-
-  pub phase : (fd c : ℕ) (q : Answer) (d : Phase) (expected : List ℕ) (r : Reply) (received : List ℕ)
-      → descriptor m server fd ≡ Some (on.Connection c)
-      → is_opening d ≡ false → is_closing d ≡ false → Has m q expected d
-      → StepsTo m (event.Call server (wants fd (at kept q d))) r n
-      → Names n r received → Has n q expected (after_reply (at kept q d) r received).phase
-  phase fd c q Rests expected r received open_on read busy has step names = rests q expected r received names
-  phase fd c q (Got a) expected r received open_on read busy has step names = got q expected a r received has step
-  phase fd c q (Shuts f k) expected r received open_on read busy has step names =
-      having.shuts steps own m n order q f k expected r has step
-  phase fd c q (Picks a first last len) expected r received open_on read busy has step names =
-      having.picks steps own m n order q a first last len expected r has step
-  phase fd c q (Spares a k) expected r received open_on read busy has step names =
-      having.spares steps own m n order q a k expected r has step
-  phase fd c q (Heads k) expected r received open_on read busy has step names =
-      having.heads steps own m n order q k expected r received has step names
-  phase fd c q (Joins a size body len) expected r received open_on read busy has step names =
-      having.joins steps own m n order q a size body len expected r has step
-  phase fd c q (Sends a len taken more) expected r received open_on read busy has step names =
-      having.sends steps own m n order q fd c a len taken more expected r open_on has step
-  phase fd c q (Cuts a from len taken more) expected r received open_on read busy has step names =
-      having.cuts steps own m n order q a from len taken more expected r has step
-  phase fd c q (Offers a from len piece taken more) expected r received open_on read busy has step names =
-      having.offers_piece steps own m n order q fd c a from len piece taken more expected r open_on has step
-  phase fd c q (Swaps a from len piece taken more) expected r received open_on read busy has step names =
-      having.swaps steps own m n order q a from len piece taken more expected r has step
-  phase fd c q (Sent a taken more) expected r received open_on read busy has step names =
-      having.sent_all steps own m n order q a taken more expected r has step
-  phase fd c q (Breaks piece a more) expected r received open_on read busy has step names =
-      having.breaks steps own m n order q piece a more expected r has step
-  phase fd c q (Drops a more) expected r received open_on read busy has step names =
-      having.drops steps own m n order q a more expected r has step
-  phase fd c q Closes expected r received open_on read busy has step names = absurd (cc (busy))
-  phase fd c q Over expected r received open_on read busy has step names = absurd (cc (busy))
-  phase fd c q x expected r received open_on read busy has step names = absurd (cc (read))
+use Rattle.flash_laws.proofs.Moves.{after-done, after-agg, after-write, after-open, after-read, either-way}
 
 -- ---- what is offered
 
@@ -159,50 +100,37 @@ is_apart d = true
 abbrev is_reading : Phase → Bool
 is_reading d = is_read d || is_opening d
 
-either-unread : (t : Bool) (x y : Phase) → is_reading x ≡ false → is_reading y ≡ false
-    → is_reading (if t then x else y) ≡ false
-either-unread true x y one two = one
-either-unread false x y one two = two
+abbrev Unread : Phase → Type 0
+Unread d = is_reading d ≡ false
 
 headed-unread : (n size : ℕ) (more : Following) → is_reading (headed n size more) ≡ false
 headed-unread n size None = refl
-headed-unread n size (Some x) = either-unread (nat_le (size + x.1) MAX_AGGREGATE_BYTES) _ _ refl refl
+headed-unread n size (Some x) = either-way Unread (nat_le (size + x.1) MAX_AGGREGATE_BYTES) refl refl
 
 apart-unread : (kept : List ℕ) (q : Answer) (d : Phase) (r : Reply) (received : List ℕ) → is_apart d ≡ true
-    → is_reading (after_reply (at kept q d) r received).phase ≡ false
+    → Unread (after_reply (at kept q d) r received).phase
 apart-unread kept q Rests (reply.Agg n) [] left = refl
 apart-unread kept q Rests (reply.Agg n) (b ∷ received) left = refl
 apart-unread kept q Rests r received left = refl
-apart-unread kept q (Got a) reply.Done received left = refl
-apart-unread kept q (Got a) r received left = refl
-apart-unread kept q (Picks a from to len) (reply.Agg n) received left = refl
-apart-unread kept q (Picks a from to len) r received left = refl
-apart-unread kept q Closes reply.Done received left = refl
-apart-unread kept q Closes r received left = refl
+apart-unread kept q (Got a) r received left = after-done Unread r refl refl
+apart-unread kept q (Picks a from to len) r received left = after-agg Unread r refl (λ n. refl)
+apart-unread kept q Closes r received left = after-done Unread r refl refl
 apart-unread kept q Over r received left = refl
-apart-unread kept q (Heads k) (reply.Agg n) received left = headed-unread n (count_of received) (following k)
-apart-unread kept q (Heads k) r received left = refl
-apart-unread kept q (Joins a size body len) (reply.Agg n) received left = refl
-apart-unread kept q (Joins a size body len) r received left = refl
-apart-unread kept q (Sends a len taken more) (reply.Count n) received left = either-unread (nat_lt n len) _ _ refl refl
-apart-unread kept q (Sends a len taken more) (reply.Refused no.BrokenPipe) received left = refl
-apart-unread kept q (Sends a len taken more) r received left = refl
-apart-unread kept q (Cuts a from len taken more) (reply.Agg n) received left = refl
-apart-unread kept q (Cuts a from len taken more) r received left = refl
-apart-unread kept q (Offers a from len piece taken more) (reply.Count n) received left = refl
-apart-unread kept q (Offers a from len piece taken more) (reply.Refused no.BrokenPipe) received left = refl
-apart-unread kept q (Offers a from len piece taken more) r received left = refl
-apart-unread kept q (Swaps a from len piece taken more) reply.Done received left =
-    either-unread (nat_lt from len) _ _ refl refl
-apart-unread kept q (Swaps a from len piece taken more) r received left = refl
-apart-unread kept q (Sent a taken (Some x)) reply.Done received left = refl
-apart-unread kept q (Sent a taken None) reply.Done received left = either-unread (keeps q) _ _ refl refl
-apart-unread kept q (Sent a taken more) r received left = refl
-apart-unread kept q (Breaks piece a more) reply.Done received left = refl
-apart-unread kept q (Breaks piece a more) r received left = refl
-apart-unread kept q (Drops a (Some x)) reply.Done received left = refl
-apart-unread kept q (Drops a None) reply.Done received left = refl
-apart-unread kept q (Drops a more) r received left = refl
+apart-unread kept q (Heads k) r received left =
+    after-agg Unread r refl (λ n. headed-unread n (count_of received) (following k))
+apart-unread kept q (Joins a size body len) r received left = after-agg Unread r refl (λ n. refl)
+apart-unread kept q (Sends a len taken more) r received left =
+    after-write Unread r refl refl (λ n. either-way Unread (nat_lt n len) refl refl)
+apart-unread kept q (Cuts a from len taken more) r received left = after-agg Unread r refl (λ n. refl)
+apart-unread kept q (Offers a from len piece taken more) r received left = after-write Unread r refl refl (λ n. refl)
+apart-unread kept q (Swaps a from len piece taken more) r received left =
+    after-done Unread r refl (either-way Unread (nat_lt from len) refl refl)
+apart-unread kept q (Sent a taken (Some x)) r received left = after-done Unread r refl refl
+apart-unread kept q (Sent a taken None) r received left =
+    after-done Unread r refl (either-way Unread (keeps q) refl refl)
+apart-unread kept q (Breaks piece a more) r received left = after-done Unread r refl refl
+apart-unread kept q (Drops a (Some x)) r received left = after-done Unread r refl refl
+apart-unread kept q (Drops a None) r received left = after-done Unread r refl refl
 apart-unread kept q d r received left = absurd (cc (left))
 
 neither-true : (b c : Bool) → (b || c) ≡ false → (b ≡ false) × (c ≡ false)
@@ -227,22 +155,16 @@ resolved-read (serve w) (File a len) = by (selected w.range len)
 resolved-read (refuse status head_only close) (File a len) = refl
 resolved-read q k = refl
 
+abbrev NotRead : Phase → Type 0
+NotRead d = is_read d ≡ false
+
 -- no script's text is read by a call for a file
 pub unread-after_reply : (kept : List ℕ) (q : Answer) (d : Phase) (r : Reply) (received : List ℕ) → is_read d ≡ false
     → is_read (after_reply (at kept q d) r received).phase ≡ false
-unread-after_reply kept q Opens (reply.Fd f) received was = refl
-unread-after_reply kept q Opens (reply.Refused no.WouldBlock) received was = refl
-unread-after_reply kept q Opens (reply.Refused x) received was = refl
-unread-after_reply kept q Opens r received was = refl
-unread-after_reply kept q (Reading f) (reply.Agg n) received was = refl
-unread-after_reply kept q (Reading f) (reply.Count n) received was = refl
-unread-after_reply kept q (Reading f) (reply.Refused no.WouldBlock) received was = refl
-unread-after_reply kept q (Reading f) (reply.Refused x) received was = refl
-unread-after_reply kept q (Reading f) r received was = refl
-unread-after_reply kept q (Shuts f k) reply.Done received was = resolved-unread f q k was
-unread-after_reply kept q (Shuts f k) r received was = was
-unread-after_reply kept q (Spares a k) reply.Done received was = refl
-unread-after_reply kept q (Spares a k) r received was = was
+unread-after_reply kept q Opens r received was = after-open NotRead r refl (λ f. refl) (λ x. refl)
+unread-after_reply kept q (Reading f) r received was = after-read NotRead r refl (λ n. refl) (λ k. refl) (λ x. refl)
+unread-after_reply kept q (Shuts f k) r received was = after-done NotRead r was (resolved-unread f q k was)
+unread-after_reply kept q (Spares a k) r received was = after-done NotRead r was refl
 unread-after_reply kept q d r received was =
     (neither-true (is_read (after_reply (at kept q d) r received).phase)
     (is_opening (after_reply (at kept q d) r received).phase) (apart-unread kept q d r received refl)).0
@@ -252,10 +174,8 @@ pub read-after_reply : (kept : List ℕ) (q : Answer) (d : Phase) (r : Reply) (r
     → is_opening (after_reply (at kept q d) r received).phase ≡ false
 read-after_reply kept q Opens r received was = absurd (cc (was))
 read-after_reply kept q (Reading f) r received was = absurd (cc (was))
-read-after_reply kept q (Shuts f k) reply.Done received was = resolved-read q k
-read-after_reply kept q (Shuts f k) r received was = refl
-read-after_reply kept q (Spares a k) reply.Done received was = refl
-read-after_reply kept q (Spares a k) r received was = refl
+read-after_reply kept q (Shuts f k) r received was = after-done (λ d. is_opening d ≡ false) r refl (resolved-read q k)
+read-after_reply kept q (Spares a k) r received was = after-done (λ d. is_opening d ≡ false) r refl refl
 read-after_reply kept q d r received was =
     (neither-true (is_read (after_reply (at kept q d) r received).phase)
     (is_opening (after_reply (at kept q d) r received).phase) (apart-unread kept q d r received refl)).1

@@ -31,6 +31,7 @@ use Rattle.flash_laws.specs.declared.phase.Phase.TheVariants.{Drops, Closes}
 use Rattle.flash_laws.proofs.Forms.{at}
 use Rattle.flash_laws.proofs.Lists.{self}
 use Rattle.flash_laws.proofs.Conn.Repeats.{either, drops, closes, makes, cuts, joins, reads, writes, opens, lengths}
+use Rattle.flash_laws.proofs.Moves.{either-of}
 
 rests-not : (kept : List ℕ) (q : Answer) (received : List ℕ) (k : ℕ)
     → (after_receive kept q (reply.Agg k) received).phase ≡ Rests → ⊥
@@ -49,11 +50,9 @@ resolved-not x f k same = cc (same)
 headed-not : (n size : ℕ) (more : Following) (d : Phase) → ((a b c e : ℕ) → Joins a b c e ≡ d → ⊥)
     → ((a b c : ℕ) (f : Following) → Sends a b c f ≡ d → ⊥) → headed n size more ≡ d → ⊥
 headed-not n size None d joins sends same = sends n size 0 None same
-headed-not n size (Some x) d joins sends same = by (nat_le (size + x.1) MAX_AGGREGATE_BYTES) same
-  where
-    by : (b : Bool) → (if b then Joins n size x.0 x.1 else Sends n size 0 (Some x)) ≡ d → ⊥
-    by true same = joins n size x.0 x.1 same
-    by false same = sends n size 0 (Some x) same
+headed-not n size (Some x) d joins sends same =
+    either-of (λ (e : Phase). e ≡ d → ⊥) (nat_le (size + x.1) MAX_AGGREGATE_BYTES) (Joins n size x.0 x.1)
+    (Sends n size 0 (Some x)) (λ same. joins n size x.0 x.1 same) (λ same. sends n size 0 (Some x) same) same
 
 proceeds-not : (q : Answer) (a taken : ℕ) (more : Following) → proceeds q taken more ≡ Sent a taken more → ⊥
 proceeds-not q a taken (Some x) same = cc (same)

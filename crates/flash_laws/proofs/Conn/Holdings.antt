@@ -110,63 +110,47 @@ swaps-more b from len taken more a false unused = unused
 
 pub leaves-after_reply : (fd : ℕ) (kept : List ℕ) (q : Answer) (d : Phase) (r : Reply) (received : List ℕ) (a : ℕ)
     → Leaves fd (at kept q d) r (after_reply (at kept q d) r received).phase a
+leaves-after_reply fd kept q Rests r received a u unused = absurd (cc (u))
+leaves-after_reply fd kept q Opens r received a u unused = absurd (cc (u))
+leaves-after_reply fd kept q (Reading f) r received a u unused = absurd (cc (u))
+leaves-after_reply fd kept q Closes r received a u unused = absurd (cc (u))
+leaves-after_reply fd kept q Over r received a u unused = absurd (cc (u))
 leaves-after_reply fd kept q (Got b) reply.Done received a u unused = (u, refl)
-leaves-after_reply fd kept q (Got b) r received a u unused = absurd (clash (b == a) u unused)
 leaves-after_reply fd kept q (Shuts f k) reply.Done received a u unused =
     absurd (clash (uses_agg (resolved q k) a) (resolved-uses q k a u) unused)
-leaves-after_reply fd kept q (Shuts f k) r received a u unused = absurd (clash (file_result_agg k a) u unused)
 leaves-after_reply fd kept q (Picks b first last len) (reply.Agg n) received a u unused =
     absurd (clash ((b == a) || (n == a)) (former_of (b == a) (n == a) u) unused)
-leaves-after_reply fd kept q (Picks b first last len) r received a u unused = absurd (clash (b == a) u unused)
 leaves-after_reply fd kept q (Spares b k) reply.Done received a u unused =
     (former_by (b == a) (content_agg k a) u unused, refl)
-leaves-after_reply fd kept q (Spares b k) r received a u unused = absurd (clash ((b == a) || content_agg k a) u unused)
 leaves-after_reply fd kept q (Heads k) (reply.Agg n) received a u unused =
     absurd
     (clash (uses_agg (headed n (count_of received) (following k)) a)
     (headed-more n (count_of received) (following k) a (following-uses k a u)) unused)
-leaves-after_reply fd kept q (Heads k) r received a u unused = absurd (clash (content_agg k a) u unused)
 leaves-after_reply fd kept q (Joins b size body len) (reply.Agg n) received a u unused = (u, refl)
-leaves-after_reply fd kept q (Joins b size body len) r received a u unused =
-    absurd (clash ((b == a) || (body == a)) u unused)
 leaves-after_reply fd kept q (Sends b len taken more) (reply.Count k) received a u unused =
     absurd (leaves-sends fd kept q b len taken k more a (nat_lt k len) u unused)
 leaves-after_reply fd kept q (Sends b len taken more) (reply.Refused no.BrokenPipe) received a u unused =
-    absurd (clash ((b == a) || has_followed more a) u unused)
-leaves-after_reply fd kept q (Sends b len taken more) r received a u unused =
     absurd (clash ((b == a) || has_followed more a) u unused)
 leaves-after_reply fd kept q (Cuts b from len taken more) (reply.Agg n) received a u unused =
     absurd
     (clash ((n == a) || ((b == a) || has_followed more a)) (later_of (n == a) ((b == a) || has_followed more a) u)
     unused)
-leaves-after_reply fd kept q (Cuts b from len taken more) r received a u unused =
-    absurd (clash ((b == a) || has_followed more a) u unused)
 leaves-after_reply fd kept q (Offers b from len piece taken more) (reply.Count k) received a u unused =
     absurd (clash ((piece == a) || ((b == a) || has_followed more a)) u unused)
 leaves-after_reply fd kept q (Offers b from len piece taken more) (reply.Refused no.BrokenPipe) received a u unused =
-    absurd (clash ((piece == a) || ((b == a) || has_followed more a)) u unused)
-leaves-after_reply fd kept q (Offers b from len piece taken more) r received a u unused =
     absurd (clash ((piece == a) || ((b == a) || has_followed more a)) u unused)
 leaves-after_reply fd kept q (Swaps b from len piece taken more) reply.Done received a u unused = (
   former_by (piece == a) ((b == a) || has_followed more a) u
       (swaps-more b from len taken more a (nat_lt from len) unused),
   refl,
 )
-leaves-after_reply fd kept q (Swaps b from len piece taken more) r received a u unused =
-    absurd (clash ((piece == a) || ((b == a) || has_followed more a)) u unused)
 leaves-after_reply fd kept q (Sent b taken more) reply.Done received a u unused =
     (former_by (b == a) (has_followed more a) u (proceeds-more q taken more a unused), refl)
-leaves-after_reply fd kept q (Sent b taken more) r received a u unused =
-    absurd (clash ((b == a) || has_followed more a) u unused)
 leaves-after_reply fd kept q (Breaks piece b more) reply.Done received a u unused =
     (former_by (piece == a) ((b == a) || has_followed more a) u unused, refl)
-leaves-after_reply fd kept q (Breaks piece b more) r received a u unused =
-    absurd (clash ((piece == a) || ((b == a) || has_followed more a)) u unused)
 leaves-after_reply fd kept q (Drops b more) reply.Done received a u unused =
     (former_by (b == a) (has_followed more a) u (drops-more more a unused), refl)
-leaves-after_reply fd kept q (Drops b more) r received a u unused =
-    absurd (clash ((b == a) || has_followed more a) u unused)
-leaves-after_reply fd kept q d r received a u unused = absurd (cc (u))
+leaves-after_reply fd kept q d r received a u unused = absurd (clash (uses_agg d a) u unused)
 
 -- ---- the descriptor of a file that is used no more is closed
 

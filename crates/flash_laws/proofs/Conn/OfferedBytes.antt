@@ -28,9 +28,8 @@ use Rattle.flash_laws.specs.Answers.{Outcome, Found, Failed, body_unless, chosen
 use Rattle.flash_laws.specs.Conn.{is_head_only, most_read, piece_end, name_of, wants, begins, status_of, after_receive}
 use Rattle.flash_laws.specs.Conn.{after_reply}
 use Rattle.flash_laws.specs.declared.phase.Phase.{Phase}
-use Rattle.flash_laws.specs.declared.phase.Phase.TheVariants.{Rests, Got, Opens, Reads as Reading, Shuts, Picks, Spares}
-use Rattle.flash_laws.specs.declared.phase.Phase.TheVariants.{Heads, Joins, Sends, Cuts, Offers, Swaps, Sent, Breaks}
-use Rattle.flash_laws.specs.declared.phase.Phase.TheVariants.{Drops}
+use Rattle.flash_laws.specs.declared.phase.Phase.TheVariants.{Rests, Opens, Reads as Reading}
+use Rattle.flash_laws.specs.declared.phase.Phase.TheVariants.{Sends, Offers, Sent}
 use Rattle.flash_laws.specs.Conn.Fits.{IsFile, Has, is_closing, Names}
 use Rattle.flash_laws.specs.Site.{server}
 use Rattle.flash_laws.specs.Conn.OfferedBytes.{HasAnswer, FirstCall, Learns, taken_of, IsNextOf, OffersTheResponse}
@@ -42,6 +41,7 @@ use Rattle.flash_laws.proofs.Conn.ReadableBytes.{readable-stays, has-stays}
 use Rattle.flash_laws.proofs.Conn.DoneCalls.{conn-moves}
 use Rattle.flash_laws.proofs.Conn.Progress.{rank, conn-nears, conn-reads}
 use Rattle.flash_laws.proofs.Conn.TakenBytes.{takes, breaks, closes}
+use Rattle.flash_laws.proofs.Moves.{either-of}
 
 starts : (m : State) (fd : ℕ) (kept : List ℕ) (q : Answer) (o : Outcome)
     → FirstCall q (wants fd (at kept q (begins q))) × HasAnswer m (at kept q (begins q)) o
@@ -76,11 +76,9 @@ next-of m fd a kept q (Offers b from len piece taken more) o has is =
           ∙ (ap (λ (l : List ℕ). l ++ has.whole.after)
           (take-append-drop (piece_end from len - from) (drop from has.whole.bytes)) ∙ has.whole.next);
     }
-next-of m fd a kept q (Reading f) o has is = absurd (by (is_head_only q) is)
-  where
-    by : (b : Bool) → (if b then call.Length f else call.IolRead f most_read) ≡ call.IolWrite fd a → ⊥
-    by true is = cc
-    by false is = cc
+next-of m fd a kept q (Reading f) o has is =
+    absurd (either-of (λ (k : Call). k ≡ call.IolWrite fd a → ⊥) (is_head_only q) (call.Length f)
+    (call.IolRead f most_read) (λ is. cc) (λ is. cc) is)
 next-of m fd a kept q d o has is = absurd (cc (is))
 
 module _ (steps : EachStepLeavesTheRest) (own : CallsServeTheirDomain) (files : FileCallsServeTheirDomain)
@@ -175,48 +173,18 @@ module _ (steps : EachStepLeavesTheRest) (own : CallsServeTheirDomain) (files : 
       → AfterReply q d r received before
   replied fd c q Rests r received before access open_on open_yet has step names =
       (before, refl, rests q r received before names)
-  replied fd c q (Got x) r received before access open_on open_yet has step names =
-      (before, refl, got r (own.drops m n server x r order step))
-    where
-      got : (r : Reply) → o.Drops m server x r n → HasAnswer n (after_reply (at kept q (Got x)) r received) before
-      got reply.Done did = tt
-      got (reply.Refused y) did = subst (λ (s : State). Has s q (response q before) (Got x)) (sym did) has
-      got r did = absurd did
   replied fd c q Opens r received before access open_on open_yet has step names = opens q r received before has step
   replied fd c (refuse status head_only close) (Reading g) r received before access open_on open_yet has step names =
       absurd has.0
   replied fd c (serve w) (Reading g) r received before access open_on open_yet has step names =
       reads w g has.1.0 has.1.1 r received before has.1.2 (access.fds server g has.1.0 has.1.1 modes.Read has.1.2) step
       names
-  replied fd c q (Shuts g k) r received before access open_on open_yet has step names =
-      (before, refl, having.shuts steps own m n order q g k (response q before) r has step)
-  replied fd c q (Picks x first last len) r received before access open_on open_yet has step names =
-      (before, refl, having.picks steps own m n order q x first last len (response q before) r has step)
-  replied fd c q (Spares x k) r received before access open_on open_yet has step names =
-      (before, refl, having.spares steps own m n order q x k (response q before) r has step)
-  replied fd c q (Heads k) r received before access open_on open_yet has step names =
-      (before, refl, having.heads steps own m n order q k (response q before) r received has step names)
-  replied fd c q (Joins x size body len) r received before access open_on open_yet has step names =
-      (before, refl, having.joins steps own m n order q x size body len (response q before) r has step)
-  replied fd c q (Sends x len taken more) r received before access open_on open_yet has step names =
-      (before, refl, having.sends steps own m n order q fd c x len taken more (response q before) r open_on has step)
-  replied fd c q (Cuts x from len taken more) r received before access open_on open_yet has step names =
-      (before, refl, having.cuts steps own m n order q x from len taken more (response q before) r has step)
-  replied fd c q (Offers x from len piece taken more) r received before access open_on open_yet has step names = (
+  replied fd c q d r received before access open_on open_yet has step names = (
     before,
     refl,
-    having.offers_piece steps own m n order q fd c x from len piece taken more (response q before) r
-        open_on has step,
+    having.phase steps own m n order kept fd c q d (response q before) r received open_on refl open_yet
+        has step names,
   )
-  replied fd c q (Swaps x from len piece taken more) r received before access open_on open_yet has step names =
-      (before, refl, having.swaps steps own m n order q x from len piece taken more (response q before) r has step)
-  replied fd c q (Sent x taken more) r received before access open_on open_yet has step names =
-      (before, refl, having.sent_all steps own m n order q x taken more (response q before) r has step)
-  replied fd c q (Breaks piece x more) r received before access open_on open_yet has step names =
-      (before, refl, having.breaks steps own m n order q piece x more (response q before) r has step)
-  replied fd c q (Drops x more) r received before access open_on open_yet has step names =
-      (before, refl, having.drops steps own m n order q x more (response q before) r has step)
-  replied fd c q other r received before access open_on open_yet has step names = absurd (cc (open_yet))
 
 -- where the response is sent all of it is taken
 whole : (m : State) (q : Answer) (expected : List ℕ) (d : Phase) (a taken : ℕ) → d ≡ Sent a taken None

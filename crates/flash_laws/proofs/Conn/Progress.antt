@@ -52,6 +52,7 @@ use Rattle.flash_laws.proofs.Forms.{at}
 use Rattle.flash_laws.proofs.Conn.Responses.{some-inj}
 use Rattle.flash_laws.proofs.Conn.ReadableBytes.{text-same}
 use Rattle.flash_laws.proofs.Lists.{turned, differ, within-part}
+use Rattle.flash_laws.proofs.Moves.{either-way}
 
 -- ---- how far it is
 
@@ -289,11 +290,9 @@ few-drops (Some x) = omega arith
 goes-near : (q : Answer) (a taken : ℕ) (more : Following)
     → IsBelow (rank q (proceeds q taken more)) (rank q (Sent a taken more))
 goes-near q a taken (Some x) = falls q (Sends x.0 x.1 taken None) (Sent a taken (Some x)) refl (omega arith)
-goes-near q a taken None = by (keeps q)
-  where
-    by : (b : Bool) → IsBelow (rank q (if b then Rests else Closes)) (rank q (Sent a taken None))
-    by true = falls q Rests (Sent a taken None) refl (omega arith)
-    by false = falls q Closes (Sent a taken None) refl (omega arith)
+goes-near q a taken None =
+    either-way (λ (e : Phase). IsBelow (rank q e) (rank q (Sent a taken None))) (keeps q)
+    (falls q Rests (Sent a taken None) refl (omega arith)) (falls q Closes (Sent a taken None) refl (omega arith))
 
 next-near : (q : Answer) (a : ℕ) (more : Following) → IsBelow (rank q (drops_next more)) (rank q (Drops a more))
 next-near q a None = falls q Closes (Drops a None) refl (omega arith)
@@ -366,13 +365,10 @@ module _ (own : CallsServeTheirDomain) (may : RefusalsThatAreLeft) (m n : State)
       → Nears (rank q) (Swaps a from len piece taken more) r (after_swap a from len piece taken more r)
   swaps q a from len piece taken more bytes r readable step =
       drops own may m n order lives (rank q) (Swaps a from len piece taken more)
-      (λ z. after_swap a from len piece taken more z) piece bytes r readable step (by (nat_lt from len))
-    where
-      by : (b : Bool)
-          → IsBelow (rank q (if b then Cuts a from len taken more else Sent a taken more))
-          (rank q (Swaps a from len piece taken more))
-      by true = falls q (Cuts a from len taken more) (Swaps a from len piece taken more) refl (omega arith)
-      by false = falls q (Sent a taken more) (Swaps a from len piece taken more) refl (omega arith)
+      (λ z. after_swap a from len piece taken more z) piece bytes r readable step
+      (either-way (λ (e : Phase). IsBelow (rank q e) (rank q (Swaps a from len piece taken more))) (nat_lt from len)
+      (falls q (Cuts a from len taken more) (Swaps a from len piece taken more) refl (omega arith))
+      (falls q (Sent a taken more) (Swaps a from len piece taken more) refl (omega arith)))
 
   pub near : (fd c : ℕ) (kept : List ℕ) (q : Answer) (d : Phase) (expected : List ℕ) (r : Reply) (received : List ℕ)
       → descriptor m server fd ≡ Some (on.Connection c)

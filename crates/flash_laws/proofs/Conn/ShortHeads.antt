@@ -30,6 +30,7 @@ use Rattle.flash_laws.specs.declared.phase.Phase.TheVariants.{Rests, Got, Opens,
 use Rattle.flash_laws.specs.declared.phase.Phase.TheVariants.{Spares, Heads, Joins, Sends, Cuts, Offers, Swaps, Sent}
 use Rattle.flash_laws.specs.declared.phase.Phase.TheVariants.{Breaks, Drops, Closes, Over}
 use Rattle.flash_laws.proofs.Forms.{at}
+use Rattle.flash_laws.proofs.Moves.{after-done, after-agg, after-write, either-way}
 
 -- ---- statuses
 
@@ -103,20 +104,13 @@ resolved-short site_contents n q script f (TextOf a false) unread short = refl
 headed-finds : (site_contents : SiteContents) (n : State) (q : Answer) (script : List ℕ) (a size : ℕ) (more : Following)
     → Finds site_contents n q script (headed a size more)
 headed-finds site_contents n q script a size None = tt
-headed-finds site_contents n q script a size (Some x) = by (nat_le (size + x.1) MAX_AGGREGATE_BYTES)
-  where
-    by : (b : Bool) → Finds site_contents n q script (if b then Joins a size x.0 x.1 else Sends a size 0 (Some x))
-    by true = tt
-    by false = tt
+headed-finds site_contents n q script a size (Some x) =
+    either-way (Finds site_contents n q script) (nat_le (size + x.1) MAX_AGGREGATE_BYTES) tt tt
 
 goes-finds : (site_contents : SiteContents) (n : State) (q : Answer) (script : List ℕ) (taken : ℕ) (more : Following)
     → Finds site_contents n q script (proceeds q taken more)
 goes-finds site_contents n q script taken (Some x) = tt
-goes-finds site_contents n q script taken None = by (keeps q)
-  where
-    by : (b : Bool) → Finds site_contents n q script (if b then Rests else Closes)
-    by true = tt
-    by false = tt
+goes-finds site_contents n q script taken None = either-way (Finds site_contents n q script) (keeps q) tt tt
 
 drops-finds : (site_contents : SiteContents) (n : State) (q : Answer) (script : List ℕ) (more : Following)
     → Finds site_contents n q script (drops_next more)
@@ -131,57 +125,40 @@ pub finds-after_reply : (site_contents : SiteContents) (m n : State) (kept : Lis
 finds-after_reply site_contents m n kept q script Rests (reply.Agg a) [] un unread h = tt
 finds-after_reply site_contents m n kept q script Rests (reply.Agg a) (b ∷ received) un unread h = tt
 finds-after_reply site_contents m n kept q script Rests r received un unread h = tt
-finds-after_reply site_contents m n kept q script (Got a) reply.Done received un unread h = tt
-finds-after_reply site_contents m n kept q script (Got a) r received un unread h = tt
+finds-after_reply site_contents m n kept q script (Got a) r received un unread h =
+    after-done (Finds site_contents n q script) r tt tt
 finds-after_reply site_contents m n kept q script Opens r received un unread h = absurd (cc (un))
 finds-after_reply site_contents m n kept q script (ReadsFile f) r received un unread h = absurd (cc (un))
 finds-after_reply site_contents m n kept q script (Shuts f (TextOf a true)) r received un unread h =
     absurd (cc (unread))
-finds-after_reply site_contents m n kept q script (Shuts f k) reply.Done received un unread h =
-    resolved-short site_contents n q script f k refl h
-finds-after_reply site_contents m n kept q script (Shuts f k) r received un unread h = h
-finds-after_reply site_contents m n kept q script (Picks a from to len) (reply.Agg x) received un unread h = h
-finds-after_reply site_contents m n kept q script (Picks a from to len) r received un unread h = h
+finds-after_reply site_contents m n kept q script (Shuts f k) r received un unread h =
+    after-done (Finds site_contents n q script) r h (resolved-short site_contents n q script f k refl h)
+finds-after_reply site_contents m n kept q script (Picks a from to len) r received un unread h =
+    after-agg (Finds site_contents n q script) r h (λ x. h)
 finds-after_reply site_contents m n kept q script (Spares a Script) r received un unread h = absurd (cc (unread))
-finds-after_reply site_contents m n kept q script (Spares a k) reply.Done received un unread h = h
-finds-after_reply site_contents m n kept q script (Spares a k) r received un unread h = h
-finds-after_reply site_contents m n kept q script (Heads k) (reply.Agg x) received un unread h =
-    headed-finds site_contents n q script x (count_of received) (following k)
-finds-after_reply site_contents m n kept q script (Heads k) r received un unread h = h
-finds-after_reply site_contents m n kept q script (Joins a size body len) (reply.Agg x) received un unread h = tt
-finds-after_reply site_contents m n kept q script (Joins a size body len) r received un unread h = tt
-finds-after_reply site_contents m n kept q script (Sends a len taken more) (reply.Count k) received un unread h =
-    by (nat_lt k len)
-  where
-    by : (b : Bool)
-        → Finds site_contents n q script (if b then Cuts a k len (taken + k) more else Sent a (taken + len) more)
-    by true = tt
-    by false = tt
-finds-after_reply site_contents m n kept q script (Sends a len taken more) (reply.Refused no.BrokenPipe) received un
-    unread h = tt
-finds-after_reply site_contents m n kept q script (Sends a len taken more) r received un unread h = tt
-finds-after_reply site_contents m n kept q script (Cuts a from len taken more) (reply.Agg x) received un unread h = tt
-finds-after_reply site_contents m n kept q script (Cuts a from len taken more) r received un unread h = tt
-finds-after_reply site_contents m n kept q script (Offers a from len piece taken more) (reply.Count k) received un
-    unread h = tt
-finds-after_reply site_contents m n kept q script (Offers a from len piece taken more) (reply.Refused no.BrokenPipe)
-    received un unread h = tt
-finds-after_reply site_contents m n kept q script (Offers a from len piece taken more) r received un unread h = tt
-finds-after_reply site_contents m n kept q script (Swaps a from len piece taken more) reply.Done received un unread h =
-    by (nat_lt from len)
-  where
-    by : (b : Bool) → Finds site_contents n q script (if b then Cuts a from len taken more else Sent a taken more)
-    by true = tt
-    by false = tt
-finds-after_reply site_contents m n kept q script (Swaps a from len piece taken more) r received un unread h = tt
-finds-after_reply site_contents m n kept q script (Sent a taken more) reply.Done received un unread h =
-    goes-finds site_contents n q script taken more
-finds-after_reply site_contents m n kept q script (Sent a taken more) r received un unread h = tt
-finds-after_reply site_contents m n kept q script (Breaks piece a more) reply.Done received un unread h = tt
-finds-after_reply site_contents m n kept q script (Breaks piece a more) r received un unread h = tt
-finds-after_reply site_contents m n kept q script (Drops a more) reply.Done received un unread h =
-    drops-finds site_contents n q script more
-finds-after_reply site_contents m n kept q script (Drops a more) r received un unread h = tt
-finds-after_reply site_contents m n kept q script Closes reply.Done received un unread h = tt
-finds-after_reply site_contents m n kept q script Closes r received un unread h = tt
+finds-after_reply site_contents m n kept q script (Spares a k) r received un unread h =
+    after-done (Finds site_contents n q script) r h h
+finds-after_reply site_contents m n kept q script (Heads k) r received un unread h =
+    after-agg (Finds site_contents n q script) r h
+    (λ x. headed-finds site_contents n q script x (count_of received) (following k))
+finds-after_reply site_contents m n kept q script (Joins a size body len) r received un unread h =
+    after-agg (Finds site_contents n q script) r tt (λ x. tt)
+finds-after_reply site_contents m n kept q script (Sends a len taken more) r received un unread h =
+    after-write (Finds site_contents n q script) r tt tt
+    (λ k. either-way (Finds site_contents n q script) (nat_lt k len) tt tt)
+finds-after_reply site_contents m n kept q script (Cuts a from len taken more) r received un unread h =
+    after-agg (Finds site_contents n q script) r tt (λ x. tt)
+finds-after_reply site_contents m n kept q script (Offers a from len piece taken more) r received un unread h =
+    after-write (Finds site_contents n q script) r tt tt (λ k. tt)
+finds-after_reply site_contents m n kept q script (Swaps a from len piece taken more) r received un unread h =
+    after-done (Finds site_contents n q script) r tt
+    (either-way (Finds site_contents n q script) (nat_lt from len) tt tt)
+finds-after_reply site_contents m n kept q script (Sent a taken more) r received un unread h =
+    after-done (Finds site_contents n q script) r tt (goes-finds site_contents n q script taken more)
+finds-after_reply site_contents m n kept q script (Breaks piece a more) r received un unread h =
+    after-done (Finds site_contents n q script) r tt tt
+finds-after_reply site_contents m n kept q script (Drops a more) r received un unread h =
+    after-done (Finds site_contents n q script) r tt (drops-finds site_contents n q script more)
+finds-after_reply site_contents m n kept q script Closes r received un unread h =
+    after-done (Finds site_contents n q script) r tt tt
 finds-after_reply site_contents m n kept q script Over r received un unread h = tt

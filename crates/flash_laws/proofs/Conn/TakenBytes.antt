@@ -24,7 +24,7 @@ use Rattle.flash_http.specs.declared.ranges.Selection.TheVariants.{Bytes}
 use Rattle.flash_http.specs.Range.{selected}
 use Rattle.flash_http.specs.Request.{Answer, serve, refuse}
 use Rattle.flash_laws.specs.Answers.{keeps}
-use Rattle.flash_laws.specs.Conn.{Following, is_head_only, most_kept, most_read, piece_end, count_of, wants, sends_of}
+use Rattle.flash_laws.specs.Conn.{Following, is_head_only, most_kept, piece_end, count_of, wants, sends_of}
 use Rattle.flash_laws.specs.Conn.{resolved, following, headed, after_receive, after_send, after_cut, after_offer}
 use Rattle.flash_laws.specs.Conn.{after_swap, after_taken, after_reply}
 use Rattle.flash_laws.specs.Conn.Fits.{Has}
@@ -39,6 +39,8 @@ use Rattle.flash_laws.specs.declared.phase.Phase.TheVariants.{Heads, Joins, Send
 use Rattle.flash_laws.specs.declared.phase.Phase.TheVariants.{Drops, Closes, Over}
 use Rattle.flash_laws.proofs.Forms.{at}
 use Rattle.flash_laws.proofs.Lists.{clash, self, few-taken}
+use Rattle.iol_core.specs.declared.events.Call.{Call}
+use Rattle.flash_laws.proofs.Moves.{after-done, after-agg, after-open, after-read, either-way, either-of}
 
 -- ---- before anything is sent nothing is taken
 
@@ -70,37 +72,22 @@ resolved-begun q k = (refl, refl)
 
 headed-begun : (a size : ℕ) (more : Following) → IsBegun (headed a size more)
 headed-begun a size None = (refl, refl)
-headed-begun a size (Some x) = by (nat_le (size + x.1) MAX_AGGREGATE_BYTES)
-  where
-    by : (b : Bool) → IsBegun (if b then Joins a size x.0 x.1 else Sends a size 0 (Some x))
-    by true = (refl, refl)
-    by false = (refl, refl)
+headed-begun a size (Some x) =
+    either-way (λ (e : Phase). IsBegun e) (nat_le (size + x.1) MAX_AGGREGATE_BYTES) (refl, refl) (refl, refl)
 
 begun : (kept : List ℕ) (q : Answer) (d : Phase) (r : Reply) (received : List ℕ) → is_begun d ≡ true
     → IsBegun (after_reply (at kept q d) r received).phase
-begun kept q (Got a) reply.Done received is = (refl, refl)
-begun kept q (Got a) r received is = (refl, refl)
-begun kept q Opens (reply.Fd f) received is = (refl, refl)
-begun kept q Opens (reply.Refused no.WouldBlock) received is = (refl, refl)
-begun kept q Opens (reply.Refused z) received is = (refl, refl)
-begun kept q Opens r received is = (refl, refl)
-begun kept q (Reading f) (reply.Agg k) received is = (refl, refl)
-begun kept q (Reading f) (reply.Count k) received is = (refl, refl)
-begun kept q (Reading f) (reply.Refused no.WouldBlock) received is = (refl, refl)
-begun kept q (Reading f) (reply.Refused z) received is = (refl, refl)
-begun kept q (Reading f) r received is = (refl, refl)
-begun kept q (Shuts f k) reply.Done received is = resolved-begun q k
-begun kept q (Shuts f k) r received is = (refl, refl)
-begun kept q (Picks a first last len) (reply.Agg k) received is = (refl, refl)
-begun kept q (Picks a first last len) r received is = (refl, refl)
-begun kept q (Spares a k) reply.Done received is = (refl, refl)
-begun kept q (Spares a k) r received is = (refl, refl)
-begun kept q (Heads k) (reply.Agg a) received is = headed-begun a (count_of received) (following k)
-begun kept q (Heads k) r received is = (refl, refl)
-begun kept q (Joins a size body len) (reply.Agg k) received is = (refl, refl)
-begun kept q (Joins a size body len) r received is = (refl, refl)
-begun kept q Closes reply.Done received is = (refl, refl)
-begun kept q Closes r received is = (refl, refl)
+begun kept q (Got a) r received is = after-done IsBegun r (refl, refl) (refl, refl)
+begun kept q Opens r received is = after-open IsBegun r (refl, refl) (λ f. (refl, refl)) (λ x. (refl, refl))
+begun kept q (Reading f) r received is =
+    after-read IsBegun r (refl, refl) (λ k. (refl, refl)) (λ k. (refl, refl)) (λ x. (refl, refl))
+begun kept q (Shuts f k) r received is = after-done IsBegun r (refl, refl) (resolved-begun q k)
+begun kept q (Picks a first last len) r received is = after-agg IsBegun r (refl, refl) (λ k. (refl, refl))
+begun kept q (Spares a k) r received is = after-done IsBegun r (refl, refl) (refl, refl)
+begun kept q (Heads k) r received is =
+    after-agg IsBegun r (refl, refl) (λ a. headed-begun a (count_of received) (following k))
+begun kept q (Joins a size body len) r received is = after-agg IsBegun r (refl, refl) (λ k. (refl, refl))
+begun kept q Closes r received is = after-done IsBegun r (refl, refl) (refl, refl)
 begun kept q Over r received is = (refl, refl)
 begun kept q d r received is = absurd (cc (is))
 
@@ -116,11 +103,7 @@ none-newly : (fd : ℕ) (kept : List ℕ) (q : Answer) (d : Phase) (r : Reply) �
     → newly_taken fd (wants fd (at kept q d)) r ≡ 0
 none-newly fd kept q (Sends a len taken more) r is = absurd (cc (is))
 none-newly fd kept q (Offers a from len piece taken more) r is = absurd (cc (is))
-none-newly fd kept q (Reading f) r is = by (is_head_only q)
-  where
-    by : (b : Bool) → newly_taken fd (if b then call.Length f else call.IolRead f most_read) r ≡ 0
-    by true = refl
-    by false = refl
+none-newly fd kept q (Reading f) r is = either-way (λ (k : Call). newly_taken fd k r ≡ 0) (is_head_only q) refl refl
 none-newly fd kept q d r is = refl
 
 -- ---- what counts as taken
@@ -172,12 +155,9 @@ module _ (own : CallsServeTheirDomain) (m n : State) (order : IsOrderly m) (fd c
 
   swaps : (a from len piece taken : ℕ) (more : Following) (r : Reply)
       → taken_of (after_swap a from len piece taken more r) ≡ taken + newly_taken fd (call.AggDrop piece) r
-  swaps a from len piece taken more reply.Done = by (nat_lt from len)
-    where
-      by : (b : Bool) → taken_of (if b then Cuts a from len taken more else Sent a taken more)
-          ≡ taken + newly_taken fd (call.AggDrop piece) reply.Done
-      by true = omega arith
-      by false = omega arith
+  swaps a from len piece taken more reply.Done =
+      either-way (λ (e : Phase). taken_of e ≡ taken + newly_taken fd (call.AggDrop piece) reply.Done) (nat_lt from len)
+      (omega arith) (omega arith)
   swaps a from len piece taken more r = omega arith
 
   cuts : (a from len taken : ℕ) (more : Following) (r : Reply)
@@ -189,11 +169,9 @@ module _ (own : CallsServeTheirDomain) (m n : State) (order : IsOrderly m) (fd c
   sent : (a taken : ℕ) (more : Following) (r : Reply) → is_busy (after_taken q a taken more r) ≡ true
       → taken_of (after_taken q a taken more r) ≡ taken + newly_taken fd (call.AggDrop a) r
   sent a taken (Some x) reply.Done busy = omega arith
-  sent a taken None reply.Done busy = absurd (by (keeps q) busy)
-    where
-      by : (b : Bool) → is_busy (if b then Rests else Closes) ≡ true → ⊥
-      by true busy = cc (busy)
-      by false busy = cc (busy)
+  sent a taken None reply.Done busy =
+      absurd (either-of (λ (e : Phase). is_busy e ≡ true → ⊥) (keeps q) Rests Closes (λ busy. cc (busy))
+      (λ busy. cc (busy)) busy)
   sent a taken more r busy = omega arith
 
   rests : (kept : List ℕ) (r : Reply) (received : List ℕ) → is_dropping (after_receive kept q r received).phase ≡ false
@@ -239,6 +217,12 @@ module _ (own : CallsServeTheirDomain) (m n : State) (order : IsOrderly m) (fd c
 
 -- ---- where it is broken off
 
+abbrev Kept : Phase → Type 0
+Kept d = is_dropping d ≡ false
+
+never : {A : Type 0} (d : Phase) → is_dropping d ≡ true → Kept d → A
+never d off kept = absurd (clash (is_dropping d) off kept)
+
 module _ (why : RefusalsTellWhy) (m n : State) (fd c : ℕ) (open_on : descriptor m server fd ≡ Some (on.Connection c))
     (kept : List ℕ) (q : Answer) (received : List ℕ) where
   pub breaks : (d : Phase) (r : Reply) → is_busy d ≡ true → StepsTo m (event.Call server (wants fd (at kept q d))) r n
@@ -246,31 +230,19 @@ module _ (why : RefusalsTellWhy) (m n : State) (fd c : ℕ) (open_on : descripto
       → is_dropping (after_reply (at kept q d) r received).phase ≡ true → is_gone (conn_at m c).peer ≡ true
   breaks (Sends a len taken more) (reply.Refused no.BrokenPipe) busy step at_is off =
       why.peer_is_gone m n server fd c a open_on step
-  breaks (Sends a len taken more) (reply.Count k) busy step at_is off = absurd (by (nat_lt k len) off)
-    where
-      by : (b : Bool) → is_dropping (if b then Cuts a k len (taken + k) more else Sent a (taken + len) more) ≡ true → ⊥
-      by true off = cc (off)
-      by false off = cc (off)
+  breaks (Sends a len taken more) (reply.Count k) busy step at_is off =
+      never _ off (either-way Kept (nat_lt k len) refl refl)
   breaks (Sends a len taken more) r busy step at_is off = absurd (cc (off))
-  breaks (Cuts a from len taken more) (reply.Agg k) busy step at_is off = absurd (cc (off))
-  breaks (Cuts a from len taken more) r busy step at_is off = absurd (cc (off))
   breaks (Offers a from len piece taken more) (reply.Refused no.BrokenPipe) busy step at_is off =
       why.peer_is_gone m n server fd c piece open_on step
   breaks (Offers a from len piece taken more) (reply.Count k) busy step at_is off = absurd (cc (off))
   breaks (Offers a from len piece taken more) r busy step at_is off = absurd (cc (off))
-  breaks (Swaps a from len piece taken more) reply.Done busy step at_is off = absurd (by (nat_lt from len) off)
-    where
-      by : (b : Bool) → is_dropping (if b then Cuts a from len taken more else Sent a taken more) ≡ true → ⊥
-      by true off = cc (off)
-      by false off = cc (off)
-  breaks (Swaps a from len piece taken more) r busy step at_is off = absurd (cc (off))
-  breaks (Sent a taken (Some x)) reply.Done busy step at_is off = absurd (cc (off))
-  breaks (Sent a taken None) reply.Done busy step at_is off = absurd (by (keeps q) off)
-    where
-      by : (b : Bool) → is_dropping (if b then Rests else Closes) ≡ true → ⊥
-      by true off = cc (off)
-      by false off = cc (off)
-  breaks (Sent a taken more) r busy step at_is off = absurd (cc (off))
+  breaks (Cuts a from len taken more) r busy step at_is off = never _ off (after-agg Kept r refl (λ k. refl))
+  breaks (Swaps a from len piece taken more) r busy step at_is off =
+      never _ off (after-done Kept r refl (either-way Kept (nat_lt from len) refl refl))
+  breaks (Sent a taken (Some x)) r busy step at_is off = never _ off (after-done Kept r refl refl)
+  breaks (Sent a taken None) r busy step at_is off =
+      never _ off (after-done Kept r refl (either-way Kept (keeps q) refl refl))
   breaks (Breaks piece a more) r busy step at_is off = absurd (cc (at_is))
   breaks (Drops a more) r busy step at_is off = absurd (cc (at_is))
   breaks Rests r busy step at_is off = absurd (cc (busy))

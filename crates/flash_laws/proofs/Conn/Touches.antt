@@ -23,6 +23,8 @@ use Rattle.flash_laws.specs.Site.{server}
 use Rattle.flash_laws.proofs.Forms.{at}
 use Rattle.flash_laws.proofs.Conn.Uses.{same-number}
 use Rattle.flash_laws.proofs.Lists.{clash}
+use Rattle.iol_core.specs.declared.events.Call.{Call}
+use Rattle.flash_laws.proofs.Moves.{either-way}
 
 not-file : (m : State) (fd c g : ℕ) → descriptor m server fd ≡ Some (on.Connection c)
     → ((fd == g) && is_file (descriptor m server fd)) ≡ false
@@ -98,12 +100,9 @@ pub pipes-wants : (m : State) (fd c : ℕ) (kept : List ℕ) (q : Answer) (expec
     → descriptor m server fd ≡ Some (on.Connection c) → Has m q expected d
     → touches_pipe m (event.Call server (wants fd (at kept q d))) p ≡ false
 pipes-wants m fd c kept q expected Rests p is has = no-end m fd c p is
-pipes-wants m fd c kept q expected (Reading f) p is has = by (is_head_only q)
-  where
-    by : (b : Bool) → touches_pipe m (event.Call server (if b then call.Length f else call.IolRead f most_read)) p
-        ≡ false
-    by true = refl
-    by false = no-file-end m f has.1.0 has.1.1 p has.1.2
+pipes-wants m fd c kept q expected (Reading f) p is has =
+    either-way (λ (k : Call). touches_pipe m (event.Call server k) p ≡ false) (is_head_only q) refl
+    (no-file-end m f has.1.0 has.1.1 p has.1.2)
 pipes-wants m fd c kept q expected (Shuts f x) p is has = no-file-end m f has.0.0 has.0.1 p has.0.2
 pipes-wants m fd c kept q expected (Sends b len taken more) p is has = no-end m fd c p is
 pipes-wants m fd c kept q expected (Offers b from len piece taken more) p is has = no-end m fd c p is
@@ -115,12 +114,8 @@ pipes-wants m fd c kept q expected d p is has = refl
 pub files-wants : (m : State) (fd c : ℕ) (kept : List ℕ) (q : Answer) (d : Phase)
     → descriptor m server fd ≡ Some (on.Connection c)
     → changes_files m (event.Call server (wants fd (at kept q d))) ≡ false
-files-wants m fd c kept q (Reading f) is = by (is_head_only q)
-  where
-    by : (b : Bool) → changes_files m (event.Call server (if b then call.Length f else call.IolRead f most_read))
-        ≡ false
-    by true = refl
-    by false = refl
+files-wants m fd c kept q (Reading f) is =
+    either-way (λ (k : Call). changes_files m (event.Call server k) ≡ false) (is_head_only q) refl refl
 files-wants m fd c kept q (Sends b len taken more) is = ap is_file is
 files-wants m fd c kept q (Offers b from len piece taken more) is = ap is_file is
 files-wants m fd c kept q d is = refl
@@ -128,9 +123,6 @@ files-wants m fd c kept q d is = refl
 -- it admits nobody to a pool
 pub admits-wants : (fd : ℕ) (kept : List ℕ) (q : Answer) (d : Phase) (p : ℕ)
     → admits_to (event.Call server (wants fd (at kept q d))) p ≡ false
-admits-wants fd kept q (Reading f) p = by (is_head_only q)
-  where
-    by : (b : Bool) → admits_to (event.Call server (if b then call.Length f else call.IolRead f most_read)) p ≡ false
-    by true = refl
-    by false = refl
+admits-wants fd kept q (Reading f) p =
+    either-way (λ (k : Call). admits_to (event.Call server k) p ≡ false) (is_head_only q) refl refl
 admits-wants fd kept q d p = refl

@@ -29,6 +29,8 @@ use Rattle.flash_laws.specs.Conn.Fits.{IsReadable, MoreIsReadable, HasContent, H
 use Rattle.flash_laws.specs.Site.{server}
 use Rattle.flash_laws.proofs.Forms.{at}
 use Rattle.flash_laws.proofs.Lists.{clash, later_of, bare}
+use Rattle.iol_core.specs.declared.events.Call.{Call}
+use Rattle.flash_laws.proofs.Moves.{either-way}
 
 pub one-of : (a b : Bool) → (a || b) ≡ true → (a ≡ true) ⊎ (b ≡ true)
 one-of true b u = inl refl
@@ -57,11 +59,7 @@ gives-wants fd kept q d a is = absurd (cc)
 
 -- its reply names nothing of another domain
 pub no-more : (fd : ℕ) (kept : List ℕ) (q : Answer) (d : Phase) → gives_away (wants fd (at kept q d)) ≡ false
-no-more fd kept q (Reading f) = by (is_head_only q)
-  where
-    by : (b : Bool) → gives_away (if b then call.Length f else call.IolRead f most_read) ≡ false
-    by true = refl
-    by false = refl
+no-more fd kept q (Reading f) = either-way (λ (k : Call). gives_away k ≡ false) (is_head_only q) refl refl
 no-more fd kept q d = refl
 
 -- What it uses afterwards is what it used, or new.
@@ -179,19 +177,12 @@ no_fd-resolved q k g = refl
 
 no_fd-headed : (n size : ℕ) (more : Following) (g : ℕ) → uses_fd (headed n size more) g ≡ false
 no_fd-headed n size None g = refl
-no_fd-headed n size (Some x) g = by (nat_le (size + x.1) MAX_AGGREGATE_BYTES)
-  where
-    by : (t : Bool) → uses_fd (if t then Joins n size x.0 x.1 else Sends n size 0 (Some x)) g ≡ false
-    by true = refl
-    by false = refl
+no_fd-headed n size (Some x) g =
+    either-way (λ (e : Phase). uses_fd e g ≡ false) (nat_le (size + x.1) MAX_AGGREGATE_BYTES) refl refl
 
 no_fd-proceeds : (q : Answer) (taken : ℕ) (more : Following) (g : ℕ) → uses_fd (proceeds q taken more) g ≡ false
 no_fd-proceeds q taken (Some x) g = refl
-no_fd-proceeds q taken None g = by (keeps q)
-  where
-    by : (t : Bool) → uses_fd (if t then Rests else Closes) g ≡ false
-    by true = refl
-    by false = refl
+no_fd-proceeds q taken None g = either-way (λ (e : Phase). uses_fd e g ≡ false) (keeps q) refl refl
 
 no_fd-drops : (more : Following) (g : ℕ) → uses_fd (drops_next more) g ≡ false
 no_fd-drops (Some x) g = refl

@@ -25,6 +25,7 @@ use Rattle.flash_laws.specs.declared.script_run.Step.TheVariants.{Returns, Lapse
 use Rattle.flash_laws.specs.declared.script_run.Running.{Running}
 use Rattle.flash_laws.specs.declared.script_run.Running.TheVariants.{Awaits, Runs, Leaves, Closes}
 use Rattle.flash_laws.proofs.Lists.{clash, not-true}
+use Rattle.flash_laws.proofs.Moves.{either-way}
 
 -- ---- it ends where the connection rests, or is to be closed
 
@@ -106,11 +107,8 @@ step-forgets : (w : Wanted) (run : Run) (s : Step) (r : Reply) (received : List 
 step-forgets w run (Gives write) r received was = absurd (cc (was))
 step-forgets w run (Makes f) r received was = absurd (cc (was))
 step-forgets w run (Hands j f) (reply.Count n) received was = refl
-step-forgets w run (Hands j f) (reply.Refused x) received was = by (is_again x)
-  where
-    by : (t : Bool) → Forgets (Runs run (if t then Hands j f else Lapses j))
-    by true = refl
-    by false = refl
+step-forgets w run (Hands j f) (reply.Refused x) received was =
+    either-way (λ (s : Step). Forgets (Runs run s)) (is_again x) refl refl
 step-forgets w run (Lets j) reply.Done received was = refl
 step-forgets w run Heads (reply.Agg n) received was = refl
 step-forgets w run (Sending (phase.Sent a taken None) frame) reply.Done received was = refl

@@ -37,6 +37,7 @@ use Rattle.flash_laws.specs.declared.script_run.Step.TheVariants.{Stops, Unframe
 use Rattle.flash_laws.specs.declared.script_run.Step.TheVariants.{Returns, Lapses, Fails}
 use Rattle.flash_laws.specs.declared.script_run.Running.{Running}
 use Rattle.flash_laws.specs.declared.script_run.Running.TheVariants.{Runs, Leaves}
+use Rattle.flash_laws.proofs.Moves.{after-done, after-agg, either-way, either-of}
 use Rattle.flash_laws.proofs.Conn.Holdings.{leaves-after_reply}
 use Rattle.flash_laws.proofs.Lists.{clash, later_of, amid, bare, bare-none, former_by, former_of, swapped}
 use Rattle.flash_laws.proofs.Conn.Uses.{same-number}
@@ -236,61 +237,49 @@ module _ (job : ℕ → List ℕ) (m : State) (fd : ℕ) (w : Wanted) (o : Progr
 
   hands : (j f : ℕ) (r : Reply) (received : List ℕ) → LeavesAt (Hands j f) r (after_step w run (Hands j f) r received)
   hands j f (reply.Count n) received u unused = absurd (clash (j == a) u unused)
-  hands j f (reply.Refused x) received u unused = absurd (by (is_again x) unused)
-    where
-      by : (b : Bool) → step_agg (if b then Hands j f else Lapses j) a ≡ false → ⊥
-      by true unused = clash (j == a) u unused
-      by false unused = clash (j == a) u unused
+  hands j f (reply.Refused x) received u unused =
+      absurd (either-of (λ (s : Step). step_agg s a ≡ false → ⊥) (is_again x) (Hands j f) (Lapses j)
+      (λ unused. clash (j == a) u unused) (λ unused. clash (j == a) u unused) unused)
   hands j f r received u unused = absurd (clash (j == a) u unused)
 
   step-leaves : (s : Step) (r : Reply) (received : List ℕ) → HasStep job m w o run s
       → LeavesAt s r (after_step w run s r received)
+  step-leaves (Gives write) r received has u unused = absurd (cc (u))
+  step-leaves (Makes f) r received has u unused = absurd (cc (u))
+  step-leaves Heads r received has u unused = absurd (cc (u))
+  step-leaves (Returns write) r received has u unused = absurd (cc (u))
+  step-leaves Fails r received has u unused = absurd (cc (u))
   step-leaves (Hands j f) r received has u unused = hands j f r received u unused
   step-leaves (Lets j) reply.Done received has u unused = (u, refl)
-  step-leaves (Lets j) r received has u unused = absurd (clash (j == a) u unused)
   step-leaves (Sending d frame) r received has u unused = sending d frame r has u unused
   step-leaves (Receives held frame) r received has u unused = receives held frame r received has u unused
   step-leaves (Spills b frame) reply.Done received has u unused =
       (former_by (b == a) (has_frame frame a) u unused, refl)
-  step-leaves (Spills b frame) r received has u unused = absurd (clash (step_agg (Spills b frame) a) u unused)
   step-leaves (Gathers held size piece len frame) r received has u unused =
       gathers held size piece len frame r received u unused
   step-leaves (Frames held) (reply.Agg n) received has u unused =
       absurd (clash (step_agg (Wraps held n) a) (former_of (held == a) (n == a) u) unused)
-  step-leaves (Frames held) r received has u unused = absurd (clash (held == a) u unused)
   step-leaves (Wraps held frame) (reply.Agg n) received has u unused =
       absurd (clash (step_agg (Trims held n (count_of received) frame) a) (amid (held == a) (n == a) (frame == a) u)
       unused)
-  step-leaves (Wraps held frame) r received has u unused = absurd (clash (step_agg (Wraps held frame) a) u unused)
   step-leaves (Trims held chunk len frame) reply.Done received has u unused =
       (former_by (held == a) ((chunk == a) || (frame == a)) u (plain (chunk == a) (frame == a) unused), refl)
-  step-leaves (Trims held chunk len frame) r received has u unused =
-      absurd (clash (step_agg (Trims held chunk len frame) a) u unused)
   step-leaves (Ended b held frame) reply.Done received has u unused =
       (former_by (b == a) (has_followed held a || has_frame frame a) u unused, refl)
-  step-leaves (Ended b held frame) r received has u unused = absurd (clash (step_agg (Ended b held frame) a) u unused)
   step-leaves (Unholds held frame) reply.Done received has u unused =
       (former_by (held == a) (has_frame frame a) u unused, refl)
-  step-leaves (Unholds held frame) r received has u unused = absurd (clash (step_agg (Unholds held frame) a) u unused)
   step-leaves (Stops held frame) r received has u unused = stops held frame r received has.1 u unused
   step-leaves (Unframes f held) r received has u unused = unframes f held r received has u unused
   step-leaves (Lasts held) r received has u unused = lasts held r received u unused
   step-leaves (WrapsLast held size frame) (reply.Agg n) received has u unused =
       absurd (clash (step_agg (TrimsLast held n (count_of received) frame) a) (amid (held == a) (n == a) (frame == a) u)
       unused)
-  step-leaves (WrapsLast held size frame) r received has u unused =
-      absurd (clash (step_agg (WrapsLast held size frame) a) u unused)
   step-leaves (TrimsLast held chunk len frame) reply.Done received has u unused =
       (former_by (held == a) ((chunk == a) || (frame == a)) u (swapped-none (chunk == a) (frame == a) unused), refl)
-  step-leaves (TrimsLast held chunk len frame) r received has u unused =
-      absurd (clash (step_agg (TrimsLast held chunk len frame) a) u unused)
   step-leaves (Unwraps frame chunk len) reply.Done received has u unused =
       (former_by (frame == a) (chunk == a) u (bare-none (chunk == a) unused), refl)
-  step-leaves (Unwraps frame chunk len) r received has u unused =
-      absurd (clash (step_agg (Unwraps frame chunk len) a) u unused)
   step-leaves (Lapses j) reply.Done received has u unused = (u, refl)
-  step-leaves (Lapses j) r received has u unused = absurd (clash (j == a) u unused)
-  step-leaves s r received has u unused = absurd (cc (u))
+  step-leaves s r received has u unused = absurd (clash (step_agg s a) u unused)
 
 pub left : (come : AggregatesComeAndGo) (job : ℕ → List ℕ) (m n : State) (fd worker : ℕ) (w : Wanted) (x : Running)
     (o : Progress) (r : Reply) (received : List ℕ) (a : ℕ)
@@ -386,62 +375,13 @@ module _ (own : CallsServeTheirDomain) (job : ℕ → List ℕ) (m n : State) (f
   hands-ends : (j f : ℕ) (r : Reply) (received : List ℕ)
       → has_end (after_step w run (Hands j f) r received) g ≡ ((run.from == g) || false)
   hands-ends j f (reply.Count k) received = refl
-  hands-ends j f (reply.Refused x) received = by (is_again x)
-    where
-      by : (b : Bool) → has_end (Runs run (if b then Hands j f else Lapses j)) g ≡ ((run.from == g) || false)
-      by true = refl
-      by false = refl
+  hands-ends j f (reply.Refused x) received =
+      either-way (λ (s : Step). has_end (Runs run s) g ≡ ((run.from == g) || false)) (is_again x) refl refl
   hands-ends j f r received = refl
 
-  abbrev Stays : Step → Reply → List ℕ → Type 0
-  Stays s r received = has_end (after_step w run s r received) g ≡ ((run.from == g) || false)
-
-  makes-ends : (f : ℕ) (r : Reply) (received : List ℕ) → Stays (Makes f) r received
-  makes-ends f (reply.Agg k) received = refl
-  makes-ends f r received = refl
-
-  lets-ends : (j : ℕ) (r : Reply) (received : List ℕ) → Stays (Lets j) r received
-  lets-ends j reply.Done received = refl
-  lets-ends j r received = refl
-
-  heads-ends : (r : Reply) (received : List ℕ) → Stays Heads r received
-  heads-ends (reply.Agg k) received = refl
-  heads-ends r received = refl
-
-  spills-ends : (b : ℕ) (frame : Option ℕ) (r : Reply) (received : List ℕ) → Stays (Spills b frame) r received
-  spills-ends b frame reply.Done received = refl
-  spills-ends b frame r received = refl
-
-  gathers-ends : (held size piece len : ℕ) (frame : Option ℕ) (r : Reply) (received : List ℕ)
-      → Stays (Gathers held size piece len frame) r received
-  gathers-ends held size piece len frame (reply.Agg k) received = holding-ends k (both size len) frame
-  gathers-ends held size piece len frame r received = refl
-
-  frames-ends : (held : ℕ) (r : Reply) (received : List ℕ) → Stays (Frames held) r received
-  frames-ends held (reply.Agg k) received = refl
-  frames-ends held r received = refl
-
-  wraps-ends : (held frame : ℕ) (r : Reply) (received : List ℕ) → Stays (Wraps held frame) r received
-  wraps-ends held frame (reply.Agg k) received = refl
-  wraps-ends held frame r received = refl
-
-  trims-ends : (held chunk len frame : ℕ) (r : Reply) (received : List ℕ)
-      → Stays (Trims held chunk len frame) r received
-  trims-ends held chunk len frame reply.Done received = refl
-  trims-ends held chunk len frame r received = refl
-
-  ended-ends : (b : ℕ) (held : Following) (frame : Option ℕ) (r : Reply) (received : List ℕ)
-      → Stays (Ended b held frame) r received
-  ended-ends b held frame reply.Done received = refl
-  ended-ends b held frame r received = refl
-
-  unholds-ends : (held : ℕ) (frame : Option ℕ) (r : Reply) (received : List ℕ) → Stays (Unholds held frame) r received
-  unholds-ends held frame reply.Done received = refl
-  unholds-ends held frame r received = refl
-
-  lapses-ends : (j : ℕ) (r : Reply) (received : List ℕ) → Stays (Lapses j) r received
-  lapses-ends j reply.Done received = refl
-  lapses-ends j r received = refl
+  -- the read end stays, and the write end is not there
+  abbrev Stays : Step → Type 0
+  Stays t = has_end (Runs run t) g ≡ ((run.from == g) || false)
 
   kept : (s : Step) (r : Reply) (received : List ℕ) → ends_of run s g ≡ true
       → has_end (after_step w run s r received) g ≡ ends_of run s g
@@ -460,29 +400,32 @@ module _ (own : CallsServeTheirDomain) (job : ℕ → List ℕ) (m n : State) (f
   step-shuts Fails r received has step u unused =
       closed run.from Fails r (λ k. after_step w run Fails k received) step (λ x. refl) (λ none. bare (run.from == g) u)
       u unused
-  step-shuts (Makes f) r received has step u unused = kept (Makes f) r received u (makes-ends f r received) unused
+  step-shuts (Makes f) r received has step u unused =
+      kept (Makes f) r received u (after-agg Stays r refl (λ k. refl)) unused
   step-shuts (Hands j f) r received has step u unused = kept (Hands j f) r received u (hands-ends j f r received) unused
-  step-shuts (Lets j) r received has step u unused = kept (Lets j) r received u (lets-ends j r received) unused
-  step-shuts Heads r received has step u unused = kept Heads r received u (heads-ends r received) unused
+  step-shuts (Lets j) r received has step u unused = kept (Lets j) r received u (after-done Stays r refl refl) unused
+  step-shuts Heads r received has step u unused = kept Heads r received u (after-agg Stays r refl (λ k. refl)) unused
   step-shuts (Sending d frame) r received has step u unused =
       kept (Sending d frame) r received u (sending-ends d frame r) unused
   step-shuts (Receives held frame) r received has step u unused =
       kept (Receives held frame) r received u (receives-ends held frame r received) unused
   step-shuts (Spills b frame) r received has step u unused =
-      kept (Spills b frame) r received u (spills-ends b frame r received) unused
+      kept (Spills b frame) r received u (after-done Stays r refl refl) unused
   step-shuts (Gathers held size piece len frame) r received has step u unused =
-      kept (Gathers held size piece len frame) r received u (gathers-ends held size piece len frame r received) unused
+      kept (Gathers held size piece len frame) r received u
+      (after-agg Stays r refl (λ k. holding-ends k (both size len) frame)) unused
   step-shuts (Frames held) r received has step u unused =
-      kept (Frames held) r received u (frames-ends held r received) unused
+      kept (Frames held) r received u (after-agg Stays r refl (λ k. refl)) unused
   step-shuts (Wraps held frame) r received has step u unused =
-      kept (Wraps held frame) r received u (wraps-ends held frame r received) unused
+      kept (Wraps held frame) r received u (after-agg Stays r refl (λ k. refl)) unused
   step-shuts (Trims held chunk len frame) r received has step u unused =
-      kept (Trims held chunk len frame) r received u (trims-ends held chunk len frame r received) unused
+      kept (Trims held chunk len frame) r received u (after-done Stays r refl refl) unused
   step-shuts (Ended b held frame) r received has step u unused =
-      kept (Ended b held frame) r received u (ended-ends b held frame r received) unused
+      kept (Ended b held frame) r received u (after-done Stays r refl refl) unused
   step-shuts (Unholds held frame) r received has step u unused =
-      kept (Unholds held frame) r received u (unholds-ends held frame r received) unused
-  step-shuts (Lapses j) r received has step u unused = kept (Lapses j) r received u (lapses-ends j r received) unused
+      kept (Unholds held frame) r received u (after-done Stays r refl refl) unused
+  step-shuts (Lapses j) r received has step u unused =
+      kept (Lapses j) r received u (after-done Stays r refl refl) unused
   step-shuts s r received has step u unused = absurd (cc (u))
 
 pub shut : (own : CallsServeTheirDomain) (job : ℕ → List ℕ) (m n : State) (fd worker : ℕ) (w : Wanted) (x : Running)

@@ -1,6 +1,6 @@
 -- A successful call of a run is not repeated.
-use Rattle.std.proofs.Common.{◌≡◌, ℕ, ◌+◌, ◌-◌, ◌≤◌, List, [], ◌∷◌, length, ap, Option, Some, None, true, false, Bool}
-use Rattle.std.proofs.Common.{if◌then◌else◌}
+use Rattle.std.proofs.Common.{◌≡◌, ℕ, ◌-◌, ◌≤◌, List, [], ◌∷◌, length, ap, refl, Option, Some, None, true, false}
+use Rattle.std.proofs.Common.{Bool, if◌then◌else◌}
 use Rattle.std.specs.Prelude.{nat_lt}
 use Rattle.iol_core.specs.State.{State}
 use Rattle.iol_core.specs.Run.{StepsTo}
@@ -9,7 +9,8 @@ use Rattle.iol_core.specs.declared.events.Reply.{Reply}
 use Rattle.iol_core.specs.declared.events.Reply.TheVariants as reply
 use Rattle.flash_http.specs.Request.{serve, Wanted}
 use Rattle.flash_laws.specs.Conn as conn
-use Rattle.flash_laws.specs.Conn.{Following, count_of, piece_end}
+use Rattle.flash_laws.specs.Conn.{Following, count_of}
+use Rattle.flash_laws.specs.Conn.Fits.{is_closing}
 use Rattle.flash_laws.specs.Run.Fits.{Progress, sent_agg, IsPart, IsSending, HasRun}
 use Rattle.flash_laws.specs.Conn.OfferedBytes.{taken_of, may_repeat}
 use Rattle.flash_laws.specs.Run.{both, worker_domain, job_pipe, held_size, in_phase, step_wants, wants, after_give}
@@ -20,7 +21,6 @@ use Rattle.flash_laws.specs.Run.{after_release_frame, after_last, after_unwrap, 
 use Rattle.flash_laws.specs.Run.{finishing, stopped, ending, after_step, after_reply, is_left, is_over}
 use Rattle.flash_laws.specs.Answers.Scripts.{script_text, frame_of, place_in_frame, end_around}
 use Rattle.flash_laws.specs.Site.{server}
-use Rattle.flash_laws.specs.declared.phase.Payload.TheVariants.{Error}
 use Rattle.flash_laws.specs.declared.phase.Phase.{Phase}
 use Rattle.flash_laws.specs.declared.phase.Phase.TheVariants as phase
 use Rattle.flash_laws.specs.declared.script_run.TheConstants.{CHUNK_BYTES}
@@ -32,8 +32,8 @@ use Rattle.flash_laws.specs.declared.script_run.Step.TheVariants.{Stops, Unframe
 use Rattle.flash_laws.specs.declared.script_run.Step.TheVariants.{Returns, Lapses, Fails}
 use Rattle.flash_laws.specs.declared.script_run.Running.{Running}
 use Rattle.flash_laws.specs.declared.script_run.Running.TheVariants.{Awaits, Runs, Leaves, Closes}
-use Rattle.flash_laws.proofs.Conn.Repeats.{either, drops, closes, makes, cuts, joins, replaces, reads, gives, writes}
-use Rattle.flash_laws.proofs.Conn.Repeats.{pipes}
+use Rattle.flash_laws.proofs.Conn.DoneCalls.{moved}
+use Rattle.flash_laws.proofs.Conn.Repeats.{drops, closes, makes, joins, replaces, reads, gives, writes, pipes}
 use Rattle.flash_laws.proofs.Run.Rest.{is-rest}
 use Rattle.flash_laws.proofs.Lists.{not-false}
 
@@ -50,33 +50,13 @@ sent_phase : (m n : State) (w : Wanted) (fd : ℕ) (expected : List ℕ) (d : Ph
     → StepsTo m (event.Call server (conn.wants fd (in_phase w d))) r n
     → (conn.after_reply (in_phase w d) r received).phase ≡ d
     → may_repeat (conn.wants fd (in_phase w d)) r ≡ true
-sent_phase m n w fd expected (phase.Heads (Error status)) r received is step same =
-    makes m n (phase.Heads (Error status)) (λ z. conn.after_head (Error status) z received)
-    (conn.text_of (serve w) (Error status)) r step (λ k e. cc (e)) same
-sent_phase m n w fd expected (phase.Sends a len taken None) r received is step same =
-    writes m n (phase.Sends a len taken None) (λ z. conn.after_send a len taken None z) fd a r step
-    (λ k. either (nat_lt k len) (phase.Cuts a k len (taken + k) None) (phase.Sent a (taken + len) None)
-    (phase.Sends a len taken None) (λ e. cc (e)) (λ e. cc (e)))
-    (λ e. cc (e)) same
-sent_phase m n w fd expected (phase.Cuts a from len taken None) r received is step same =
-    cuts m n (phase.Cuts a from len taken None) (λ z. conn.after_cut a from len taken None z) a from
-    (piece_end from len) r step (λ k e. cc (e)) same
-sent_phase m n w fd expected (phase.Offers a from len piece taken None) r received is step same =
-    writes m n (phase.Offers a from len piece taken None) (λ z. conn.after_offer a from len piece taken None z) fd piece
-    r step (λ k e. cc (e)) (λ e. cc (e)) same
-sent_phase m n w fd expected (phase.Swaps a from len piece taken None) r received is step same =
-    drops m n (phase.Swaps a from len piece taken None) (λ z. conn.after_swap a from len piece taken None z) piece r
-    step
-    (either (nat_lt from len) (phase.Cuts a from len taken None) (phase.Sent a taken None)
-    (phase.Swaps a from len piece taken None) (λ e. cc (e)) (λ e. cc (e))) same
-sent_phase m n w fd expected (phase.Sent a taken None) r received is step same =
-    drops m n (phase.Sent a taken None) (λ z. conn.after_taken (serve w) a taken None z) a r step
-    (either w.keep phase.Rests phase.Closes (phase.Sent a taken None) (λ e. cc (e)) (λ e. cc (e))) same
-sent_phase m n w fd expected (phase.Breaks piece a None) r received is step same =
-    drops m n (phase.Breaks piece a None) (λ z. conn.after_break piece a None z) piece r step (λ e. cc (e)) same
-sent_phase m n w fd expected (phase.Drops a None) r received is step same =
-    drops m n (phase.Drops a None) (λ z. conn.after_drop a None z) a r step (λ e. cc (e)) same
-sent_phase m n w fd expected d r received is step same = absurd is.0
+sent_phase m n w fd expected d r received is step same =
+    moved m n fd [] (serve w) d r received (open-yet d is) step same
+  where
+    open-yet : (d : Phase) → IsSending m expected d → is_closing d ≡ false
+    open-yet phase.Closes is = absurd is.0
+    open-yet phase.Over is = absurd is.0
+    open-yet d is = refl
 
 sending : (m n : State) (w : Wanted) (fd : ℕ) (expected : List ℕ) (run : Run) (d : Phase) (frame : Option ℕ) (r : Reply)
     → IsPart m (sent_agg d) expected → taken_of d ≤ length expected

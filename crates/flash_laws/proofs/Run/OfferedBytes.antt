@@ -28,10 +28,8 @@ use Rattle.flash_laws.specs.Run.Fits.{Progress, Ran, Broken, NotRun, Follows, Ma
 use Rattle.flash_laws.specs.Run.Fits.{HasPart, HasRest, HasLeft, HasRun}
 use Rattle.flash_laws.specs.Run.OfferedBytes.{takes_on, Learns, taken_by, past_of, IsNextOf, HasWorker}
 use Rattle.flash_laws.specs.Run.OfferedBytes.{RunsOfferTheResponse}
-use Rattle.flash_laws.specs.Run.{worker_domain, job_pipe, held_size, in_phase, wants, broken, after_release_job}
-use Rattle.flash_laws.specs.Run.{after_sending, after_spill, after_trim, after_ended, after_release_held}
-use Rattle.flash_laws.specs.Run.{after_trim_last, after_lapse, after_output, after_stop, after_release_frame}
-use Rattle.flash_laws.specs.Run.{after_last, after_unwrap, after_fail, finishing, after_reply, is_left, is_over}
+use Rattle.flash_laws.specs.Run.{worker_domain, job_pipe, held_size, in_phase, wants, broken, after_sending}
+use Rattle.flash_laws.specs.Run.{after_output, finishing, after_reply, is_left, is_over, stopped, ending}
 use Rattle.flash_laws.specs.Answers.Scripts.{script_body, script_response}
 use Rattle.flash_laws.specs.Site.{server}
 use Rattle.flash_laws.specs.declared.phase.Phase.{Phase}
@@ -45,6 +43,7 @@ use Rattle.flash_laws.specs.declared.script_run.Step.TheVariants.{Stops, Unframe
 use Rattle.flash_laws.specs.declared.script_run.Step.TheVariants.{Returns, Lapses, Fails}
 use Rattle.flash_laws.specs.declared.script_run.Running.{Running}
 use Rattle.flash_laws.specs.declared.script_run.Running.TheVariants.{Awaits, Runs, Leaves, Closes}
+use Rattle.flash_laws.proofs.Moves.{after-done, after-agg}
 use Rattle.flash_laws.proofs.Client.Phases.{Next, written_fd, next-expected}
 use Rattle.flash_laws.proofs.Run.Rest as left
 use Rattle.flash_laws.proofs.Run.Rest.{is-rest}
@@ -203,12 +202,8 @@ module _ (steps : EachStepLeavesTheRest) (own : CallsServeTheirDomain) (m n : St
       (o, refl, acts.makes steps own m n order job w run has.0 f r o has.1 step)
   replied fd c worker (Runs run (Hands j f)) r received o open_on free going has step names =
       (o, refl, acts.hands steps own m n order job w run has.0 j f r o has.1 step)
-  replied fd c worker (Runs run (Lets j)) r received o open_on free going has step names = (
-    o,
-    refl,
-    acts.drops steps own m n order job w run has.0 j (Lets j) Heads r o has refl (has.1.0, has.1.2) step
-        (λ z. Runs run (after_release_job j z)) refl (λ y. refl),
-  )
+  replied fd c worker (Runs run (Lets j)) r received o open_on free going has step names =
+      (o, refl, acts.drops steps own m n order job w run has.0 j (Lets j) Heads r o has refl (has.1.0, has.1.2) step)
   replied fd c worker (Runs run Heads) r received o open_on free going has step names =
       (o, refl, acts.heads steps own m n order job w run has.0 r received o has.1 step names)
   replied fd c worker (Runs run (Sending d frame)) r received o open_on free going has step names =
@@ -219,7 +214,7 @@ module _ (steps : EachStepLeavesTheRest) (own : CallsServeTheirDomain) (m n : St
     o,
     refl,
     acts.drops steps own m n order job w run has.0 a (Spills a frame) (Receives None frame) r o has
-        has.1.0.1 has.1.1 step (λ z. Runs run (after_spill a frame z)) refl (λ y. refl),
+        has.1.0.1 has.1.1 step,
   )
   replied fd c worker (Runs run (Gathers held size piece len frame)) r received o open_on free going has step names =
       (o, refl, acts.gathers steps own m n order job w run has.0 held size piece len frame r o has.1 step)
@@ -231,20 +226,19 @@ module _ (steps : EachStepLeavesTheRest) (own : CallsServeTheirDomain) (m n : St
     o,
     refl,
     acts.drops steps own m n order job w run has.0 held (Trims held chunk len frame)
-        (Sending (phase.Sends chunk len 0 None) (Some frame)) r o has has.1.0.1 has.1.1 step
-        (λ z. Runs run (after_trim held chunk len frame z)) refl (λ y. refl),
+        (Sending (phase.Sends chunk len 0 None) (Some frame)) r o has has.1.0.1 has.1.1 step,
   )
   replied fd c worker (Runs run (Ended a held frame)) r received o open_on free going has step names = (
     o,
     refl,
     acts.drops steps own m n order job w run has.0 a (Ended a held frame) (Stops held frame) r o has
-        has.1.0.1 (has.1.1, has.1.2) step (λ z. Runs run (after_ended a held frame z)) refl (λ y. refl),
+        has.1.0.1 (has.1.1, has.1.2) step,
   )
   replied fd c worker (Runs run (Unholds held frame)) r received o open_on free going has step names = (
     o,
     refl,
     acts.drops steps own m n order job w run has.0 held (Unholds held frame) (Stops None frame) r o has
-        has.1.0.1 (has.1.1, has.1.2) step (λ z. Runs run (after_release_held held frame z)) refl (λ y. refl),
+        has.1.0.1 (has.1.1, has.1.2) step,
   )
   replied fd c worker (Runs run (Stops held frame)) r received o open_on free going has step names =
       (o, refl, stopping.stops steps own m n order job w run has.0 held frame r o has.1 step)
@@ -258,19 +252,14 @@ module _ (steps : EachStepLeavesTheRest) (own : CallsServeTheirDomain) (m n : St
     o,
     refl,
     acts.drops steps own m n order job w run has.0 held (TrimsLast held chunk len frame)
-        (Unwraps frame chunk len) r o has has.1.0.1 (has.1.1, has.1.2) step
-        (λ z. Runs run (after_trim_last held chunk len frame z)) refl (λ y. refl),
+        (Unwraps frame chunk len) r o has has.1.0.1 (has.1.1, has.1.2) step,
   )
   replied fd c worker (Runs run (Unwraps frame chunk len)) r received o open_on free going has step names =
       (o, refl, stopping.unwraps steps own m n order job w run has.0 frame chunk len r o has.1 step)
   replied fd c worker (Runs run (Returns write)) r received o open_on free going has step names =
       (o, refl, stopping.returns steps own m n order job w run has.0 write r o has.1 step)
-  replied fd c worker (Runs run (Lapses j)) r received o open_on free going has step names = (
-    o,
-    refl,
-    acts.drops steps own m n order job w run has.0 j (Lapses j) Fails r o has refl (has.1.0, has.1.2) step
-        (λ z. Runs run (after_lapse j z)) refl (λ y. refl),
-  )
+  replied fd c worker (Runs run (Lapses j)) r received o open_on free going has step names =
+      (o, refl, acts.drops steps own m n order job w run has.0 j (Lapses j) Fails r o has refl (has.1.0, has.1.2) step)
   replied fd c worker (Runs run Fails) r received o open_on free going has step names =
       stopping.fails steps own m n order job w run has.0 r received o has.1 step
 
@@ -412,16 +401,10 @@ keeps-finishing false true run held = refl
 keeps-finishing false false run held = tt
 keeps-finishing true c run held = tt
 
-keeps-stops : (w : Wanted) (run : Run) (held : Following) (frame : Option ℕ) (r : Reply)
-    → HasWorker run.worker (after_stop w run held frame r)
-keeps-stops w run held None reply.Done = keeps-finishing run.broken w.chunked run held
-keeps-stops w run held (Some f) reply.Done = refl
-keeps-stops w run held frame r = refl
-
-keeps-unframes : (w : Wanted) (run : Run) (f : ℕ) (held : Following) (r : Reply)
-    → HasWorker run.worker (after_release_frame w run f held r)
-keeps-unframes w run f held reply.Done = keeps-finishing run.broken w.chunked run held
-keeps-unframes w run f held r = refl
+keeps-stopped : (w : Wanted) (run : Run) (held : Following) (frame : Option ℕ)
+    → HasWorker run.worker (stopped w run held frame)
+keeps-stopped w run held None = keeps-finishing run.broken w.chunked run held
+keeps-stopped w run held (Some f) = refl
 
 keeps-sending : (run : Run) (d : Phase) (frame : Option ℕ) (r : Reply)
     → HasWorker run.worker (after_sending run d frame r)
@@ -436,30 +419,22 @@ keeps-receives w run held frame (reply.Agg n) (b ∷ received) = refl
 keeps-receives w run held frame (reply.Refused (no.Denied p)) received = refl
 keeps-receives w run held frame r received = refl
 
-keeps-lasts : (run : Run) (held : Following) (r : Reply) (received : List ℕ)
-    → HasWorker run.worker (after_last run held r received)
-keeps-lasts run None (reply.Agg n) received = tt
-keeps-lasts run (Some x) (reply.Agg n) received = refl
-keeps-lasts run held r received = refl
-
-keeps-unwraps : (run : Run) (frame chunk len : ℕ) (r : Reply)
-    → HasWorker run.worker (after_unwrap run frame chunk len r)
-keeps-unwraps run frame chunk len reply.Done = tt
-keeps-unwraps run frame chunk len r = refl
-
-keeps-fails : (run : Run) (r : Reply) → HasWorker run.worker (after_fail run r)
-keeps-fails run reply.Done = tt
-keeps-fails run r = refl
+keeps-ending : (run : Run) (held : Following) (n len : ℕ) → HasWorker run.worker (ending run held n len)
+keeps-ending run None n len = tt
+keeps-ending run (Some x) n len = refl
 
 pub keeps : (worker : ℕ) (w : Wanted) (run : Run) (step : Step) (r : Reply) (received : List ℕ)
     → HasWorker run.worker (after_reply worker w (Runs run step) r received)
 keeps worker w run (Sending d frame) r received = keeps-sending run d frame r
 keeps worker w run (Receives held frame) r received = keeps-receives w run held frame r received
-keeps worker w run (Stops held frame) r received = keeps-stops w run held frame r
-keeps worker w run (Unframes frame held) r received = keeps-unframes w run frame held r
-keeps worker w run (Lasts held) r received = keeps-lasts run held r received
-keeps worker w run (Unwraps frame chunk len) r received = keeps-unwraps run frame chunk len r
-keeps worker w run Fails r received = keeps-fails run r
+keeps worker w run (Stops held frame) r received =
+    after-done (HasWorker run.worker) r refl (keeps-stopped w run held frame)
+keeps worker w run (Unframes frame held) r received =
+    after-done (HasWorker run.worker) r refl (keeps-finishing run.broken w.chunked run held)
+keeps worker w run (Lasts held) r received =
+    after-agg (HasWorker run.worker) r refl (λ n. keeps-ending run held n (conn.count_of received))
+keeps worker w run (Unwraps frame chunk len) r received = after-done (HasWorker run.worker) r refl tt
+keeps worker w run Fails r received = after-done (HasWorker run.worker) r refl tt
 keeps worker w run step r received = refl
 
 pub runs_offer : EachStepLeavesTheRest → CallsServeTheirDomain → RefusalsTellWhy → RefusalsThatAreLeft

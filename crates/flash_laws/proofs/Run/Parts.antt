@@ -1,6 +1,6 @@
 -- A part of a script's response is sent by the phases of a file's response.
 use Rattle.std.proofs.Common.{◌≡◌, ℕ, ◌+◌, ◌-◌, ◌==◌, List, [], ap, ◌∙◌, refl, sym, subst, arith, Option, Some, None}
-use Rattle.std.proofs.Common.{true, false, Bool, if◌then◌else◌}
+use Rattle.std.proofs.Common.{true, false, Bool}
 use Rattle.std.specs.Prelude.{◌||◌, ◌&&◌, min, nat_lt, slice_range}
 use Rattle.std.proofs.lemmas.Bool.{or_parts, or_from}
 use Rattle.std.proofs.lemmas.Bool.Decides.{nat_tests}
@@ -10,7 +10,6 @@ use Rattle.iol_core.specs.Run.{StepsTo}
 use Rattle.iol_core.specs.Values.{gives_up}
 use Rattle.iol_core.specs.declared.descriptors.Descriptor.{Descriptor}
 use Rattle.iol_core.specs.declared.descriptors.Descriptor.TheVariants as on
-use Rattle.iol_core.specs.declared.refusals.Refusal.TheVariants as no
 use Rattle.iol_core.specs.declared.events.Call.{Call}
 use Rattle.iol_core.specs.declared.events.Call.TheVariants as call
 use Rattle.iol_core.specs.declared.events.Event.TheVariants as event
@@ -18,7 +17,6 @@ use Rattle.iol_core.specs.declared.events.Reply.{Reply}
 use Rattle.iol_core.specs.declared.events.Reply.TheVariants as reply
 use Rattle.iol_laws.specs.Frame.{EachStepLeavesTheRest, touches_fd}
 use Rattle.iol_laws.specs.Order.{IsOrderly}
-use Rattle.iol_laws.specs.Caller as caller
 use Rattle.iol_laws.specs.Caller.{CallsServeTheirDomain, readable_at}
 use Rattle.flash_http.specs.Request.{Wanted}
 use Rattle.flash_laws.specs.Conn as conn
@@ -38,6 +36,7 @@ use Rattle.flash_laws.proofs.Lists.{not-equal, turned}
 use Rattle.flash_laws.proofs.Run.Rest as left
 use Rattle.flash_laws.proofs.Run.Rest.{SendsAll}
 use Rattle.flash_laws.proofs.Run.Stays.{frame-on, reading-on}
+use Rattle.flash_laws.proofs.Moves.{made, after-done, after-write, either-way}
 
 -- another number than one that is used is not used
 pub other : (uses : ℕ → Bool) (b a : ℕ) → uses b ≡ false → uses a ≡ true → (b == a) ≡ false
@@ -87,6 +86,9 @@ module _ (steps : EachStepLeavesTheRest) (own : CallsServeTheirDomain) (m n : St
       → readable_at n server a ≡ Some bytes
   is_readable k r step a bytes un is = readable-stays steps m n (event.Call server k) r step a bytes is un
 
+  abbrev Apart : Phase → Type 0
+  Apart e = sends_frame e frame ≡ false
+
   -- the read end and the frame stay
   fits : (k : Call) (r : Reply) → StepsTo m (event.Call server k) r n
       → touches_fd m (event.Call server k) server run.from ≡ false
@@ -112,22 +114,14 @@ module _ (steps : EachStepLeavesTheRest) (own : CallsServeTheirDomain) (m n : St
   sends fd c a len taken r open_on h step =
       fits (call.IolWrite fd a) r step (no-position m fd run.from (on.Connection c) open_on refl) (λ f u. refl)
       (phase.Sends a len taken None) (conn.after_send a len taken None r) h
-      (left.sends steps own m n order w h.part fd c a len taken r open_on (h.has, h.is_part, h.within) step) (apart r)
+      (left.sends steps own m n order w h.part fd c a len taken r open_on (h.has, h.is_part, h.within) step)
+      (after-write Apart r h.apart (fewer (phase.Drops a None) (λ f is. is))
+      (λ k. either-way Apart (nat_lt k len) (fewer (phase.Cuts a k len (taken + k) None) (λ f is. is))
+      (fewer (phase.Sent a (taken + len) None) (λ f is. is))))
     where
-      free : (e : Phase) → ((f : ℕ) → conn.uses_agg e f ≡ conn.uses_agg (phase.Sends a len taken None) f)
-          → sends_frame e frame ≡ false
-      free e same = sends-none (phase.Sends a len taken None) e frame (λ f is. same f ∙ is) h.apart
-
-      apart : (r : Reply) → sends_frame (conn.after_send a len taken None r) frame ≡ false
-      apart (reply.Count k) = by (nat_lt k len)
-        where
-          by : (b : Bool)
-              → sends_frame (if b then phase.Cuts a k len (taken + k) None else phase.Sent a (taken + len) None) frame
-              ≡ false
-          by true = free (phase.Cuts a k len (taken + k) None) (λ f. refl)
-          by false = free (phase.Sent a (taken + len) None) (λ f. refl)
-      apart (reply.Refused no.BrokenPipe) = free (phase.Drops a None) (λ f. refl)
-      apart r = h.apart
+      fewer : (e : Phase)
+          → ((f : ℕ) → conn.uses_agg (phase.Sends a len taken None) f ≡ false → conn.uses_agg e f ≡ false) → Apart e
+      fewer e of = sends-none (phase.Sends a len taken None) e frame of h.apart
 
   pub cuts : (a from len taken : ℕ) (r : Reply) → HasPart m w o run (phase.Cuts a from len taken None) frame
       → StepsTo m (event.Call server (call.AggCut a from (piece_end from len))) r n
@@ -136,13 +130,10 @@ module _ (steps : EachStepLeavesTheRest) (own : CallsServeTheirDomain) (m n : St
       fits (call.AggCut a from (piece_end from len)) r step refl (λ f u. refl) (phase.Cuts a from len taken None)
       (conn.after_cut a from len taken None r) h
       (left.cuts steps own m n order w h.part a from len taken r (h.has, h.is_part, h.within) step)
-      (apart r (own.cut m n server a from (piece_end from len) h.part r order h.is_part step))
-    where
-      apart : (r : Reply) → caller.Makes m server (slice_range h.part from (piece_end from len)) r n
-          → sends_frame (conn.after_cut a from len taken None r) frame ≡ false
-      apart (reply.Agg x) did = with-piece m x (phase.Cuts a from len taken None) (phase.Offers a from len x taken None)
-          frame (λ f new is. or_from (x == f) ((a == f) || false) new is) (new-frame m frame x h.frames did.1) h.apart
-      apart r did = h.apart
+      (made m n Apart (slice_range h.part from (piece_end from len)) r
+      (own.cut m n server a from (piece_end from len) h.part r order h.is_part step) (λ same. h.apart)
+      (λ x readable new. with-piece m x (phase.Cuts a from len taken None) (phase.Offers a from len x taken None) frame
+      (λ f new is. or_from (x == f) ((a == f) || false) new is) (new-frame m frame x h.frames new) h.apart))
 
   pub offers : (fd c a from len piece taken : ℕ) (r : Reply) → descriptor m server fd ≡ Some (on.Connection c)
       → HasPart m w o run (phase.Offers a from len piece taken None) frame
@@ -152,15 +143,13 @@ module _ (steps : EachStepLeavesTheRest) (own : CallsServeTheirDomain) (m n : St
       fits (call.IolWrite fd piece) r step (no-position m fd run.from (on.Connection c) open_on refl) (λ f u. refl)
       (phase.Offers a from len piece taken None) (conn.after_offer a from len piece taken None r) h
       (left.offers steps own m n order w h.part fd c a from len piece taken r open_on (h.has, h.is_part, h.within) step)
-      (apart r)
+      (after-write Apart r h.apart (fewer (phase.Breaks piece a None) (λ f is. is))
+      (λ k. fewer (conn.moved_on a from len piece taken None (min k (len - from))) (λ f is. is)))
     where
-      apart : (r : Reply) → sends_frame (conn.after_offer a from len piece taken None r) frame ≡ false
-      apart (reply.Count k) =
-          sends-none (phase.Offers a from len piece taken None)
-          (conn.moved_on a from len piece taken None (min k (len - from))) frame (λ f is. is) h.apart
-      apart (reply.Refused no.BrokenPipe) =
-          sends-none (phase.Offers a from len piece taken None) (phase.Breaks piece a None) frame (λ f is. is) h.apart
-      apart r = h.apart
+      fewer : (e : Phase)
+          → ((f : ℕ) → conn.uses_agg (phase.Offers a from len piece taken None) f ≡ false → conn.uses_agg e f ≡ false)
+          → Apart e
+      fewer e of = sends-none (phase.Offers a from len piece taken None) e frame of h.apart
 
   -- what is dropped is not the frame
   not-frame : (b : ℕ) (d : Phase) → ((f : ℕ) → conn.uses_agg d f ≡ false → (b == f) ≡ false)
@@ -182,21 +171,15 @@ module _ (steps : EachStepLeavesTheRest) (own : CallsServeTheirDomain) (m n : St
       (not-frame piece (phase.Swaps a from len piece taken None)
       (λ f is. (or_parts (piece == f) ((a == f) || false) is).0) h.apart)
       (phase.Swaps a from len piece taken None) (conn.after_swap a from len piece taken None r) h
-      (left.swaps steps own m n order w h.part a from len piece taken r (h.has, h.is_part, h.within) step) (apart r)
+      (left.swaps steps own m n order w h.part a from len piece taken r (h.has, h.is_part, h.within) step)
+      (after-done Apart r h.apart
+      (either-way Apart (nat_lt from len) (less (phase.Cuts a from len taken None) (λ f is. is))
+      (less (phase.Sent a taken None) (λ f is. is))))
     where
-      free : (e : Phase) → ((f : ℕ) → conn.uses_agg e f ≡ ((a == f) || false)) → sends_frame e frame ≡ false
-      free e same =
-          sends-none (phase.Swaps a from len piece taken None) e frame (λ f is. same f
-          ∙ (or_parts (piece == f) ((a == f) || false) is).1) h.apart
-
-      apart : (r : Reply) → sends_frame (conn.after_swap a from len piece taken None r) frame ≡ false
-      apart reply.Done = by (nat_lt from len)
-        where
-          by : (b : Bool) → sends_frame (if b then phase.Cuts a from len taken None else phase.Sent a taken None) frame
-              ≡ false
-          by true = free (phase.Cuts a from len taken None) (λ f. refl)
-          by false = free (phase.Sent a taken None) (λ f. refl)
-      apart r = h.apart
+      less : (e : Phase) → ((f : ℕ) → ((a == f) || false) ≡ false → conn.uses_agg e f ≡ false) → Apart e
+      less e of =
+          sends-none (phase.Swaps a from len piece taken None) e frame
+          (λ f is. of f (or_parts (piece == f) ((a == f) || false) is).1) h.apart
 
   pub breaks : (piece a : ℕ) (r : Reply) → HasPart m w o run (phase.Breaks piece a None) frame
       → StepsTo m (event.Call server (call.AggDrop piece)) r n
@@ -206,13 +189,11 @@ module _ (steps : EachStepLeavesTheRest) (own : CallsServeTheirDomain) (m n : St
       (not-frame piece (phase.Breaks piece a None) (λ f is. (or_parts (piece == f) ((a == f) || false) is).0)
       h.apart)
       (phase.Breaks piece a None) (conn.after_break piece a None r) h
-      (left.breaks steps own m n order w h.part piece a r (h.has, h.is_part, h.within) step) (apart r)
-    where
-      apart : (r : Reply) → sends_frame (conn.after_break piece a None r) frame ≡ false
-      apart reply.Done =
-          sends-none (phase.Breaks piece a None) (phase.Drops a None) frame
-          (λ f is. (or_parts (piece == f) ((a == f) || false) is).1) h.apart
-      apart r = h.apart
+      (left.breaks steps own m n order w h.part piece a r (h.has, h.is_part, h.within) step)
+      (after-done Apart r h.apart
+      (sends-none (phase.Breaks piece a None) (phase.Drops a None) frame
+      (λ f is. (or_parts (piece == f) ((a == f) || false) is).1)
+      h.apart))
 
   -- the frame stays where the part is dropped, and output is read
   pub receives-again : (a : ℕ) (d : Phase) (after : Progress) (next : Run)

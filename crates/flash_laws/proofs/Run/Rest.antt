@@ -5,12 +5,10 @@ use Rattle.std.proofs.Common.{arith, Some, None, true, false, Bool, append-nil, 
 use Rattle.std.proofs.Common.{if◌then◌else◌}
 use Rattle.std.specs.Prelude.{not, nat_lt, slice_range}
 use Rattle.std.proofs.lemmas.Bool.{or_parts}
-use Rattle.std.proofs.lemmas.Bool.Decides.{nat_tests}
 use Rattle.iol_core.specs.State.{State, descriptor}
 use Rattle.iol_core.specs.Run.{StepsTo}
 use Rattle.iol_core.specs.Values.{gives_up}
 use Rattle.iol_core.specs.declared.descriptors.Descriptor.TheVariants as on
-use Rattle.iol_core.specs.declared.refusals.Refusal.TheVariants as no
 use Rattle.iol_core.specs.declared.events.Call.{Call}
 use Rattle.iol_core.specs.declared.events.Call.TheVariants as call
 use Rattle.iol_core.specs.declared.events.Event.TheVariants as event
@@ -25,6 +23,7 @@ use Rattle.flash_laws.specs.Answers.{error_text}
 use Rattle.flash_laws.specs.Conn as conn
 use Rattle.flash_laws.specs.Conn.{piece_end}
 use Rattle.flash_laws.specs.Conn.Fits.{Has, Names}
+use Rattle.flash_laws.specs.Conn.Progress.{is_busy}
 use Rattle.flash_laws.specs.Run.Fits.{Progress, Ran, Broken, NotRun, IsLeft, HasNone, sent_agg, IsPart, IsSending}
 use Rattle.flash_laws.specs.Run.Fits.{HasRest, HasLeft}
 use Rattle.flash_laws.specs.Conn.OfferedBytes.{taken_of, newly_taken, is_dropping}
@@ -36,7 +35,9 @@ use Rattle.flash_laws.specs.declared.phase.Phase.{Phase}
 use Rattle.flash_laws.specs.declared.phase.Phase.TheVariants as phase
 use Rattle.flash_laws.proofs.Conn.AnswerParts as having
 use Rattle.flash_laws.proofs.Conn.ReadableBytes.{readable-stays}
-use Rattle.flash_laws.proofs.Lists.{self, turned, few-taken}
+use Rattle.flash_laws.proofs.Lists.{turned, few-taken}
+use Rattle.flash_laws.proofs.Moves.{written, after-done, after-agg, after-write, either-way}
+use Rattle.flash_laws.proofs.Conn.TakenBytes.{takes}
 
 -- what a phase that sends all that is expected has
 abbrev pub SendsAll : State → Wanted → (expected : List ℕ) → Phase → Type 0
@@ -78,6 +79,12 @@ pub part-sends : (m : State) (expected : List ℕ) (d : Phase) → IsPart m (sen
 part-sends m expected (phase.Heads (Error status)) is within = tt
 part-sends m expected d is within = (is, within)
 
+pub busy : (m : State) (expected : List ℕ) (d : Phase) → IsSending m expected d → is_busy d ≡ true
+busy m expected phase.Rests is = absurd is.0
+busy m expected phase.Closes is = absurd is.0
+busy m expected phase.Over is = absurd is.0
+busy m expected d is = refl
+
 -- what is to be sent yet is the rest
 pub is-rest : (m : State) (w : Wanted) (o : Progress) (d : Phase) → is_left d ≡ true → HasLeft m w o d → HasRest m w o d
 is-rest m w o phase.Rests is has = absurd (cc (is))
@@ -96,68 +103,23 @@ module _ (steps : EachStepLeavesTheRest) (own : CallsServeTheirDomain) (m n : St
 
   -- ---- how much is taken
 
-  counts-sends : (fd c a len taken : ℕ) (r : Reply) → descriptor m server fd ≡ Some (on.Connection c)
-      → Sends m (phase.Sends a len taken None)
-      → StepsTo m (event.Call server (call.IolWrite fd a)) r n
-      → is_dropping (conn.after_send a len taken None r) ≡ false
-      → taken_of (conn.after_send a len taken None r) ≡ taken + newly_taken fd (call.IolWrite fd a) r
-  counts-sends fd c a len taken r open_on has step on =
-      by r (own.write_conn m n server fd c a has.0.bytes r order open_on has.0.is_readable step) on
-    where
-      by : (r : Reply) → caller.WritesConn m c has.0.bytes r n
-          → is_dropping (conn.after_send a len taken None r) ≡ false
-          → taken_of (conn.after_send a len taken None r) ≡ taken + newly_taken fd (call.IolWrite fd a) r
-      by (reply.Count k) puts on = all (nat_lt k len) refl
-        where
-          new : (if fd == fd then k else 0) ≡ k
-          new = ap (λ b. if b then k else 0) (self fd)
+  -- a part that is not sent whole is sent on
+  abbrev Sending : Phase → Type 0
+  Sending e = is_busy e ≡ true
 
-          all : (b : Bool) → nat_lt k len ≡ b
-              → taken_of (if b then phase.Cuts a k len (taken + k) None else phase.Sent a (taken + len) None)
-              ≡ taken + (if fd == fd then k else 0)
-          all true is = ap (λ z. taken + z) (sym new)
-          all false is = (let size = has.0.size in let within = puts.within in let le : len ≤ k =
-              grind (arith, nat_tests, is) in omega (arith, new, size, within, le))
-      by (reply.Refused no.BrokenPipe) did on = absurd (cc (on))
-      by (reply.Refused y) did on = omega arith
-      by r did on = absurd did
-
-  counts-offers : (fd c a from len piece taken : ℕ) (r : Reply) → descriptor m server fd ≡ Some (on.Connection c)
-      → Sends m (phase.Offers a from len piece taken None)
-      → StepsTo m (event.Call server (call.IolWrite fd piece)) r n
-      → is_dropping (conn.after_offer a from len piece taken None r) ≡ false
-      → taken_of (conn.after_offer a from len piece taken None r) ≡ taken + newly_taken fd (call.IolWrite fd piece) r
-  counts-offers fd c a from len piece taken r open_on has step on =
-      by r (own.write_conn m n server fd c piece (slice_range has.0.whole.bytes from (piece_end from len)) r order
-      open_on has.0.is_readable step) on
-    where
-      by : (r : Reply) → caller.WritesConn m c (slice_range has.0.whole.bytes from (piece_end from len)) r n
-          → is_dropping (conn.after_offer a from len piece taken None r) ≡ false
-          → taken_of (conn.after_offer a from len piece taken None r) ≡ taken + newly_taken fd (call.IolWrite fd piece)
-          r
-      by (reply.Count k) puts on =
-          let new : (if fd == fd then k else 0) ≡ k = ap (λ b. if b then k else 0) (self fd) in
-          let few = (few-taken k from len has.0.whole.bytes has.0.whole.size puts.within).1 in
-          ap (λ z. taken + z) (few ∙ sym new)
-      by (reply.Refused no.BrokenPipe) did on = absurd (cc (on))
-      by (reply.Refused y) did on = omega arith
-      by r did on = absurd did
-
-  counts-cuts : (fd a from len taken : ℕ) (r : Reply)
-      → taken_of (conn.after_cut a from len taken None r)
-      ≡ taken + newly_taken fd (call.AggCut a from (piece_end from len)) r
-  counts-cuts fd a from len taken (reply.Agg x) = omega arith
-  counts-cuts fd a from len taken r = omega arith
-
-  counts-swaps : (fd a from len piece taken : ℕ) (r : Reply)
-      → taken_of (conn.after_swap a from len piece taken None r) ≡ taken + newly_taken fd (call.AggDrop piece) r
-  counts-swaps fd a from len piece taken reply.Done = by (nat_lt from len)
-    where
-      by : (b : Bool) → taken_of (if b then phase.Cuts a from len taken None else phase.Sent a taken None)
-          ≡ taken + newly_taken fd (call.AggDrop piece) reply.Done
-      by true = omega arith
-      by false = omega arith
-  counts-swaps fd a from len piece taken r = omega arith
+  stays-busy : (d : Phase) (r : Reply) (received : List ℕ) → Sends m d → is_sent d ≡ false → is_dropping d ≡ false
+      → Sending (conn.after_reply (in_phase w d) r received).phase
+  stays-busy (phase.Sends a len taken None) r received has unsent at =
+      after-write Sending r refl refl (λ k. either-way Sending (nat_lt k len) refl refl)
+  stays-busy (phase.Cuts a from len taken None) r received has unsent at = after-agg Sending r refl (λ x. refl)
+  stays-busy (phase.Offers a from len piece taken None) r received has unsent at =
+      after-write Sending r refl refl (λ k. refl)
+  stays-busy (phase.Swaps a from len piece taken None) r received has unsent at =
+      after-done Sending r refl (either-way Sending (nat_lt from len) refl refl)
+  stays-busy (phase.Sent a taken None) r received has unsent at = absurd (cc (unsent))
+  stays-busy (phase.Breaks piece a None) r received has unsent at = absurd (cc (at))
+  stays-busy (phase.Drops a None) r received has unsent at = absurd (cc (at))
+  stays-busy d r received has unsent at = absurd has.1
 
   -- a part that is sent, of which nothing is dropped
   pub counts : (fd c : ℕ) (d : Phase) (r : Reply) (received : List ℕ) → descriptor m server fd ≡ Some (on.Connection c)
@@ -166,122 +128,75 @@ module _ (steps : EachStepLeavesTheRest) (own : CallsServeTheirDomain) (m n : St
       → is_dropping (conn.after_reply (in_phase w d) r received).phase ≡ false
       → taken_of (conn.after_reply (in_phase w d) r received).phase ≡ taken_of d + newly_taken fd
       (conn.wants fd (in_phase w d)) r
-  counts fd c (phase.Sends a len taken None) r received open_on has step unsent at on =
-      counts-sends fd c a len taken r open_on has step on
-  counts fd c (phase.Cuts a from len taken None) r received open_on has step unsent at on =
-      counts-cuts fd a from len taken r
-  counts fd c (phase.Offers a from len piece taken None) r received open_on has step unsent at on =
-      counts-offers fd c a from len piece taken r open_on has step on
-  counts fd c (phase.Swaps a from len piece taken None) r received open_on has step unsent at on =
-      counts-swaps fd a from len piece taken r
-  counts fd c (phase.Sent a taken None) r received open_on has step unsent at on = absurd (cc (unsent))
-  counts fd c (phase.Breaks piece a None) r received open_on has step unsent at on = absurd (cc (at))
-  counts fd c (phase.Drops a None) r received open_on has step unsent at on = absurd (cc (at))
-  counts fd c d r received open_on has step unsent at on = absurd has.1
+  counts fd c d r received open_on has step unsent at on =
+      takes own m n order fd c open_on (serve w) expected [] d r received has.0 step at on
+      (stays-busy d r received has unsent at)
 
   -- ---- what a phase has after the reply to its call
+
+  abbrev Goes : Phase → Type 0
+  Goes e = IsPart n (sent_agg e) expected × (taken_of e ≤ length expected)
+
+  both : (d : Phase) → Has n (serve w) expected d → Goes d → Sends n d
+  both d has goes = (has, goes.0, goes.1)
 
   pub sends : (fd c a len taken : ℕ) (r : Reply) → descriptor m server fd ≡ Some (on.Connection c)
       → Sends m (phase.Sends a len taken None)
       → StepsTo m (event.Call server (call.IolWrite fd a)) r n → Sends n (conn.after_send a len taken None r)
   sends fd c a len taken r open_on has step =
-      by r (own.write_conn m n server fd c a has.0.bytes r order open_on has.0.is_readable step)
+      let here = is_readable (call.IolWrite fd a) r step a refl has.1 in
+      let size = has.0.size in
+      let most = most-left has.0.bytes has.0.after expected taken has.0.next has.2 in
+      both (conn.after_send a len taken None r)
       (having.sends steps own m n order (serve w) fd c a len taken None expected r open_on has.0 step)
-      (is_readable (call.IolWrite fd a) r step a refl has.1)
-    where
-      most : taken + length has.0.bytes ≤ length expected
-      most = most-left has.0.bytes has.0.after expected taken has.0.next has.2
-
-      by : (r : Reply) → caller.WritesConn m c has.0.bytes r n
-          → Has n (serve w) expected (conn.after_send a len taken None r) → readable_at n server a ≡ Some expected
-          → Sends n (conn.after_send a len taken None r)
-      by (reply.Count k) puts next here = all (nat_lt k len) refl next
-        where
-          all : (b : Bool) → nat_lt k len ≡ b
-              → Has n (serve w) expected (if b then phase.Cuts a k len (taken + k) None else phase.Sent a (taken + len)
-              None)
-              → Sends n (if b then phase.Cuts a k len (taken + k) None else phase.Sent a (taken + len) None)
-          all true is next = (
-            next,
-            here,
-            (let size = has.0.size in let le = most in let lt : k ≤ len = grind (arith, nat_tests, is) in
-                omega (arith, size, le, lt)),
-          )
-          all false is next = (next, here, (let size = has.0.size in let le = most in omega (arith, size, le)))
-      by (reply.Refused no.BrokenPipe) did next here = (next, here, omega arith)
-      by (reply.Refused y) did next here = (next, here, has.2)
-      by r did next here = absurd did
+      (written m n Goes c has.0.bytes r
+      (own.write_conn m n server fd c a has.0.bytes r order open_on has.0.is_readable step) (λ same. (here, has.2))
+      (λ same. (here, omega arith))
+      (λ k puts. let within = puts.within in
+      either-way Goes (nat_lt k len) (here, omega (arith, within, most)) (here, omega (arith, size, most))))
 
   pub cuts : (a from len taken : ℕ) (r : Reply) → Sends m (phase.Cuts a from len taken None)
       → StepsTo m (event.Call server (call.AggCut a from (piece_end from len))) r n
       → Sends n (conn.after_cut a from len taken None r)
-  cuts a from len taken r has step = by r (own.cut m n server a from (piece_end from len) expected r order has.1 step)
+  cuts a from len taken r has step =
+      let here = is_readable (call.AggCut a from (piece_end from len)) r step a refl has.1 in
+      both (conn.after_cut a from len taken None r)
       (having.cuts steps own m n order (serve w) a from len taken None expected r has.0 step)
-      (is_readable (call.AggCut a from (piece_end from len)) r step a refl has.1)
-    where
-      by : (r : Reply) → caller.Makes m server (slice_range expected from (piece_end from len)) r n
-          → Has n (serve w) expected (conn.after_cut a from len taken None r) → readable_at n server a ≡ Some expected
-          → Sends n (conn.after_cut a from len taken None r)
-      by (reply.Agg x) did next here = (next, here, has.2)
-      by (reply.Refused y) did next here = (next, here, has.2)
-      by r did next here = absurd did
+      (after-agg Goes r (here, has.2) (λ x. (here, has.2)))
 
   pub offers : (fd c a from len piece taken : ℕ) (r : Reply) → descriptor m server fd ≡ Some (on.Connection c)
       → Sends m (phase.Offers a from len piece taken None)
       → StepsTo m (event.Call server (call.IolWrite fd piece)) r n
       → Sends n (conn.after_offer a from len piece taken None r)
   offers fd c a from len piece taken r open_on has step =
-      by r (own.write_conn m n server fd c piece (slice_range has.0.whole.bytes from (piece_end from len)) r order
-      open_on has.0.is_readable step)
+      let here = is_readable (call.IolWrite fd piece) r step a refl has.1 in
+      let bytes = slice_range has.0.whole.bytes from (piece_end from len) in
+      let most = most-left (drop from has.0.whole.bytes) has.0.whole.after expected taken has.0.whole.next has.2 in
+      both (conn.after_offer a from len piece taken None r)
       (having.offers_piece steps own m n order (serve w) fd c a from len piece taken None expected r open_on has.0 step)
-      (is_readable (call.IolWrite fd piece) r step a refl has.1)
-    where
-      by : (r : Reply) → caller.WritesConn m c (slice_range has.0.whole.bytes from (piece_end from len)) r n
-          → Has n (serve w) expected (conn.after_offer a from len piece taken None r)
-          → readable_at n server a ≡ Some expected
-          → Sends n (conn.after_offer a from len piece taken None r)
-      by (reply.Count k) puts next here =
-          let few = few-taken k from len has.0.whole.bytes has.0.whole.size puts.within in
-          let most = most-left (drop from has.0.whole.bytes) has.0.whole.after expected taken has.0.whole.next has.2 in
-          let le = few.0 in
-          let same = few.1 in
-          (next, here, omega (arith, most, le, same))
-      by (reply.Refused no.BrokenPipe) did next here = (next, here, omega arith)
-      by (reply.Refused y) did next here = (next, here, has.2)
-      by r did next here = absurd did
+      (written m n Goes c bytes r (own.write_conn m n server fd c piece bytes r order open_on has.0.is_readable step)
+      (λ same. (here, has.2)) (λ same. (here, omega arith))
+      (λ k puts. let few = few-taken k from len has.0.whole.bytes has.0.whole.size puts.within in
+      let le = few.0 in
+      let same = few.1 in (here, omega (arith, most, le, same))))
 
   pub swaps : (a from len piece taken : ℕ) (r : Reply) → Sends m (phase.Swaps a from len piece taken None)
       → StepsTo m (event.Call server (call.AggDrop piece)) r n → Sends n (conn.after_swap a from len piece taken None r)
-  swaps a from len piece taken r has step = by r (own.drops m n server piece r order step)
+  swaps a from len piece taken r has step =
+      let here = is_readable (call.AggDrop piece) r step a (turned a piece (or_parts (a == piece) false has.0.1).0)
+      has.1 in
+      both (conn.after_swap a from len piece taken None r)
       (having.swaps steps own m n order (serve w) a from len piece taken None expected r has.0 step)
-      (is_readable (call.AggDrop piece) r step a (turned a piece (or_parts (a == piece) false has.0.1).0) has.1)
-    where
-      by : (r : Reply) → caller.Drops m server piece r n
-          → Has n (serve w) expected (conn.after_swap a from len piece taken None r)
-          → readable_at n server a ≡ Some expected
-          → Sends n (conn.after_swap a from len piece taken None r)
-      by reply.Done did next here = all (nat_lt from len) next
-        where
-          all : (b : Bool)
-              → Has n (serve w) expected (if b then phase.Cuts a from len taken None else phase.Sent a taken None)
-              → Sends n (if b then phase.Cuts a from len taken None else phase.Sent a taken None)
-          all true next = (next, here, has.2)
-          all false next = (next, here, has.2)
-      by (reply.Refused y) did next here = (next, here, has.2)
-      by r did next here = absurd did
+      (after-done Goes r (here, has.2) (either-way Goes (nat_lt from len) (here, has.2) (here, has.2)))
 
   pub breaks : (piece a : ℕ) (r : Reply) → Sends m (phase.Breaks piece a None)
       → StepsTo m (event.Call server (call.AggDrop piece)) r n → Sends n (conn.after_break piece a None r)
-  breaks piece a r has step = by r (own.drops m n server piece r order step)
+  breaks piece a r has step =
+      let here = is_readable (call.AggDrop piece) r step a (turned a piece (or_parts (a == piece) false has.0.1).0)
+      has.1 in
+      both (conn.after_break piece a None r)
       (having.breaks steps own m n order (serve w) piece a None expected r has.0 step)
-      (is_readable (call.AggDrop piece) r step a (turned a piece (or_parts (a == piece) false has.0.1).0) has.1)
-    where
-      by : (r : Reply) → caller.Drops m server piece r n → Has n (serve w) expected (conn.after_break piece a None r)
-          → readable_at n server a ≡ Some expected
-          → Sends n (conn.after_break piece a None r)
-      by reply.Done did next here = (next, here, omega arith)
-      by (reply.Refused y) did next here = (next, here, has.2)
-      by r did next here = absurd did
+      (after-done Goes r (here, has.2) (here, omega arith))
 
   -- ---- what is left
 

@@ -10,7 +10,6 @@ use Rattle.iol_core.specs.State.{State, descriptor, may_read, pipe_at}
 use Rattle.iol_core.specs.Run.{StepsTo}
 use Rattle.iol_core.specs.Values.{gives_up}
 use Rattle.iol_core.specs.declared.descriptors.Descriptor.TheVariants as on
-use Rattle.iol_core.specs.declared.refusals.Refusal.{Refusal}
 use Rattle.iol_core.specs.declared.refusals.Refusal.TheVariants as no
 use Rattle.iol_core.specs.declared.events.Call.{Call}
 use Rattle.iol_core.specs.declared.events.Call.TheVariants as call
@@ -23,6 +22,7 @@ use Rattle.iol_laws.specs.Caller as caller
 use Rattle.iol_laws.specs.Caller.{CallsServeTheirDomain, readable_at}
 use Rattle.flash_http.specs.Chunk.{chunk_head, chunk_end, chunk}
 use Rattle.flash_http.specs.Request.{Wanted}
+use Rattle.flash_laws.specs.Moves.{or_stay, on_done}
 use Rattle.flash_laws.specs.Conn.{Following, has_followed, count_of}
 use Rattle.flash_laws.specs.Conn.Fits.{HoldsRest, Names}
 use Rattle.flash_laws.specs.Run.Fits.{Progress, Broken, nothing_yet, HoldsBack, Continues, Goes, HasJobPipe, IsReading}
@@ -39,12 +39,13 @@ use Rattle.flash_laws.specs.declared.script_run.TheConstants.{CHUNK_BYTES}
 use Rattle.flash_laws.specs.declared.script_run.Run.{Run}
 use Rattle.flash_laws.specs.declared.script_run.Step.{Step}
 use Rattle.flash_laws.specs.declared.script_run.Step.TheVariants.{Gives, Makes, Hands, Heads, Receives, Gathers, Frames}
-use Rattle.flash_laws.specs.declared.script_run.Step.TheVariants.{Wraps, Returns, Lapses}
+use Rattle.flash_laws.specs.declared.script_run.Step.TheVariants.{Wraps, Trims, Returns, Lapses}
 use Rattle.flash_laws.specs.declared.script_run.Running.{Running}
 use Rattle.flash_laws.specs.declared.script_run.Running.TheVariants.{Awaits, Runs}
 use Rattle.flash_laws.proofs.Conn.Responses.{some-inj}
 use Rattle.flash_laws.proofs.Counts.{counted, made-short}
 use Rattle.flash_laws.proofs.Conn.ReadableBytes.{readable-stays, new-other}
+use Rattle.flash_laws.proofs.Moves.{dropped, made, made-received}
 use Rattle.flash_laws.proofs.Lists.{not-equal, turned}
 use Rattle.flash_laws.proofs.Run.Outputs.{short-output, short-chunk, receives-more, receives-end, plain-part}
 use Rattle.flash_laws.proofs.Run.Outputs.{chunk-part}
@@ -76,8 +77,8 @@ module _ (steps : EachStepLeavesTheRest) (own : CallsServeTheirDomain) (m n : St
       → readable_at n server a ≡ Some bytes
   is_readable k r step a bytes un is = readable-stays steps m n (event.Call server k) r step a bytes is un
 
-  pub same : (o : Progress) (x : Running) → n ≡ m → HasRun job m w o x → HasRun job n w o x
-  same o x is has = subst (λ (s : State). HasRun job s w o x) (sym is) has
+  pub same : (o : Progress) (x : Running) → HasRun job m w o x → n ≡ m → HasRun job n w o x
+  same o x has is = subst (λ (s : State). HasRun job s w o x) (sym is) has
 
   -- ---- a run begins: the pipe is made
 
@@ -123,13 +124,6 @@ module _ (steps : EachStepLeavesTheRest) (own : CallsServeTheirDomain) (m n : St
     stay k r o s step un still has =
         run_stays steps job m n w (Runs run s) (event.Call server k) r o step un still (hired, has)
 
-    -- where an aggregate is dropped that it does not use
-    dropped : (a : ℕ) (o : Progress) (s : Step) → StepsTo m (event.Call server (call.AggDrop a)) reply.Done n
-        → step_agg s a ≡ false
-        → HasStep job m w o run s → HasRun job n w o (Runs run s)
-    dropped a o s step apart has =
-        stay (call.AggDrop a) reply.Done o s step (λ b u. other (λ z. step_agg s z) a b apart u) (λ g u. refl) has
-
     pub still-hired : (k : Call) (r : Reply) → StepsTo m (event.Call server k) r n
         → touches_fd m (event.Call server k) server (job_pipe run.worker) ≡ false → HasJobPipe n run.worker
     still-hired k r step still =
@@ -141,20 +135,14 @@ module _ (steps : EachStepLeavesTheRest) (own : CallsServeTheirDomain) (m n : St
     still-reading k r step still is =
         reading-on m n run (λ x e. (steps.leaves m n (event.Call server k) r step).fds server run.from x e still) is
 
-    -- after an aggregate is dropped, or was not
+    -- after an aggregate is dropped that the next step does not use, or was not
     pub drops : (a : ℕ) (s t : Step) (r : Reply) (o : Progress) → HasRun job m w o (Runs run s) → step_agg t a ≡ false
         → HasStep job m w o run t
-        → StepsTo m (event.Call server (call.AggDrop a)) r n
-        → (y : Reply → Running) → y reply.Done ≡ Runs run t → ((x : Refusal) → y (reply.Refused x) ≡ Runs run s)
-        → HasRun job n w o (y r)
-    drops a s t r o has apart next step y done refused = by r (own.drops m n server a r order step) step
-      where
-        by : (r : Reply) → caller.Drops m server a r n → StepsTo m (event.Call server (call.AggDrop a)) r n
-            → HasRun job n w o (y r)
-        by reply.Done did step = subst (λ (x : Running). HasRun job n w o x) (sym done) (dropped a o t step apart next)
-        by (reply.Refused x) did step =
-            subst (λ (z : Running). HasRun job n w o z) (sym (refused x)) (same o (Runs run s) did has)
-        by r did step = absurd did
+        → StepsTo m (event.Call server (call.AggDrop a)) r n → HasRun job n w o (Runs run (or_stay s (on_done r t)))
+    drops a s t r o has apart next step =
+        dropped m n (λ z. HasRun job n w o (Runs run z)) a r (own.drops m n server a r order step)
+        (same o (Runs run s) has)
+        (stay (call.AggDrop a) r o t step (λ b u. other (λ z. step_agg t z) a b apart u) (λ g u. refl) next)
 
     -- ---- the job
 
@@ -166,8 +154,8 @@ module _ (steps : EachStepLeavesTheRest) (own : CallsServeTheirDomain) (m n : St
         step
       where
         again : (b : Bool) → n ≡ m → HasRun job n w o (Runs run (if b then Gives write else Returns write))
-        again true is = same o (Runs run (Gives write)) is (hired, has)
-        again false is = same o (Runs run (Returns write)) is (hired, has)
+        again true is = same o (Runs run (Gives write)) (hired, has) is
+        again false is = same o (Runs run (Returns write)) (hired, has) is
 
         by : (r : Reply) → caller.GivesFd m server write (worker_domain run.worker) (on.WriteEnd has.0.pipe) r n
             → StepsTo m (event.Call server (call.GiveFd write (worker_domain run.worker))) r n
@@ -185,15 +173,11 @@ module _ (steps : EachStepLeavesTheRest) (own : CallsServeTheirDomain) (m n : St
 
     pub makes : (f : ℕ) (r : Reply) (o : Progress) → HasStep job m w o run (Makes f)
         → StepsTo m (event.Call server (call.AggMake (job f))) r n → HasRun job n w o (Runs run (after_make f r))
-    makes f r o has step = by r (own.make m n server (job f) r order step) step
-      where
-        by : (r : Reply) → caller.Makes m server (job f) r n → StepsTo m (event.Call server (call.AggMake (job f))) r n
-            → HasRun job n w o (Runs run (after_make f r))
-        by (reply.Agg x) did step =
-            let here = stay (call.AggMake (job f)) (reply.Agg x) o (Makes f) step (λ a u. refl) (λ g u. refl) has in
-            (here.0, (here.1.0, did.0, here.1.1))
-        by (reply.Refused y) did step = same o (Runs run (Makes f)) did (hired, has)
-        by r did step = absurd did
+    makes f r o has step =
+        let here = stay (call.AggMake (job f)) r o (Makes f) step (λ a u. refl) (λ g u. refl) has in
+        made m n (λ s. HasRun job n w o (Runs run s)) (job f) r (own.make m n server (job f) r order step)
+        (same o (Runs run (Makes f)) (hired, has))
+        (λ x readable new. (here.0, (here.1.0, readable, here.1.1)))
 
     pub hands : (j f : ℕ) (r : Reply) (o : Progress) → HasStep job m w o run (Hands j f)
         → StepsTo m (event.Call server (call.IolWrite (job_pipe run.worker) j)) r n
@@ -202,8 +186,8 @@ module _ (steps : EachStepLeavesTheRest) (own : CallsServeTheirDomain) (m n : St
         by r (own.write_pipe m n server (job_pipe run.worker) hired.0 j (job f) r order hired.1 has.1 step) step
       where
         again : (b : Bool) → n ≡ m → HasRun job n w o (Runs run (if b then Hands j f else Lapses j))
-        again true is = same o (Runs run (Hands j f)) is (hired, has)
-        again false is = same o (Runs run (Lapses j)) is (hired, (has.0, (job f, has.1), has.2))
+        again true is = same o (Runs run (Hands j f)) (hired, has) is
+        again false is = same o (Runs run (Lapses j)) (hired, (has.0, (job f, has.1), has.2)) is
 
         by : (r : Reply) → caller.WritesPipe m hired.0 (job f) r n
             → StepsTo m (event.Call server (call.IolWrite (job_pipe run.worker) j)) r n
@@ -220,30 +204,28 @@ module _ (steps : EachStepLeavesTheRest) (own : CallsServeTheirDomain) (m n : St
     pub heads : (r : Reply) (received : List ℕ) (o : Progress) → HasStep job m w o run Heads
         → StepsTo m (event.Call server (call.AggMake (script_text w))) r n → Names n r received
         → HasRun job n w o (Runs run (after_head r received))
-    heads r received o has step names = by r (own.make m n server (script_text w) r order step) step names
-      where
-        by : (r : Reply) → caller.Makes m server (script_text w) r n
-            → StepsTo m (event.Call server (call.AggMake (script_text w))) r n → Names n r received
-            → HasRun job n w o (Runs run (after_head r received))
-        by (reply.Agg x) did step names =
-            let here = stay (call.AggMake (script_text w)) (reply.Agg x) o Heads step (λ a u. refl) (λ g u. refl) has in
-            let receives : received ≡ script_text w = some-inj received (script_text w) (sym names ∙ did.0) in (
-              here.0,
-              record {
-                reads = here.1.0;
-                frames = tt;
-                part = script_text w;
-                is_part = did.0;
-                has = begun n x (count_of received) (script_text w) did.0 (ap (λ (l : List ℕ). count_of l) receives
-                    ∙ counted (script_text w) (made-short m n server x (script_text w) step));
-                within = omega arith;
-                apart = refl;
-                whole = has.1.0;
-                continues = subst (λ (z : Progress). Continues w z (script_text w) []) (sym has.1.1) (λ more. refl);
-              },
-            )
-        by (reply.Refused y) did step names = same o (Runs run Heads) did (hired, has)
-        by r did step names = absurd did
+    heads r received o has step names =
+        let here = stay (call.AggMake (script_text w)) r o Heads step (λ a u. refl) (λ g u. refl) has in
+        made-received m n (λ s. HasRun job n w o (Runs run s)) (script_text w) received r
+        (own.make m n server (script_text w) r order step) names (same o (Runs run Heads) (hired, has))
+        (λ x is receives readable new. (
+          here.0,
+          record {
+            reads = here.1.0;
+            frames = tt;
+            part = script_text w;
+            is_part = readable;
+            has = begun n x (count_of received) (script_text w) readable
+                (ap (λ (l : List ℕ). count_of l) receives
+                ∙ counted (script_text w)
+                (made-short m n server x (script_text w)
+                (subst (λ z. StepsTo m (event.Call server (call.AggMake (script_text w))) z n) is step)));
+            within = omega arith;
+            apart = refl;
+            whole = has.1.0;
+            continues = subst (λ (z : Progress). Continues w z (script_text w) []) (sym has.1.1) (λ more. refl);
+          },
+        ))
 
     -- ---- output is read
 
@@ -442,7 +424,7 @@ module _ (steps : EachStepLeavesTheRest) (own : CallsServeTheirDomain) (m n : St
           subst (λ (s : State). HasJobPipe s run.worker × HasStep job s w Broken (broken run) (unread held frame))
               (sym did) (hired, barred held frame has.reads has.bytes has.has),
         )
-        by (reply.Refused y) did step names = (o, refl, same o (Runs run (Receives held frame)) did (hired, has))
+        by (reply.Refused y) did step names = (o, refl, same o (Runs run (Receives held frame)) (hired, has) did)
         by r did step names = absurd did
 
     pub gathers : (held size piece len : ℕ) (frame : Option ℕ) (r : Reply) (o : Progress)
@@ -450,44 +432,33 @@ module _ (steps : EachStepLeavesTheRest) (own : CallsServeTheirDomain) (m n : St
         → StepsTo m (event.Call server (call.AggJoin held piece)) r n
         → HasRun job n w o (Runs run (after_gather held size piece len frame r))
     gathers held size piece len frame r o has step =
-        by r (own.join m n server held piece has.bytes has.more r order has.has.holds.is_readable has.is_readable step)
-        step
-      where
-        by : (r : Reply) → caller.Makes m server (has.bytes ++ has.more) r n
-            → StepsTo m (event.Call server (call.AggJoin held piece)) r n
-            → HasRun job n w o (Runs run (after_gather held size piece len frame r))
-        by (reply.Agg x) did step = (
-          still-hired (call.AggJoin held piece) (reply.Agg x) step refl,
-          held-now x (both size len) (has.bytes ++ has.more) frame o did.0
+        made m n (λ s. HasRun job n w o (Runs run s)) (has.bytes ++ has.more) r
+        (own.join m n server held piece has.bytes has.more r order has.has.holds.is_readable has.is_readable step)
+        (same o (Runs run (Gathers held size piece len frame)) (hired, has)) (λ x readable new. (
+          still-hired (call.AggJoin held piece) r step refl,
+          held-now x (both size len) (has.bytes ++ has.more) frame o readable
               (let a = length-append has.bytes has.more in let b = has.has.holds.count in let c = has.count in
               let within = has.within in omega (arith, a, b, c, within))
               (let b = has.has.holds.some in omega (arith, b)) (let within = has.within in omega (arith, within))
               has.has.holds.chunked has.whole
-              (still-reading (call.AggJoin held piece) (reply.Agg x) step refl has.reads)
-              (frame-on m n frame (λ a bytes u is. is_readable (call.AggJoin held piece) (reply.Agg x) step a bytes
+              (still-reading (call.AggJoin held piece) r step refl has.reads)
+              (frame-on m n frame (λ a bytes u is. is_readable (call.AggJoin held piece) r step a bytes
               (or_from (held == a) (piece == a) (other (λ z. has_frame frame z) held a has.has.apart u)
               (other (λ z. has_frame frame z) piece a has.apart u)) is) has.has.frames)
-              (new-frame m frame x has.has.frames did.1) has.goes,
-        )
-        by (reply.Refused y) did step = same o (Runs run (Gathers held size piece len frame)) did (hired, has)
-        by r did step = absurd did
+              (new-frame m frame x has.has.frames new) has.goes,
+        ))
 
     -- ---- a chunk is made
 
     pub frames : (held : ℕ) (r : Reply) (o : Progress) → HasStep job m w o run (Frames held)
         → StepsTo m (event.Call server (call.AggMake (frame_of CHUNK_BYTES))) r n
         → HasRun job n w o (Runs run (after_frame held r))
-    frames held r o has step = by r (own.make m n server (frame_of CHUNK_BYTES) r order step) step
-      where
-        by : (r : Reply) → caller.Makes m server (frame_of CHUNK_BYTES) r n
-            → StepsTo m (event.Call server (call.AggMake (frame_of CHUNK_BYTES))) r n
-            → HasRun job n w o (Runs run (after_frame held r))
-        by (reply.Agg x) did step =
-            let here = stay (call.AggMake (frame_of CHUNK_BYTES)) (reply.Agg x) o (Frames held) step (λ a u. refl)
-            (λ g u. refl) has in
-            (here.0, (here.1, did.0, turned held x (new-other m held x has.bytes has.is_readable did.1)))
-        by (reply.Refused y) did step = same o (Runs run (Frames held)) did (hired, has)
-        by r did step = absurd did
+    frames held r o has step =
+        let here = stay (call.AggMake (frame_of CHUNK_BYTES)) r o (Frames held) step (λ a u. refl) (λ g u. refl) has in
+        made m n (λ s. HasRun job n w o (Runs run s)) (frame_of CHUNK_BYTES) r
+        (own.make m n server (frame_of CHUNK_BYTES) r order step) (same o (Runs run (Frames held)) (hired, has))
+        (λ x readable new.
+        (here.0, (here.1, readable, turned held x (new-other m held x has.bytes has.is_readable new))))
 
     pub wraps : (held frame : ℕ) (r : Reply) (received : List ℕ) (o : Progress)
         → HasStep job m w o run (Wraps held frame)
@@ -496,32 +467,31 @@ module _ (steps : EachStepLeavesTheRest) (own : CallsServeTheirDomain) (m n : St
         n → Names n r received
         → HasRun job n w o (Runs run (after_wrap held frame r received))
     wraps held frame r received o has step names =
-        by r (own.replace m n server frame (place_in_frame CHUNK_BYTES) (place_in_frame CHUNK_BYTES) held
-        (frame_of CHUNK_BYTES) has.0.bytes r order has.1 has.0.is_readable step) step names
+        made-received m n (λ s. HasRun job n w o (Runs run s)) whole received r
+        (own.replace m n server frame (place_in_frame CHUNK_BYTES) (place_in_frame CHUNK_BYTES) held
+        (frame_of CHUNK_BYTES) has.0.bytes r order has.1 has.0.is_readable step) names
+        (same o (Runs run (Wraps held frame)) (hired, has)) new
       where
-        is_chunk : take (place_in_frame CHUNK_BYTES) (frame_of CHUNK_BYTES) ++ has.0.bytes
-            ++ drop (place_in_frame CHUNK_BYTES) (frame_of CHUNK_BYTES) ≡ chunk has.0.bytes
+        whole : List ℕ
+        whole = take (place_in_frame CHUNK_BYTES) (frame_of CHUNK_BYTES) ++ has.0.bytes
+            ++ drop (place_in_frame CHUNK_BYTES) (frame_of CHUNK_BYTES)
+
+        is_chunk : whole ≡ chunk has.0.bytes
         is_chunk = set_between (chunk_head CHUNK_BYTES) chunk_end has.0.bytes
             ∙ ap (λ k. chunk_head k ++ (has.0.bytes ++ chunk_end)) (sym has.0.count)
 
-        by : (r : Reply)
-            → caller.Makes m server (take (place_in_frame CHUNK_BYTES) (frame_of CHUNK_BYTES) ++ has.0.bytes
-            ++ drop (place_in_frame CHUNK_BYTES) (frame_of CHUNK_BYTES)) r n
-            → StepsTo m
-            (event.Call server (call.AggReplace frame (place_in_frame CHUNK_BYTES) (place_in_frame CHUNK_BYTES)
-            held)) r n → Names n r received
-            → HasRun job n w o (Runs run (after_wrap held frame r received))
-        by (reply.Agg x) did step names =
-            let here = stay (call.AggReplace frame (place_in_frame CHUNK_BYTES) (place_in_frame CHUNK_BYTES) held)
-            (reply.Agg x) o (Wraps held frame) step (λ a u. refl) (λ g u. refl) has in
-            let readable : readable_at n server x ≡ Some (chunk has.0.bytes) =
-            did.0 ∙ ap (λ (l : List ℕ). Some l) is_chunk in
-            let receives : received ≡ chunk has.0.bytes =
-            some-inj received (chunk has.0.bytes) (sym names ∙ readable) in
+        new : (x : ℕ) → r ≡ reply.Agg x → received ≡ whole → readable_at n server x ≡ Some whole
+            → readable_at m server x ≡ None
+            → HasRun job n w o (Runs run (Trims held x (count_of received) frame))
+        new x is receives is_readable-whole fresh =
+            let here = stay (call.AggReplace frame (place_in_frame CHUNK_BYTES) (place_in_frame CHUNK_BYTES) held) r o
+            (Wraps held frame) step (λ a u. refl) (λ g u. refl) has in
+            let readable : readable_at n server x ≡ Some (chunk has.0.bytes) = is_readable-whole
+            ∙ ap (λ (l : List ℕ). Some l) is_chunk in
             let c = has.0.count in
             let few : length has.0.bytes ≤ CHUNK_BYTES = omega (arith, c) in
-            let not_held = turned held x (new-other m held x has.0.bytes has.0.is_readable did.1) in
-            let not_frame = turned frame x (new-other m frame x (frame_of CHUNK_BYTES) has.1 did.1) in (
+            let not_held = turned held x (new-other m held x has.0.bytes has.0.is_readable fresh) in
+            let not_frame = turned frame x (new-other m frame x (frame_of CHUNK_BYTES) has.1 fresh) in (
               here.0,
               (
                 (
@@ -535,7 +505,7 @@ module _ (steps : EachStepLeavesTheRest) (own : CallsServeTheirDomain) (m n : St
                   is_part = readable;
                   has =
                       begun n x (count_of received) (chunk has.0.bytes) readable
-                      (ap (λ (l : List ℕ). count_of l) receives
+                      (ap (λ (l : List ℕ). count_of l) (receives ∙ is_chunk)
                       ∙ counted (chunk has.0.bytes)
                       (short-chunk (length has.0.bytes) has.0.bytes chunk_end few (omega arith)));
                   within = omega arith;
@@ -545,5 +515,3 @@ module _ (steps : EachStepLeavesTheRest) (own : CallsServeTheirDomain) (m n : St
                 },
               ),
             )
-        by (reply.Refused y) did step names = same o (Runs run (Wraps held frame)) did (hired, has)
-        by r did step names = absurd did

@@ -33,13 +33,13 @@ use Rattle.flash_laws.specs.declared.phase.Phase.TheVariants as phase
 use Rattle.flash_laws.specs.declared.script_run.TheConstants.{CHUNK_BYTES}
 use Rattle.flash_laws.specs.declared.script_run.Run.{Run}
 use Rattle.flash_laws.specs.declared.script_run.Step.{Step}
-use Rattle.flash_laws.specs.declared.script_run.Step.TheVariants.{Stops, Unframes, Lasts, WrapsLast, Unwraps, Returns}
-use Rattle.flash_laws.specs.declared.script_run.Step.TheVariants.{Fails}
+use Rattle.flash_laws.specs.declared.script_run.Step.TheVariants.{Stops, Unframes, Lasts, WrapsLast, TrimsLast, Unwraps}
+use Rattle.flash_laws.specs.declared.script_run.Step.TheVariants.{Returns, Fails}
 use Rattle.flash_laws.specs.declared.script_run.Running.{Running}
 use Rattle.flash_laws.specs.declared.script_run.Running.TheVariants.{Runs, Leaves, Closes}
-use Rattle.flash_laws.proofs.Conn.Responses.{some-inj}
 use Rattle.flash_laws.proofs.Counts.{counted, made-short}
 use Rattle.flash_laws.proofs.Conn.ReadableBytes.{new-other}
+use Rattle.flash_laws.proofs.Moves.{dropped, closed, made-received}
 use Rattle.flash_laws.proofs.Lists.{turned}
 use Rattle.flash_laws.proofs.Run.Outputs.{short-chunk, last-left}
 use Rattle.flash_laws.proofs.Run.Pieces.{set_between}
@@ -59,7 +59,7 @@ module _ (steps : EachStepLeavesTheRest) (own : CallsServeTheirDomain) (m n : St
       → readable_at n server a ≡ Some bytes
   is_readable = acts.is_readable steps own m n order job w
 
-  same : (o : Progress) (x : Running) → n ≡ m → HasRun job m w o x → HasRun job n w o x
+  same : (o : Progress) (x : Running) → HasRun job m w o x → n ≡ m → HasRun job n w o x
   same = acts.same steps own m n order job w
 
   module _ (run : Run) (hired : HasJobPipe m run.worker) where
@@ -124,46 +124,53 @@ module _ (steps : EachStepLeavesTheRest) (own : CallsServeTheirDomain) (m n : St
     pub stops : (held : Following) (frame : Option ℕ) (r : Reply) (o : Progress)
         → HasStep job m w o run (Stops held frame)
         → StepsTo m (event.Call server (call.Close run.from)) r n → HasRun job n w o (after_stop w run held frame r)
-    stops held frame r o has step = by r (own.closes m n server run.from r step) step
+    stops held frame r o has step =
+        closed m n (HasRun job n w o) run.from r (own.closes m n server run.from r step)
+        (same o (Runs run (Stops held frame)) (hired, has))
+        (next frame
+        (still-hired (call.Close run.from) r step
+        (ends-differ m run.from (job_pipe run.worker) has.0.0 hired.0 has.0.1 hired.1))
+        (has-all-on m n w o run held frame (λ a bytes u is. is_readable (call.Close run.from) r step a bytes refl is)
+        has.1))
       where
         next : (frame : Option ℕ) → HasJobPipe n run.worker → HasAll n w o run held frame
             → HasRun job n w o (stopped w run held frame)
         next None hired all = finishes run.broken w.chunked held all.bytes o hired refl refl all.has.holds all.ends
         next (Some f) hired all = (hired, all)
 
-        by : (r : Reply) → caller.Closes m server run.from r n → StepsTo m (event.Call server (call.Close run.from)) r n
-            → HasRun job n w o (after_stop w run held frame r)
-        by reply.Done did step = next frame
-            (still-hired (call.Close run.from) reply.Done step
-            (ends-differ m run.from (job_pipe run.worker) has.0.0 hired.0 has.0.1 hired.1))
-            (has-all-on m n w o run held frame (λ a bytes u is. is_readable (call.Close run.from) reply.Done step a
-            bytes refl is) has.1)
-        by (reply.Refused y) did step = same o (Runs run (Stops held frame)) did (hired, has)
-        by r did step = absurd did
-
     pub unframes : (f : ℕ) (held : Following) (r : Reply) (o : Progress) → HasStep job m w o run (Unframes f held)
         → StepsTo m (event.Call server (call.AggDrop f)) r n → HasRun job n w o (after_release_frame w run f held r)
-    unframes f held r o has step = by r (own.drops m n server f r order step) step
+    unframes f held r o has step =
+        dropped m n (HasRun job n w o) f r (own.drops m n server f r order step)
+        (same o (Runs run (Unframes f held)) (hired, has))
+        (finishes run.broken w.chunked held has.bytes o (still-hired (call.AggDrop f) r step refl) refl refl
+        (held-on m n w held has.bytes
+        (λ a bytes u is. is_readable (call.AggDrop f) r step a bytes (off held has.has.apart a u) is) has.has.holds)
+        has.ends)
       where
         off : (held : Following) → meets held (Some f) ≡ false → (a : ℕ) → has_followed held a ≡ true → (f == a) ≡ false
         off None is a u = absurd (cc (u))
         off (Some x) is a u = let e : x.0 ≡ a = grind (arith, nat_tests, u) in subst (λ z. (f == z) ≡ false) e is
 
-        by : (r : Reply) → caller.Drops m server f r n → StepsTo m (event.Call server (call.AggDrop f)) r n
-            → HasRun job n w o (after_release_frame w run f held r)
-        by reply.Done did step =
-            finishes run.broken w.chunked held has.bytes o (still-hired (call.AggDrop f) reply.Done step refl) refl refl
-            (held-on m n w held has.bytes (λ a bytes u is. is_readable (call.AggDrop f) reply.Done step a bytes
-            (off held has.has.apart a u) is) has.has.holds) has.ends
-        by (reply.Refused y) did step = same o (Runs run (Unframes f held)) did (hired, has)
-        by r did step = absurd did
-
     -- of a run that is not broken the end is left
     pub lasts : (held : Following) (r : Reply) (received : List ℕ) (o : Progress) → HasStep job m w o run (Lasts held)
         → StepsTo m (event.Call server (call.AggMake (end_around held))) r n → Names n r received
         → HasRun job n w o (after_last run held r received)
-    lasts held r received o has step names = by r (own.make m n server (end_around held) r order step) step names
+    lasts held r received o has step names =
+        made-received m n (HasRun job n w o) (end_around held) received r
+        (own.make m n server (end_around held) r order step) names (same o (Runs run (Lasts held)) (hired, has))
+        (λ x is receives readable new.
+        let short =
+        made-short m n server x (end_around held)
+        (subst (λ z. StepsTo m (event.Call server (call.AggMake (end_around held))) z n) is step) in
+        last o held x (count_of received) here.0
+        (held-on m n w held has.2.bytes (λ a bytes u is. is_readable (call.AggMake (end_around held)) r step a bytes
+        refl is) has.2.has.holds) (new-held held has.2.bytes x has.2.has.holds new) readable
+        (ap (λ (l : List ℕ). count_of l) receives ∙ counted (end_around held) short) is_left)
       where
+        here : HasRun job n w o (Runs run (Lasts held))
+        here = stay (call.AggMake (end_around held)) r o (Lasts held) step (λ a u. refl) (λ g u. refl) has
+
         is_left : IsLeft w o (script_body true has.2.bytes)
         is_left =
             subst (λ c. IsLeft w o (script_body c has.2.bytes)) has.0
@@ -191,47 +198,33 @@ module _ (steps : EachStepLeavesTheRest) (own : CallsServeTheirDomain) (m n : St
           },
         )
 
-        by : (r : Reply) → caller.Makes m server (end_around held) r n
-            → StepsTo m (event.Call server (call.AggMake (end_around held))) r n → Names n r received
-            → HasRun job n w o (after_last run held r received)
-        by (reply.Agg x) did step names =
-            let here = stay (call.AggMake (end_around held)) (reply.Agg x) o (Lasts held) step (λ a u. refl)
-            (λ g u. refl) has in
-            let receives : received ≡ end_around held = some-inj received (end_around held) (sym names ∙ did.0) in
-            last o held x (count_of received) here.0
-            (held-on m n w held has.2.bytes
-            (λ a bytes u is. is_readable (call.AggMake (end_around held)) (reply.Agg x) step a bytes refl is)
-            has.2.has.holds) (new-held held has.2.bytes x has.2.has.holds did.1) did.0
-            (ap (λ (l : List ℕ). count_of l) receives
-            ∙ counted (end_around held) (made-short m n server x (end_around held) step)) is_left
-        by (reply.Refused y) did step names = same o (Runs run (Lasts held)) did (hired, has)
-        by r did step names = absurd did
-
     pub wraps_last : (held size frame : ℕ) (r : Reply) (received : List ℕ) (o : Progress)
         → HasStep job m w o run (WrapsLast held size frame)
         → StepsTo m (event.Call server (call.AggReplace frame (place_in_frame size) (place_in_frame size) held)) r n
         → Names n r received
         → HasRun job n w o (Runs run (after_wrap_last held size frame r received))
     wraps_last held size frame r received o has step names =
-        by r (own.replace m n server frame (place_in_frame size) (place_in_frame size) held
-        (end_around (Some (held, size))) has.bytes r order has.frames has.holds.is_readable step) step names
+        made-received m n (λ s. HasRun job n w o (Runs run s)) whole received r
+        (own.replace m n server frame (place_in_frame size) (place_in_frame size) held
+        (end_around (Some (held, size))) has.bytes r order has.frames has.holds.is_readable step) names
+        (same o (Runs run (WrapsLast held size frame)) (hired, has)) new
       where
-        made : List ℕ
-        made = chunk_head size ++ (has.bytes ++ (chunk_end ++ last_chunk))
+        whole : List ℕ
+        whole = take (place_in_frame size) (end_around (Some (held, size))) ++ has.bytes
+            ++ drop (place_in_frame size) (end_around (Some (held, size)))
 
-        by : (r : Reply)
-            → caller.Makes m server (take (place_in_frame size) (end_around (Some (held, size))) ++ has.bytes
-            ++ drop (place_in_frame size) (end_around (Some (held, size)))) r n
-            → StepsTo m (event.Call server (call.AggReplace frame (place_in_frame size) (place_in_frame size) held)) r n
-            → Names n r received
-            → HasRun job n w o (Runs run (after_wrap_last held size frame r received))
-        by (reply.Agg x) did step names =
-            let here = stay (call.AggReplace frame (place_in_frame size) (place_in_frame size) held) (reply.Agg x) o
+        chunked : List ℕ
+        chunked = chunk_head size ++ (has.bytes ++ (chunk_end ++ last_chunk))
+
+        is_chunk : whole ≡ chunked
+        is_chunk = set_between (chunk_head size) (chunk_end ++ last_chunk) has.bytes
+
+        new : (x : ℕ) → r ≡ reply.Agg x → received ≡ whole → readable_at n server x ≡ Some whole
+            → readable_at m server x ≡ None
+            → HasRun job n w o (Runs run (TrimsLast held x (count_of received) frame))
+        new x is receives readable fresh =
+            let here = stay (call.AggReplace frame (place_in_frame size) (place_in_frame size) held) r o
             (WrapsLast held size frame) step (λ a u. refl) (λ g u. refl) has in
-            let readable : readable_at n server x ≡ Some made =
-            did.0
-            ∙ ap (λ (l : List ℕ). Some l) (set_between (chunk_head size) (chunk_end ++ last_chunk) has.bytes) in
-            let receives : received ≡ made = some-inj received made (sym names ∙ readable) in
             let c = has.holds.count in
             let f = has.holds.few in
             let few : length has.bytes ≤ CHUNK_BYTES = omega (arith, c, f) in (
@@ -240,27 +233,29 @@ module _ (steps : EachStepLeavesTheRest) (own : CallsServeTheirDomain) (m n : St
                 (
                   (here.1.bytes, here.1.holds.is_readable),
                   or_from (frame == held) (x == held) has.apart
-                      (turned held x (new-other m held x has.bytes has.holds.is_readable did.1)),
+                      (turned held x (new-other m held x has.bytes has.holds.is_readable fresh)),
                 ),
                 (
                   (end_around (Some (held, size)), here.1.frames),
-                  turned frame x (new-other m frame x (end_around (Some (held, size))) has.frames did.1),
+                  turned frame x (new-other m frame x (end_around (Some (held, size))) has.frames fresh),
                 ),
                 record {
-                  bytes = made;
-                  is_readable = readable;
-                  count = ap (λ (l : List ℕ). count_of l) receives
-                      ∙ counted made (short-chunk size has.bytes (chunk_end ++ last_chunk) few (omega arith));
+                  bytes = chunked;
+                  is_readable = readable ∙ ap (λ (l : List ℕ). Some l) is_chunk;
+                  count = ap (λ (l : List ℕ). count_of l) (receives ∙ is_chunk)
+                      ∙ counted chunked (short-chunk size has.bytes (chunk_end ++ last_chunk) few (omega arith));
                   left = last-left w o has.bytes size has.holds.count has.holds.some has.holds.few has.left;
                 },
               ),
             )
-        by (reply.Refused y) did step names = same o (Runs run (WrapsLast held size frame)) did (hired, has)
-        by r did step names = absurd did
 
     pub unwraps : (frame a len : ℕ) (r : Reply) (o : Progress) → HasStep job m w o run (Unwraps frame a len)
         → StepsTo m (event.Call server (call.AggDrop frame)) r n → HasRun job n w o (after_unwrap run frame a len r)
-    unwraps frame a len r o has step = by r (own.drops m n server frame r order step) step
+    unwraps frame a len r o has step =
+        dropped m n (HasRun job n w o) frame r (own.drops m n server frame r order step)
+        (same o (Runs run (Unwraps frame a len)) (hired, has))
+        (over o has.1.bytes has.1.left (is_readable (call.AggDrop frame) r step a has.1.bytes (turned a frame has.0.1)
+        has.1.is_readable) has.1.count)
       where
         over : (o : Progress) (bytes : List ℕ) → IsLeft w o bytes → readable_at n server a ≡ Some bytes
             → len ≡ length bytes → HasRun job n w o (Leaves (phase.Sends a len 0 None))
@@ -273,33 +268,19 @@ module _ (steps : EachStepLeavesTheRest) (own : CallsServeTheirDomain) (m n : St
                   (readable, omega arith);
             }
 
-        by : (r : Reply) → caller.Drops m server frame r n → StepsTo m (event.Call server (call.AggDrop frame)) r n
-            → HasRun job n w o (after_unwrap run frame a len r)
-        by reply.Done did step =
-            over o has.1.bytes has.1.left
-            (is_readable (call.AggDrop frame) reply.Done step a has.1.bytes (turned a frame has.0.1) has.1.is_readable)
-            has.1.count
-        by (reply.Refused y) did step = same o (Runs run (Unwraps frame a len)) did (hired, has)
-        by r did step = absurd did
-
     -- ---- a script that cannot be run
 
     pub returns : (write : ℕ) (r : Reply) (o : Progress) → HasStep job m w o run (Returns write)
         → StepsTo m (event.Call server (call.Close write)) r n → HasRun job n w o (Runs run (after_return write r))
-    returns write r o has step = by r (own.closes m n server write r step) step
-      where
-        by : (r : Reply) → caller.Closes m server write r n → StepsTo m (event.Call server (call.Close write)) r n
-            → HasRun job n w o (Runs run (after_return write r))
-        by reply.Done did step = (
-          still-hired (call.Close write) reply.Done step has.0.apart,
+    returns write r o has step =
+        closed m n (λ s. HasRun job n w o (Runs run s)) write r (own.closes m n server write r step)
+        (same o (Runs run (Returns write)) (hired, has)) (
+          still-hired (call.Close write) r step has.0.apart,
           (
-            still-reading (call.Close write) reply.Done step (write-elsewhere m run write has.0)
-                (has.0.pipe, has.0.read_end),
+            still-reading (call.Close write) r step (write-elsewhere m run write has.0) (has.0.pipe, has.0.read_end),
             has.1,
           ),
         )
-        by (reply.Refused y) did step = same o (Runs run (Returns write)) did (hired, has)
-        by r did step = absurd did
 
     pub fails : (r : Reply) (received : List ℕ) (o : Progress) → HasStep job m w o run Fails
         → StepsTo m (event.Call server (call.Close run.from)) r n
@@ -313,5 +294,5 @@ module _ (steps : EachStepLeavesTheRest) (own : CallsServeTheirDomain) (m n : St
           refl,
           record { expected = error_text 503 w.head_only (not w.keep); left = refl; has = refl; sends = tt },
         )
-        by (reply.Refused y) did = (o, refl, same o (Runs run Fails) did (hired, has))
+        by (reply.Refused y) did = (o, refl, same o (Runs run Fails) (hired, has) did)
         by r did = absurd did

@@ -1,7 +1,7 @@
 -- The bytes that the connection took count as taken; the reasons for which a response is aborted, or a script given up.
 use Rattle.std.proofs.Common.{inl, inr, ◌≡◌, ℕ, ◌+◌, ◌==◌, ◌⊎◌, List, [], ◌∷◌, length, ap, ◌-◌, ◌∙◌, refl, sym, subst}
 use Rattle.std.proofs.Common.{arith, Option, Some, None, true, false, Bool, length-append, if◌then◌else◌}
-use Rattle.std.specs.Prelude.{◌||◌, ◌&&◌, not, nat_lt, is_none, MatchOption}
+use Rattle.std.specs.Prelude.{◌||◌, ◌&&◌, not, is_none, MatchOption}
 use Rattle.iol_core.specs.State.{State, descriptor, is_live, pipe_at, conn_at, is_gone}
 use Rattle.iol_core.specs.Calls.Descriptors.{too_many_open, denied_by, needed_pool}
 use Rattle.iol_core.specs.Meaning.{◌when◌, first, WantOfMemory}
@@ -22,7 +22,7 @@ use Rattle.iol_laws.specs.Reasons.{RefusalsTellWhy}
 use Rattle.iol_laws.specs.RefusalsLeft.{RefusalsThatAreLeft, CannotPut}
 use Rattle.flash_http.specs.Request.{serve, Wanted}
 use Rattle.flash_laws.specs.Conn as conn
-use Rattle.flash_laws.specs.Conn.{Following}
+use Rattle.flash_laws.specs.Conn.Progress.{is_busy}
 use Rattle.flash_laws.specs.Run.Fits.{Progress, Ran, Broken, NotRun, IsLeft, Continues, HasPart, HasRest, HasStep}
 use Rattle.flash_laws.specs.Run.Fits.{HasRun}
 use Rattle.flash_laws.specs.Conn.OfferedBytes.{taken_of, newly_taken, is_dropping}
@@ -46,6 +46,7 @@ use Rattle.flash_laws.proofs.Lists.{clash, not-equal, not-false}
 use Rattle.flash_laws.proofs.Run.Rest as left
 use Rattle.flash_laws.proofs.Run.Rest.{SendsAll, is_sent, is-rest, whole-taken}
 use Rattle.flash_laws.proofs.Run.Quiet.{is_part, Bars, quiet}
+use Rattle.flash_laws.proofs.Conn.TakenBytes.{breaks as conn-breaks}
 
 -- ---- how much was taken before
 
@@ -157,18 +158,6 @@ module _ (steps : EachStepLeavesTheRest) (own : CallsServeTheirDomain) (m n : St
       let is = ap (λ (o : Progress). past_of o) learns in
       let none = taken-headed status r received in
       omega (arith, is, none)
-  rest (phase.Sends a len taken None) r received before after h step learns at on =
-      part h.expected (phase.Sends a len taken None) r received before after (h.has, h.sends.0, h.sends.1) step refl
-      refl on learns
-  rest (phase.Cuts a from len taken None) r received before after h step learns at on =
-      part h.expected (phase.Cuts a from len taken None) r received before after (h.has, h.sends.0, h.sends.1) step refl
-      refl on learns
-  rest (phase.Offers a from len piece taken None) r received before after h step learns at on =
-      part h.expected (phase.Offers a from len piece taken None) r received before after (h.has, h.sends.0, h.sends.1)
-      step refl refl on learns
-  rest (phase.Swaps a from len piece taken None) r received before after h step learns at on =
-      part h.expected (phase.Swaps a from len piece taken None) r received before after (h.has, h.sends.0, h.sends.1)
-      step refl refl on learns
   rest (phase.Sent a taken None) r received before after h step learns at on =
       by r (own.drops m n server a r order step) learns
     where
@@ -183,9 +172,10 @@ module _ (steps : EachStepLeavesTheRest) (own : CallsServeTheirDomain) (m n : St
           omega (arith, all, none)
       by (reply.Refused y) did learns = let is = ap (λ (o : Progress). past_of o) learns in omega (arith, is)
       by r did learns = absurd did
-  rest (phase.Breaks piece a None) r received before after h step learns at on = absurd (cc (at))
+  rest (phase.Sent a taken (Some x)) r received before after h step learns at on = absurd h.sends.0
   rest (phase.Drops a None) r received before after h step learns at on = absurd (cc (at))
-  rest d r received before after h step learns at on = absurd h.sends.0
+  rest d r received before after h step learns at on =
+      part h.expected d r received before after (h.has, h.sends.0, h.sends.1) step refl at on learns
 
   -- a part
   sending : (run : Run) (d : Phase) (frame : Option ℕ) (r : Reply) (before after : Progress)
@@ -281,85 +271,31 @@ barred why job m n fd c w o run s r bars has step = absurd bars
 -- a part is dropped only where nobody takes it
 module _ (why : RefusalsTellWhy) (m n : State) (fd c : ℕ) (open_on : descriptor m server fd ≡ Some (on.Connection c))
   where
-    sends-drops : (a len taken : ℕ) (more : Following) (r : Reply)
-        → StepsTo m (event.Call server (call.IolWrite fd a)) r n
-        → is_dropping (conn.after_send a len taken more r) ≡ true → is_gone (conn_at m c).peer ≡ true
-    sends-drops a len taken more (reply.Count k) step off = absurd (by (nat_lt k len) off)
-      where
-        by : (b : Bool)
-            → is_dropping (if b then phase.Cuts a k len (taken + k) more else phase.Sent a (taken + len) more)
-            ≡ true → ⊥
-        by true off = cc (off)
-        by false off = cc (off)
-    sends-drops a len taken more (reply.Refused no.BrokenPipe) step off =
-        why.peer_is_gone m n server fd c a open_on step
-    sends-drops a len taken more r step off = absurd (cc (off))
-
-    offers-drops : (a from len piece taken : ℕ) (more : Following) (r : Reply)
-        → StepsTo m (event.Call server (call.IolWrite fd piece)) r n
-        → is_dropping (conn.after_offer a from len piece taken more r) ≡ true → is_gone (conn_at m c).peer ≡ true
-    offers-drops a from len piece taken more (reply.Count k) step off = absurd (cc (off))
-    offers-drops a from len piece taken more (reply.Refused no.BrokenPipe) step off =
-        why.peer_is_gone m n server fd c piece open_on step
-    offers-drops a from len piece taken more r step off = absurd (cc (off))
-
-    cuts-drops : (a from len taken : ℕ) (more : Following) (r : Reply)
-        → is_dropping (conn.after_cut a from len taken more r) ≡ true → ⊥
-    cuts-drops a from len taken more (reply.Agg x) off = cc (off)
-    cuts-drops a from len taken more r off = cc (off)
-
-    swaps-drops : (a from len piece taken : ℕ) (more : Following) (r : Reply)
-        → is_dropping (conn.after_swap a from len piece taken more r) ≡ true → ⊥
-    swaps-drops a from len piece taken more reply.Done off = by (nat_lt from len) off
-      where
-        by : (b : Bool) → is_dropping (if b then phase.Cuts a from len taken more else phase.Sent a taken more) ≡ true
-            → ⊥
-        by true off = cc (off)
-        by false off = cc (off)
-    swaps-drops a from len piece taken more r off = cc (off)
-
-    heads-drops : (status : ℕ) (r : Reply) (received : List ℕ)
-        → is_dropping (conn.after_head (Error status) r received) ≡ true → ⊥
-    heads-drops status (reply.Agg x) received off = cc (off)
-    heads-drops status r received off = cc (off)
-
-    sent-drops : (w : Wanted) (a taken : ℕ) (r : Reply) → is_dropping (conn.after_taken (serve w) a taken None r) ≡ true
-        → ⊥
-    sent-drops w a taken reply.Done off = by w.keep off
-      where
-        by : (b : Bool) → is_dropping (if b then phase.Rests else phase.Closes) ≡ true → ⊥
-        by true off = cc (off)
-        by false off = cc (off)
-    sent-drops w a taken r off = cc (off)
+    -- any phase of a response: as that of a file
+    aborts : (w : Wanted) (d : Phase) (r : Reply) (received : List ℕ) → is_busy d ≡ true
+        → StepsTo m (event.Call server (conn.wants fd (in_phase w d))) r n
+        → is_dropping d ≡ false → is_dropping (conn.after_reply (in_phase w d) r received).phase ≡ true
+        → is_gone (conn_at m c).peer ≡ true
+    aborts w d r received busy step at off = conn-breaks why m n fd c open_on [] (serve w) received d r busy step at off
 
     rest-drops : (w : Wanted) (o : Progress) (d : Phase) (r : Reply) (received : List ℕ) → HasRest m w o d
         → StepsTo m (event.Call server (conn.wants fd (in_phase w d))) r n
         → is_dropping d ≡ false → is_dropping (conn.after_reply (in_phase w d) r received).phase ≡ true
         → is_gone (conn_at m c).peer ≡ true
-    rest-drops w o (phase.Heads (Error status)) r received h step at off = absurd (heads-drops status r received off)
-    rest-drops w o (phase.Sends a len taken None) r received h step at off = sends-drops a len taken None r step off
-    rest-drops w o (phase.Cuts a from len taken None) r received h step at off =
-        absurd (cuts-drops a from len taken None r off)
-    rest-drops w o (phase.Offers a from len piece taken None) r received h step at off =
-        offers-drops a from len piece taken None r step off
-    rest-drops w o (phase.Swaps a from len piece taken None) r received h step at off =
-        absurd (swaps-drops a from len piece taken None r off)
-    rest-drops w o (phase.Sent a taken None) r received h step at off = absurd (sent-drops w a taken r off)
-    rest-drops w o (phase.Breaks piece a None) r received h step at off = absurd (cc (at))
-    rest-drops w o (phase.Drops a None) r received h step at off = absurd (cc (at))
-    rest-drops w o d r received h step at off = absurd h.sends.0
+    rest-drops w o d r received h step at off = aborts w d r received (left.busy m h.expected d h.sends) step at off
 
     sending-drops : (w : Wanted) (o : Progress) (run : Run) (d : Phase) (frame : Option ℕ) (r : Reply)
         → HasPart m w o run d frame
         → StepsTo m (event.Call server (conn.wants fd (in_phase w d))) r n → is_dropping d ≡ false
         → breaks_off (after_sending run d frame r) ≡ true → is_gone (conn_at m c).peer ≡ true
-    sending-drops w o run (phase.Sends a len taken None) frame r h step at off = sends-drops a len taken None r step off
+    sending-drops w o run (phase.Sends a len taken None) frame r h step at off =
+        aborts w (phase.Sends a len taken None) r [] refl step at off
     sending-drops w o run (phase.Cuts a from len taken None) frame r h step at off =
-        absurd (cuts-drops a from len taken None r off)
+        aborts w (phase.Cuts a from len taken None) r [] refl step at off
     sending-drops w o run (phase.Offers a from len piece taken None) frame r h step at off =
-        offers-drops a from len piece taken None r step off
+        aborts w (phase.Offers a from len piece taken None) r [] refl step at off
     sending-drops w o run (phase.Swaps a from len piece taken None) frame r h step at off =
-        absurd (swaps-drops a from len piece taken None r off)
+        aborts w (phase.Swaps a from len piece taken None) r [] refl step at off
     sending-drops w o run (phase.Sent a taken None) frame reply.Done h step at off =
         absurd (clash run.broken off h.whole)
     sending-drops w o run (phase.Sent a taken None) frame r h step at off = absurd (cc (off))

@@ -1,6 +1,6 @@
 -- The server's own call for a client touches only what that client has.
 use Rattle.std.proofs.Common.{inl, inr, ◌≡◌, ◌⊎◌, ℕ, ◌==◌, List, [], ◌∷◌, ap, ◌∙◌, refl, sym, subst, Option, Some, None}
-use Rattle.std.proofs.Common.{true, false, Bool, if◌then◌else◌}
+use Rattle.std.proofs.Common.{true, false, Bool}
 use Rattle.std.specs.Prelude.{◌||◌, ◌&&◌}
 use Rattle.std.specs.List.{list_any}
 use Rattle.iol_core.specs.State.{State, descriptor}
@@ -37,6 +37,7 @@ use Rattle.flash_laws.proofs.Conn.Uses.{gives-wants, has-agg, has-fd}
 use Rattle.flash_laws.proofs.World.AllLaws.{AllLaws}
 use Rattle.flash_laws.proofs.World.OwnRun.{wants-run}
 use Rattle.flash_laws.proofs.World.RunUses.{IsEnd, run-there, run-end}
+use Rattle.flash_laws.proofs.Moves.{either-way}
 
 -- the pipe that it may touch: with a run one of that, and else none
 abbrev pub MayTouchPipe : State → Option Running → (p : ℕ) → Type 0
@@ -82,11 +83,7 @@ kind-admits k p is = refl
 
 wants-kind : (fd : ℕ) (kept : List ℕ) (q : Answer) (d : Phase)
     → is_client_call (conn.wants fd (record { kept = kept; q = q; phase = d })) ≡ true
-wants-kind fd kept q (phase.Reads f) = by (is_head_only q)
-  where
-    by : (b : Bool) → is_client_call (if b then call.Length f else call.IolRead f most_read) ≡ true
-    by true = refl
-    by false = refl
+wants-kind fd kept q (phase.Reads f) = either-way (λ (k : Call). is_client_call k ≡ true) (is_head_only q) refl refl
 wants-kind fd kept q d = refl
 
 module _ (m : State) (fd c : ℕ) (script : List ℕ) (kept : List ℕ) (q : Answer) (expected : List ℕ)

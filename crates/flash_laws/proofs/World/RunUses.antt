@@ -25,6 +25,7 @@ use Rattle.flash_laws.specs.declared.script_run.Running.{Running}
 use Rattle.flash_laws.specs.declared.script_run.Running.TheVariants.{Awaits, Runs, Leaves}
 use Rattle.flash_laws.proofs.Lists.{later_of, bare, former_of, swapped}
 use Rattle.flash_laws.proofs.Conn.Uses.{same-number, uses-after_reply, has-agg, one-of}
+use Rattle.flash_laws.proofs.Moves.{either-of}
 
 -- it was used, or is new
 abbrev New : Reply → (a : ℕ) → (was : Bool) → Type 0
@@ -93,20 +94,16 @@ module _ (worker : ℕ) (w : Wanted) (run : Run) (a : ℕ) where
 
   step-new : (s : Step) (r : Reply) (received : List ℕ) → UsesNew s r (after_step w run s r received)
   step-new (Gives write) (reply.Fd f) received u = absurd (cc (u))
-  step-new (Gives write) (reply.Refused x) received u = absurd (by (is_again x) u)
-    where
-      by : (b : Bool) → step_agg (if b then Gives write else Returns write) a ≡ true → ⊥
-      by true u = cc (u)
-      by false u = cc (u)
+  step-new (Gives write) (reply.Refused x) received u =
+      absurd (either-of (λ (s : Step). step_agg s a ≡ true → ⊥) (is_again x) (Gives write) (Returns write) (λ u. cc (u))
+      (λ u. cc (u)) u)
   step-new (Gives write) r received u = absurd (cc (u))
   step-new (Makes f) (reply.Agg n) received u = inr u
   step-new (Makes f) r received u = absurd (cc (u))
   step-new (Hands j f) (reply.Count n) received u = inl u
-  step-new (Hands j f) (reply.Refused x) received u = inl (by (is_again x) u)
-    where
-      by : (b : Bool) → step_agg (if b then Hands j f else Lapses j) a ≡ true → (j == a) ≡ true
-      by true u = u
-      by false u = u
+  step-new (Hands j f) (reply.Refused x) received u =
+      inl (either-of (λ (s : Step). step_agg s a ≡ true → (j == a) ≡ true) (is_again x) (Hands j f) (Lapses j) (λ u. u)
+      (λ u. u) u)
   step-new (Lets j) reply.Done received u = absurd (cc (u))
   step-new Heads (reply.Agg n) received u = inr (bare (n == a) (bare ((n == a) || false) u))
   step-new Heads r received u = absurd (cc (u))
@@ -208,18 +205,14 @@ module _ (w : Wanted) (run : Run) (g : ℕ) where
 
   pub step-has : (s : Step) (r : Reply) (received : List ℕ) → Has s (after_step w run s r received)
   step-has (Gives write) (reply.Fd f) received u = on-reading (Gives write) refl (only-from (Makes f) (λ h. refl) u)
-  step-has (Gives write) (reply.Refused x) received u = by (is_again x) u
-    where
-      by : (b : Bool) → ends_of run (if b then Gives write else Returns write) g ≡ true → ends_of run (Gives write) g ≡ true
-      by true u = u
-      by false u = u
+  step-has (Gives write) (reply.Refused x) received u =
+      either-of (λ (s : Step). ends_of run s g ≡ true → ends_of run (Gives write) g ≡ true) (is_again x) (Gives write)
+      (Returns write) (λ u. u) (λ u. u) u
   step-has (Makes f) (reply.Agg n) received u = u
   step-has (Hands j f) (reply.Count n) received u = u
-  step-has (Hands j f) (reply.Refused x) received u = by (is_again x) u
-    where
-      by : (b : Bool) → ends_of run (if b then Hands j f else Lapses j) g ≡ true → ends_of run (Hands j f) g ≡ true
-      by true u = u
-      by false u = u
+  step-has (Hands j f) (reply.Refused x) received u =
+      either-of (λ (s : Step). ends_of run s g ≡ true → ends_of run (Hands j f) g ≡ true) (is_again x) (Hands j f)
+      (Lapses j) (λ u. u) (λ u. u) u
   step-has Heads (reply.Agg n) received u = u
   step-has (Sending d frame) r received u = sending-has d frame r u
   step-has (Receives held frame) r received u = receives-has held frame r received u

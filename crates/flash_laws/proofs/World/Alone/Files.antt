@@ -34,6 +34,7 @@ use Rattle.flash_laws.specs.Client.ResponseState as known
 use Rattle.flash_laws.specs.Client.ResponseState.{OfFile, OfScript, is_read, is_opening}
 use Rattle.flash_laws.specs.Run.Fits.{nothing_yet}
 use Rattle.flash_laws.specs.SiteContents.{SiteContents, expected_to, MayBeExpected, IsAmong}
+use Rattle.flash_laws.proofs.Conn.AnswerParts as having
 use Rattle.flash_laws.proofs.Site.Expected.{expected-may, error-may}
 use Rattle.flash_laws.specs.Site.{server, found_in, IsFixed}
 use Rattle.flash_laws.specs.declared.phase.FileResult.TheVariants.{File, Length, Text as TextOf}
@@ -110,7 +111,7 @@ module _ (site_contents : SiteContents) (worker_set : WorkerSet) (laws : AllLaws
       subst (λ (l : List ℕ). Has n q l (conn.after_reply (at kept q d) r received).phase)
       (sym (expected-is f.expected q (conn.after_reply (at kept q d) r received).phase
       (phases.unread-after_reply kept q d r received unread)))
-      (phases.phase laws.the.steps laws.the.own m n order kept fd c q d f.expected r received f.open_on un busy
+      (having.phase laws.the.steps laws.the.own m n order kept fd c q d f.expected r received f.open_on un busy
       (subst (λ (l : List ℕ). Has m q l d) (expected-is f.expected q d unread) f.has) step names)
 
   pub finds_after_reply : (q : Answer) (d : Phase) (r : Reply) (received : List ℕ) → is_opening d ≡ false

@@ -30,9 +30,8 @@ use Rattle.flash_laws.specs.Client.{is_for_script, conn_wants, conn_after_reply,
 use Rattle.flash_laws.specs.Client.Fits.{ConsistencyAlone, expected_in, HasText, Finds, FitsAlone, ConsistencyRun}
 use Rattle.flash_laws.specs.Client.Fits.{FitsRun, Fits, made_of, response_to}
 use Rattle.flash_laws.specs.Conn as conn
-use Rattle.flash_laws.specs.Conn.{Following, Conn, piece_end, count_of, text_of, sends_of, resolved, after_close_file}
-use Rattle.flash_laws.specs.Conn.{after_slice, after_drop_whole, following, headed, after_head, after_join, after_cut}
-use Rattle.flash_laws.specs.Conn.{after_swap, proceeds, after_taken, after_break, drops_next, after_drop, after_discard}
+use Rattle.flash_laws.specs.Conn.{Following, Conn, count_of, text_of, sends_of, resolved, after_close_file}
+use Rattle.flash_laws.specs.Conn.{after_drop_whole, following, headed, proceeds, drops_next}
 use Rattle.flash_laws.specs.Workers.WorkerSet.{WorkerSet}
 use Rattle.flash_laws.specs.Conn.Fits.{Has, quits, is_closing, HoldsMore, Names}
 use Rattle.flash_laws.specs.Client.ResponseState as known
@@ -44,7 +43,6 @@ use Rattle.flash_laws.proofs.Site.Expected.{all-show, expected-may, script-expec
 use Rattle.flash_laws.specs.Site.{server, IsFixed}
 use Rattle.flash_laws.specs.declared.phase.FileResult.{FileResult}
 use Rattle.flash_laws.specs.declared.phase.FileResult.TheVariants.{File, Text as TextOf}
-use Rattle.flash_laws.specs.declared.phase.Payload.{Payload}
 use Rattle.flash_laws.specs.declared.phase.Payload.TheVariants.{Script}
 use Rattle.flash_laws.specs.declared.phase.Phase.{Phase}
 use Rattle.flash_laws.specs.declared.phase.Phase.TheVariants.{Rests, Got, Opens, Reads as Reading, Shuts, Picks, Spares}
@@ -52,6 +50,7 @@ use Rattle.flash_laws.specs.declared.phase.Phase.TheVariants.{Heads, Joins, Send
 use Rattle.flash_laws.specs.declared.phase.Phase.TheVariants.{Drops, Closes, Over}
 use Rattle.flash_laws.specs.declared.script_run.Running.TheVariants.{Awaits}
 use Rattle.flash_laws.proofs.Forms.{at}
+use Rattle.flash_laws.proofs.Moves.{after-done, after-agg, either-way}
 use Rattle.flash_laws.proofs.Conn.AnswerParts as having
 use Rattle.flash_laws.proofs.Lists.{clash}
 use Rattle.flash_laws.proofs.World.AllLaws.{AllLaws}
@@ -115,20 +114,32 @@ module _ (site_contents : SiteContents) (worker_set : WorkerSet) (laws : AllLaws
 
   -- ---- each phase that opens and reads no file
 
-  got : (q : Answer) (a : ℕ) (r : Reply) (received : List ℕ) → Fitting m q (Got a)
-      → StepsTo m (event.Call server (call.AggDrop a)) r n → Names n r received
-      → Fitting n q (after_discard a r)
-  got q a r received f step names =
-      moves_to script q (Got a) (after_discard a r) (call.AggDrop a) r f.expected f.may f step refl refl
-      (consistencies r) (has_after_reply q (Got a) r received f refl refl refl step names)
-      (finds_after_reply q (Got a) r received refl refl f.finds)
-    where
-      consistencies : (r : Reply)
-          → ConsistenciesOn site_contents kept script f.expected f.expected q (Got a) (after_discard a r)
-      consistencies reply.Done =
-          consistency_on site_contents kept script f.expected f.expected q (Got a) Rests refl refl refl refl
-      consistencies r = consistency_on site_contents kept script f.expected f.expected q (Got a) (Got a) refl refl refl
-          refl
+  -- where its tie stays
+  on-consistency : (q : Answer) (d : Phase) (r : Reply) (received : List ℕ) (f : Fitting m q d) → is_opening d ≡ false
+      → is_closing d ≡ false → is_read d ≡ false
+      → StepsTo m (event.Call server (conn.wants fd (at kept q d))) r n → Names n r received
+      → touches_conn m (event.Call server (conn.wants fd (at kept q d))) c ≡ false
+      → touches_fd m (event.Call server (conn.wants fd (at kept q d))) server fd ≡ false
+      → ConsistenciesOn site_contents kept script f.expected f.expected q d
+      (conn.after_reply (at kept q d) r received).phase
+      → Fitting n q (conn.after_reply (at kept q d) r received).phase
+  on-consistency q d r received f un busy unread step names un_conn un_fd consistencies =
+      moves_to script q d (conn.after_reply (at kept q d) r received).phase (conn.wants fd (at kept q d)) r f.expected
+      f.may f step un_conn un_fd consistencies
+      (has_after_reply q d r received f un busy unread step names) (finds_after_reply q d r received un unread f.finds)
+
+  -- where it goes on with the request
+  on-stands : (part : List ℕ) (q : Answer) (d : Phase) (r : Reply) (received : List ℕ) (f : Fitting m q d)
+      → is_opening d ≡ false → is_closing d ≡ false → is_read d ≡ false
+      → StepsTo m (event.Call server (conn.wants fd (at kept q d))) r n → Names n r received
+      → touches_conn m (event.Call server (conn.wants fd (at kept q d))) c ≡ false
+      → touches_fd m (event.Call server (conn.wants fd (at kept q d))) server fd ≡ false
+      → Stands f.expected q part d → Stands f.expected q part (conn.after_reply (at kept q d) r received).phase
+      → Fitting n q (conn.after_reply (at kept q d) r received).phase
+  on-stands part q d r received f un busy unread step names un_conn un_fd was stands =
+      goes q part d (conn.after_reply (at kept q d) r received).phase (conn.wants fd (at kept q d)) r f step un_conn
+      un_fd was stands
+      (has_after_reply q d r received f un busy unread step names) (finds_after_reply q d r received un unread f.finds)
 
   resolved-stands : (expected : List ℕ) (q : Answer) (k : FileResult) → Stands expected q [] (resolved q k)
   resolved-stands expected (serve w) (File a len) = by (selected w.range len)
@@ -141,17 +152,14 @@ module _ (site_contents : SiteContents) (worker_set : WorkerSet) (laws : AllLaws
 
   shuts-stands : (expected : List ℕ) (q : Answer) (g : ℕ) (k : FileResult) (r : Reply)
       → Stands expected q [] (after_close_file q g k r)
-  shuts-stands expected q g k reply.Done = resolved-stands expected q k
-  shuts-stands expected q g k r = (refl, refl, refl)
+  shuts-stands expected q g k r = after-done (Stands expected q []) r (refl, refl, refl) (resolved-stands expected q k)
 
   shuts : (q : Answer) (g : ℕ) (k : FileResult) (r : Reply) (received : List ℕ) → is_read (Shuts g k) ≡ false
       → Fitting m q (Shuts g k)
       → StepsTo m (event.Call server (call.Close g)) r n → Names n r received → Fitting n q (after_close_file q g k r)
   shuts q g k r received unread f step names =
-      goes q [] (Shuts g k) (after_close_file q g k r) (call.Close g) r f step (unused g f.has.0.0 f.has.0.1 f.has.0.2)
+      on-stands [] q (Shuts g k) r received f refl refl unread step names (unused g f.has.0.0 f.has.0.1 f.has.0.2)
       (differ-fds g f.has.0.0 f.has.0.1 f.has.0.2 f.open_on) (refl, refl, refl) (shuts-stands f.expected q g k r)
-      (has_after_reply q (Shuts g k) r received f refl refl unread step names)
-      (finds_after_reply q (Shuts g k) r received refl unread f.finds)
 
   -- the text of a script was read
   shuts_text : (q : Answer) (g a : ℕ) (r : Reply) → Fitting m q (Shuts g (TextOf a true))
@@ -174,31 +182,6 @@ module _ (site_contents : SiteContents) (worker_set : WorkerSet) (laws : AllLaws
       still (serve w) reply.Done has text = (has, text)
       still (refuse status head_only close) reply.Done has text = (has, text)
       still q r has text = (has, text)
-
-  picks : (q : Answer) (a first to len : ℕ) (r : Reply) (received : List ℕ) → Fitting m q (Picks a first to len)
-      → StepsTo m (event.Call server (call.AggCut a first to)) r n → Names n r received
-      → Fitting n q (after_slice a first to len r)
-  picks q a first to len r received f step names =
-      goes q [] (Picks a first to len) (after_slice a first to len r) (call.AggCut a first to) r f step refl refl
-      (refl, refl, refl) (stands r)
-      (has_after_reply q (Picks a first to len) r received f refl refl refl step names)
-      (finds_after_reply q (Picks a first to len) r received refl refl f.finds)
-    where
-      stands : (r : Reply) → Stands f.expected q [] (after_slice a first to len r)
-      stands (reply.Agg x) = (refl, refl, refl)
-      stands r = (refl, refl, refl)
-
-  spares : (q : Answer) (a : ℕ) (k : Payload) (r : Reply) (received : List ℕ) → is_read (Spares a k) ≡ false
-      → Fitting m q (Spares a k)
-      → StepsTo m (event.Call server (call.AggDrop a)) r n → Names n r received → Fitting n q (after_drop_whole a k r)
-  spares q a k r received unread f step names =
-      goes q [] (Spares a k) (after_drop_whole a k r) (call.AggDrop a) r f step refl refl (refl, refl, refl) (stands r)
-      (has_after_reply q (Spares a k) r received f refl refl unread step names)
-      (finds_after_reply q (Spares a k) r received refl unread f.finds)
-    where
-      stands : (r : Reply) → Stands f.expected q [] (after_drop_whole a k r)
-      stands reply.Done = (refl, refl, refl)
-      stands r = (refl, refl, refl)
 
   -- the text that was read is dropped: but for HEAD the script begins to run
   runs : (process_slots : List (ProcessSlot worker_set.Worker)) (q : Answer) (a : ℕ) (r : Reply) (received : List ℕ)
@@ -296,112 +279,24 @@ module _ (site_contents : SiteContents) (worker_set : WorkerSet) (laws : AllLaws
   headed-stands : (expected : List ℕ) (q : Answer) (a size : ℕ) (more : Following)
       → Stands expected q [] (headed a size more)
   headed-stands expected q a size None = (refl, refl, refl)
-  headed-stands expected q a size (Some x) = by (nat_le (size + x.1) MAX_AGGREGATE_BYTES)
-    where
-      by : (b : Bool) → Stands expected q [] (if b then Joins a size x.0 x.1 else Sends a size 0 (Some x))
-      by true = (refl, refl, refl)
-      by false = (refl, refl, refl)
+  headed-stands expected q a size (Some x) =
+      either-way (λ (e : Phase). Stands expected q [] e) (nat_le (size + x.1) MAX_AGGREGATE_BYTES) (refl, refl, refl)
+      (refl, refl, refl)
 
-  heads : (q : Answer) (k : Payload) (r : Reply) (received : List ℕ) → Fitting m q (Heads k)
-      → StepsTo m (event.Call server (call.AggMake (text_of q k))) r n → Names n r received
-      → Fitting n q (after_head k r received)
-  heads q k r received f step names =
-      goes q [] (Heads k) (after_head k r received) (call.AggMake (text_of q k)) r f step refl refl (refl, refl, refl)
-      (stands r)
-      (has_after_reply q (Heads k) r received f refl refl refl step names)
-      (finds_after_reply q (Heads k) r received refl refl f.finds)
-    where
-      stands : (r : Reply) → Stands f.expected q [] (after_head k r received)
-      stands (reply.Agg x) = headed-stands f.expected q x (count_of received) (following k)
-      stands r = (refl, refl, refl)
+  swaps-stands : (expected : List ℕ) (q : Answer) (a from len taken : ℕ) (more : Following)
+      → Stands expected q (take taken expected)
+      (if nat_lt from len then Cuts a from len taken more else Sent a taken more)
+  swaps-stands expected q a from len taken more =
+      either-way (λ (e : Phase). Stands expected q (take taken expected) e) (nat_lt from len) (refl, refl, refl)
+      (refl, refl, refl)
 
-  joins : (q : Answer) (a size b len : ℕ) (r : Reply) (received : List ℕ) → Fitting m q (Joins a size b len)
-      → StepsTo m (event.Call server (call.AggJoin a b)) r n → Names n r received
-      → Fitting n q (after_join a size b len r)
-  joins q a size b len r received f step names =
-      goes q [] (Joins a size b len) (after_join a size b len r) (call.AggJoin a b) r f step refl refl
-      (refl, refl, refl) (stands r)
-      (has_after_reply q (Joins a size b len) r received f refl refl refl step names)
-      (finds_after_reply q (Joins a size b len) r received refl refl f.finds)
-    where
-      stands : (r : Reply) → Stands f.expected q [] (after_join a size b len r)
-      stands (reply.Agg x) = (refl, refl, refl)
-      stands r = (refl, refl, refl)
+  drops-quit : (more : Following) → quits (drops_next more) ≡ true
+  drops-quit None = refl
+  drops-quit (Some x) = refl
 
-  cuts : (q : Answer) (a from len taken : ℕ) (more : Following) (r : Reply) (received : List ℕ)
-      → Fitting m q (Cuts a from len taken more)
-      → StepsTo m (event.Call server (call.AggCut a from (piece_end from len))) r n → Names n r received
-      → Fitting n q (after_cut a from len taken more r)
-  cuts q a from len taken more r received f step names =
-      goes q (take taken f.expected) (Cuts a from len taken more) (after_cut a from len taken more r)
-      (call.AggCut a from (piece_end from len)) r f step refl refl (refl, refl, refl) (stands r)
-      (has_after_reply q (Cuts a from len taken more) r received f refl refl refl step names)
-      (finds_after_reply q (Cuts a from len taken more) r received refl refl f.finds)
-    where
-      stands : (r : Reply) → Stands f.expected q (take taken f.expected) (after_cut a from len taken more r)
-      stands (reply.Agg x) = (refl, refl, refl)
-      stands r = (refl, refl, refl)
-
-  swaps : (q : Answer) (a from len piece taken : ℕ) (more : Following) (r : Reply) (received : List ℕ)
-      → Fitting m q (Swaps a from len piece taken more)
-      → StepsTo m (event.Call server (call.AggDrop piece)) r n → Names n r received
-      → Fitting n q (after_swap a from len piece taken more r)
-  swaps q a from len piece taken more r received f step names =
-      goes q (take taken f.expected) (Swaps a from len piece taken more) (after_swap a from len piece taken more r)
-      (call.AggDrop piece) r f step refl refl (refl, refl, refl) (stands r)
-      (has_after_reply q (Swaps a from len piece taken more) r received f refl refl refl step names)
-      (finds_after_reply q (Swaps a from len piece taken more) r received refl refl f.finds)
-    where
-      stands : (r : Reply) → Stands f.expected q (take taken f.expected) (after_swap a from len piece taken more r)
-      stands reply.Done = by (nat_lt from len)
-        where
-          by : (b : Bool)
-              → Stands f.expected q (take taken f.expected)
-              (if b then Cuts a from len taken more else Sent a taken more)
-          by true = (refl, refl, refl)
-          by false = (refl, refl, refl)
-      stands r = (refl, refl, refl)
-
-  breaks : (q : Answer) (piece a : ℕ) (more : Following) (r : Reply) (received : List ℕ)
-      → Fitting m q (Breaks piece a more)
-      → StepsTo m (event.Call server (call.AggDrop piece)) r n → Names n r received
-      → Fitting n q (after_break piece a more r)
-  breaks q piece a more r received f step names =
-      moves_to script q (Breaks piece a more) (after_break piece a more r) (call.AggDrop piece) r f.expected f.may f
-      step refl refl (hush site_contents kept script f.expected f.expected q (Breaks piece a more)
-      (after_break piece a more r) refl (ending r))
-      (has_after_reply q (Breaks piece a more) r received f refl refl refl step names)
-      (finds_after_reply q (Breaks piece a more) r received refl refl f.finds)
-    where
-      ending : (r : Reply) → quits (after_break piece a more r) ≡ true
-      ending reply.Done = refl
-      ending r = refl
-
-  drops : (q : Answer) (a : ℕ) (more : Following) (r : Reply) (received : List ℕ) → Fitting m q (Drops a more)
-      → StepsTo m (event.Call server (call.AggDrop a)) r n → Names n r received → Fitting n q (after_drop a more r)
-  drops q a more r received f step names =
-      moves_to script q (Drops a more) (after_drop a more r) (call.AggDrop a) r f.expected f.may f step refl refl
-      (hush site_contents kept script f.expected f.expected q (Drops a more) (after_drop a more r) refl (ending r))
-      (has_after_reply q (Drops a more) r received f refl refl refl step names)
-      (finds_after_reply q (Drops a more) r received refl refl f.finds)
-    where
-      next : (more : Following) → quits (drops_next more) ≡ true
-      next None = refl
-      next (Some x) = refl
-
-      ending : (r : Reply) → quits (after_drop a more r) ≡ true
-      ending reply.Done = next more
-      ending r = refl
-
-  sent_all : (q : Answer) (a taken : ℕ) (more : Following) (r : Reply) (received : List ℕ)
-      → Fitting m q (Sent a taken more)
-      → StepsTo m (event.Call server (call.AggDrop a)) r n → Names n r received
-      → Fitting n q (after_taken q a taken more r)
-  sent_all q a taken more r received f step names =
-      moves_to script q (Sent a taken more) (after_taken q a taken more r) (call.AggDrop a) r f.expected f.may f step
-      refl refl (consistencies r)
-      (has_after_reply q (Sent a taken more) r received f refl refl refl step names)
-      (finds_after_reply q (Sent a taken more) r received refl refl f.finds)
+  sent-consistencies : (q : Answer) (a taken : ℕ) (more : Following) (f : Fitting m q (Sent a taken more))
+      → ConsistenciesOn site_contents kept script f.expected f.expected q (Sent a taken more) (proceeds q taken more)
+  sent-consistencies q a taken more f = after more f.has
     where
       ended : (b : Bool) → keeps q ≡ b → drop taken f.expected ≡ []
           → ConsistenciesOn site_contents kept script f.expected f.expected q (Sent a taken None)
@@ -415,14 +310,6 @@ module _ (site_contents : SiteContents) (worker_set : WorkerSet) (laws : AllLaws
       after (Some x) h = consistency_on site_contents kept script f.expected f.expected q (Sent a taken (Some x))
           (Sends x.0 x.1 taken None) refl refl refl refl
       after None h = ended (keeps q) refl (sym h.next ∙ h.follows)
-
-      consistencies : (r : Reply)
-          → ConsistenciesOn site_contents kept script f.expected f.expected q (Sent a taken more)
-          (after_taken q a taken more r)
-      consistencies reply.Done = after more f.has
-      consistencies r =
-          consistency_on site_contents kept script f.expected f.expected q (Sent a taken more) (Sent a taken more) refl
-          refl refl refl
 
   -- ---- any call of it but the last
 
@@ -439,7 +326,11 @@ module _ (site_contents : SiteContents) (worker_set : WorkerSet) (laws : AllLaws
       → FitsAlone site_contents n came sent fd c (conn_after_reply (alone kept script q d) r received)
   phase q Rests r received plain fixed f waits busy undisturbed step names =
       rests site_contents laws.the m n came sent fd c kept script order q r received f waits step names
-  phase q (Got a) r received plain fixed f waits busy undisturbed step names = got q a r received f step names
+  phase q (Got a) r received plain fixed f waits busy undisturbed step names =
+      on-consistency q (Got a) r received f refl refl refl step names refl refl
+      (after-done (ConsistenciesOn site_contents kept script f.expected f.expected q (Got a)) r
+      (consistency_on site_contents kept script f.expected f.expected q (Got a) (Got a) refl refl refl refl)
+      (consistency_on site_contents kept script f.expected f.expected q (Got a) Rests refl refl refl refl))
   phase q Opens r received plain fixed f waits busy undisturbed step names =
       files.opens site_contents worker_set laws m n came sent fd c kept script order q r received fixed f undisturbed
       step
@@ -449,31 +340,49 @@ module _ (site_contents : SiteContents) (worker_set : WorkerSet) (laws : AllLaws
   phase q (Shuts g k) r received plain fixed f waits busy undisturbed step names =
       shuts q g k r received refl f step names
   phase q (Picks a first last len) r received plain fixed f waits busy undisturbed step names =
-      picks q a first last len r received f step names
+      on-stands [] q (Picks a first last len) r received f refl refl refl step names refl refl (refl, refl, refl)
+      (after-agg (Stands f.expected q []) r (refl, refl, refl) (λ x. (refl, refl, refl)))
   phase q (Spares a Script) r received plain fixed f waits busy undisturbed step names = absurd (cc (plain))
   phase q (Spares a k) r received plain fixed f waits busy undisturbed step names =
-      spares q a k r received refl f step names
-  phase q (Heads k) r received plain fixed f waits busy undisturbed step names = heads q k r received f step names
+      on-stands [] q (Spares a k) r received f refl refl refl step names refl refl (refl, refl, refl)
+      (after-done (Stands f.expected q []) r (refl, refl, refl) (refl, refl, refl))
+  phase q (Heads k) r received plain fixed f waits busy undisturbed step names =
+      on-stands [] q (Heads k) r received f refl refl refl step names refl refl (refl, refl, refl)
+      (after-agg (Stands f.expected q []) r (refl, refl, refl)
+      (λ x. headed-stands f.expected q x (count_of received) (following k)))
   phase q (Joins a size body len) r received plain fixed f waits busy undisturbed step names =
-      joins q a size body len r received f step names
+      on-stands [] q (Joins a size body len) r received f refl refl refl step names refl refl (refl, refl, refl)
+      (after-agg (Stands f.expected q []) r (refl, refl, refl) (λ x. (refl, refl, refl)))
   phase q (Sends a len taken more) r received plain fixed f waits busy undisturbed step names =
       sends site_contents laws.the m n came sent fd c kept script order q a len taken more r f step
       (has_after_reply q (Sends a len taken more) r received f refl refl refl step names)
       (finds_after_reply q (Sends a len taken more) r received refl refl f.finds)
   phase q (Cuts a from len taken more) r received plain fixed f waits busy undisturbed step names =
-      cuts q a from len taken more r received f step names
+      on-stands (take taken f.expected) q (Cuts a from len taken more) r received f refl refl refl step names refl refl
+      (refl, refl, refl) (after-agg (Stands f.expected q (take taken f.expected)) r (refl, refl, refl)
+      (λ x. (refl, refl, refl)))
   phase q (Offers a from len piece taken more) r received plain fixed f waits busy undisturbed step names =
       offers site_contents laws.the m n came sent fd c kept script order q a from len piece taken more r f step
       (has_after_reply q (Offers a from len piece taken more) r received f refl refl refl step names)
       (finds_after_reply q (Offers a from len piece taken more) r received refl refl f.finds)
   phase q (Swaps a from len piece taken more) r received plain fixed f waits busy undisturbed step names =
-      swaps q a from len piece taken more r received f step names
+      on-stands (take taken f.expected) q (Swaps a from len piece taken more) r received f refl refl refl step names
+      refl refl (refl, refl, refl) (after-done (Stands f.expected q (take taken f.expected)) r (refl, refl, refl)
+      (swaps-stands f.expected q a from len taken more))
   phase q (Sent a taken more) r received plain fixed f waits busy undisturbed step names =
-      sent_all q a taken more r received f step names
+      on-consistency q (Sent a taken more) r received f refl refl refl step names refl refl
+      (after-done (ConsistenciesOn site_contents kept script f.expected f.expected q (Sent a taken more)) r
+      (consistency_on site_contents kept script f.expected f.expected q (Sent a taken more) (Sent a taken more) refl
+      refl refl refl) (sent-consistencies q a taken more f))
   phase q (Breaks piece a more) r received plain fixed f waits busy undisturbed step names =
-      breaks q piece a more r received f step names
+      on-consistency q (Breaks piece a more) r received f refl refl refl step names refl refl
+      (hush site_contents kept script f.expected f.expected q (Breaks piece a more)
+      (conn.after_break piece a more r) refl
+      (after-done (λ e. quits e ≡ true) r refl refl))
   phase q (Drops a more) r received plain fixed f waits busy undisturbed step names =
-      drops q a more r received f step names
+      on-consistency q (Drops a more) r received f refl refl refl step names refl refl
+      (hush site_contents kept script f.expected f.expected q (Drops a more) (conn.after_drop a more r) refl
+      (after-done (λ e. quits e ≡ true) r refl (drops-quit more)))
   phase q Closes r received plain fixed f waits busy undisturbed step names = absurd (cc (busy))
   phase q Over r received plain fixed f waits busy undisturbed step names = absurd (cc (busy))
 

@@ -1,6 +1,6 @@
 -- The state of a client without running script whose call would block.
 use Rattle.std.proofs.Common.{inl, inr, ◌≡◌, ℕ, ◌-◌, ◌⊎◌, List, [], ◌++◌, length, ap, ◌∙◌, refl, sym, subst, Option}
-use Rattle.std.proofs.Common.{None, true, false, Bool, append-nil, if◌then◌else◌}
+use Rattle.std.proofs.Common.{None, true, false, Bool, append-nil}
 use Rattle.iol_core.specs.Text.{Text, bytes_of}
 use Rattle.iol_core.specs.State.{State, conn_at, is_gone}
 use Rattle.iol_core.specs.declared.descriptors.How.{How}
@@ -31,6 +31,7 @@ use Rattle.flash_laws.proofs.Conn.Responses.{order-all}
 use Rattle.flash_laws.proofs.Lists.{clash}
 use Rattle.flash_laws.proofs.World.AllLaws.{AllLaws}
 use Rattle.flash_laws.proofs.World.Alone.Consistencies.{alone}
+use Rattle.flash_laws.proofs.Moves.{either-of}
 
 -- all that came on a connection is answered, and its peer may ask for more
 pub record IsAnsweredSoFar (site_contents : SiteContents) (m : State) (came sent : List ℕ) (c : ℕ) : Type 0 where
@@ -113,11 +114,10 @@ module _ (site_contents : SiteContents) (worker_set : WorkerSet) (laws : AllLaws
       absurd (goes worker_set laws m (call.AggDrop a) refl step)
   by-phase came sent fd c kept script q Opens f waits step =
       absurd (goes worker_set laws m (call.OpenFile (name_of q) modes.Read) refl step)
-  by-phase came sent fd c kept script q (Reading g) f waits step = absurd (by (is_head_only q) step)
-    where
-      by : (b : Bool) → WouldWait m server (if b then call.Length g else call.IolRead g most_read) → ⊥
-      by true step = goes worker_set laws m (call.Length g) refl step
-      by false step = reads-on came sent fd c g kept q script f step
+  by-phase came sent fd c kept script q (Reading g) f waits step =
+      absurd (either-of (λ (k : Call). WouldWait m server k → ⊥) (is_head_only q) (call.Length g)
+      (call.IolRead g most_read) (λ step. goes worker_set laws m (call.Length g) refl step)
+      (λ step. reads-on came sent fd c g kept q script f step) step)
   by-phase came sent fd c kept script q (Shuts g k) f waits step =
       absurd (goes worker_set laws m (call.Close g) refl step)
   by-phase came sent fd c kept script q (Picks a first last len) f waits step =
