@@ -45,6 +45,7 @@ pub struct Loaded<R: Files> {
     pub world: World<TreeBacking<R>, Actor>,
     pub summary: Summary,
     ghost begins: { BeginsSite world },
+    ghost honest: { world.machine.disk.honest ≡ summary.is_in_memory },
 }
 
 /// A folder whose files are a site.

@@ -7,6 +7,7 @@ mod notices;
 mod options;
 mod serve;
 mod service;
+mod storage;
 
 use options::{Options, command};
 use serve::serve;

@@ -35,6 +35,9 @@ pub struct Options<'a> {
     /// The maximum number of bytes of files that are read into memory, if any.
     pub preload: Option<u64>,
 
+    /// Whether only states of the site that are in memory are served.
+    pub memory_only: bool,
+
     pub limits: Limits,
 }
 
@@ -55,6 +58,7 @@ impl<'a> Options<'a> {
             root,
             access_log: matches.get_str("access-log"),
             preload: preload_of(matches),
+            memory_only: matches.get_flag("memory-only"),
             limits: limits_of(matches),
         })
     }
@@ -120,7 +124,8 @@ fn files_arguments<'a>(alloc: Global, command: Command<'a>) -> Result<Command<'a
     command
         .arg(access_log(alloc))?
         .arg(preload_limit(alloc))?
-        .arg(no_preload(alloc))
+        .arg(no_preload(alloc))?
+        .arg(memory_only(alloc)?)
 }
 
 fn listen<'a>(alloc: Global) -> Arg<'a> {
@@ -206,4 +211,14 @@ fn no_preload<'a>(alloc: Global) -> Arg<'a> {
         .long("no-preload")
         .action(ArgAction::SetTrue)
         .help("Read no file into memory: serve all from the folder")
+}
+
+fn memory_only<'a>(alloc: Global) -> Result<Arg<'a>, AllocError> {
+    Arg::new(alloc, "memory-only")
+        .long("memory-only")
+        .action(ArgAction::SetTrue)
+        .help(
+            "Serve no state of the site that exceeds --preload-limit: the last one before is served",
+        )
+        .conflicts_with("no-preload")
 }

@@ -1,6 +1,10 @@
 //! The server.
+ghost use Rattle.std.specs.Prelude.{◌≡◌, true};
+
+use crate::notices::tell_not_in_memory;
 use crate::options::Options;
 use crate::service::SiteService;
+use crate::storage::{Anywhere, InMemory, Storage};
 use flash_lite::actor::Actor;
 use flash_lite::layout::NET_POOL;
 use flash_log::log::AccessLog;
@@ -11,14 +15,14 @@ use iol_tree::backing::TreeBacking;
 use mio::net::TcpListener;
 use std::fs::{File, OpenOptions};
 use std::io;
-use std::io::Write;
+use std::io::{ErrorKind, Write};
 
 // The event loop of a site.
-type SiteReactor<W> = Reactor<
+type SiteReactor<W, K> = Reactor<
     TcpListener,
     TreeBacking<HostRuntime>,
     Actor,
-    SiteService<HostRuntime, W>,
+    SiteService<HostRuntime, W, K>,
 >;
 
 /// Serves a site with the options of the command line, until the given number of clients was
@@ -37,27 +41,48 @@ fn open_log(rt: &HostRuntime, path: &str) -> io::Result<File> {
     OpenOptions::new().append(true).create(true).open(rt, path)
 }
 
-// Reads the site, listens, and serves.
+// Reads the site, and serves it: with `--memory-only` from memory alone.
 fn serve_site<W: Write + Drop>(
     rt: &HostRuntime,
     options: &Options<'_>,
     log: Option<AccessLog<W>>,
 ) -> io::Result<()> {
     let mut source = Source::new(rt, options.root, options.preload)?;
-    let Loaded { world, summary } = source.load()?;
+    let loaded = source.load()?;
+    if !options.memory_only {
+        return serve_loaded::<W, Anywhere>(rt, options, source, loaded, log);
+    }
+    if !loaded.summary.is_in_memory {
+        tell_not_in_memory(rt, options.root);
+        return Err(io::Error::from(ErrorKind::Other));
+    }
+    serve_loaded::<W, InMemory>(rt, options, source, loaded, log)
+}
+
+// Listens, and serves a site that was read.
+fn serve_loaded<W: Write + Drop, K: Storage>(
+    rt: &HostRuntime,
+    options: &Options<'_>,
+    source: Source<HostRuntime>,
+    loaded: Loaded<HostRuntime>,
+    log: Option<AccessLog<W>>,
+) -> io::Result<()>
+    requires { K.IN_MEMORY ≡ true → loaded.summary.is_in_memory ≡ true }
+{
+    let Loaded { world, summary } = loaded;
     let pool = PoolId::new(NET_POOL);
     let mut reactor = Reactor::new(rt, rt.alloc(), options.listen, pool, world, options.limits)?;
-    let service = SiteService::new(rt, options.root, source, summary, log);
+    let service = SiteService::<_, _, K>::new(rt, options.root, source, summary, log);
     let served = serve_clients(rt, service, &mut reactor);
     drop(reactor);
     served
 }
 
 // Prints its address, and serves.
-fn serve_clients<W: Write + Drop>(
+fn serve_clients<W: Write + Drop, K: Storage>(
     rt: &HostRuntime,
-    service: io::Result<SiteService<HostRuntime, W>>,
-    reactor: &mut SiteReactor<W>,
+    service: io::Result<SiteService<HostRuntime, W, K>>,
+    reactor: &mut SiteReactor<W, K>,
 ) -> io::Result<()> {
     let mut service = service?;
     let served = match tell_address(rt, reactor) {
@@ -69,7 +94,10 @@ fn serve_clients<W: Write + Drop>(
 }
 
 // Prints the line with its address.
-fn tell_address<W: Write + Drop>(rt: &HostRuntime, reactor: &SiteReactor<W>) -> io::Result<()> {
+fn tell_address<W: Write + Drop, K: Storage>(
+    rt: &HostRuntime,
+    reactor: &SiteReactor<W, K>,
+) -> io::Result<()> {
     let address = reactor.local_addr()?;
     let mut output = rt.stdout();
     writeln!(output, "listening on http://{address}/")?;

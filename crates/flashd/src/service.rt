@@ -1,32 +1,36 @@
 //! A site, as a service of the event loop.
-ghost use Rattle.std.specs.Prelude.{IfOk, IfSome};
+ghost use Rattle.std.specs.Prelude.{IfOk, IfSome, refl};
 ghost use Rattle.flash_framing.specs.Framing.{Framed};
-ghost use Rattle.flash_site.specs.World.{BeginsSite};
+ghost use Rattle.flash_site.specs.World.{BeginsSiteIn};
 
-use crate::notices::tell_site;
+use crate::notices::{tell_outgrown, tell_site};
+use crate::storage::{InMemory, Storage};
+use flash_answers::HonestSites;
 use flash_framing::{frame_of, progress_of};
 use flash_lite::actor::Actor;
 use flash_log::dates::log_date;
 use flash_log::heads::{head_length, request_line, status_of};
 use flash_log::lines::Entry;
 use flash_log::log::AccessLog;
-use flash_site::source::{Source, Summary};
+use flash_site::source::{Loaded, Source, Summary};
 use iol_proc::world::World;
 use iol_reactor::service::{Exchange, Frame, Progress, Service};
 use iol_tree::backing::TreeBacking;
 use std::alloc::{AllocError, Global};
-use std::io;
 use std::io::{Eprint, Write};
+use std::marker::PhantomData;
 use std::rt::{Clock, Files};
 use std::time::{Duration, Instant, SystemTime, UNIX_EPOCH};
+use std::{io, mem};
 
 /// The pause between two checks of the folder is at least this number of times as long as the
 /// first of them took.
 const PAUSE_LOOKS: u64 = 20;
 
-/// The files of a folder, and the log of responses.
+/// The files of a folder, and the log of responses. With the storage `InMemory` each world that it
+/// gives is over an honest store.
 #[derive(Drop)]
-pub struct SiteService<R: Files, W> {
+pub struct SiteService<R: Files, W, K> {
     rt: R,
     root: String,
     source: Source<R>,
@@ -37,12 +41,15 @@ pub struct SiteService<R: Files, W> {
 
     // The earliest time of the next check of the folder.
     next_look: Option<Instant>,
+
+    storage: PhantomData<K>,
 }
 
-impl<R, W> SiteService<R, W>
+impl<R, W, K> SiteService<R, W, K>
 where
     R: Files + Clock + Eprint + AllocGlobal + Clone + Drop,
     W: Write + Drop,
+    K: Storage,
 {
     /// The service of a site that was read from a source, and has this summary.
     pub fn new(
@@ -51,7 +58,7 @@ where
         source: Source<R>,
         summary: Summary,
         log: Option<AccessLog<W>>,
-    ) -> io::Result<SiteService<R, W>> {
+    ) -> io::Result<SiteService<R, W, K>> {
         tell_site(rt, root, &summary);
         Ok(SiteService {
             rt: rt.clone()?,
@@ -60,6 +67,7 @@ where
             log,
             summary,
             next_look: None,
+            storage: PhantomData,
         })
     }
 
@@ -103,7 +111,7 @@ where
 
     // A new world, if the folder changed. A folder that takes long to check is checked less often.
     fn look(&mut self, is_worn: bool) -> io::Result<Option<World<TreeBacking<R>, Actor>>>
-        ensures { IfOk result (λ renewed. IfSome renewed BeginsSite) }
+        ensures { IfOk result (λ renewed. IfSome renewed (BeginsSiteIn K.IN_MEMORY)) }
     {
         let start = Instant::now(&self.rt)?;
         if !is_worn && !self.is_time(&start) {
@@ -114,14 +122,32 @@ where
         let Some(loaded) = renewed? else {
             return Ok(None);
         };
-        if loaded.summary.is_in_memory != self.summary.is_in_memory
-            || loaded.summary.skipped != self.summary.skipped
-        {
-            tell_site(&self.rt, self.root.as_str(), &loaded.summary);
-        }
-        self.summary = loaded.summary;
-        Ok(Some(loaded.world))
+        self.tell(loaded.summary);
+        Ok(world_in::<R, K>(loaded))
     }
+
+    // Reports a site that was read, if its notices differ from the last ones.
+    fn tell(&mut self, summary: Summary) {
+        let before = mem::replace(&mut self.summary, summary);
+        if summary.is_in_memory == before.is_in_memory && summary.skipped == before.skipped {
+            return;
+        }
+        if K::IN_MEMORY && !summary.is_in_memory {
+            tell_outgrown(&self.rt, self.root.as_str());
+        } else {
+            tell_site(&self.rt, self.root.as_str(), &summary);
+        }
+    }
+}
+
+// The world of a site that was read. None: its files are to be in memory, and are not.
+fn world_in<R: Files + Drop, K: Storage>(loaded: Loaded<R>) -> Option<World<TreeBacking<R>, Actor>>
+    ensures { IfSome result (BeginsSiteIn K.IN_MEMORY) }
+{
+    if K::IN_MEMORY && !loaded.summary.is_in_memory {
+        return None;
+    }
+    Some(loaded.world)
 }
 
 // The seconds since 1970.
@@ -138,14 +164,15 @@ fn pause_after(took: Duration) -> Duration {
     Duration::from_millis(millis.saturating_mul(PAUSE_LOOKS))
 }
 
-impl<R, W> Service<TreeBacking<R>, Actor> for SiteService<R, W>
+impl<R, W, K> Service<TreeBacking<R>, Actor> for SiteService<R, W, K>
 where
     R: Files + Clock + Eprint + AllocGlobal + Clone + Drop,
     W: Write + Drop,
+    K: Storage,
 {
     // The world of a site, in which nothing has happened yet: the server's laws begin with such a
-    // world.
-    ghost starts = { BeginsSite };
+    // world, over an honest store.
+    ghost starts = { BeginsSiteIn K.IN_MEMORY };
 
     // The first request, by its window and its head.
     ghost frames = { Framed };
@@ -169,4 +196,17 @@ where
             Err(_) => None,
         }
     }
+}
+
+// From memory, the answers to each client are those of the law (`flash_answers::client`).
+impl<R, W> HonestSites<TreeBacking<R>> for SiteService<R, W, InMemory>
+where
+    R: Files + Clock + Eprint + AllocGlobal + Clone + Drop,
+    W: Write + Drop,
+{
+    ghost serves = { record {
+      begins = λ world begun. begun.site;
+      honest = λ world begun. begun.honest refl;
+      framed = λ bytes frame framed. framed;
+    } };
 }
