@@ -54,16 +54,24 @@ impl Limits {
 /// The events that one poll reports at most.
 pub const EVENTS: usize = 256;
 
-/// Between two polls of the sockets the processes have turns until all are idle, but for at most
-/// about this time. A clock is read between two portions of turns.
+/// The processes of a world at most. With more, some may have no turns while turns are long, and
+/// the processes may never be found idle. A server and its workers are nine at most.
+pub const MAX_PROCESSES: usize = 10;
+
+/// Between two polls of the sockets the processes have portions of turns until all are idle. No
+/// portion begins after this time.
 pub const RUN_MICROS: u64 = 1_000;
 
-/// The turns of a portion in each world. There are more while turns are short, and fewer while they
-/// are long, as those that count the lines of a large file. A process in the first places has one
-/// turn more in a portion than others, so the least is above the number of a site's processes.
-pub const MIN_TURNS: usize = 8;
+/// A portion is long if it takes `LONG_MICROS`, and `TURN_MICROS` for each of its turns. A turn
+/// that polls takes less than one, and a worker's turn may take thousands: it counts the lines of
+/// a file.
+pub const LONG_MICROS: u64 = 500;
 
-pub const MAX_TURNS: usize = 64;
+pub const TURN_MICROS: u64 = 2;
+
+/// The turns of the portion after a long one, in each world. Each portion begins at the first
+/// process, so fewer would leave the last ones without turns.
+pub const MIN_TURNS: usize = MAX_PROCESSES;
 
 /// The portions between two polls at most.
 pub const PORTIONS: usize = 64;

@@ -4,7 +4,9 @@ ghost use Rattle.iol_reactor.specs.Accepting.{StaysWithin};
 
 use crate::accept::{Acceptor, Listener};
 use crate::engine::Engine;
-use crate::limits::{EVENTS, Limits, MAX_TURNS, MIN_TURNS, PORTIONS, RENEW_MILLIS, RUN_MICROS};
+use crate::limits::{
+    EVENTS, LONG_MICROS, Limits, MIN_TURNS, PORTIONS, RENEW_MILLIS, RUN_MICROS, TURN_MICROS,
+};
 use crate::service::Service;
 use iol_back::backing::Backing;
 use iol_core::numbers::PoolId;
@@ -34,7 +36,7 @@ pub struct Reactor<L, B: Backing, P: Process, V: Service<B, P>> {
     // When the service is asked for a new world.
     renew_at: u64,
 
-    // The turns that the processes have between two readings of the clock.
+    // The turns of the next portion: those between two readings of the clock.
     portion: usize,
 }
 
@@ -84,7 +86,7 @@ impl<B: Backing + Drop, P: Process, V: Service<B, P>> Reactor<TcpListener, B, P,
                 acceptor,
                 engine,
                 renew_at: RENEW_MILLIS,
-                portion: MAX_TURNS,
+                portion: MIN_TURNS,
             }),
             Err(error) => Err(io::Error::from(error)),
         }
@@ -137,7 +139,7 @@ where
         let now = start.elapsed(clock)?;
         self.engine.set_now(millis_of(now));
         self.note_all(events)?;
-        self.turn(now, start, clock, service)
+        self.turn(start, clock, service)
     }
 
     // Sockets were reported ready.
@@ -199,21 +201,15 @@ where
         Ok(())
     }
 
-    // The work between two polls, of which the first was at this time.
-    fn turn(
-        &mut self,
-        polled: Duration,
-        start: &Instant,
-        clock: &impl Clock,
-        service: &mut V,
-    ) -> io::Result<()>
+    // The work between two polls.
+    fn turn(&mut self, start: &Instant, clock: &impl Clock, service: &mut V) -> io::Result<()>
         ensures { StaysWithin (L.given self.old.acceptor.listener) self.old.acceptor.left
             (L.given self.new.acceptor.listener) self.new.acceptor.left }
     {
         self.accept_all();
         self.check_accepting()?;
         if self.engine.begin_round(service)? {
-            self.run(polled, start, clock)?;
+            self.run(start, clock)?;
             self.engine.end_round(service)?;
         }
         self.engine.expire(service)?;
@@ -221,19 +217,22 @@ where
         Ok(())
     }
 
-    // The turns of the processes in it.
-    fn run(&mut self, polled: Duration, start: &Instant, clock: &impl Clock) -> io::Result<()>
+    // The processes have portions of turns until all are idle, or their time is over.
+    fn run(&mut self, start: &Instant, clock: &impl Clock) -> io::Result<()>
         ensures listener { self.new.acceptor.listener ≡ self.old.acceptor.listener }
         ensures left { self.new.acceptor.left ≡ self.old.acceptor.left }
     {
-        let mut before = polled;
+        let most = self.engine.idle_turns();
+        let began = start.elapsed(clock)?;
+        let mut before = began;
         for _ in 0..PORTIONS {
-            if self.engine.take_turns(self.portion) {
+            let portion = self.portion.min(most);
+            if self.engine.take_turns(portion) {
                 return Ok(());
             }
             let now = start.elapsed(clock)?;
-            self.portion = portion_after(self.portion, now.saturating_sub(before));
-            if now.saturating_sub(polled) >= Duration::from_micros(RUN_MICROS) {
+            self.portion = portion_after(portion, now.saturating_sub(before));
+            if now.saturating_sub(began) >= Duration::from_micros(RUN_MICROS) {
                 return Ok(());
             }
             before = now;
@@ -337,11 +336,10 @@ fn millis_of(time: Duration) -> u64 {
 
 // The turns of the portion after one that took this time.
 fn portion_after(portion: usize, took: Duration) -> usize {
-    if took >= Duration::from_micros(RUN_MICROS / 2) {
-        (portion / 2).max(MIN_TURNS)
-    } else if took < Duration::from_micros(RUN_MICROS / 8) {
-        portion.saturating_mul(2).min(MAX_TURNS)
+    let long = TURN_MICROS.saturating_mul(portion as u64).max(LONG_MICROS);
+    if took >= Duration::from_micros(long) {
+        MIN_TURNS
     } else {
-        portion
+        portion.saturating_mul(2)
     }
 }

@@ -2,6 +2,7 @@
 use crate::client::Phase;
 use crate::engine::Engine;
 use crate::exchange::{Moment, Step};
+use crate::limits::MAX_PROCESSES;
 use crate::service::Service;
 use crate::socket::Socket;
 use crate::timers::Key;
@@ -30,6 +31,13 @@ impl<S: Socket + Drop, B: Backing + Drop, P: Process, V: Service<B, P>> Engine<S
         }
         self.receive_ready(service)?;
         Ok(true)
+    }
+
+    /// The number of turns in which idle processes are found idle: each has yielded twice. Before a
+    /// yield a process polls each connection, and accepts.
+    pub(crate) fn idle_turns(&self) -> usize {
+        let calls = self.worlds().links().saturating_add(2);
+        calls.saturating_mul(2 * MAX_PROCESSES)
     }
 
     /// Gives turns to the processes until all are idle, but at most this number in each world, and
