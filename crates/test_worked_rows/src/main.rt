@@ -128,7 +128,7 @@ fn tell<W: Write>(host: &Host, how: &str, output: &mut W) -> io::Result<()> {
     } else {
         ""
     };
-    writeln!(output, "{how}{rough}")
+    writeln!(output, "{how}{resource_failure}")
 }
 
 fn serve<R: Read, W: Write>(host: &mut Host, input: &mut R, output: &mut W) -> io::Result<()> {
