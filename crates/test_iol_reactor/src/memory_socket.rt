@@ -1,8 +1,8 @@
 //! A socket in memory, whose bytes are known.
-ghost use Rattle.std.specs.Prelude.{Some};
+ghost use Rattle.std.specs.Prelude.{◌≡◌, ◌++◌, [], IfOk, Some};
 
 use iol_reactor::socket::Socket;
-use std::alloc::Global;
+use std::alloc::{AllocError, Global};
 use std::io;
 use std::io::ErrorKind;
 
@@ -28,6 +28,7 @@ pub struct Manner {
 /// A socket that supplies given bytes, and keeps the bytes that it supplied and accepted.
 #[derive(Drop)]
 pub struct MemorySocket<'a> {
+    alloc: Global,
     supply: &'a [u8],
     supplied: Vec<u8>,
     accepted: Vec<u8>,
@@ -38,8 +39,12 @@ pub struct MemorySocket<'a> {
 }
 
 impl<'a> MemorySocket<'a> {
-    pub fn new(alloc: Global, supply: &'a [u8], manner: Manner) -> MemorySocket<'a> {
+    pub fn new(alloc: Global, supply: &'a [u8], manner: Manner) -> MemorySocket<'a>
+        ensures supplied { result.supplied.items ≡ [] }
+        ensures accepted { result.accepted.items ≡ [] }
+    {
         MemorySocket {
+            alloc,
             supply,
             supplied: Vec::new(alloc),
             accepted: Vec::new(alloc),
@@ -112,21 +117,31 @@ impl<'a> Socket for MemorySocket<'a> {
         third: &[u8],
         fourth: &[u8],
     ) -> io::Result<usize> {
-        self.writes = self.writes.saturating_add(1);
-        if let Some(kind) = self.manner.refusal(self.writes) {
-            return Err(io::Error::from(kind));
-        }
-        let mut taken = 0usize;
-        for piece in [first, second, third, fourth] {
-            let count = piece.len().min(self.manner.write.saturating_sub(taken));
-            self.accepted.extend_from_slice(&piece[..count])?;
-            taken = taken.saturating_add(count);
-        }
-        Ok(taken)
+        let bytes = joined(self.alloc, first, second, third, fourth)?;
+        self.send(&bytes)
     }
 
     fn end_output(&mut self) -> io::Result<()> {
         self.output_ends = self.output_ends.saturating_add(1);
         Ok(())
     }
+}
+
+// The bytes of these pieces.
+fn joined(
+    alloc: Global,
+    first: &[u8],
+    second: &[u8],
+    third: &[u8],
+    fourth: &[u8],
+) -> Result<Vec<u8>, AllocError>
+    ensures { IfOk result
+        (λ bytes. bytes.items ≡ first.now ++ second.now ++ third.now ++ fourth.now) }
+{
+    let mut bytes = Vec::new(alloc);
+    bytes.extend_from_slice(first)?;
+    bytes.extend_from_slice(second)?;
+    bytes.extend_from_slice(third)?;
+    bytes.extend_from_slice(fourth)?;
+    Ok(bytes)
 }
