@@ -231,7 +231,9 @@ impl Output {
         ensures at { self.new.at ≡ self.old.at }
     {
         let count = accepted.min(piece.len());
-        let _ = self.show(&piece[..count]);
+        if count > 0 {
+            let _ = self.show(&piece[..count]);
+        }
         accepted.saturating_sub(count)
     }
 
