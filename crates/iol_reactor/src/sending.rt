@@ -11,6 +11,7 @@ use crate::output::Sending;
 use crate::places::Places;
 use crate::service::Service;
 use crate::socket::Socket;
+use crate::steps::QUEUE;
 use crate::worlds::{Collected, Offered};
 use iol_back::backing::Backing;
 use iol_proc::process::Process;
@@ -82,13 +83,12 @@ impl<S: Socket + Drop, B: Backing + Drop, P: Process, V: Service<B, P>> Places<S
                 if !is_served(client.phase()) {
                     return Passed::Failed;
                 }
-                let most = client.room();
-                if most == 0 {
+                if !client.is_flushed() {
                     return Passed::Starved;
                 }
-                let offered = self.worlds.offer(slot, client, most);
+                let offered = self.worlds.offer(slot, client, QUEUE);
                 touch(client, offered, now);
-                offered_as(offered, most)
+                offered_as(offered, QUEUE)
             }
             None => Passed::Failed,
         }

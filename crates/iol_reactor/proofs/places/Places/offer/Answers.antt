@@ -1,8 +1,8 @@
-use Rattle.std.proofs.Common.{◌≡◌, ◌∙◌, arith, subst, sym}
+use Rattle.std.proofs.Common.{◌≡◌, ◌∙◌, arith, refl, subst, sym}
 use Rattle.std.specs.Prelude.{◌⊎◌}
 use Rattle.iol_reactor.specs.declared.client.Phase.TheVariants as phase
 use Rattle.iol_reactor.proofs.Passing.{passed_at}
-use Rattle.iol_reactor.proofs.Served.{all_move, all_same, links_rest, one_moves, others_goes, room_followed}
+use Rattle.iol_reactor.proofs.Served.{all_move, all_same, links_rest, one_moves, others_goes}
 use Rattle.iol_reactor.proofs.places.Places.offer.Goals as goal
 
 pub invariant_of-self : goal.invariant_of-self
@@ -20,15 +20,12 @@ invariant_of-self-then-not-is_served g c = record {
       c.args.self.now.followed;
 }
 
-pub invariant_of-self-then-most-eq0 : goal.invariant_of-self-then-most-eq0
-invariant_of-self-then-most-eq0 g c = record {
+pub invariant_of-self-then-not-is_flushed : goal.invariant_of-self-then-not-is_flushed
+invariant_of-self-then-not-is_flushed g c = record {
   followed = one_moves g.P.Process.turns g.V.Service.starts g.V.Service.frames _ g.S.Socket.supplied g.S.Socket.accepted
-      _ _ _ _ _ c.in-Some.client c.room-most.new.self
+      _ _ _ _ _ c.in-Some.client c.in-Some.client
       (omega (arith, c.if-slot-len.false, c.len.ensures)) c.index_mut.ensures.value c.in-Some.is
-      (λ h. room_followed g.P.Process.turns g.V.Service.starts g.V.Service.frames _ g.S.Socket.supplied
-      g.S.Socket.accepted _ _ c.in-Some.client c.room-most.new.self c.room-most.ensures.unsent
-      c.room-most.ensures.socket c.room-most.ensures.phase c.room-most.ensures.input c.room-most.ensures.last
-      c.room-most.ensures.whole h)
+      (λ h. h)
       c.args.self.now.followed;
 }
 
@@ -42,13 +39,11 @@ invariant_of-self-in-Some g c = record {
       (λ j _. links_rest _ _ c.offer-offered.ensures.links j)
       (omega (arith, c.if-slot-len.false, c.len.ensures)) c.index_mut.ensures.value c.in-Some.is
       (λ h. passed_at g.P.Process.turns g.V.Service.starts g.V.Service.frames _ g.S.Socket.supplied
-      g.S.Socket.accepted _ _ _ _ _ c.in-Some.client c.room-most.new.self c.offer-offered.new.taker c.touch.new.client
+      g.S.Socket.accepted _ _ _ _ _ c.in-Some.client c.in-Some.client c.offer-offered.new.taker c.touch.new.client
       (subst (λ k. (k ≡ phase.Answering) ⊎ (k ≡ phase.Leaving)) c.phase.ensures
       (c.is_served.ensures (grind (arith, c.if-not-is_served.false)))) (sym c.has_link.ensures
       ∙ (grind (arith, c.if-not-has_link.false)))
-      (c.room-most.ensures.none (λ e. absurd (grind (arith, c.if-most-eq0.false, e)))) c.room-most.ensures.unsent
-      c.room-most.ensures.socket c.room-most.ensures.phase c.room-most.ensures.input c.room-most.ensures.last
-      c.room-most.ensures.whole
+      (c.is_flushed.ensures (grind (arith, c.if-not-is_flushed.false))) refl refl refl refl refl refl
       c.offer-offered.ensures.visits.2 (links_rest _ _ c.offer-offered.ensures.links _)
       c.offer-offered.ensures.calls c.offer-offered.ensures.visits.1
       c.touch.ensures.output c.touch.ensures.socket c.touch.ensures.phase c.touch.ensures.input c.touch.ensures.last
