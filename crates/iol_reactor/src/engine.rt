@@ -53,8 +53,9 @@ pub struct Engine<S: Socket, B: Backing, P: Process, V: Service<B, P>> {
     // The time of the next attempt of steps that lacked room or memory, if any.
     pub(crate) retry_at: Option<u64>,
 
-    // Whether all processes are idle.
+    // Whether all processes are idle, and whether a world may have changed since they were.
     pub(crate) is_idle: bool,
+    pub(crate) is_moved: bool,
     now: u64,
 }
 
@@ -105,6 +106,7 @@ impl<S: Socket + Drop, B: Backing + Drop, P: Process, V: Service<B, P>> Engine<S
             timers: room.timers,
             retry_at: None,
             is_idle: true,
+            is_moved: true,
             now: 0,
         }
     }
@@ -135,6 +137,7 @@ impl<S: Socket + Drop, B: Backing + Drop, P: Process, V: Service<B, P>> Engine<S
         requires { V.starts world }
     {
         self.places.renew(world);
+        self.is_moved = true;
     }
 
     /// The client in this place.

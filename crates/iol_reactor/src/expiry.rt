@@ -137,6 +137,7 @@ impl<S: Socket + Drop, B: Backing + Drop, P: Process, V: Service<B, P>> Engine<S
         if is_quiet && !marks.is_ready {
             marks.armed.park = false;
             self.places.leave(key.slot);
+            self.is_moved = true;
             return self.list(key.slot);
         }
         self.timers.parks.set(now, key)
@@ -181,6 +182,7 @@ impl<S: Socket + Drop, B: Backing + Drop, P: Process, V: Service<B, P>> Engine<S
             return Ok(());
         }
         self.places.abandon(key.slot, service);
+        self.is_moved = true;
         self.list(key.slot)
     }
 }

@@ -41,9 +41,12 @@ impl<S: Socket + Drop, B: Backing + Drop, P: Process, V: Service<B, P>> Engine<S
     }
 
     /// Gives turns to the processes until all are idle, but at most this number in each world, and
-    /// returns whether all are.
+    /// returns whether all are. If they are, and no world changed, they are given none.
     pub(crate) fn take_turns(&mut self, turns: usize) -> bool {
-        self.is_idle = self.places.until_idle(turns);
+        if self.is_moved || !self.is_idle || !self.pending.is_empty() {
+            self.is_moved = false;
+            self.is_idle = self.places.until_idle(turns);
+        }
         self.is_idle
     }
 
@@ -56,12 +59,16 @@ impl<S: Socket + Drop, B: Backing + Drop, P: Process, V: Service<B, P>> Engine<S
         self.send_pending(service)
     }
 
-    // Receives from those that are ready.
+    // Receives from those that are ready. One without a connection changes no world.
     fn receive_ready(&mut self, service: &mut V) -> Result<(), AllocError> {
         for place in 0..self.ready.len() {
             if let Some(slot) = self.ready.get(place) {
                 let slot = *slot;
+                let had_link = self.worlds().has_link(slot);
                 self.receive(slot, service)?;
+                if had_link || self.worlds().has_link(slot) {
+                    self.is_moved = true;
+                }
             }
         }
         Ok(())
@@ -159,7 +166,12 @@ impl<S: Socket + Drop, B: Backing + Drop, P: Process, V: Service<B, P>> Engine<S
             Phase::Parked | Phase::Quiet | Phase::Waiting => Step::Rests,
             Phase::Answering | Phase::Leaving => {
                 let outbox = &mut self.outbox;
-                self.places.answer(outbox, slot, service, moment)
+                let step = self.places.answer(outbox, slot, service, moment);
+                // No process waits for a connection that the processes have closed.
+                if step == Step::Over || self.worlds().has_link(slot) {
+                    self.is_moved = true;
+                }
+                step
             }
             Phase::Flushing | Phase::Closing => {
                 let piece = self.piece.as_mut_slice();
