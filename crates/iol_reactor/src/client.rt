@@ -396,6 +396,9 @@ impl<S: Socket> Client<S> {
         ensures output { self.new.output ≡ self.old.output }
         ensures whole { self.new.is_whole ≡ self.old.is_whole }
     {
+        if !self.input.is_readable() {
+            return false;
+        }
         for _ in 0..MAX_DROPPED {
             match self.input.drop_from(&mut self.socket, piece) {
                 Reading::Bytes(_) => {}

@@ -165,19 +165,31 @@ impl<S: Socket + Drop, B: Backing + Drop, P: Process, V: Service<B, P>> Engine<S
             Phase::Parked | Phase::Quiet if client.may_read() => Step::Again,
             Phase::Parked | Phase::Quiet | Phase::Waiting => Step::Rests,
             Phase::Answering | Phase::Leaving => {
-                let outbox = &mut self.outbox;
-                let step = self.places.answer(outbox, slot, service, moment);
-                // No process waits for a connection that the processes have closed.
-                if step == Step::Over || self.worlds().has_link(slot) {
-                    self.is_moved = true;
+                let step = self.answer(slot, service, moment);
+                match self.places.phase(slot) {
+                    Phase::Flushing => self.close(slot),
+                    _ => step,
                 }
-                step
             }
-            Phase::Flushing | Phase::Closing => {
-                let piece = self.piece.as_mut_slice();
-                self.places.close(slot, piece, moment.now)
-            }
+            Phase::Flushing | Phase::Closing => self.close(slot),
         }
+    }
+
+    // Sends the output for a client with a connection.
+    fn answer(&mut self, slot: usize, service: &mut V, moment: Moment) -> Step {
+        let outbox = &mut self.outbox;
+        let step = self.places.answer(outbox, slot, service, moment);
+        // No process waits for a connection that the processes have closed.
+        if step == Step::Over || self.worlds().has_link(slot) {
+            self.is_moved = true;
+        }
+        step
+    }
+
+    // Ends a client without a connection.
+    fn close(&mut self, slot: usize) -> Step {
+        let now = self.now();
+        self.places.close(slot, self.piece.as_mut_slice(), now)
     }
 
     // Processes the next step of a client that was visited.
