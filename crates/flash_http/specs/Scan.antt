@@ -41,3 +41,7 @@ Finds s bytes w = (rest : List ℕ) → window_from s (bytes ++ rest) ≡ w
 -- the search continues after these bytes
 abbrev pub Proceeds : (old : Scan) → (bytes : List ℕ) → (new : Scan) → Type 0
 Proceeds old bytes new = (rest : List ℕ) → window_from old (bytes ++ rest) ≡ window_from new rest
+
+-- the search continues with the bytes that are left of these
+abbrev pub Passes : (old : Scan) → (bytes : List ℕ) → (new : Scan) → (left : List ℕ) → Type 0
+Passes old bytes new left = (rest : List ℕ) → window_from old (bytes ++ rest) ≡ window_from new (left ++ rest)

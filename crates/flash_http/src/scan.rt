@@ -1,8 +1,8 @@
 //! Finds the next head of a stream.
-ghost use Rattle.std.specs.Prelude.{◌≡◌, ◌<◌, ◌+◌, ◌∷◌, [], IfSome, IfNone, length};
+ghost use Rattle.std.specs.Prelude.{◌≡◌, ◌<◌, ◌≤◌, ◌+◌, ◌∷◌, [], IfSome, IfNone, length};
 ghost use Rattle.std.specs.List.{concat};
 ghost use Rattle.flash_http.specs.Window.{window_in, FitsIn, WindowsStay, WindowsFit};
-ghost use Rattle.flash_http.specs.Scan.{next_line, searched, Finds, Proceeds};
+ghost use Rattle.flash_http.specs.Scan.{next_line, searched, Finds, Passes, Proceeds};
 
 use crate::windows::{MAX_HEAD_BYTES, Window};
 use iol_agg::Parts;
@@ -87,6 +87,28 @@ impl Scan {
         }
     }
 
+    // Passes the rest of a line of text, up to its line feed or the limit. Returns the bytes after
+    // it. Most bytes of a head are passed so, and take less time than in `feed`.
+    fn pass_text<'a>(&mut self, bytes: &'a [u8]) -> &'a [u8]
+        requires { searched self.old < MAX_HEAD_BYTES }
+        ensures room { searched self.new < MAX_HEAD_BYTES }
+        ensures fewer { length result.now ≤ length bytes.now }
+        ensures passes { Passes self.old bytes.now self.new result.now }
+    {
+        let mut rest = bytes;
+        if !matches!(self.line, Line::Text) {
+            return rest;
+        }
+        while let [byte, others @ ..] = rest
+            && *byte != b'\n'
+            && self.skip + self.len + 1 < MAX_HEAD_BYTES
+        {
+            self.len += 1;
+            rest = others;
+        }
+        rest
+    }
+
     // Processes bytes, up to the first that determines the window.
     fn feed_all(&mut self, bytes: &[u8]) -> Option<Window>
         requires { searched self.old < MAX_HEAD_BYTES }
@@ -94,11 +116,13 @@ impl Scan {
         ensures found { IfSome result (Finds self.old bytes.now) }
         ensures proceeds { IfNone result (Proceeds self.old bytes.now self.new) }
     {
-        for byte in bytes {
+        let mut rest = bytes;
+        while let [byte, others @ ..] = rest {
             let found = self.feed(*byte);
             if found.is_some() {
                 return found;
             }
+            rest = self.pass_text(others);
         }
         None
     }

@@ -1,11 +1,13 @@
-use Rattle.std.proofs.Common.{◌≡◌, ◌<◌, ◌+◌, ◌++◌, List, ℕ, drop}
+use Rattle.std.proofs.Common.{◌≡◌, ◌<◌, ◌+◌, ◌++◌, List, ℕ, length}
 use Rattle.flash_http.specs.Scan.{window_from}
 use Rattle.flash_http.proofs.scan.Scan.feed_all.Given as goal
 
 -- what is found in the bytes that are left is what is found in all
-abbrev pub invariant-loop-byte : goal.invariant-loop-byte
-invariant-loop-byte l = record {
+abbrev pub invariant-loop-rest : goal.invariant-loop-rest
+invariant-loop-rest l = record {
   room : l.self.skip + l.self.len < 8192;
-  same : (rest : List ℕ)
-      → window_from l.self (drop l.byte-index l.bytes ++ rest) ≡ window_from l.fn.self (l.bytes ++ rest);
+  same : (rest : List ℕ) → window_from l.self (l.rest ++ rest) ≡ window_from l.fn.self (l.fn.bytes ++ rest);
 }
+
+abbrev pub decreases-loop-rest : goal.decreases-loop-rest
+decreases-loop-rest l = length l.rest

@@ -1,0 +1,16 @@
+use Rattle.std.proofs.Common.{◌≡◌, ◌<◌, ◌≤◌, ◌+◌, ◌++◌, List, ℕ, length}
+use Rattle.flash_http.specs.declared.scan.Line.TheVariants.{Text}
+use Rattle.flash_http.specs.Scan.{window_from}
+use Rattle.flash_http.proofs.scan.Scan.pass_text.Given as goal
+
+-- what is found in the bytes that are left is what is found in all
+abbrev pub invariant-loop-rest : goal.invariant-loop-rest
+invariant-loop-rest l = record {
+  room : l.self.skip + l.self.len < 8192;
+  text : l.self.line ≡ Text;
+  fewer : length l.rest ≤ length l.fn.bytes;
+  same : (rest : List ℕ) → window_from l.self (l.rest ++ rest) ≡ window_from l.fn.self (l.fn.bytes ++ rest);
+}
+
+abbrev pub decreases-loop-rest : goal.decreases-loop-rest
+decreases-loop-rest l = length l.rest
