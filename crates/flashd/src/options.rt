@@ -1,5 +1,5 @@
 //! The options of the command line.
-ghost use Rattle.std.specs.Prelude.{◌≡◌, IfSome, Some, None, codes, option_map};
+ghost use Rattle.std.specs.Prelude.{◌≡◌, IfSome, Some, None, true, codes, option_map};
 ghost use Rattle.clap.specs.Words.{first_value, found_of, one_text};
 
 use clap::{Arg, ArgAction, ArgMatches, Command, value_parser};
@@ -50,6 +50,8 @@ impl<'a> Options<'a> {
             ≡ option_map (λ path. path.now) o.access_log) }
         ensures folder { one_text (found_of matches.now) (codes "no-preload") ≡ Some (codes "true")
             → IfSome result (λ o. o.preload ≡ None) }
+        ensures memory { one_text (found_of matches.now) (codes "memory-only") ≡ Some (codes "true")
+            → IfSome result (λ o. o.memory_only ≡ true) }
     {
         let listen = matches.get_one::<SocketAddr>("listen")?;
         let root = matches.get_str("root")?;
