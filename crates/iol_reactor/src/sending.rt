@@ -63,7 +63,20 @@ impl<S: Socket + Drop, B: Backing + Drop, P: Process, V: Service<B, P>> Places<S
             (λ h. h.world) self.new.worlds.retiring) }
     {
         match self.offer(slot, now) {
-            Passed::Blocked => self.collect(outbox, slot, now),
+            Passed::Blocked => self.pass_rest(outbox, slot, now),
+            passed => passed,
+        }
+    }
+
+    // Sends the rest of what its socket was offered. The processes may have waited for room in the
+    // queue until now, so there may be more even if the socket accepts all.
+    fn pass_rest(&mut self, outbox: &mut Outbox, slot: usize, now: u64) -> Passed
+        ensures { result ≡ Passed.Closed → IsOver (link_at self.new.worlds.links.table.items slot)
+            (serving self.new.worlds.links.generation self.new.worlds.current.world
+            (λ h. h.world) self.new.worlds.retiring) }
+    {
+        match self.collect(outbox, slot, now) {
+            Passed::All => Passed::Part,
             passed => passed,
         }
     }
