@@ -1,6 +1,6 @@
 //! Requests of HTTP/1.1, as far as the server reads them.
 use iol_core::numbers::AggId;
-use iol_proc::byte_view::ByteView;
+use iol_proc::look::Look;
 
 /// The beginning of a request, before the index of its file.
 const START: &[u8] = b"GET /";
@@ -76,12 +76,12 @@ impl Request {
     }
 
     /// The request in an aggregate.
-    pub fn of_aggregate(byte_view: &ByteView<'_>, agg: AggId) -> Request {
+    pub fn of_aggregate(look: &Look<'_>, agg: AggId) -> Request {
         let mut request = Request {
             file: None,
             is_last: false,
         };
-        if let Some(parts) = byte_view.bytes(agg) {
+        if let Some(parts) = look.bytes(agg) {
             for part in parts {
                 request.add(part);
             }

@@ -16,7 +16,7 @@ use iol_core::events::{Call, Reply};
 use iol_core::lists::Bytes;
 use iol_core::numbers::{AggId, Fd};
 use iol_core::refusals::Refusal;
-use iol_proc::byte_view::ByteView;
+use iol_proc::look::Look;
 use iol_proc::process::{Process, Turn};
 use std::alloc::{AllocError, Global};
 use std::mem;
@@ -97,8 +97,8 @@ impl Process for Server {
       may_want = λ server last lent. ⊥;
     } };
 
-    fn next(&mut self, last: &Reply, byte_view: &ByteView<'_>) -> Result<Turn, AllocError> {
-        Ok(self.turn(last, byte_view))
+    fn next(&mut self, last: &Reply, look: &Look<'_>) -> Result<Turn, AllocError> {
+        Ok(self.turn(last, look))
     }
 }
 
@@ -145,22 +145,22 @@ impl Server {
     }
 
     // Continues with the reply to the last call.
-    fn turn(&mut self, last: &Reply, byte_view: &ByteView<'_>) -> Turn
+    fn turn(&mut self, last: &Reply, look: &Look<'_>) -> Turn
         ensures { IsCopyFree result }
     {
         let agg = self.agg;
         match self.phase {
             Phase::Beginning => self.accept(),
             Phase::Accepting => self.accepted(last),
-            Phase::Receiving => self.received(last, byte_view),
+            Phase::Receiving => self.received(last, look),
             Phase::DroppingRequest => self.open(),
             Phase::Opening => self.opened(last),
-            Phase::Reading => self.has_read(last, byte_view),
+            Phase::Reading => self.has_read(last, look),
             Phase::ClosingFile => self.complete(agg),
             Phase::DroppingPiece => self.make_copy(),
             Phase::MakingHead => self.join(last, agg),
             Phase::Completing => self.completed(last),
-            Phase::Writing => self.wrote(last, byte_view, agg),
+            Phase::Writing => self.wrote(last, look, agg),
             Phase::Cutting => self.has_cut(last, agg),
             Phase::DroppingSent => self.sent(),
             Phase::Releasing => self.close(),
@@ -224,21 +224,21 @@ impl Server {
         self.serve()
     }
 
-    fn received(&mut self, last: &Reply, byte_view: &ByteView<'_>) -> Turn
+    fn received(&mut self, last: &Reply, look: &Look<'_>) -> Turn
         ensures { IsCopyFree result }
     {
         match last {
-            Reply::Agg(agg) => self.requested(*agg, byte_view),
+            Reply::Agg(agg) => self.requested(*agg, look),
             Reply::Refused(Refusal::WouldBlock) => self.advance(),
             _ => self.close(),
         }
     }
 
     // A request came. An aggregate of no bytes is the end of the input.
-    fn requested(&mut self, agg: AggId, byte_view: &ByteView<'_>) -> Turn
+    fn requested(&mut self, agg: AggId, look: &Look<'_>) -> Turn
         ensures { IsCopyFree result }
     {
-        let request = Request::of_aggregate(byte_view, agg);
+        let request = Request::of_aggregate(look, agg);
         self.file = request.file;
         if let Some(client) = self.clients.get_mut(self.at) {
             client.is_last = request.is_last;
@@ -294,17 +294,17 @@ impl Server {
     }
 
     // A piece of the file was read.
-    fn has_read(&mut self, last: &Reply, byte_view: &ByteView<'_>) -> Turn
+    fn has_read(&mut self, last: &Reply, look: &Look<'_>) -> Turn
         ensures { IsCopyFree result }
     {
         let Reply::Agg(agg) = last else {
             return self.close();
         };
         let agg = *agg;
-        if matches!(self.passing, Passing::Copied) && self.copy(byte_view, agg).is_err() {
+        if matches!(self.passing, Passing::Copied) && self.copy(look, agg).is_err() {
             self.buffer.clear();
         }
-        match self.take_file(byte_view.len(agg).unwrap_or(0)) {
+        match self.take_file(look.len(agg).unwrap_or(0)) {
             Some(fd) => self.make_with(Phase::ClosingFile, agg, Call::Close { fd }),
             None => self.complete(agg),
         }
@@ -322,11 +322,11 @@ impl Server {
     }
 
     // Copies the head and a piece into the buffer.
-    fn copy(&mut self, byte_view: &ByteView<'_>, agg: AggId) -> Result<(), AllocError> {
-        let length = byte_view.len(agg).unwrap_or(0) as usize;
+    fn copy(&mut self, look: &Look<'_>, agg: AggId) -> Result<(), AllocError> {
+        let length = look.len(agg).unwrap_or(0) as usize;
         let mut buffer = Vec::with_capacity(self.alloc, length.saturating_add(self.head.len()))?;
         buffer.extend_from_slice(&self.head)?;
-        if let Some(parts) = byte_view.bytes(agg) {
+        if let Some(parts) = look.bytes(agg) {
             for part in parts {
                 buffer.extend_from_slice(part)?;
             }
@@ -403,11 +403,11 @@ impl Server {
     }
 
     // The queue took some bytes, or none.
-    fn wrote(&mut self, last: &Reply, byte_view: &ByteView<'_>, agg: AggId) -> Turn
+    fn wrote(&mut self, last: &Reply, look: &Look<'_>, agg: AggId) -> Turn
         ensures { IsCopyFree result }
     {
         match last {
-            Reply::Count(from) => self.took(*from, byte_view.len(agg).unwrap_or(0), agg),
+            Reply::Count(from) => self.took(*from, look.len(agg).unwrap_or(0), agg),
             Reply::Refused(Refusal::WouldBlock) => self.advance(),
             _ => self.close(),
         }

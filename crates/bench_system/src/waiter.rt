@@ -3,7 +3,7 @@ ghost use Rattle.std.specs.Prelude.{⊤};
 
 use iol_core::events::{Call, Reply};
 use iol_core::numbers::Fd;
-use iol_proc::byte_view::ByteView;
+use iol_proc::look::Look;
 use iol_proc::process::{Process, Turn};
 use std::alloc::AllocError;
 
@@ -37,7 +37,7 @@ impl Process for Waiter {
     // Any turn: their behavior is only measured. They need no memory.
     ghost turns = { record { goes = λ waiter last lent turn next. ⊤; may_want = λ waiter last lent. ⊥ } };
 
-    fn next(&mut self, _last: &Reply, _byte_view: &ByteView<'_>) -> Result<Turn, AllocError> {
+    fn next(&mut self, _last: &Reply, _look: &Look<'_>) -> Result<Turn, AllocError> {
         Ok(match self {
             Waiter::Yields => Turn::Yield,
             Waiter::Accepts => Turn::Make(Call::Accept),

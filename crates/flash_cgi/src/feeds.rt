@@ -7,7 +7,7 @@ ghost use Rattle.flash_cgi.specs.WorkerSteps as spec;
 use crate::counts::Counts;
 use iol_agg::Parts;
 use iol_core::numbers::AggId;
-use iol_proc::byte_view::ByteView;
+use iol_proc::look::Look;
 use std::alloc::{AllocError, Global};
 
 fn line_feeds(text: &[u8]) -> usize
@@ -29,18 +29,18 @@ fn line_feeds_in(parts: Parts<'_>, len: u32) -> u32
 }
 
 /// The length of an aggregate in bytes; 0 if there is no such aggregate.
-pub(crate) fn len_of(byte_view: &ByteView<'_>, agg: AggId) -> u32
-    ensures { result ≡ length (spec.bytes_at (readable byte_view.now) agg) }
+pub(crate) fn len_of(look: &Look<'_>, agg: AggId) -> u32
+    ensures { result ≡ length (spec.bytes_at (readable look.now) agg) }
 {
-    byte_view.len(agg).unwrap_or(0)
+    look.len(agg).unwrap_or(0)
 }
 
 /// The number of line feeds and bytes of an aggregate.
-pub(crate) fn counts(byte_view: &ByteView<'_>, agg: AggId) -> Counts
-    ensures { result ≡ spec.counts_of (spec.bytes_at (readable byte_view.now) agg) }
+pub(crate) fn counts(look: &Look<'_>, agg: AggId) -> Counts
+    ensures { result ≡ spec.counts_of (spec.bytes_at (readable look.now) agg) }
 {
-    let bytes = len_of(byte_view, agg);
-    match byte_view.bytes(agg) {
+    let bytes = len_of(look, agg);
+    match look.bytes(agg) {
         Some(parts) => Counts {
             lines: line_feeds_in(parts, bytes),
             bytes,
@@ -62,15 +62,11 @@ fn joined(alloc: Global, parts: Parts<'_>) -> Result<Vec<u8>, AllocError>
 }
 
 /// A copy of the bytes of an aggregate. An empty copy allocates nothing.
-pub(crate) fn text_of(
-    alloc: Global,
-    byte_view: &ByteView<'_>,
-    agg: AggId,
-) -> Result<Vec<u8>, AllocError>
-    ensures text { IfOk result (λ text. text.items ≡ spec.bytes_at (readable byte_view.now) agg) }
-    ensures wants { OnErr result (0 < length (spec.bytes_at (readable byte_view.now) agg)) }
+pub(crate) fn text_of(alloc: Global, look: &Look<'_>, agg: AggId) -> Result<Vec<u8>, AllocError>
+    ensures text { IfOk result (λ text. text.items ≡ spec.bytes_at (readable look.now) agg) }
+    ensures wants { OnErr result (0 < length (spec.bytes_at (readable look.now) agg)) }
 {
-    match byte_view.bytes(agg) {
+    match look.bytes(agg) {
         Some(parts) => joined(alloc, parts),
         None => Ok(Vec::new(alloc)),
     }

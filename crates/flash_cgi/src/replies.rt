@@ -17,7 +17,7 @@ use crate::piece::{MAX_COLLECTED_BYTES, Piece, Place};
 use iol_core::events::Reply;
 use iol_core::numbers::{AggId, Fd};
 use iol_core::refusals::Refusal;
-use iol_proc::byte_view::ByteView;
+use iol_proc::look::Look;
 use std::alloc::{AllocError, Global};
 
 /// The step after a reply: the phase, the number of lines begun, and the buffered output, if it
@@ -181,15 +181,15 @@ fn after_begin(alloc: Global, job: &Job, piece: &Piece, begun: usize, last: &Rep
 }
 
 // The phase after reading the bytes of a file.
-fn got(file: Fd, agg: AggId, purpose: Purpose, byte_view: &ByteView<'_>) -> Phase
-    ensures { result ≡ spec.got (readable byte_view.now) file agg purpose }
+fn got(file: Fd, agg: AggId, purpose: Purpose, look: &Look<'_>) -> Phase
+    ensures { result ≡ spec.got (readable look.now) file agg purpose }
 {
     match purpose {
         Purpose::Cat => Phase::Shuts { file, agg },
         Purpose::Wc => Phase::Counted {
             file,
             agg,
-            said: Said::Counted(counts(byte_view, agg)),
+            said: Said::Counted(counts(look, agg)),
         },
     }
 }
@@ -200,12 +200,12 @@ fn after_reading(
     purpose: Purpose,
     begun: usize,
     last: &Reply,
-    byte_view: &ByteView<'_>,
+    look: &Look<'_>,
 ) -> Option<After>
-    ensures { result ≡ read_after (readable byte_view.now) file purpose begun last.now }
+    ensures { result ≡ read_after (readable look.now) file purpose begun last.now }
 {
     match last {
-        Reply::Agg(agg) => at(got(file, *agg, purpose, byte_view), begun),
+        Reply::Agg(agg) => at(got(file, *agg, purpose, look), begun),
         Reply::Refused(refusal) => at(
             Phase::ShutsToSay {
                 file,
@@ -247,11 +247,11 @@ fn collect_file(
 }
 
 // The number of bytes of all buffered files.
-fn held_bytes(piece: &Piece, byte_view: &ByteView<'_>) -> u32
-    ensures { result ≡ length (bytes_of_one (readable byte_view.now) piece.now.held) }
+fn held_bytes(piece: &Piece, look: &Look<'_>) -> u32
+    ensures { result ≡ length (bytes_of_one (readable look.now) piece.now.held) }
 {
     match piece.held {
-        Some(held) => len_of(byte_view, held),
+        Some(held) => len_of(look, held),
         None => 0,
     }
 }
@@ -262,13 +262,13 @@ fn after_closing(
     piece: &Piece,
     agg: AggId,
     begun: usize,
-    byte_view: &ByteView<'_>,
+    look: &Look<'_>,
 ) -> AfterReply
-    ensures { IfOk result (λ after. reached piece.now after ≡ spec.after_closing (readable byte_view.now) piece.now agg begun) }
+    ensures { IfOk result (λ after. reached piece.now after ≡ spec.after_closing (readable look.now) piece.now agg begun) }
 {
-    let len = len_of(byte_view, agg);
+    let len = len_of(look, agg);
     if len as usize <= MAX_COLLECTED_BYTES {
-        return collect_file(alloc, piece, held_bytes(piece, byte_view), agg, len, begun);
+        return collect_file(alloc, piece, held_bytes(piece, look), agg, len, begun);
     }
     if piece.is_nothing() {
         return Ok(at(Phase::Writes { agg }, begun));
@@ -423,19 +423,19 @@ pub(crate) fn after_reply(
     begun: usize,
     phase: Phase,
     last: &Reply,
-    byte_view: &ByteView<'_>,
+    look: &Look<'_>,
 ) -> AfterReply
     ensures after { IfOk result
-        (λ after. reached piece.now after ≡ spec.after_phase (readable byte_view.now) job.now piece.now begun phase last.now) }
+        (λ after. reached piece.now after ≡ spec.after_phase (readable look.now) job.now piece.now begun phase last.now) }
     ensures wants { OnErr result (may_copy piece.now phase ≡ true) }
 {
     let next = match phase {
         Phase::Waits => return Ok(None),
         Phase::Runs => return after_begin(alloc, job, piece, begun, last),
         Phase::Reads { file, purpose } => return Ok(after_reading(
-            file, purpose, begun, last, byte_view,
+            file, purpose, begun, last, look,
         )),
-        Phase::Shuts { agg, .. } => return after_closing(alloc, piece, agg, begun, byte_view),
+        Phase::Shuts { agg, .. } => return after_closing(alloc, piece, agg, begun, look),
         Phase::ShutsToSay { said, .. } => return collect_said(alloc, piece, said, begun),
         Phase::JoiningFile { from, len, .. } => {
             return after_joining(alloc, piece, from, len, begun, last);
@@ -445,7 +445,7 @@ pub(crate) fn after_reply(
             return after_replacing(alloc, piece, agg, part, begun, last);
         }
         Phase::DroppingPart { made, .. } => return after_dropping_part(alloc, piece, made, begun),
-        Phase::Writes { agg } => return Ok(after_writing(agg, len_of(byte_view, agg), begun, last)),
+        Phase::Writes { agg } => return Ok(after_writing(agg, len_of(look, agg), begun, last)),
         Phase::Cuts { agg, .. } => return Ok(after_cutting(agg, begun, last)),
         Phase::Drops { .. } => return after_dropping(alloc, piece, begun),
         Phase::Breaks { .. } => return after_breaking(alloc, job, piece, begun),

@@ -15,8 +15,8 @@ use crate::piece::Piece;
 use crate::replies::{After, after_reply};
 use iol_core::events::{Call, Reply};
 use iol_core::numbers::AggId;
-use iol_proc::byte_view::ByteView;
 use iol_proc::idle::Quiescence;
+use iol_proc::look::Look;
 use iol_proc::process::{Process, Turn};
 use std::alloc::{AllocError, Global};
 
@@ -97,8 +97,8 @@ impl Worker {
     }
 
     // Continues by the reply, or yields, to make the same call again.
-    fn advance_by(&mut self, last: &Reply, byte_view: &ByteView<'_>) -> Result<Turn, AllocError>
-        ensures { ProceedsBy self.old last.now (readable byte_view.now) result self.new }
+    fn advance_by(&mut self, last: &Reply, look: &Look<'_>) -> Result<Turn, AllocError>
+        ensures { ProceedsBy self.old last.now (readable look.now) result self.new }
     {
         let step = &self.step;
         match after_reply(
@@ -108,7 +108,7 @@ impl Worker {
             step.begun,
             step.phase,
             last,
-            byte_view,
+            look,
         )? {
             Some(after) => self.advance(after),
             None => {
@@ -144,22 +144,22 @@ impl Worker {
     }
 
     // Takes the text read from its job pipe, and drops the aggregate.
-    fn take(&mut self, agg: AggId, byte_view: &ByteView<'_>) -> Result<Turn, AllocError>
-        ensures { TakesText self.old (bytes_at (readable byte_view.now) agg) agg result self.new }
+    fn take(&mut self, agg: AggId, look: &Look<'_>) -> Result<Turn, AllocError>
+        ensures { TakesText self.old (bytes_at (readable look.now) agg) agg result self.new }
     {
-        let text = text_of(self.alloc, byte_view, agg)?;
+        let text = text_of(self.alloc, look, agg)?;
         self.take_text(text.as_slice(), agg)?;
         Ok(Turn::Make(Call::AggDrop { agg }))
     }
 
     // Processes the reply to its call.
-    fn file(&mut self, last: &Reply, byte_view: &ByteView<'_>) -> Result<Turn, AllocError>
-        ensures { FilesReply self.old last.now (readable byte_view.now) result self.new }
+    fn file(&mut self, last: &Reply, look: &Look<'_>) -> Result<Turn, AllocError>
+        ensures { FilesReply self.old last.now (readable look.now) result self.new }
     {
         let phase = self.step.phase;
         match (phase, last) {
-            (Phase::Waits, Reply::Agg(agg)) => self.take(*agg, byte_view),
-            _ => self.advance_by(last, byte_view),
+            (Phase::Waits, Reply::Agg(agg)) => self.take(*agg, look),
+            _ => self.advance_by(last, look),
         }
     }
 }
@@ -167,18 +167,18 @@ impl Worker {
 impl Process for Worker {
     ghost turns = { account.worker_turns };
 
-    fn next(&mut self, last: &Reply, byte_view: &ByteView<'_>) -> Result<Turn, AllocError>
+    fn next(&mut self, last: &Reply, look: &Look<'_>) -> Result<Turn, AllocError>
         ensures turn { IfOk result
-            (λ turn. account.works self.old last.now (readable byte_view.now) turn self.new) }
+            (λ turn. account.works self.old last.now (readable look.now) turn self.new) }
         ensures quiet { IfOk result IsCopyFree }
         ensures err { OnErr result (self.new ≡ self.old) }
 
         // It needs memory only to parse a text of at least one byte, and for the bytes of a call.
-        ensures wants { OnErr result (memory.Wants self.old last.now (readable byte_view.now)) }
+        ensures wants { OnErr result (memory.Wants self.old last.now (readable look.now)) }
     {
         match self.standing {
             Standing::Asks => self.ask(),
-            Standing::Asked => self.file(last, byte_view),
+            Standing::Asked => self.file(last, look),
             Standing::Over => Ok(Turn::Yield),
         }
     }

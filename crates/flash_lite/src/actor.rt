@@ -12,8 +12,8 @@ use flash_cgi::worker::Worker as Runner;
 use flash_laws::worker_laws::workers_run;
 use flash_laws::world_law::RunsScripts;
 use iol_core::events::Reply;
-use iol_proc::byte_view::ByteView;
 use iol_proc::idle::Quiescence;
+use iol_proc::look::Look;
 use iol_proc::process::{Process, Turn};
 use std::alloc::{AllocError, Global};
 use std::marker::Model;
@@ -47,16 +47,16 @@ impl Worker {
 impl Process for Worker {
     ghost turns = { worker_turns };
 
-    fn next(&mut self, last: &Reply, byte_view: &ByteView<'_>) -> Result<Turn, AllocError>
+    fn next(&mut self, last: &Reply, look: &Look<'_>) -> Result<Turn, AllocError>
         ensures turn { IfOk result
-            (λ turn. works self.old last.now (readable byte_view.now) turn self.new) }
+            (λ turn. works self.old last.now (readable look.now) turn self.new) }
         ensures quiet { IfOk result IsCopyFree }
         ensures err { OnErr result (self.new ≡ self.old) }
 
         // It needs memory only to parse a job, and for the bytes of its calls.
-        ensures wants { OnErr result (worker_turns.may_want self.old last.now (readable byte_view.now)) }
+        ensures wants { OnErr result (worker_turns.may_want self.old last.now (readable look.now)) }
     {
-        self.runner.next(last, byte_view)
+        self.runner.next(last, look)
     }
 }
 
@@ -107,18 +107,18 @@ impl Model for Actor {
 impl Process for Actor {
     ghost turns = { actor_turns in_rounds worker_turns };
 
-    fn next(&mut self, last: &Reply, byte_view: &ByteView<'_>) -> Result<Turn, AllocError>
-        ensures turn { IfOk result (λ turn. acts self.old last.now (readable byte_view.now) turn self.new) }
+    fn next(&mut self, last: &Reply, look: &Look<'_>) -> Result<Turn, AllocError>
+        ensures turn { IfOk result (λ turn. acts self.old last.now (readable look.now) turn self.new) }
         ensures quiet { IfOk result IsCopyFree }
         ensures err { OnErr result (self.new ≡ self.old) }
 
         // The server needs memory only for its buffers and the bytes of its calls, and a worker
         // for a job and the bytes of its calls.
-        ensures wants { OnErr result (actor_wants worker_turns self.old last.now (readable byte_view.now)) }
+        ensures wants { OnErr result (actor_wants worker_turns self.old last.now (readable look.now)) }
     {
         match &mut self.role {
-            Role::Server(server) => server.next(last, byte_view),
-            Role::Worker(worker) => worker.next(last, byte_view),
+            Role::Server(server) => server.next(last, look),
+            Role::Worker(worker) => worker.next(last, look),
         }
     }
 }

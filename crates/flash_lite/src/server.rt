@@ -13,7 +13,7 @@ use crate::table::Table;
 use flash_laws::run_laws::clients_law;
 use iol_agg::Parts;
 use iol_core::events::Reply;
-use iol_proc::byte_view::ByteView;
+use iol_proc::look::Look;
 use iol_proc::process::{Process, Turn};
 use std::alloc::{AllocError, Global};
 use std::marker::Model;
@@ -22,11 +22,11 @@ use std::marker::Model;
 pub const MAX_CONNS: usize = 256;
 
 // The contents of the aggregate in a reply.
-fn readable_by<'a>(last: &Reply, byte_view: &ByteView<'a>) -> Option<Parts<'a>>
-    ensures { received result ≡ received_of last.now (readable byte_view.now) }
+fn readable_by<'a>(last: &Reply, look: &Look<'a>) -> Option<Parts<'a>>
+    ensures { received result ≡ received_of last.now (readable look.now) }
 {
     match last {
-        Reply::Agg(agg) => byte_view.bytes(*agg),
+        Reply::Agg(agg) => look.bytes(*agg),
         _ => None,
     }
 }
@@ -72,15 +72,15 @@ impl Server {
 impl Process for Server {
     ghost turns = { server_account in_rounds };
 
-    fn next(&mut self, last: &Reply, byte_view: &ByteView<'_>) -> Result<Turn, AllocError>
+    fn next(&mut self, last: &Reply, look: &Look<'_>) -> Result<Turn, AllocError>
         ensures turn { IfOk result
-            (λ turn. serves self.old last.now (readable byte_view.now) turn self.new) }
+            (λ turn. serves self.old last.now (readable look.now) turn self.new) }
         ensures quiet { IfOk result IsCopyFree }
         ensures err { OnErr result (self.new ≡ self.old) }
 
         // It needs memory only to buffer bytes that it reads, for a new index, to begin a request,
         // and for the bytes of a call.
-        ensures wants { OnErr result (server_wants self.old last.now (readable byte_view.now)) }
+        ensures wants { OnErr result (server_wants self.old last.now (readable look.now)) }
 
         // The offered bytes are the next bytes of the response to the request.
         ensures offers { IfOk result (λ turn. OffersNext self.new turn) }
@@ -95,7 +95,7 @@ impl Process for Server {
         ensures none { OnOk result (self.old.workers ≡ 0 → NoneRuns self.new.clients) }
     {
         clients_law();
-        let parts = readable_by(last, byte_view);
+        let parts = readable_by(last, look);
         let turn = self.table.advance(last, parts)?;
         Ok(turn)
     }

@@ -13,11 +13,11 @@
 //!     let idle = world.until_idle(65536);
 #![tactic(auto)]
 
-pub mod byte_view;
 pub mod choice;
 pub mod idle;
 mod in_place;
 pub mod laws;
+pub mod look;
 pub mod process;
 pub mod process_slot;
 mod replies;

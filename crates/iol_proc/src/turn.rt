@@ -4,7 +4,7 @@ ghost use Rattle.iol_proc.specs.Idle.{TurnGoes};
 ghost use Rattle.iol_proc.specs.Turns.{ProcessSlotTurn};
 ghost use Rattle.iol_proc.specs.World.{sharing, domains_of, staged};
 
-use crate::byte_view::ByteView;
+use crate::look::Look;
 use crate::process::{Process, Turn};
 use crate::process_slot::ProcessSlot;
 use crate::replies::{again, is_resource_failure};
@@ -29,8 +29,8 @@ fn process_slot_turn<B: Backing + Drop, P: Process>(
     ensures turn { ProcessSlotTurn sharing P.turns system.old process_slot.old result.yields result.reply
         system.new process_slot.new }
 {
-    let byte_view = ByteView::new(system.aggregates(), process_slot.by);
-    match process_slot.process.next(&process_slot.last, &byte_view) {
+    let look = Look::new(system.aggregates(), process_slot.by);
+    match process_slot.process.next(&process_slot.last, &look) {
         Err(_) => Outcome {
             yields: false,
             reply: Reply::Refused(Refusal::Memory),

@@ -11,8 +11,8 @@ ghost use Rattle.iol_proc.specs.Laws.{HasEvents};
 ghost use Rattle.iol_proc.specs.ReadableBytes.{readable_to};
 ghost use Rattle.iol_proc.specs.World.{Stage, sharing, process_slot_of, domains_of, IsRising, IsInSlots, HasNoProcessSlot, SitsAt, WorldStep, WorldRun, DomainTurn, OutsideStep, CopiedStep, CopiedRun};
 
-use crate::byte_view::ByteView;
 use crate::choice::Choice;
+use crate::look::Look;
 use crate::process::Process;
 use crate::process_slot::ProcessSlot;
 use crate::rounds::until_idle;
@@ -77,10 +77,10 @@ impl<B: Backing + Drop, P: Process> World<B, P> {
     }
 
     /// The aggregates of a domain, as its process sees them.
-    pub fn byte_view(&self, by: DomainId) -> ByteView<'_>
+    pub fn look(&self, by: DomainId) -> Look<'_>
         ensures { readable result ≡ readable_to (machine_of self.now.machine) by }
     {
-        ByteView::new(self.system.aggregates(), by)
+        Look::new(self.system.aggregates(), by)
     }
 
     /// Borrows the system, for its aggregates and reports.
@@ -197,7 +197,7 @@ impl<B: Backing + Drop, P: Process> World<B, P> {
 
     /// Returns whether the reply to a turn since [`World::new`] was TooMany, NoRoom, Fault or
     /// Memory. Once true, it stays true.
-    pub fn resource_failure(&self) -> bool
+    pub fn rough(&self) -> bool
         ensures { result ≡ self.now.resource_failure }
     {
         self.resource_failure

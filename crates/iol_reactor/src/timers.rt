@@ -24,7 +24,7 @@ pub struct Timers {
 const LOOKS: u64 = 8;
 
 // The time between two checks of a limit.
-fn byte_view_of(millis: u64) -> u64 {
+fn look_of(millis: u64) -> u64 {
     (millis / LOOKS).max(1)
 }
 
@@ -33,8 +33,8 @@ impl Timers {
     pub fn new(alloc: Global, limits: &Limits) -> Result<Timers, AllocError> {
         let most = limits.max_clients;
         Ok(Timers {
-            silences: Deadlines::new(alloc, byte_view_of(limits.idle_millis), most)?,
-            heads: Deadlines::new(alloc, byte_view_of(limits.head_millis), most)?,
+            silences: Deadlines::new(alloc, look_of(limits.idle_millis), most)?,
+            heads: Deadlines::new(alloc, look_of(limits.head_millis), most)?,
             rates: Deadlines::new(alloc, limits.rate_millis, most)?,
             drains: Deadlines::new(alloc, limits.drain_millis, most)?,
             parks: Deadlines::new(alloc, limits.park_millis, most)?,

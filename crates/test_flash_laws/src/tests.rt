@@ -94,9 +94,7 @@ fn have_come(replies: &[Reply]) -> bool {
 // resource refusals.
 fn is_answered(mut hosted: Hosted<MemoryBacking>) -> bool {
     let conn = ConnId::new(1);
-    let came = hosted.idle
-        && !hosted.world.resource_failure()
-        && have_come(hosted.replies.as_slice());
+    let came = hosted.idle && !hosted.world.rough() && have_come(hosted.replies.as_slice());
     let max = 4096;
     let sent = match hosted.world.step_outside(Event::Transmit { conn, max }) {
         Reply::Segment { bytes, .. } => bytes.as_slice() == RESPONSE,

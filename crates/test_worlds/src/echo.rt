@@ -5,7 +5,7 @@ ghost use Rattle.iol_proc.specs.Prelude.{IsCopyFree};
 use iol_core::events::{Call, Reply};
 use iol_core::numbers::{AggId, Fd};
 use iol_core::refusals::Refusal;
-use iol_proc::byte_view::ByteView;
+use iol_proc::look::Look;
 use iol_proc::process::{Process, Turn};
 use std::alloc::AllocError;
 
@@ -30,8 +30,8 @@ impl Process for Echo {
     // Any turn: its behavior is tested. It needs no memory.
     ghost turns = { record { goes = λ worker last readable turn next. ⊤; may_want = λ worker last readable. ⊥ } };
 
-    fn next(&mut self, last: &Reply, byte_view: &ByteView<'_>) -> Result<Turn, AllocError> {
-        Ok(self.turn(last, byte_view))
+    fn next(&mut self, last: &Reply, look: &Look<'_>) -> Result<Turn, AllocError> {
+        Ok(self.turn(last, look))
     }
 }
 
@@ -44,7 +44,7 @@ impl Echo {
     }
 
     /// Reads, writes the bytes read, and drops them. If there are none it yields, and retries.
-    pub fn turn(&mut self, last: &Reply, byte_view: &ByteView<'_>) -> Turn
+    pub fn turn(&mut self, last: &Reply, look: &Look<'_>) -> Turn
         ensures { IsCopyFree result }
     {
         match last {
@@ -52,7 +52,7 @@ impl Echo {
                 self.fd = Some(*fd);
                 self.ask()
             }
-            Reply::Agg(agg) => self.heard(*agg, byte_view),
+            Reply::Agg(agg) => self.heard(*agg, look),
             Reply::Count(_) => let_go(&mut self.held),
             Reply::Refused(Refusal::WouldBlock) => Turn::Yield,
             Reply::Refused(_) => self.close(),
@@ -71,10 +71,10 @@ impl Echo {
     }
 
     // Sends back the bytes read. If there are none, this is the end.
-    fn heard(&mut self, agg: AggId, byte_view: &ByteView<'_>) -> Turn
+    fn heard(&mut self, agg: AggId, look: &Look<'_>) -> Turn
         ensures { IsCopyFree result }
     {
-        if is_empty(byte_view, agg) {
+        if is_empty(look, agg) {
             return self.close();
         }
         self.held = Some(agg);
@@ -94,8 +94,8 @@ impl Echo {
     }
 }
 
-fn is_empty(byte_view: &ByteView<'_>, agg: AggId) -> bool {
-    let Some(parts) = byte_view.bytes(agg) else {
+fn is_empty(look: &Look<'_>, agg: AggId) -> bool {
+    let Some(parts) = look.bytes(agg) else {
         return true;
     };
     for _ in parts {

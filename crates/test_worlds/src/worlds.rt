@@ -101,7 +101,7 @@ impl<B: Backing + Drop, P: Process> TestWorld<B, P> {
 
     /// Returns whether a turn got a resource refusal: out of pages, numbers or memory, or a fault.
     pub fn is_resource_failure(&self) -> bool {
-        self.world.resource_failure()
+        self.world.rough()
     }
 
     /// The process of a domain.

@@ -130,8 +130,8 @@ fn both_answer(alloc: Global) -> Result<bool, Refusal> {
 const FILES: [Kept<'static>; 1] = [("a", b"hi\n", false)];
 
 fn turn_of<P: Process>(process: &mut P, host: &mut Host) -> Option<Call> {
-    let byte_view = host.world().byte_view(DomainId::new(1));
-    match process.next(&Reply::Done, &byte_view) {
+    let look = host.world().look(DomainId::new(1));
+    match process.next(&Reply::Done, &look) {
         Ok(Turn::Make(call)) => Some(call),
         _ => None,
     }

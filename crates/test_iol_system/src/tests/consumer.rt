@@ -5,7 +5,7 @@ use super::producer::PIECE;
 use iol_agg::Parts;
 use iol_core::events::{Call, Reply};
 use iol_core::numbers::Fd;
-use iol_proc::byte_view::ByteView;
+use iol_proc::look::Look;
 use iol_proc::process::Turn;
 
 /// A sum that depends on the order of the bytes.
@@ -38,12 +38,12 @@ impl Consumer {
     }
 
     /// Reads, examines the bytes, and drops them. If the pipe is empty it yields, and retries.
-    pub fn turn(&mut self, last: &Reply, byte_view: &ByteView<'_>) -> Turn
+    pub fn turn(&mut self, last: &Reply, look: &Look<'_>) -> Turn
         ensures { IsCopyFree result }
     {
         match last {
             Reply::Agg(agg) => {
-                if let Some(parts) = byte_view.bytes(*agg) {
+                if let Some(parts) = look.bytes(*agg) {
                     self.sum_up(parts);
                 }
                 Turn::Make(Call::AggDrop { agg: *agg })

@@ -2,8 +2,8 @@
 ghost use Rattle.test_iol_system.specs.Watcher.{Watches, HasWatched};
 
 use iol_core::events::{Call, Reply};
-use iol_proc::byte_view::ByteView;
 use iol_proc::idle::Quiescence;
+use iol_proc::look::Look;
 use iol_proc::process::{Process, Turn};
 use std::alloc::AllocError;
 
@@ -26,7 +26,7 @@ impl Process for Watcher {
       may_want = λ watcher last lent. ⊥;
     } };
 
-    fn next(&mut self, _last: &Reply, _byte_view: &ByteView<'_>) -> Result<Turn, AllocError> {
+    fn next(&mut self, _last: &Reply, _look: &Look<'_>) -> Result<Turn, AllocError> {
         if self.asked {
             self.asked = false;
             return Ok(Turn::Yield);

@@ -11,7 +11,7 @@ use Rattle.flash_lite.proofs.server.ServerProcess.next.Goals as goal
 
 pub invariant_of-self-2 : goal.invariant_of-self-2
 invariant_of-self-2 c =
-    kept_turn c.self.inside.table c.advance.new.self c.args.last.now (readable c.args.byte_view.now)
+    kept_turn c.self.inside.table c.advance.new.self c.args.last.now (readable c.args.look.now)
     (received c.readable_by-parts.result) c.in_ok-turn.turn c.readable_by-parts.ensures c.self.invariant
     c.in_ok-turn.ensures.turn
 
@@ -29,19 +29,19 @@ returns-clause-offers c =
 
 pub returns-clause-few : goal.returns-clause-few
 returns-clause-few c =
-    (kept_turn c.self.inside.table c.advance.new.self c.args.last.now (readable c.args.byte_view.now)
+    (kept_turn c.self.inside.table c.advance.new.self c.args.last.now (readable c.args.look.now)
     (received c.readable_by-parts.result) c.in_ok-turn.turn c.readable_by-parts.ensures c.self.invariant
     c.in_ok-turn.ensures.turn).few
 
 pub returns-clause-shared : goal.returns-clause-shared
 returns-clause-shared c =
-    (kept_turn c.self.inside.table c.advance.new.self c.args.last.now (readable c.args.byte_view.now)
+    (kept_turn c.self.inside.table c.advance.new.self c.args.last.now (readable c.args.look.now)
     (received c.readable_by-parts.result) c.in_ok-turn.turn c.readable_by-parts.ensures c.self.invariant
     c.in_ok-turn.ensures.turn).shared
 
 pub returns-clause-none : goal.returns-clause-none
 returns-clause-none c = λ zero.
-    (kept_turn c.self.inside.table c.advance.new.self c.args.last.now (readable c.args.byte_view.now)
+    (kept_turn c.self.inside.table c.advance.new.self c.args.last.now (readable c.args.look.now)
     (received c.readable_by-parts.result) c.in_ok-turn.turn c.readable_by-parts.ensures c.self.invariant
     c.in_ok-turn.ensures.turn).none
     (c.in_ok-turn.ensures.turn.hired ∙ (ap (λ (s : Server). s.workers) c.self.view_is ∙ zero))

@@ -9,17 +9,17 @@ use iol_system::aggregates::Aggregates;
 
 /// The aggregates of one domain, borrowed until its next call.
 #[derive(Drop)]
-pub struct ByteView<'a> {
+pub struct Look<'a> {
     aggregates: Aggregates<'a>,
     by: DomainId,
 }
 
-impl<'a> ByteView<'a> {
-    pub(crate) fn new(aggregates: Aggregates<'a>, by: DomainId) -> ByteView<'a>
+impl<'a> Look<'a> {
+    pub(crate) fn new(aggregates: Aggregates<'a>, by: DomainId) -> Look<'a>
         ensures aggregates { result.aggregates ≡ aggregates.entry }
         ensures by { result.by ≡ by }
     {
-        ByteView { aggregates, by }
+        Look { aggregates, by }
     }
 
     /// The bytes of one of the domain's aggregates, in place; none if it has no such aggregate.
