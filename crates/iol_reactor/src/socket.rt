@@ -71,7 +71,7 @@ impl Socket for TcpStream {
             IoSlice::new(third),
             IoSlice::new(fourth),
         ];
-        self.write_vectored(&pieces)
+        TcpStream::write_vectored(self, &pieces)
     }
 
     fn end_output(&mut self) -> io::Result<()> {
