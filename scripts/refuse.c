@@ -112,6 +112,42 @@ BEFORE(long, send, (int fd, const void *from, size n, int flags), (fd, from, at_
 BEFORE(long, write, (int fd, const void *from, size n), (fd, from, fd == OUTPUT ? at_most(n) : n),
        if (spoils(fd)) return -1)
 
+/* A sending of several pieces, of which it moves the first bytes at most. */
+struct piece {
+    void *from;
+    size n;
+};
+
+struct message {
+    void *name;
+    unsigned name_size;
+    struct piece *pieces;
+    size count;
+    void *control;
+    size control_size;
+    int flags;
+};
+
+long sendmsg(int fd, const struct message *message, int flags) {
+    static long (*next)(int, const struct message *, int);
+    struct message first = *message;
+    struct piece pieces[8];
+    size k, rest = left(&most) > 0 ? (size)most.left : ~0UL;
+    if (!next)
+        next = dlsym(NEXT, "sendmsg");
+    if (breaks())
+        return -1;
+    for (k = 0; k < first.count && k < 8 && rest > 0; k++) {
+        pieces[k] = first.pieces[k];
+        if (pieces[k].n > rest)
+            pieces[k].n = rest;
+        rest -= pieces[k].n;
+    }
+    first.pieces = pieces;
+    first.count = k;
+    return next(fd, &first, flags);
+}
+
 /* The word SOCKET names a call that makes, binds, accepts, watches or awaits sockets, or sets an option of one. */
 static struct turn sockets = {"SOCKET", "socket call failed\n", 0, 0};
 
