@@ -169,6 +169,15 @@ some_left (x ∷ xs) zero h = omega arith
 some_left (x ∷ xs) (suc i) h = let rest =
     some_left xs i (omega (arith, h, byte_len-cons x (take i xs), byte_len-cons x xs)) in omega (arith, rest)
 
+-- the slices after the first i have bytes
+pub next_some : (xs : List Slice) (i j : ℕ) → i < j → i < length xs → byte_len (take i xs) < byte_len (take j xs)
+next_some xs i zero more there = absurd (omega (arith, more))
+next_some [] i (suc j) more there = absurd (omega (arith, there))
+next_some (x ∷ xs) zero (suc j) more there = omega (arith, byte_len-cons x (take j xs), x.some)
+next_some (x ∷ xs) (suc i) (suc j) more there =
+    let rest = next_some xs i j (omega (arith, more)) (omega (arith, there)) in
+    omega (arith, rest, byte_len-cons x (take i xs), byte_len-cons x (take j xs))
+
 pub slices_few : (xs : List Slice) → length xs ≤ byte_len xs
 slices_few [] = omega arith
 slices_few (x ∷ xs) = omega (arith, slices_few xs, byte_len-cons x xs, x.some)

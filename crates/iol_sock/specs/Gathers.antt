@@ -1,5 +1,5 @@
 -- Bytes of a queue, offered several slices at once.
-use Rattle.std.specs.Prelude.{◌≡◌, ◌<◌, ℕ, Bool, true, List, [], ◌∷◌, length, take, drop}
+use Rattle.std.specs.Prelude.{◌≡◌, ◌≢◌, ◌<◌, ℕ, Bool, true, List, [], ◌∷◌, length, take, drop}
 use Rattle.iol_core.specs.Text.{bytes_of}
 use Rattle.iol_hold.specs.StoreState.{Stored}
 use Rattle.iol_hold.specs.Texts.{text_of}
@@ -20,11 +20,13 @@ pub record Gathering (G : Type 0) : Type 0 where
   pub taken : ℕ
   pub after : G
 
--- These calls lead from one state of a taker to another.
+-- These calls lead from one state of a taker to another. Each is offered some bytes, and each but the last takes all of
+-- them.
 abbrev pub AreCalls : {G : Type 0} → (gathers : G → List ℕ → ℕ → G → Type 0) → (before : G) → List (Gathering G)
     → (after : G) → Type 0
 AreCalls gathers before [] after = after ≡ before
-AreCalls gathers before (c ∷ cs) after = gathers before c.offered c.taken c.after × AreCalls gathers c.after cs after
+AreCalls gathers before (c ∷ cs) after = gathers before c.offered c.taken c.after × (0 < length c.offered)
+    × (cs ≢ [] → c.taken ≡ length c.offered) × AreCalls gathers c.after cs after
 
 -- Some calls do.
 abbrev pub IsCalled : {G : Type 0} → (gathers : G → List ℕ → ℕ → G → Type 0) → (before after : G) → Type 0

@@ -5,8 +5,8 @@ use Rattle.iol_core.specs.Text.{bytes_of}
 use Rattle.iol_hold.specs.Places.{byte_len}
 use Rattle.iol_hold.specs.Texts.{text_of}
 use Rattle.iol_hold.proofs.SlicePlaces.{byte_len-take-le}
-use Rattle.iol_sock.proofs.GatherCalls.{one_more}
-use Rattle.iol_sock.proofs.Gathers.{Offers, offers, part_short, four_long, slice_near}
+use Rattle.iol_sock.proofs.GatherCalls.{called, one_more, one_whole}
+use Rattle.iol_sock.proofs.Gathers.{Offers, offers, part_short, four_long, slice_left, slice_near, next_some}
 use Rattle.iol_sock.proofs.gather.gather_first.Given.{Over}
 use Rattle.iol_sock.proofs.gather.gather_first.Goals.{After-gather-count, After-part-first}
 use Rattle.iol_sock.proofs.gather.gather_first.Goals as goal
@@ -54,6 +54,8 @@ pub record Step (g : Over) (c : After-gather-count g) : Type 0 where
       + length c.part-third.result.now + length c.part-fourth.result.now
   pub full : c.loop-taken.taken + length offered
       ≡ min c.min-most.result (byte_len (take (c.loop-taken.i + 4) c.args.queue.now))
+  pub some : 0 < length offered
+  pub call : g.G.Gather.gathers c.loop-taken.taker offered c.gather-count.result c.gather-count.new.self
   pub few : c.gather-count.result ≤ length offered
   pub written : Appends (g.G.Gather.contents c.args.taker.now) (g.G.Gather.contents c.gather-count.new.self)
       (take (c.loop-taken.taken + c.gather-count.result) (bytes_of (text_of c.args.store.now c.args.queue.now)))
@@ -80,10 +82,14 @@ step g c =
     c.part-second.ensures (omega (arith, part_short s xs (i + 1) l1 b c.part-second.ensures))
     c.part-third.ensures (omega (arith, part_short s xs (i + 2) l2 d c.part-third.ensures))
     c.part-fourth.ensures in
+    let there : i < length xs = slice_left xs i n c.min-most.result c.args.max
+    (omega (arith, c.min-most.ensures, c.len.ensures.len)) c.loop-taken.invariant.full c.loop-taken-test.true in
     record {
       offered = a ++ b ++ d ++ e;
       size = four_long a b d e;
       full = o.long;
+      some = omega (arith, o.long, c.loop-taken.invariant.full, c.loop-taken-test.true, next_some xs i (i + 4) (omega arith) there);
+      call = c.gather-count.ensures.call;
       few = c.gather-count.ensures.bound;
       written =
           subst (λ w. Appends (g.G.Gather.contents c.args.taker.now) (g.G.Gather.contents c.gather-count.new.self) w)
@@ -114,9 +120,14 @@ loop-taken-preserved g c =
       full = omega (arith, t.few, t.full, t.size, c.if-count-offered.false);
       written = t.written;
       calls =
-          one_more g.G.Gather.gathers _ _ _ _ _ c.loop-taken.invariant.calls c.gather-count.ensures.call;
+          one_whole g.G.Gather.gathers _ _ _ t.offered _ c.loop-taken.invariant.calls t.call
+          t.some (omega (arith, t.few, t.size, c.if-count-offered.false));
     }
 
 pub returns-then-count-offered-clause-calls : goal.returns-then-count-offered-clause-calls
 returns-then-count-offered-clause-calls g c =
-    one_more g.G.Gather.gathers _ _ _ _ _ c.loop-taken.invariant.calls c.gather-count.ensures.call
+    let t = step g (goal.at.returns-then-count-offered-clause-calls g c).After-gather-count in
+    one_more g.G.Gather.gathers _ _ _ t.offered _ c.loop-taken.invariant.calls t.call t.some
+
+pub returns-clause-calls : goal.returns-clause-calls
+returns-clause-calls g c = called g.G.Gather.gathers _ _ c.loop-taken.invariant.calls
