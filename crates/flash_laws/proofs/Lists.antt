@@ -1,11 +1,12 @@
 -- Lists, numbers and tests, for the proofs of phases.
 use Rattle.std.proofs.Common.{◌≡◌, ◌≢◌, ℕ, zero, suc, ◌+◌, ◌-◌, ◌==◌, ◌<◌, ◌≤◌, List, [], ◌∷◌, ◌++◌, length, take, drop}
-use Rattle.std.proofs.Common.{ap, ◌∙◌, refl, sym, arith, true, false, Bool, length-append, length-drop}
+use Rattle.std.proofs.Common.{ap, subst, ◌∙◌, refl, sym, arith, true, false, Bool, length-append, length-drop}
 use Rattle.std.specs.Prelude.{min, nat_lt, ◌||◌, ◌&&◌, not, slice_range}
 use Rattle.std.proofs.lemmas.List.{take-append-le, drop-append-le, drop_all, drop-drop, length-take, length-take-le}
 use Rattle.std.proofs.lemmas.Bool.Decides.{nat_tests}
 use Rattle.iol_core.specs.Text.{Text, bytes_of}
 use Rattle.flash_laws.specs.Conn.{piece_end}
+use Rattle.flash_laws.specs.declared.phase.Sending.{Sending}
 
 pub not-equal : (a b : ℕ) → (a ≡ b → ⊥) → (a == b) ≡ false
 not-equal a b differ = grind (arith, nat_tests, differ)
@@ -130,13 +131,20 @@ pub take-slice : (k from to : ℕ) (bytes : List ℕ) → k ≤ length (slice_ra
 take-slice k from to bytes within = (take-within k (to - from) (drop from bytes) within).0
 
 -- no more is taken of a piece than is left
-pub few-taken : (k from len : ℕ) (bytes : List ℕ) → len ≡ length bytes
-    → k ≤ length (slice_range bytes from (piece_end from len))
-    → (k ≤ length (drop from bytes)) × (min k (len - from) ≡ k)
-few-taken k from len bytes size within =
-    let le = (take-within k (piece_end from len - from) (drop from bytes) within).1 in
+pub few-taken : (k : ℕ) (s : Sending) (bytes : List ℕ) → k ≤ length (slice_range bytes s.from (piece_end s))
+    → k ≤ length (drop s.from bytes)
+few-taken k s bytes within = (take-within k (piece_end s - s.from) (drop s.from bytes) within).1
+
+pub few-whole : (k : ℕ) (s : Sending) (bytes : List ℕ) → s.from ≡ 0 → k ≤ length bytes
+    → k ≤ length (drop s.from bytes)
+few-whole k s bytes is within = subst (λ z. k ≤ length (drop z bytes)) (sym is) within
+
+pub least-taken : (k from len : ℕ) (bytes : List ℕ) → len ≡ length bytes → k ≤ length (drop from bytes)
+    → min k (len - from) ≡ k
+least-taken k from len bytes size within =
     let e = length-drop from bytes in
-    (le, (let few : k ≤ len - from = omega (arith, le, e, size) in omega (arith, few)))
+    let few : k ≤ len - from = omega (arith, within, e, size) in
+    omega (arith, few)
 
 -- of a part of a list the length
 length-range : (bytes : List ℕ) (first last : ℕ) → first ≤ last → last < length bytes

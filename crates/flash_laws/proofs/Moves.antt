@@ -1,6 +1,7 @@
 -- After a call that was refused a phase has what it had, since nothing has changed. After another reply the next phase
 -- has its data: one lemma for each effect of a call.
 use Rattle.std.proofs.Common.{◌≡◌, ℕ, List, ◌∙◌, refl, sym, Some, None, true, false, Bool, if◌then◌else◌}
+use Rattle.std.specs.Prelude.{nat_lt}
 use Rattle.iol_core.specs.State.{State}
 use Rattle.iol_core.specs.declared.refusals.Refusal.{Refusal}
 use Rattle.iol_core.specs.declared.refusals.Refusal.TheVariants as no
@@ -10,7 +11,11 @@ use Rattle.iol_laws.specs.Caller as o
 use Rattle.iol_laws.specs.Caller.{readable_at}
 use Rattle.flash_laws.specs.Moves.{or_stay, or_else, on_done, on_agg, on_count, on_fd, on_refused, unless_blocked}
 use Rattle.flash_laws.specs.Moves.{if_broken}
+use Rattle.flash_laws.specs.Conn.{next_piece}
 use Rattle.flash_laws.specs.Conn.Fits.{Names}
+use Rattle.flash_laws.specs.declared.phase.Sending.{Sending}
+use Rattle.flash_laws.specs.declared.phase.Phase.{Phase}
+use Rattle.flash_laws.specs.declared.phase.Phase.TheVariants.{Cuts, Sent}
 use Rattle.flash_laws.specs.Site.{server}
 use Rattle.flash_laws.proofs.Conn.Responses.{some-inj}
 
@@ -60,6 +65,9 @@ module _ (m n : State) {A : Type 0} (P : A → Type 0) where
 pub either-way : {A : Type 0} (P : A → Type 0) (b : Bool) {d e : A} → P d → P e → P (if b then d else e)
 either-way P true one two = one
 either-way P false one two = two
+
+pub either-next : (P : Phase → Type 0) (s : Sending) → P (Cuts s) → P (Sent s.agg s.taken s.more) → P (next_piece s)
+either-next P s cuts sent = either-way P (nat_lt s.from s.len) cuts sent
 
 pub either-of : {A : Type 0} (P : A → Type 0) (b : Bool) (d e : A) → P d → P e → P (if b then d else e)
 either-of P true d e one two = one

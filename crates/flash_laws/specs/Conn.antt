@@ -26,6 +26,7 @@ use Rattle.flash_laws.specs.declared.phase.FileResult.{FileResult}
 use Rattle.flash_laws.specs.declared.phase.FileResult.TheVariants.{File, Length, Fails, Text}
 use Rattle.flash_laws.specs.declared.phase.Payload.{Payload}
 use Rattle.flash_laws.specs.declared.phase.Payload.TheVariants.{Body, Bare, Error, Script}
+use Rattle.flash_laws.specs.declared.phase.Sending.{Sending}
 use Rattle.flash_laws.specs.declared.phase.Phase.{Phase}
 use Rattle.flash_laws.specs.declared.phase.Phase.TheVariants.{Rests, Got, Opens, Reads, Shuts, Picks, Spares, Heads}
 use Rattle.flash_laws.specs.declared.phase.Phase.TheVariants.{Joins, Sends, Cuts, Offers, Swaps, Sent, Breaks, Drops}
@@ -71,10 +72,10 @@ uses_agg (Picks b first last len) a = b == a
 uses_agg (Spares b k) a = (b == a) || content_agg k a
 uses_agg (Heads k) a = content_agg k a
 uses_agg (Joins b size body len) a = (b == a) || (body == a)
-uses_agg (Sends b len taken more) a = (b == a) || has_followed more a
-uses_agg (Cuts b from len taken more) a = (b == a) || has_followed more a
-uses_agg (Offers b from len piece taken more) a = (piece == a) || ((b == a) || has_followed more a)
-uses_agg (Swaps b from len piece taken more) a = (piece == a) || ((b == a) || has_followed more a)
+uses_agg (Sends s) a = (s.agg == a) || has_followed s.more a
+uses_agg (Cuts s) a = (s.agg == a) || has_followed s.more a
+uses_agg (Offers s piece) a = (piece == a) || ((s.agg == a) || has_followed s.more a)
+uses_agg (Swaps s piece) a = (piece == a) || ((s.agg == a) || has_followed s.more a)
 uses_agg (Sent b taken more) a = (b == a) || has_followed more a
 uses_agg (Breaks piece b more) a = (piece == a) || ((b == a) || has_followed more a)
 uses_agg (Drops b more) a = (b == a) || has_followed more a
@@ -116,8 +117,8 @@ text_of (serve w) Script = script_text w
 text_of (refuse status head_only close) k = error_text status head_only close
 
 -- the end of the next piece: it has as many bytes as a queue holds, or all that are left
-abbrev pub piece_end : (from len : ℕ) → ℕ
-piece_end from len = min (from + MAX_QUEUE_BYTES) len
+abbrev pub piece_end : Sending → ℕ
+piece_end s = min (s.from + MAX_QUEUE_BYTES) s.len
 
 -- its next call; fd is its descriptor
 abbrev pub wants : (fd : ℕ) → Conn → Call
@@ -133,10 +134,10 @@ wants fd x = by x.phase
     by (Spares a k) = call.AggDrop a
     by (Heads k) = call.AggMake (text_of x.q k)
     by (Joins a size body len) = call.AggJoin a body
-    by (Sends a len taken more) = call.IolWrite fd a
-    by (Cuts a from len taken more) = call.AggCut a from (piece_end from len)
-    by (Offers a from len piece taken more) = call.IolWrite fd piece
-    by (Swaps a from len piece taken more) = call.AggDrop piece
+    by (Sends s) = call.IolWrite fd s.agg
+    by (Cuts s) = call.AggCut s.agg s.from (piece_end s)
+    by (Offers s piece) = call.IolWrite fd piece
+    by (Swaps s piece) = call.AggDrop piece
     by (Sent a taken more) = call.AggDrop a
     by (Breaks piece a more) = call.AggDrop piece
     by (Drops a more) = call.AggDrop a
@@ -228,45 +229,51 @@ abbrev pub following : Payload → Following
 following (Body b size len) = Some (b, size)
 following k = None
 
+-- an aggregate of which no byte is taken
+abbrev pub whole : (agg len taken : ℕ) → Following → Sending
+whole a len taken more = record { agg = a; from = 0; len = len; taken = taken; more = more }
+
 -- a head of head bytes is joined with its body, if both fit into an aggregate
 abbrev pub headed : (head size : ℕ) → Following → Phase
-headed a size None = Sends a size 0 None
+headed a size None = Sends (whole a size 0 None)
 headed a size (Some x) =
-    if nat_le (size + x.1) MAX_AGGREGATE_BYTES then Joins a size x.0 x.1 else Sends a size 0 (Some x)
+    if nat_le (size + x.1) MAX_AGGREGATE_BYTES then Joins a size x.0 x.1 else Sends (whole a size 0 (Some x))
 
 abbrev pub after_head : Payload → Reply → (received : List ℕ) → Phase
 after_head k r received = or_stay (Heads k) (on_agg r (λ n. headed n (count_of received) (following k)))
 
 abbrev pub after_join : (head size body len : ℕ) → Reply → Phase
-after_join a size body len r = or_stay (Joins a size body len) (on_agg r (λ n. Sends n (size + len) 0 None))
+after_join a size body len r = or_stay (Joins a size body len) (on_agg r (λ n. Sends (whole n (size + len) 0 None)))
 
--- all is taken, or the rest is sent in pieces
-abbrev pub after_send : (agg len taken : ℕ) → Following → Reply → Phase
-after_send a len taken more r = or_stay (Sends a len taken more)
-    (or_else (on_count r (λ n. if nat_lt n len then Cuts a n len (taken + n) more else Sent a (taken + len) more))
-    (on_refused r (if_broken (Drops a more))))
+-- count more bytes are taken, or all that are left
+abbrev pub after_taking : Sending → (count : ℕ) → Sending
+after_taking s count = record s {
+  from = s.from + min count (s.len - s.from);
+  taken = s.taken + min count (s.len - s.from);
+}
 
-abbrev pub after_cut : (agg from len taken : ℕ) → Following → Reply → Phase
-after_cut a from len taken more r =
-    or_stay (Cuts a from len taken more) (on_agg r (λ n. Offers a from len n taken more))
+-- the next piece is cut, or all is taken
+abbrev pub next_piece : Sending → Phase
+next_piece s = if nat_lt s.from s.len then Cuts s else Sent s.agg s.taken s.more
 
--- count more bytes are taken
-abbrev pub moved_on : (agg from len piece taken : ℕ) → Following → (count : ℕ) → Phase
-moved_on a from len piece taken more count = Swaps a (from + count) len piece (taken + count) more
+-- what is not taken of an aggregate that was offered whole is sent in pieces
+abbrev pub after_send : Sending → Reply → Phase
+after_send s r = or_stay (Sends s)
+    (or_else (on_count r (λ n. next_piece (after_taking s n))) (on_refused r (if_broken (Drops s.agg s.more))))
 
-abbrev pub after_offer : (agg from len piece taken : ℕ) → Following → Reply → Phase
-after_offer a from len piece taken more r = or_stay (Offers a from len piece taken more)
-    (or_else (on_count r (λ n. moved_on a from len piece taken more (min n (len - from))))
-    (on_refused r (if_broken (Breaks piece a more))))
+abbrev pub after_cut : Sending → Reply → Phase
+after_cut s r = or_stay (Cuts s) (on_agg r (λ n. Offers s n))
 
-abbrev pub after_swap : (agg from len piece taken : ℕ) → Following → Reply → Phase
-after_swap a from len piece taken more r =
-    or_stay (Swaps a from len piece taken more)
-    (on_done r (if nat_lt from len then Cuts a from len taken more else Sent a taken more))
+abbrev pub after_offer : Sending → (piece : ℕ) → Reply → Phase
+after_offer s piece r = or_stay (Offers s piece)
+    (or_else (on_count r (λ n. Swaps (after_taking s n) piece)) (on_refused r (if_broken (Breaks piece s.agg s.more))))
+
+abbrev pub after_swap : Sending → (piece : ℕ) → Reply → Phase
+after_swap s piece r = or_stay (Swaps s piece) (on_done r (next_piece s))
 
 -- the aggregate after it, or the end of the response
 abbrev pub proceeds : Answer → (taken : ℕ) → Following → Phase
-proceeds q taken (Some x) = Sends x.0 x.1 taken None
+proceeds q taken (Some x) = Sends (whole x.0 x.1 taken None)
 proceeds q taken None = if keeps q then Rests else Closes
 
 abbrev pub after_taken : Answer → (agg taken : ℕ) → Following → Reply → Phase
@@ -301,10 +308,10 @@ after_reply x r received = by x.phase
     by (Spares a k) = record x { phase = after_drop_whole a k r }
     by (Heads k) = record x { phase = after_head k r received }
     by (Joins a size body len) = record x { phase = after_join a size body len r }
-    by (Sends a len taken more) = record x { phase = after_send a len taken more r }
-    by (Cuts a from len taken more) = record x { phase = after_cut a from len taken more r }
-    by (Offers a from len piece taken more) = record x { phase = after_offer a from len piece taken more r }
-    by (Swaps a from len piece taken more) = record x { phase = after_swap a from len piece taken more r }
+    by (Sends s) = record x { phase = after_send s r }
+    by (Cuts s) = record x { phase = after_cut s r }
+    by (Offers s piece) = record x { phase = after_offer s piece r }
+    by (Swaps s piece) = record x { phase = after_swap s piece r }
     by (Sent a taken more) = record x { phase = after_taken x.q a taken more r }
     by (Breaks piece a more) = record x { phase = after_break piece a more r }
     by (Drops a more) = record x { phase = after_drop a more r }

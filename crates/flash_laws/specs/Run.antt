@@ -45,10 +45,10 @@ job_pipe worker = worker + 1
 -- whether the rest of a response is still to be made, or to be sent
 abbrev pub is_left : Phase → Bool
 is_left (phase.Heads k) = true
-is_left (phase.Sends a len taken more) = true
-is_left (phase.Cuts a from len taken more) = true
-is_left (phase.Offers a from len piece taken more) = true
-is_left (phase.Swaps a from len piece taken more) = true
+is_left (phase.Sends s) = true
+is_left (phase.Cuts s) = true
+is_left (phase.Offers s piece) = true
+is_left (phase.Swaps s piece) = true
 is_left (phase.Sent a taken more) = true
 is_left (phase.Breaks piece a more) = true
 is_left (phase.Drops a more) = true
@@ -194,15 +194,19 @@ after_hand j f r = or_stay (Hands j f)
 abbrev pub after_release_job : (job : ℕ) → Reply → Step
 after_release_job j r = or_stay (Lets j) (on_done r Heads)
 
+-- a part, which is offered whole
+abbrev pub sends_part : (agg len : ℕ) → Phase
+sends_part a len = phase.Sends (conn.whole a len 0 None)
+
 abbrev pub after_head : Reply → (received : List ℕ) → Step
-after_head r received = or_stay Heads (on_agg r (λ n. Sending (phase.Sends n (count_of received) 0 None) None))
+after_head r received = or_stay Heads (on_agg r (λ n. Sending (sends_part n (count_of received)) None))
 
 -- a part is sent by the same phases as the response of a file
 abbrev pub after_part : Phase → Reply → Phase
-after_part (phase.Sends a len taken more) r = conn.after_send a len taken more r
-after_part (phase.Cuts a from len taken more) r = conn.after_cut a from len taken more r
-after_part (phase.Offers a from len piece taken more) r = conn.after_offer a from len piece taken more r
-after_part (phase.Swaps a from len piece taken more) r = conn.after_swap a from len piece taken more r
+after_part (phase.Sends s) r = conn.after_send s r
+after_part (phase.Cuts s) r = conn.after_cut s r
+after_part (phase.Offers s piece) r = conn.after_offer s piece r
+after_part (phase.Swaps s piece) r = conn.after_swap s piece r
 after_part (phase.Breaks piece a more) r = conn.after_break piece a more r
 after_part d r = d
 
@@ -223,7 +227,7 @@ holding held size frame = if nat_lt size CHUNK_BYTES then Receives (Some (held, 
 -- some output was read
 abbrev pub hearing : (broken chunked : Bool) → Following → (frame : Option ℕ) → (agg len : ℕ) → Step
 hearing true chunked held frame a len = Spills a frame
-hearing false false held frame a len = Sending (phase.Sends a len 0 None) frame
+hearing false false held frame a len = Sending (sends_part a len) frame
 hearing false true None frame a len = holding a len frame
 hearing false true (Some x) frame a len = Gathers x.0 x.1 a len frame
 
@@ -262,7 +266,7 @@ after_wrap held frame r received = or_stay (Wraps held frame) (on_agg r (λ n. T
 
 abbrev pub after_trim : (held chunk len frame : ℕ) → Reply → Step
 after_trim held chunk len frame r =
-    or_stay (Trims held chunk len frame) (on_done r (Sending (phase.Sends chunk len 0 None) (Some frame)))
+    or_stay (Trims held chunk len frame) (on_done r (Sending (sends_part chunk len) (Some frame)))
 
 abbrev pub after_ended : (agg : ℕ) → Following → (frame : Option ℕ) → Reply → Step
 after_ended a held frame r = or_stay (Ended a held frame) (on_done r (Stops held frame))
@@ -288,7 +292,7 @@ after_release_frame w run f held r =
 
 -- the end of the body is sent by itself, or is set around the buffered output
 abbrev pub ending : Run → Following → (agg len : ℕ) → Running
-ending run None a len = Leaves (phase.Sends a len 0 None)
+ending run None a len = Leaves (sends_part a len)
 ending run (Some x) a len = Runs run (WrapsLast x.0 x.1 a)
 
 abbrev pub after_last : Run → Following → Reply → (received : List ℕ) → Running
@@ -303,7 +307,7 @@ after_trim_last held chunk len frame r = or_stay (TrimsLast held chunk len frame
 
 abbrev pub after_unwrap : Run → (frame chunk len : ℕ) → Reply → Running
 after_unwrap run frame chunk len r =
-    or_stay (Runs run (Unwraps frame chunk len)) (on_done r (Leaves (phase.Sends chunk len 0 None)))
+    or_stay (Runs run (Unwraps frame chunk len)) (on_done r (Leaves (sends_part chunk len)))
 
 abbrev pub after_return : (write : ℕ) → Reply → Step
 after_return write r = or_stay (Returns write) (on_done r Fails)

@@ -1,5 +1,9 @@
 //! The phases of a connection, and the pending call of the server.
+ghost use Rattle.std.specs.Prelude.{◌≡◌, ◌<◌, ◌+◌, ◌-◌, ◌^◌};
+ghost use Rattle.flash_laws.specs.Conn as conn;
+
 use http::StatusCode;
+use iol_core::limits::MAX_QUEUE_BYTES;
 use iol_core::numbers::{AggId, Fd};
 
 /// The result of reading a file: an aggregate of all its bytes, its length, or a refusal, for
@@ -23,10 +27,58 @@ pub enum Payload {
     Script,
 }
 
+/// What is being sent: an aggregate of `len` bytes, of which those before `from` are taken. Of the
+/// whole response `taken` bytes are taken, and `more` is the aggregate after this one, with its
+/// length.
+#[derive(Clone, Copy, Debug, PartialEq, Eq)]
+pub struct Sending {
+    pub agg: AggId,
+    pub from: u32,
+    pub len: u32,
+    pub taken: u64,
+    pub more: Option<(AggId, u32)>,
+}
+
+impl Sending {
+    /// An aggregate of `len` bytes, none of which is taken.
+    pub fn whole(agg: AggId, len: u32, taken: u64, more: Option<(AggId, u32)>) -> Sending
+        ensures { result ≡ conn.whole agg len taken more }
+    {
+        Sending {
+            agg,
+            from: 0,
+            len,
+            taken,
+            more,
+        }
+    }
+
+    /// The end of the next piece: it has as many bytes as a queue holds, or all that are left.
+    pub fn piece_end(self) -> u32
+        ensures { result ≡ conn.piece_end self }
+    {
+        let full = self.from.saturating_add(MAX_QUEUE_BYTES as u32);
+        self.len.min(full)
+    }
+
+    /// After `count` more bytes are taken, or all that are left if these are fewer.
+    pub fn after_taking(self, count: u32) -> Sending
+        requires { self.taken + (self.len - self.from) < 2 ^ 64 }
+        ensures { result ≡ conn.after_taking self count }
+    {
+        let count = count.min(self.len.saturating_sub(self.from));
+        Sending {
+            from: self.from + count,
+            taken: self.taken + u64::from(count),
+            ..self
+        }
+    }
+}
+
 /// The phase of a connection: its next call. The request in progress is stored separately.
 ///
-/// While a response is sent, `taken` of its bytes are taken, and `more` is the aggregate after the
-/// one that is being sent, with its length.
+/// When an aggregate is dropped, `taken` bytes of the response are taken, and `more` is the
+/// aggregate after it, with its length.
 #[derive(Clone, Copy, Debug, PartialEq, Eq)]
 pub enum Phase {
     /// Idle: begins the first buffered request, or reads more of the stream.
@@ -78,41 +130,26 @@ pub enum Phase {
         len: u32,
     },
 
-    /// Offers an aggregate of `len` bytes.
+    /// Offers the whole aggregate: `from` is 0.
     Sends {
-        agg: AggId,
-        len: u32,
-        taken: u64,
-        more: Option<(AggId, u32)>,
+        sending: Sending,
     },
 
-    /// Cuts the next piece: the bytes before `from` are taken.
+    /// Cuts the next piece.
     Cuts {
-        agg: AggId,
-        from: u32,
-        len: u32,
-        taken: u64,
-        more: Option<(AggId, u32)>,
+        sending: Sending,
     },
 
     /// Offers the piece.
     Offers {
-        agg: AggId,
-        from: u32,
-        len: u32,
+        sending: Sending,
         piece: AggId,
-        taken: u64,
-        more: Option<(AggId, u32)>,
     },
 
-    /// Drops the piece, after which the bytes before `from` are taken.
+    /// Drops the piece: those of its bytes that are taken are before `from`.
     Swaps {
-        agg: AggId,
-        from: u32,
-        len: u32,
+        sending: Sending,
         piece: AggId,
-        taken: u64,
-        more: Option<(AggId, u32)>,
     },
 
     /// Drops the aggregate, all of which was taken.

@@ -7,6 +7,7 @@ use Rattle.iol_core.specs.declared.limits.TheConstants.{MAX_AGGREGATE_BYTES}
 use Rattle.flash_http.specs.Request.{Answer, serve, refuse}
 use Rattle.flash_laws.specs.Conn.{Following, is_head_only, most_read, text_of}
 use Rattle.flash_laws.specs.declared.phase.Payload.TheVariants.{Error}
+use Rattle.flash_laws.specs.declared.phase.Sending.{Sending}
 use Rattle.flash_laws.specs.declared.phase.Phase.{Phase}
 use Rattle.flash_laws.specs.declared.phase.Phase.TheVariants.{Joins, Sends, Cuts, Offers, Swaps, Sent}
 
@@ -15,11 +16,14 @@ size_of None = 0
 size_of (Some x) = x.1
 
 -- the bytes of a response that are taken, and those that are left
+abbrev pub reach_of : Sending → ℕ
+reach_of s = s.taken + (s.len - s.from) + size_of s.more
+
 abbrev pub reach : Phase → ℕ
-reach (Sends a len taken more) = taken + len + size_of more
-reach (Cuts a from len taken more) = taken + (len - from) + size_of more
-reach (Offers a from len piece taken more) = taken + (len - from) + size_of more
-reach (Swaps a from len piece taken more) = taken + (len - from) + size_of more
+reach (Sends s) = reach_of s
+reach (Cuts s) = reach_of s
+reach (Offers s piece) = reach_of s
+reach (Swaps s piece) = reach_of s
 reach (Sent a taken more) = taken + size_of more
 reach d = 0
 

@@ -22,7 +22,6 @@ use flash_laws::phase::Phase;
 use http::StatusCode;
 use iol_agg::Parts;
 use iol_core::events::{Call, Reply};
-use iol_core::limits::MAX_QUEUE_BYTES;
 use iol_core::numbers::{AggId, Fd};
 use iol_core::refusals::Refusal;
 use std::alloc::{AllocError, Global};
@@ -82,13 +81,6 @@ fn drop_first(list: &mut Vec<u8>, count: usize)
     ensures { list.new.items ≡ drop count list.old.items }
 {
     list.drain(..count.min(list.len()));
-}
-
-/// The end of the next piece: it has as many bytes as a queue holds, or all that are left.
-pub(crate) fn piece_end(from: u32, len: u32) -> u32
-    ensures { result ≡ spec.piece_end from len }
-{
-    len.min(from.saturating_add(MAX_QUEUE_BYTES as u32))
 }
 
 // The placeholder before the first request.
@@ -254,8 +246,11 @@ impl Conn {
             } => cut_call(agg, first, last),
             Phase::Heads { content } => make_call(self.alloc, &self.asked, &content)?,
             Phase::Joins { head, body, .. } => join_call(head, body),
-            Phase::Sends { agg, .. } => Call::IolWrite { fd, agg },
-            Phase::Cuts { agg, from, len, .. } => cut_call(agg, from, piece_end(from, len)),
+            Phase::Sends { sending } => Call::IolWrite {
+                fd,
+                agg: sending.agg,
+            },
+            Phase::Cuts { sending } => cut_call(sending.agg, sending.from, sending.piece_end()),
             Phase::Offers { piece, .. } => Call::IolWrite { fd, agg: piece },
             Phase::Got { agg } => Call::AggDrop { agg },
             Phase::Spares { agg, .. } => Call::AggDrop { agg },

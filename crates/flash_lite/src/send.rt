@@ -6,14 +6,14 @@ ghost use Rattle.iol_core.specs.declared.refusals.Refusal.TheVariants.{BrokenPip
 ghost use Rattle.flash_http.specs.Prelude.{Answer, answer};
 ghost use Rattle.flash_laws.specs.Prelude.{keeps, after_part};
 ghost use Rattle.flash_laws.specs.Conn as spec;
-ghost use Rattle.flash_laws.specs.declared.phase.Phase.TheVariants.{Joins, Sends, Sent};
+ghost use Rattle.flash_laws.specs.declared.phase.Phase.TheVariants.{Joins, Cuts, Sent};
 ghost use Rattle.flash_lite.specs.ReceivedBytes.{received};
 ghost use Rattle.flash_lite.specs.Runs.{IsGoing};
 ghost use Rattle.flash_lite.specs.Small.{IsSmall, size_of};
 
 use crate::received::count;
 use flash_http::Asked;
-use flash_laws::phase::{Payload, Phase};
+use flash_laws::phase::{Payload, Phase, Sending};
 use iol_agg::Parts;
 use iol_core::events::Reply;
 use iol_core::limits::MAX_AGGREGATE_BYTES;
@@ -49,10 +49,7 @@ fn with_body(head: AggId, size: u32, body: AggId, len: u32) -> Phase
         }
     } else {
         Phase::Sends {
-            agg: head,
-            len: size,
-            taken: 0,
-            more: Some((body, len)),
+            sending: Sending::whole(head, size, 0, Some((body, len))),
         }
     }
 }
@@ -65,10 +62,7 @@ fn headed(head: AggId, size: u32, more: Following) -> Phase
     match more {
         Some((body, len)) => with_body(head, size, body, len),
         None => Phase::Sends {
-            agg: head,
-            len: size,
-            taken: 0,
-            more: None,
+            sending: Sending::whole(head, size, 0, None),
         },
     }
 }
@@ -92,10 +86,7 @@ pub(crate) fn after_join(head: AggId, size: u32, body: AggId, len: u32, last: &R
 {
     match last {
         Reply::Agg(agg) => Phase::Sends {
-            agg: *agg,
-            len: size + len,
-            taken: 0,
-            more: None,
+            sending: Sending::whole(*agg, size + len, 0, None),
         },
         _ => Phase::Joins {
             head,
@@ -106,61 +97,35 @@ pub(crate) fn after_join(head: AggId, size: u32, body: AggId, len: u32, last: &R
     }
 }
 
-// After `taken` bytes of an aggregate that was offered whole were taken: all, or the rest is sent
-// in pieces.
-fn taken_of(agg: AggId, count: u32, len: u32, taken: u64, more: Following) -> Phase
-    requires { IsSmall (Sends agg len taken more) }
-    ensures after_reply { result ≡ after_part (Sends agg len taken more) (Count count) }
+// The next piece is to be cut, or all is taken.
+fn next_piece(sending: Sending) -> Phase
+    requires { IsSmall (Cuts sending) }
+    ensures next { result ≡ spec.next_piece sending }
     ensures going { IsGoing result }
 {
-    if count < len {
-        Phase::Cuts {
-            agg,
-            from: count,
-            len,
-            taken: taken + u64::from(count),
-            more,
-        }
+    if sending.from < sending.len {
+        Phase::Cuts { sending }
     } else {
         Phase::Sent {
-            agg,
-            taken: taken + u64::from(len),
-            more,
+            agg: sending.agg,
+            taken: sending.taken,
+            more: sending.more,
         }
     }
 }
 
-// After `count` bytes of the offered ones were taken.
+// After `count` of the offered bytes were taken.
 fn counted(phase: Phase, count: u32) -> Phase
     requires { IsGoing phase }
     ensures after_reply { result ≡ after_part phase (Count count) }
     ensures going { IsGoing result }
 {
     match phase {
-        Phase::Sends {
-            agg,
-            len,
-            taken,
-            more,
-        } => taken_of(agg, count, len, taken, more),
-        Phase::Offers {
-            agg,
-            from,
-            len,
+        Phase::Sends { sending } => next_piece(sending.after_taking(count)),
+        Phase::Offers { sending, piece } => Phase::Swaps {
+            sending: sending.after_taking(count),
             piece,
-            taken,
-            more,
-        } => {
-            let count = count.min(len.saturating_sub(from));
-            Phase::Swaps {
-                agg,
-                from: from + count,
-                len,
-                piece,
-                taken: taken + u64::from(count),
-                more,
-            }
-        }
+        },
         _ => phase,
     }
 }
@@ -172,20 +137,7 @@ fn cut(phase: Phase, piece: AggId) -> Phase
     ensures going { IsGoing result }
 {
     match phase {
-        Phase::Cuts {
-            agg,
-            from,
-            len,
-            taken,
-            more,
-        } => Phase::Offers {
-            agg,
-            from,
-            len,
-            piece,
-            taken,
-            more,
-        },
+        Phase::Cuts { sending } => Phase::Offers { sending, piece },
         _ => phase,
     }
 }
@@ -197,26 +149,7 @@ fn dropped(phase: Phase) -> Phase
     ensures going { IsGoing result }
 {
     match phase {
-        Phase::Swaps {
-            agg,
-            from,
-            len,
-            piece: _,
-            taken,
-            more,
-        } => {
-            if from < len {
-                Phase::Cuts {
-                    agg,
-                    from,
-                    len,
-                    taken,
-                    more,
-                }
-            } else {
-                Phase::Sent { agg, taken, more }
-            }
-        }
+        Phase::Swaps { sending, .. } => next_piece(sending),
         Phase::Breaks { agg, more, .. } => Phase::Drops { agg, more },
         _ => phase,
     }
@@ -229,13 +162,15 @@ fn broken_off(phase: Phase) -> Phase
     ensures going { IsGoing result }
 {
     match phase {
-        Phase::Sends { agg, more, .. } => Phase::Drops { agg, more },
-        Phase::Offers {
-            agg,
+        Phase::Sends { sending } => Phase::Drops {
+            agg: sending.agg,
+            more: sending.more,
+        },
+        Phase::Offers { sending, piece } => Phase::Breaks {
             piece,
-            more,
-            ..
-        } => Phase::Breaks { piece, agg, more },
+            agg: sending.agg,
+            more: sending.more,
+        },
         _ => phase,
     }
 }
@@ -279,10 +214,7 @@ pub(crate) fn proceeds(keep: bool, taken: u64, more: Following) -> Phase
 {
     match more {
         Some((agg, len)) => Phase::Sends {
-            agg,
-            len,
-            taken,
-            more: None,
+            sending: Sending::whole(agg, len, taken, None),
         },
         None => { if keep { Phase::Rests } else { Phase::Closes } }
     }

@@ -8,12 +8,13 @@ use Rattle.iol_proc.specs.declared.process_slot.ProcessSlot.{ProcessSlot}
 use Rattle.flash_http.specs.Request.{Answer, serve}
 use Rattle.flash_laws.specs.Client.{Client, is_for_script}
 use Rattle.flash_laws.specs.Client.Fits.{FitsBy}
-use Rattle.flash_laws.specs.Conn.{Conn, Following}
-use Rattle.flash_laws.specs.Conn.Fits.{Has, MoreIsReadable, HoldsRest, HoldsRestFrom}
+use Rattle.flash_laws.specs.Conn.{Conn, Following, whole}
+use Rattle.flash_laws.specs.Conn.Fits.{Has, MoreIsReadable, HoldsRestFrom}
 use Rattle.flash_laws.specs.SiteContents.{SiteContents}
 use Rattle.flash_laws.specs.Site.ClientConsistency.{AllFit}
 use Rattle.flash_laws.specs.Site.Past.{Past}
 use Rattle.flash_laws.specs.Workers.WorkerSet.{WorkerSet}
+use Rattle.flash_laws.specs.declared.phase.Sending.{Sending}
 use Rattle.flash_laws.specs.declared.phase.Phase.{Phase}
 use Rattle.flash_laws.specs.declared.phase.Phase.TheVariants.{Rests, Got, Opens, Reads as Reading, Shuts, Picks, Spares}
 use Rattle.flash_laws.specs.declared.phase.Phase.TheVariants.{Heads, Joins, Sends, Cuts, Offers, Swaps, Sent, Breaks}
@@ -42,13 +43,12 @@ rest-long expected bytes after taken is =
     let rest = length-drop taken expected in
     omega (arith, all, both, rest)
 
-from-long : (m : State) (expected : List ℕ) (a from len taken : ℕ) (more : Following)
-    → HoldsRestFrom m expected a from len taken more
-    → 3 * (len - from) + sent_after more ≤ 3 * length expected + 4
-from-long m expected a from len taken more h =
-    let calls = more-calls m more h.after h.follows in
-    let long = rest-long expected (drop from h.bytes) h.after taken h.next in
-    let part = length-drop from h.bytes in
+from-long : (m : State) (expected : List ℕ) (s : Sending) → HoldsRestFrom m expected s
+    → 3 * (s.len - s.from) + sent_after s.more ≤ 3 * length expected + 4
+from-long m expected s h =
+    let calls = more-calls m s.more h.after h.follows in
+    let long = rest-long expected (drop s.from h.bytes) h.after s.taken h.next in
+    let part = length-drop s.from h.bytes in
     let size = h.size in
     omega (arith, calls, long, part, size)
 
@@ -66,22 +66,19 @@ ahead-short m q expected longest (Spares a k) has short = let few =
 ahead-short m q expected longest (Heads k) has short = let few =
     made-short m q expected longest (Heads k) refl has short in omega (arith, few)
 ahead-short m q expected longest (Joins a size body len) has short =
-    let h : HoldsRest m expected a size 0 (Some (body, len)) = has.0 in
+    let h : HoldsRestFrom m expected (whole a size 0 (Some (body, len))) = has.0 in
     let long = rest-long expected h.bytes h.after 0 h.next in
     let one = h.size in
     let two = h.follows.1 in
     omega (arith, long, one, two, short)
-ahead-short m q expected longest (Sends a len taken more) has short =
-    let calls = more-calls m more has.after has.follows in
-    let long = rest-long expected has.bytes has.after taken has.next in
-    let size = has.size in
-    omega (arith, calls, long, size, short)
-ahead-short m q expected longest (Cuts a from len taken more) has short = let few =
-    from-long m expected a from len taken more has.0 in omega (arith, few, short)
-ahead-short m q expected longest (Offers a from len piece taken more) has short = let few =
-    from-long m expected a from len taken more has.whole in omega (arith, few, short)
-ahead-short m q expected longest (Swaps a from len piece taken more) has short = let few =
-    from-long m expected a from len taken more has.2 in omega (arith, few, short)
+ahead-short m q expected longest (Sends s) has short =
+    let few = from-long m expected s has.0 in omega (arith, few, short)
+ahead-short m q expected longest (Cuts s) has short =
+    let few = from-long m expected s has.0 in omega (arith, few, short)
+ahead-short m q expected longest (Offers s piece) has short =
+    let few = from-long m expected s has.whole in omega (arith, few, short)
+ahead-short m q expected longest (Swaps s piece) has short =
+    let few = from-long m expected s has.2 in omega (arith, few, short)
 ahead-short m q expected longest (Sent a taken more) has short =
     let calls = more-calls m more has.after has.follows in
     let rest = ap (λ (l : List ℕ). length l) has.next in

@@ -70,16 +70,16 @@ module _ (site_contents : SiteContents) (worker_set : WorkerSet) (laws : AllLaws
       laws.left.join m n server a body has.0.bytes has.0.after (no.PoolClosed p) lives has.0.is_readable has.0.follows.0
       (differ a body (turned body a has.0.apart))
       (let one = has.0.size in let two = has.0.follows.1 in let fits = has.1 in omega (arith, one, two, fits)) step
-  never-closed q (Sends a len taken more) has found can step =
-      laws.left.writes_queue m n server fd a (on.Connection c) has.bytes (no.PoolClosed p) lives open_on refl refl
-      has.is_readable step
-  never-closed q (Cuts a from len taken more) has found can step =
-      laws.left.cut m n server a from (piece_end from len) has.0.bytes (no.PoolClosed p) lives has.0.is_readable
+  never-closed q (Sends s) has found can step =
+      laws.left.writes_queue m n server fd s.agg (on.Connection c) has.0.bytes (no.PoolClosed p) lives open_on refl refl
+      has.0.is_readable step
+  never-closed q (Cuts s) has found can step =
+      laws.left.cut m n server s.agg s.from (piece_end s) has.0.bytes (no.PoolClosed p) lives has.0.is_readable
       (let some = has.1 in omega (arith, some)) (let size = has.0.size in omega (arith, size)) step
-  never-closed q (Offers a from len piece taken more) has found can step =
+  never-closed q (Offers s piece) has found can step =
       laws.left.writes_queue m n server fd piece (on.Connection c) _ (no.PoolClosed p) lives open_on refl refl
       has.is_readable step
-  never-closed q (Swaps a from len piece taken more) has found can step =
+  never-closed q (Swaps s piece) has found can step =
       laws.left.drops m n server piece has.0.0 (no.PoolClosed p) lives has.0.1 step
   never-closed q (Sent a taken more) has found can step =
       laws.left.drops m n server a has.bytes (no.PoolClosed p) lives has.is_readable step

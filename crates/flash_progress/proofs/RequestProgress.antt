@@ -2,7 +2,7 @@
 use Rattle.std.proofs.Common.{inl, inr, ◌≡◌, ℕ, suc, ◌+◌, ◌*◌, ◌-◌, ◌<◌, ◌≤◌, List, [], ◌∷◌, ◌++◌, length, ap, ◌∙◌}
 use Rattle.std.proofs.Common.{refl, sym, subst, arith, Some, None, true, false, Bool, length-append, length-drop}
 use Rattle.std.proofs.Common.{if◌then◌else◌}
-use Rattle.std.specs.Prelude.{nat_lt, nat_le, slice_range}
+use Rattle.std.specs.Prelude.{nat_le, slice_range}
 use Rattle.std.proofs.Math.Nat.{mul-le-mul_left}
 use Rattle.iol_core.specs.State.{State, Connection, descriptor, is_live, conn_at}
 use Rattle.iol_core.specs.Text.{Text, bytes_of}
@@ -30,7 +30,7 @@ use Rattle.flash_http.specs.Request.{Answer, serve, refuse}
 use Rattle.flash_laws.specs.Answers.{keeps, Next, NextIn}
 use Rattle.flash_laws.specs.Conn.{Conn, Following, Readies, begins, most_kept, text_of, wants, sends_of, count_of}
 use Rattle.flash_laws.specs.Conn.{following, headed, proceeds, resolved, after_open, after_read, after_close_file}
-use Rattle.flash_laws.specs.Conn.{after_receive, after_disconnect, after_break, after_drop, after_reply}
+use Rattle.flash_laws.specs.Conn.{after_receive, after_disconnect, after_break, after_drop, after_taking, after_reply}
 use Rattle.flash_laws.specs.Conn.Fits.{Has, HasContent, Names, is_closing}
 use Rattle.flash_laws.specs.Conn.Policy.{is_later}
 use Rattle.flash_laws.specs.Conn.Progress.{Nears, CanMake, is_busy}
@@ -50,7 +50,7 @@ use Rattle.flash_laws.proofs.Conn.ReadableBytes.{text-same}
 use Rattle.flash_laws.proofs.Conn.Responses.{WindowLaws, some-inj}
 use Rattle.std.proofs.lemmas.List.{length-map}
 use Rattle.flash_progress.proofs.Measure.{request_turns, ahead, reads_on, kept_turns, unread_turns, turns_left}
-use Rattle.flash_laws.proofs.Moves.{either-way}
+use Rattle.flash_laws.proofs.Moves.{either-way, either-next}
 
 -- ---- what is made is no longer than the response
 
@@ -174,19 +174,18 @@ goes kept q (Heads k) (reply.Agg n) received is = headed-goes q k n (count_of re
 goes kept q (Heads k) r received is = (refl, λ no. no)
 goes kept q (Joins a size body len) (reply.Agg n) received is = (refl, λ no. no)
 goes kept q (Joins a size body len) r received is = (refl, λ no. no)
-goes kept q (Sends a len taken more) (reply.Count n) received is =
-    either-way (λ (e : Phase). Goes q (Sends a len taken more) e) (nat_lt n len) (refl, λ no. no) (refl, λ no. no)
-goes kept q (Sends a len taken more) (reply.Refused no.BrokenPipe) received is = (refl, λ no. refl)
-goes kept q (Sends a len taken more) r received is = (refl, λ no. no)
-goes kept q (Cuts a from len taken more) (reply.Agg n) received is = (refl, λ no. no)
-goes kept q (Cuts a from len taken more) r received is = (refl, λ no. no)
-goes kept q (Offers a from len piece taken more) (reply.Count n) received is = (refl, λ no. no)
-goes kept q (Offers a from len piece taken more) (reply.Refused no.BrokenPipe) received is = (refl, λ no. refl)
-goes kept q (Offers a from len piece taken more) r received is = (refl, λ no. no)
-goes kept q (Swaps a from len piece taken more) reply.Done received is =
-    either-way (λ (e : Phase). Goes q (Swaps a from len piece taken more) e) (nat_lt from len) (refl, λ no. no)
-    (refl, λ no. no)
-goes kept q (Swaps a from len piece taken more) r received is = (refl, λ no. no)
+goes kept q (Sends s) (reply.Count n) received is =
+    either-next (λ (e : Phase). Goes q (Sends s) e) (after_taking s n) (refl, λ no. no) (refl, λ no. no)
+goes kept q (Sends s) (reply.Refused no.BrokenPipe) received is = (refl, λ no. refl)
+goes kept q (Sends s) r received is = (refl, λ no. no)
+goes kept q (Cuts s) (reply.Agg n) received is = (refl, λ no. no)
+goes kept q (Cuts s) r received is = (refl, λ no. no)
+goes kept q (Offers s piece) (reply.Count n) received is = (refl, λ no. no)
+goes kept q (Offers s piece) (reply.Refused no.BrokenPipe) received is = (refl, λ no. refl)
+goes kept q (Offers s piece) r received is = (refl, λ no. no)
+goes kept q (Swaps s piece) reply.Done received is =
+    either-next (λ (e : Phase). Goes q (Swaps s piece) e) s (refl, λ no. no) (refl, λ no. no)
+goes kept q (Swaps s piece) r received is = (refl, λ no. no)
 goes kept q (Sent a taken more) reply.Done received is = ends-goes q a taken more
 goes kept q (Sent a taken more) r received is = (refl, λ no. no)
 goes kept q d r received is = absurd (cc (is))

@@ -239,15 +239,15 @@ one-next m q k expected a taken none may next = record {
 -- while nothing is sent nothing is written
 silent-writes : (fd g a : ℕ) (kept : List ℕ) (q : Answer) (d : Phase) → is_silent d ≡ true
     → conn.wants fd (at kept q d) ≡ call.IolWrite g a → ⊥
-silent-writes fd g a kept q (Sends b len taken more) silent is = cc (silent)
-silent-writes fd g a kept q (Offers b from len piece taken more) silent is = cc (silent)
+silent-writes fd g a kept q (Sends s) silent is = cc (silent)
+silent-writes fd g a kept q (Offers s piece) silent is = cc (silent)
 silent-writes fd g a kept q (Reading f) silent is = cc (silent)
 silent-writes fd g a kept q d silent is = cc (is)
 
 -- the phases of any response write to their connection
 own-fd : (fd g a : ℕ) (w : Wanted) (d : Phase) → conn.wants fd (in_phase w d) ≡ call.IolWrite g a → g ≡ fd
-own-fd fd g a w (Sends b len taken more) is = sym (ap (λ k. written_fd k fd) is)
-own-fd fd g a w (Offers b from len piece taken more) is = sym (ap (λ k. written_fd k fd) is)
+own-fd fd g a w (Sends s) is = sym (ap (λ k. written_fd k fd) is)
+own-fd fd g a w (Offers s piece) is = sym (ap (λ k. written_fd k fd) is)
 own-fd fd g a w (Reading f) is = absurd (by w.head_only is)
   where
     by : (b : Bool) → (if b then call.Length f else call.IolRead f most_read) ≡ call.IolWrite g a → ⊥

@@ -2,7 +2,7 @@
 -- script that was read.
 use Rattle.std.proofs.Common.{◌≡◌, ℕ, ◌+◌, ◌-◌, List, [], ◌∷◌, ◌++◌, drop, ap, ◌∙◌, refl, sym, Some, None, true}
 use Rattle.std.proofs.Common.{false, Bool, append_assoc, if◌then◌else◌}
-use Rattle.std.specs.Prelude.{◌||◌, nat_lt, nat_le, slice_range}
+use Rattle.std.specs.Prelude.{◌||◌, nat_le, slice_range}
 use Rattle.std.proofs.lemmas.List.{take-append-drop}
 use Rattle.iol_core.specs.State.{State}
 use Rattle.iol_core.specs.declared.limits.TheConstants.{MAX_AGGREGATE_BYTES}
@@ -21,7 +21,8 @@ use Rattle.flash_http.specs.Request.{Answer, serve, refuse}
 use Rattle.flash_laws.specs.Answers.{keeps}
 use Rattle.flash_laws.specs.Client.{conn_wants}
 use Rattle.flash_laws.specs.Conn.{Following, is_head_only, most_read, piece_end, count_of, wants, sends_of, resolved}
-use Rattle.flash_laws.specs.Conn.{following, headed, after_reply}
+use Rattle.flash_laws.specs.Conn.{following, headed, after_taking, after_reply}
+use Rattle.flash_laws.proofs.Conn.ReadableBytes.{at-start}
 use Rattle.flash_laws.specs.declared.phase.FileResult.{FileResult}
 use Rattle.flash_laws.specs.declared.phase.FileResult.TheVariants.{File, Text as TextOf}
 use Rattle.flash_laws.specs.declared.phase.Phase.{Phase}
@@ -33,7 +34,7 @@ use Rattle.flash_laws.specs.Client.ResponseState.{is_read, is_opening}
 use Rattle.flash_laws.specs.Conn.OfferedBytes.{taken_of}
 use Rattle.flash_laws.specs.Site.{server}
 use Rattle.flash_laws.proofs.Forms.{at}
-use Rattle.flash_laws.proofs.Moves.{after-done, after-agg, after-write, after-open, after-read, either-way}
+use Rattle.flash_laws.proofs.Moves.{after-done, after-agg, after-write, after-open, after-read, either-way, either-next}
 
 -- ---- what is offered
 
@@ -57,23 +58,30 @@ reads-none false f g a e = cc (e)
 pub next-expected : (m : State) (fd g a : ℕ) (kept : List ℕ) (q : Answer) (d : Phase) (expected : List ℕ)
     → Has m q expected d
     → wants fd (at kept q d) ≡ call.IolWrite g a → (g ≡ fd) × Next m expected a (taken_of d)
-next-expected m fd g a kept q (Sends b len taken more) expected has is =
-    let same : b ≡ a = ap (λ k. written k b) is in
-    let own : fd ≡ g = ap (λ k. written_fd k fd) is in
-    (sym own, (has.bytes, has.after, ap (λ z. readable_at m server z) (sym same) ∙ has.is_readable, has.next))
-next-expected m fd g a kept q (Offers b from len piece taken more) expected has is =
+next-expected m fd g a kept q (Sends s) expected has is =
+    let same : s.agg ≡ a = ap (λ k. written k s.agg) is in
+    let own : fd ≡ g = ap (λ k. written_fd k fd) is in (
+      sym own,
+      (
+        has.0.bytes,
+        has.0.after,
+        ap (λ z. readable_at m server z) (sym same) ∙ has.0.is_readable,
+        at-start has.0 has.1,
+      ),
+    )
+next-expected m fd g a kept q (Offers s piece) expected has is =
     let same : piece ≡ a = ap (λ k. written k piece) is in
     let own : fd ≡ g = ap (λ k. written_fd k fd) is in
     let bytes = has.whole.bytes in
-    let rest = drop (piece_end from len - from) (drop from bytes) in (
+    let rest = drop (piece_end s - s.from) (drop s.from bytes) in (
       sym own,
       (
-        slice_range bytes from (piece_end from len),
+        slice_range bytes s.from (piece_end s),
         rest ++ has.whole.after,
         ap (λ z. readable_at m server z) (sym same) ∙ has.is_readable,
-        sym (append_assoc (slice_range bytes from (piece_end from len)) rest has.whole.after)
+        sym (append_assoc (slice_range bytes s.from (piece_end s)) rest has.whole.after)
             ∙ (ap (λ (l : List ℕ). l ++ has.whole.after)
-            (take-append-drop (piece_end from len - from) (drop from bytes)) ∙ has.whole.next),
+            (take-append-drop (piece_end s - s.from) (drop s.from bytes)) ∙ has.whole.next),
       ),
     )
 next-expected m fd g a kept q (Reading f) expected has is = absurd (reads-none (is_head_only q) f g a is)
@@ -119,12 +127,11 @@ apart-unread kept q Over r received left = refl
 apart-unread kept q (Heads k) r received left =
     after-agg Unread r refl (λ n. headed-unread n (count_of received) (following k))
 apart-unread kept q (Joins a size body len) r received left = after-agg Unread r refl (λ n. refl)
-apart-unread kept q (Sends a len taken more) r received left =
-    after-write Unread r refl refl (λ n. either-way Unread (nat_lt n len) refl refl)
-apart-unread kept q (Cuts a from len taken more) r received left = after-agg Unread r refl (λ n. refl)
-apart-unread kept q (Offers a from len piece taken more) r received left = after-write Unread r refl refl (λ n. refl)
-apart-unread kept q (Swaps a from len piece taken more) r received left =
-    after-done Unread r refl (either-way Unread (nat_lt from len) refl refl)
+apart-unread kept q (Sends s) r received left =
+    after-write Unread r refl refl (λ n. either-next Unread (after_taking s n) refl refl)
+apart-unread kept q (Cuts s) r received left = after-agg Unread r refl (λ n. refl)
+apart-unread kept q (Offers s piece) r received left = after-write Unread r refl refl (λ n. refl)
+apart-unread kept q (Swaps s piece) r received left = after-done Unread r refl (either-next Unread s refl refl)
 apart-unread kept q (Sent a taken (Some x)) r received left = after-done Unread r refl refl
 apart-unread kept q (Sent a taken None) r received left =
     after-done Unread r refl (either-way Unread (keeps q) refl refl)

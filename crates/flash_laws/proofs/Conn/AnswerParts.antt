@@ -1,7 +1,7 @@
 -- The server's own calls preserve its data of a response, for every expected response.
 use Rattle.std.proofs.Common.{◌≡◌, ℕ, ◌+◌, ◌-◌, ◌==◌, ◌<◌, ◌≤◌, List, [], ◌∷◌, ◌++◌, length, drop, ap, ◌∙◌, refl, sym}
 use Rattle.std.proofs.Common.{subst, arith, Some, None, true, false, Bool, append-nil, if◌then◌else◌}
-use Rattle.std.specs.Prelude.{min, nat_lt, nat_le, slice_range}
+use Rattle.std.specs.Prelude.{nat_lt, nat_le, slice_range, ◌||◌}
 use Rattle.std.proofs.lemmas.List.{drop-drop}
 use Rattle.std.proofs.lemmas.Bool.{or_parts, or_from}
 use Rattle.std.proofs.lemmas.Bool.Decides.{nat_tests}
@@ -27,26 +27,29 @@ use Rattle.flash_http.specs.Request.{Answer, serve, refuse, Wanted}
 use Rattle.flash_laws.specs.Answers.{keeps, body_unless, chosen, file_text, unsatisfiable}
 use Rattle.flash_laws.specs.Conn.{Following, has_followed, content_agg, piece_end, count_of, text_of, sends_of}
 use Rattle.flash_laws.specs.Conn.{resolved, after_close_file, after_slice, after_drop_whole, following, headed}
-use Rattle.flash_laws.specs.Conn.{after_head, after_join, after_send, after_cut, moved_on, after_offer, after_swap}
+use Rattle.flash_laws.specs.Conn.{whole, after_head, after_join, after_send, after_cut, after_offer, after_swap}
+use Rattle.flash_laws.specs.Conn.{after_taking, next_piece}
 use Rattle.flash_laws.specs.Conn.{proceeds, after_taken, after_break, drops_next, after_drop, wants, after_receive}
 use Rattle.flash_laws.specs.Conn.{after_reply}
 use Rattle.flash_laws.specs.declared.phase.FileResult.{FileResult}
 use Rattle.flash_laws.specs.declared.phase.FileResult.TheVariants.{File, Length, Fails, Text as TextOf}
 use Rattle.flash_laws.specs.declared.phase.Payload.{Payload}
 use Rattle.flash_laws.specs.declared.phase.Payload.TheVariants.{Body}
+use Rattle.flash_laws.specs.declared.phase.Sending.{Sending}
 use Rattle.flash_laws.specs.declared.phase.Phase.{Phase}
 use Rattle.flash_laws.specs.declared.phase.Phase.TheVariants.{Rests, Got, Shuts, Picks, Spares, Heads, Joins, Sends}
 use Rattle.flash_laws.specs.declared.phase.Phase.TheVariants.{Cuts, Offers, Swaps, Sent, Breaks, Drops, Closes, Over}
-use Rattle.flash_laws.specs.Conn.Fits.{MoreIsReadable, HoldsRest, HasFile, HasFileResult, HasContent, Has}
-use Rattle.flash_laws.specs.Conn.Fits.{is_closing, Names}
+use Rattle.flash_laws.specs.Conn.Fits.{MoreIsReadable, HoldsRestFrom, HoldsUnsent, HasFile, HasFileResult}
+use Rattle.flash_laws.specs.Conn.Fits.{HasContent, Has, is_closing, Names}
 use Rattle.flash_laws.specs.Client.ResponseState.{is_opening}
 use Rattle.flash_laws.specs.Site.{server}
 use Rattle.flash_laws.proofs.Forms.{at}
 use Rattle.flash_laws.proofs.Counts.{counted, made-short}
 use Rattle.flash_laws.proofs.Moves.{dropped, closed, made, made-received, written, either-way}
 use Rattle.flash_laws.proofs.Conn.ReadableBytes.{text-same, readable-stays, new-other, new-follows, follows-stay}
-use Rattle.flash_laws.proofs.Conn.ReadableBytes.{content-on}
+use Rattle.flash_laws.proofs.Conn.ReadableBytes.{content-on, rest-on}
 use Rattle.flash_laws.proofs.Lists.{not-equal, turned, next-rest, none-left, both-long, few-taken, length-part}
+use Rattle.flash_laws.proofs.Lists.{least-taken, few-whole}
 use Rattle.flash_http.proofs.SelectionLaws.{selected-within}
 
 module _ (steps : EachStepLeavesTheRest) (own : CallsServeTheirDomain) (m n : State) (order : IsOrderly m) where
@@ -155,14 +158,14 @@ module _ (steps : EachStepLeavesTheRest) (own : CallsServeTheirDomain) (m n : St
 
   -- what is headed: the head, and what follows it
   headed-keeps : (q : Answer) (a size : ℕ) (more : Following) (expected : List ℕ)
-      → HoldsRest n expected a size 0 more → Has n q expected (headed a size more)
-  headed-keeps q a size None expected has = has
+      → HoldsRestFrom n expected (whole a size 0 more) → Has n q expected (headed a size more)
+  headed-keeps q a size None expected has = (has, refl)
   headed-keeps q a size (Some x) expected has = by (nat_le (size + x.1) MAX_AGGREGATE_BYTES) refl
     where
       by : (b : Bool) → nat_le (size + x.1) MAX_AGGREGATE_BYTES ≡ b
-          → Has n q expected (if b then Joins a size x.0 x.1 else Sends a size 0 (Some x))
+          → Has n q expected (if b then Joins a size x.0 x.1 else Sends (whole a size 0 (Some x)))
       by true fits = (has, grind (arith, nat_tests, fits))
-      by false fits = has
+      by false fits = (has, refl)
 
   pub heads : (q : Answer) (k : Payload) (expected : List ℕ) (r : Reply) (received : List ℕ)
       → Has m q expected (Heads k) → StepsTo m (event.Call server (call.AggMake (text_of q k))) r n
@@ -205,187 +208,122 @@ module _ (steps : EachStepLeavesTheRest) (own : CallsServeTheirDomain) (m n : St
       made m n (Has n q expected) (has.0.bytes ++ has.0.after) r
       (own.join m n server a b has.0.bytes has.0.after r order has.0.is_readable has.0.follows.0 step)
       (unchanged q (Joins a size b len) expected has)
-      (λ x readable new. record {
-        bytes = has.0.bytes ++ has.0.after;
-        after = [];
-        is_readable = readable;
-        size =
-            both-long has.0.bytes has.0.after size len has.0.size has.0.follows.1;
-        follows = refl;
-        next =
-            append-nil (has.0.bytes ++ has.0.after) ∙ has.0.next;
-        apart = refl;
-      })
+      (λ x readable new. (
+        record {
+          bytes = has.0.bytes ++ has.0.after;
+          after = [];
+          is_readable = readable;
+          size = both-long has.0.bytes has.0.after size len has.0.size has.0.follows.1;
+          follows = refl;
+          next = append-nil (has.0.bytes ++ has.0.after) ∙ has.0.next;
+          apart = refl;
+        },
+        refl,
+      ))
 
-  pub sends : (q : Answer) (fd c a len taken : ℕ) (more : Following) (expected : List ℕ) (r : Reply)
-      → descriptor m server fd ≡ Some (on.Connection c) → Has m q expected (Sends a len taken more)
-      → StepsTo m (event.Call server (call.IolWrite fd a)) r n → Has n q expected (after_send a len taken more r)
-  sends q fd c a len taken more expected r open_on has step =
-      written m n (Has n q expected) c has.bytes r
-      (own.write_conn m n server fd c a has.bytes r order open_on has.is_readable step)
-      (unchanged q (Sends a len taken more) expected has)
-      (unchanged q (Drops a more) expected
-      (record {
-        after = has.after;
-        readable = (has.bytes, has.is_readable);
-        follows = has.follows;
-        apart =
-            has.apart;
-      })) taking
+  -- what is left of an answer that is being sent stays, unless the call gives it up
+  abbrev rest-stays : (k : Call) (r : Reply) → StepsTo m (event.Call server k) r n → (expected : List ℕ) (s : Sending)
+      → ((a : ℕ) → ((s.agg == a) || has_followed s.more a) ≡ true → gives_up (event.Call server k) server a ≡ false)
+      → HoldsRestFrom m expected s → HoldsRestFrom n expected s
+  rest-stays k r step expected s un h = rest-on m n expected s (λ a l u is. stays k r step a l is (un a u)) h
+
+  -- the first of the bytes that are left are taken
+  taken-on : (expected : List ℕ) (s : Sending) (k : ℕ) (h : HoldsRestFrom n expected s)
+      → k ≤ length (drop s.from h.bytes) → HoldsRestFrom n expected (after_taking s k)
+  taken-on expected s k h within = record {
+    bytes = h.bytes;
+    after = h.after;
+    is_readable = h.is_readable;
+    size = h.size;
+    follows = h.follows;
+    next =
+        subst (λ z. drop (s.from + z) h.bytes ++ h.after ≡ drop (s.taken + z) expected)
+        (sym (least-taken k s.from s.len h.bytes h.size within))
+        (ap (λ (l : List ℕ). l ++ h.after) (sym (drop-drop k s.from h.bytes))
+        ∙ next-rest k s.taken (drop s.from h.bytes) h.after expected h.next within);
+    apart = h.apart;
+  }
+
+  -- if none are left, all is taken
+  next-has : (q : Answer) (expected : List ℕ) (s : Sending) → HoldsRestFrom n expected s
+      → Has n q expected (next_piece s)
+  next-has q expected s h = cases (nat_lt s.from s.len) refl
     where
-      is_readable : readable_at n server a ≡ Some has.bytes
-      is_readable = stays (call.IolWrite fd a) r step a has.bytes has.is_readable refl
+      cases : (b : Bool) → nat_lt s.from s.len ≡ b
+          → Has n q expected (if b then Cuts s else Sent s.agg s.taken s.more)
+      cases true part = (h, grind (arith, nat_tests, part))
+      cases false all = record {
+        bytes = h.bytes;
+        after = h.after;
+        is_readable = h.is_readable;
+        follows = h.follows;
+        next = none-left h.bytes h.after s.from s.len h.size all ∙ h.next;
+        apart = h.apart;
+      }
 
-      more_stays : MoreIsReadable n more has.after
-      more_stays = follows (call.IolWrite fd a) r step more has.after (λ b u. refl) has.follows
+  unsent : (expected : List ℕ) (s : Sending) → HoldsRestFrom m expected s → HoldsUnsent m s.agg s.more
+  unsent expected s h =
+      record { after = h.after; readable = (h.bytes, h.is_readable); follows = h.follows; apart = h.apart }
 
-      taking : (k : ℕ) → o.Puts m c has.bytes k n
-          → Has n q expected (if nat_lt k len then Cuts a k len (taken + k) more else Sent a (taken + len) more)
-      taking k puts = cases (nat_lt k len) refl
-        where
-          rest : drop k has.bytes ++ has.after ≡ drop (taken + k) expected
-          rest = next-rest k taken has.bytes has.after expected has.next puts.within
+  pub sends : (q : Answer) (fd c : ℕ) (s : Sending) (expected : List ℕ) (r : Reply)
+      → descriptor m server fd ≡ Some (on.Connection c) → Has m q expected (Sends s)
+      → StepsTo m (event.Call server (call.IolWrite fd s.agg)) r n → Has n q expected (after_send s r)
+  sends q fd c s expected r open_on has step =
+      written m n (Has n q expected) c has.0.bytes r
+      (own.write_conn m n server fd c s.agg has.0.bytes r order open_on has.0.is_readable step)
+      (unchanged q (Sends s) expected has) (unchanged q (Drops s.agg s.more) expected (unsent expected s has.0))
+      (λ k puts. next-has q expected (after_taking s k)
+      (taken-on expected s k
+      (rest-stays (call.IolWrite fd s.agg) r step expected s (λ a u. refl) has.0)
+      (few-whole k s has.0.bytes has.1 puts.within)))
 
-          cases : (b : Bool) → nat_lt k len ≡ b
-              → Has n q expected (if b then Cuts a k len (taken + k) more else Sent a (taken + len) more)
-          cases false all = (let size = has.size in let within = puts.within in let le : length has.bytes ≤ k =
-              grind (arith, nat_tests, all, size) in let here : taken + len ≡ taken + k =
-              omega (arith, le, within, size) in
-              record {
-                bytes = has.bytes;
-                after = has.after;
-                is_readable = is_readable;
-                follows = more_stays;
-                next =
-                    none-left has.bytes has.after k len has.size all ∙ (rest ∙ ap (λ z. drop z expected) (sym here));
-                apart = has.apart;
-              })
-          cases true part = (
-            record {
-              bytes = has.bytes;
-              after = has.after;
-              is_readable = is_readable;
-              size = has.size;
-              follows =
-                  more_stays;
-              next = rest;
-              apart = has.apart;
-            },
-            grind (arith, nat_tests, part),
-          )
-
-  pub cuts : (q : Answer) (a from len taken : ℕ) (more : Following) (expected : List ℕ) (r : Reply)
-      → Has m q expected (Cuts a from len taken more)
-      → StepsTo m (event.Call server (call.AggCut a from (piece_end from len))) r n
-      → Has n q expected (after_cut a from len taken more r)
-  cuts q a from len taken more expected r has step =
-      made m n (Has n q expected) (slice_range has.0.bytes from (piece_end from len)) r
-      (own.cut m n server a from (piece_end from len) has.0.bytes r order has.0.is_readable step)
-      (unchanged q (Cuts a from len taken more) expected has)
+  pub cuts : (q : Answer) (s : Sending) (expected : List ℕ) (r : Reply) → Has m q expected (Cuts s)
+      → StepsTo m (event.Call server (call.AggCut s.agg s.from (piece_end s))) r n
+      → Has n q expected (after_cut s r)
+  cuts q s expected r has step =
+      made m n (Has n q expected) (slice_range has.0.bytes s.from (piece_end s)) r
+      (own.cut m n server s.agg s.from (piece_end s) has.0.bytes r order has.0.is_readable step)
+      (unchanged q (Cuts s) expected has)
       (λ x readable new. record {
-        whole = record {
-          bytes = has.0.bytes;
-          after = has.0.after;
-          is_readable = stays (call.AggCut a from (piece_end from len)) r step a has.0.bytes has.0.is_readable refl;
-          size = has.0.size;
-          follows = follows (call.AggCut a from (piece_end from len)) r step more has.0.after (λ b u. refl)
-              has.0.follows;
-          next = has.0.next;
-          apart = has.0.apart;
-        };
+        whole =
+            rest-stays (call.AggCut s.agg s.from (piece_end s)) r step expected s (λ a u. refl) has.0;
         some = has.1;
         is_readable = readable;
-        other = or_from (a == x) (has_followed more x) (new-other m a x has.0.bytes has.0.is_readable new)
-            (new-follows m more has.0.after x has.0.follows new);
+        other = or_from (s.agg == x) (has_followed s.more x) (new-other m s.agg x has.0.bytes has.0.is_readable new)
+            (new-follows m s.more has.0.after x has.0.follows new);
       })
 
-  pub offers_piece : (q : Answer) (fd c a from len piece taken : ℕ) (more : Following) (expected : List ℕ) (r : Reply)
-      → descriptor m server fd ≡ Some (on.Connection c)
-      → Has m q expected (Offers a from len piece taken more)
-      → StepsTo m (event.Call server (call.IolWrite fd piece)) r n
-      → Has n q expected (after_offer a from len piece taken more r)
-  offers_piece q fd c a from len piece taken more expected r open_on has step =
-      written m n (Has n q expected) c (slice_range has.whole.bytes from (piece_end from len)) r
-      (own.write_conn m n server fd c piece (slice_range has.whole.bytes from (piece_end from len)) r order open_on
-      has.is_readable step) (unchanged q (Offers a from len piece taken more) expected has)
-      (unchanged q (Breaks piece a more) expected (
-        (slice_range has.whole.bytes from (piece_end from len), has.is_readable),
+  pub offers_piece : (q : Answer) (fd c : ℕ) (s : Sending) (piece : ℕ) (expected : List ℕ) (r : Reply)
+      → descriptor m server fd ≡ Some (on.Connection c) → Has m q expected (Offers s piece)
+      → StepsTo m (event.Call server (call.IolWrite fd piece)) r n → Has n q expected (after_offer s piece r)
+  offers_piece q fd c s piece expected r open_on has step =
+      written m n (Has n q expected) c bytes r
+      (own.write_conn m n server fd c piece bytes r order open_on has.is_readable step)
+      (unchanged q (Offers s piece) expected has)
+      (unchanged q (Breaks piece s.agg s.more) expected
+      ((bytes, has.is_readable), has.other, unsent expected s has.whole))
+      (λ k puts. (
+        (bytes, stays (call.IolWrite fd piece) r step piece bytes has.is_readable refl),
         has.other,
-        record {
-          after = has.whole.after;
-          readable = (has.whole.bytes, has.whole.is_readable);
-          follows =
-              has.whole.follows;
-          apart = has.whole.apart;
-        },
-      )) taking
+        taken-on expected s k
+            (rest-stays (call.IolWrite fd piece) r step expected s (λ a u. refl) has.whole)
+            (few-taken k s has.whole.bytes puts.within),
+      ))
     where
-      taking : (k : ℕ) → o.Puts m c (slice_range has.whole.bytes from (piece_end from len)) k n
-          → Has n q expected (moved_on a from len piece taken more (min k (len - from)))
-      taking k puts =
-          let few = few-taken k from len has.whole.bytes has.whole.size puts.within in
-          subst (λ z. Has n q expected (moved_on a from len piece taken more z)) (sym few.1) (
-            (
-              slice_range has.whole.bytes from (piece_end from len),
-              stays (call.IolWrite fd piece) r step piece (slice_range has.whole.bytes from (piece_end from len))
-                  has.is_readable refl,
-            ),
-            has.other,
-            record {
-              bytes = has.whole.bytes;
-              after = has.whole.after;
-              is_readable = stays (call.IolWrite fd piece) r step a has.whole.bytes has.whole.is_readable refl;
-              size = has.whole.size;
-              follows = follows (call.IolWrite fd piece) r step more has.whole.after (λ b u. refl) has.whole.follows;
-              next = ap (λ (l : List ℕ). l ++ has.whole.after) (sym (drop-drop k from has.whole.bytes))
-                  ∙ next-rest k taken (drop from has.whole.bytes) has.whole.after expected has.whole.next few.0;
-              apart = has.whole.apart;
-            },
-          )
+      bytes : List ℕ
+      bytes = slice_range has.whole.bytes s.from (piece_end s)
 
-  pub swaps : (q : Answer) (a from len piece taken : ℕ) (more : Following) (expected : List ℕ) (r : Reply)
-      → Has m q expected (Swaps a from len piece taken more)
-      → StepsTo m (event.Call server (call.AggDrop piece)) r n
-      → Has n q expected (after_swap a from len piece taken more r)
-  swaps q a from len piece taken more expected r has step =
+  pub swaps : (q : Answer) (s : Sending) (piece : ℕ) (expected : List ℕ) (r : Reply)
+      → Has m q expected (Swaps s piece)
+      → StepsTo m (event.Call server (call.AggDrop piece)) r n → Has n q expected (after_swap s piece r)
+  swaps q s piece expected r has step =
       dropped m n (Has n q expected) piece r (own.drops m n server piece r order step)
-      (unchanged q (Swaps a from len piece taken more) expected has) (cases (nat_lt from len) refl)
-    where
-      both : ((a == piece) ≡ false) × (has_followed more piece ≡ false)
-      both = or_parts (a == piece) (has_followed more piece) has.1
-
-      is_readable : readable_at n server a ≡ Some has.2.bytes
-      is_readable = stays (call.AggDrop piece) r step a has.2.bytes has.2.is_readable (turned a piece both.0)
-
-      more_stays : MoreIsReadable n more has.2.after
-      more_stays = follows (call.AggDrop piece) r step more has.2.after (λ b u. apart more piece b both.1 u)
-          has.2.follows
-
-      cases : (b : Bool) → nat_lt from len ≡ b
-          → Has n q expected (if b then Cuts a from len taken more else Sent a taken more)
-      cases true part = (
-        record {
-          bytes = has.2.bytes;
-          after = has.2.after;
-          is_readable = is_readable;
-          size = has.2.size;
-          follows =
-              more_stays;
-          next = has.2.next;
-          apart = has.2.apart;
-        },
-        grind (arith, nat_tests, part),
-      )
-      cases false all = record {
-        bytes = has.2.bytes;
-        after = has.2.after;
-        is_readable = is_readable;
-        follows =
-            more_stays;
-        next = none-left has.2.bytes has.2.after from len has.2.size all ∙ has.2.next;
-        apart =
-            has.2.apart;
-      }
+      (unchanged q (Swaps s piece) expected has)
+      (next-has q expected s
+      (rest-stays (call.AggDrop piece) r step expected s
+      (λ b u. not-equal piece b
+      (λ e. let p = ap (λ z. (s.agg == z) || has_followed s.more z) e in let not_piece = has.1 in
+      absurd (cc (p, not_piece, u)))) has.2))
 
   pub breaks : (q : Answer) (piece a : ℕ) (more : Following) (expected : List ℕ) (r : Reply)
       → Has m q expected (Breaks piece a more) → StepsTo m (event.Call server (call.AggDrop piece)) r n
@@ -417,17 +355,18 @@ module _ (steps : EachStepLeavesTheRest) (own : CallsServeTheirDomain) (m n : St
     where
       after : (more : Following) (rest : List ℕ) → MoreIsReadable n more rest → rest ≡ drop taken expected
           → Has n q expected (proceeds q taken more)
-      after (Some x) rest is_readable next =
-          record {
-            bytes = rest;
-            after = [];
-            is_readable = is_readable.0;
-            size = is_readable.1;
-            follows = refl;
-            next =
-                append-nil rest ∙ next;
-            apart = refl;
-          }
+      after (Some x) rest is_readable next = (
+        record {
+          bytes = rest;
+          after = [];
+          is_readable = is_readable.0;
+          size = is_readable.1;
+          follows = refl;
+          next = append-nil rest ∙ next;
+          apart = refl;
+        },
+        refl,
+      )
       after None rest is_readable next = either-way (λ (e : Phase). Has n q expected e) (keeps q) tt tt
 
   pub drops : (q : Answer) (a : ℕ) (more : Following) (expected : List ℕ) (r : Reply)
@@ -472,14 +411,14 @@ module _ (steps : EachStepLeavesTheRest) (own : CallsServeTheirDomain) (m n : St
       heads q k expected r received has step names
   phase kept fd c q (Joins a size body len) expected r received open_on read busy has step names =
       joins q a size body len expected r has step
-  phase kept fd c q (Sends a len taken more) expected r received open_on read busy has step names =
-      sends q fd c a len taken more expected r open_on has step
-  phase kept fd c q (Cuts a from len taken more) expected r received open_on read busy has step names =
-      cuts q a from len taken more expected r has step
-  phase kept fd c q (Offers a from len piece taken more) expected r received open_on read busy has step names =
-      offers_piece q fd c a from len piece taken more expected r open_on has step
-  phase kept fd c q (Swaps a from len piece taken more) expected r received open_on read busy has step names =
-      swaps q a from len piece taken more expected r has step
+  phase kept fd c q (Sends s) expected r received open_on read busy has step names =
+      sends q fd c s expected r open_on has step
+  phase kept fd c q (Cuts s) expected r received open_on read busy has step names =
+      cuts q s expected r has step
+  phase kept fd c q (Offers s piece) expected r received open_on read busy has step names =
+      offers_piece q fd c s piece expected r open_on has step
+  phase kept fd c q (Swaps s piece) expected r received open_on read busy has step names =
+      swaps q s piece expected r has step
   phase kept fd c q (Sent a taken more) expected r received open_on read busy has step names =
       sent_all q a taken more expected r has step
   phase kept fd c q (Breaks piece a more) expected r received open_on read busy has step names =

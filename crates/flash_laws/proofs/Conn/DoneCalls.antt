@@ -19,11 +19,13 @@ use Rattle.flash_laws.specs.Conn.{piece_end, count_of, wants, sends_of, resolved
 use Rattle.flash_laws.specs.Conn.{after_close_file, after_slice, after_drop_whole, following, headed, after_head}
 use Rattle.flash_laws.specs.Conn.{after_join, after_send, after_cut, after_offer, after_swap, proceeds, after_taken}
 use Rattle.flash_laws.specs.Conn.{after_break, drops_next, after_drop, after_discard, after_reply}
+use Rattle.flash_laws.specs.Conn.{after_taking, next_piece, whole}
 use Rattle.flash_laws.specs.Conn.Fits.{is_closing}
 use Rattle.flash_laws.specs.Conn.OfferedBytes.{may_repeat}
 use Rattle.flash_laws.specs.Site.{server}
 use Rattle.flash_laws.specs.declared.phase.FileResult.{FileResult}
 use Rattle.flash_laws.specs.declared.phase.FileResult.TheVariants.{File}
+use Rattle.flash_laws.specs.declared.phase.Sending.{Sending}
 use Rattle.flash_laws.specs.declared.phase.Phase.{Phase}
 use Rattle.flash_laws.specs.declared.phase.Phase.TheVariants.{Rests, Got, Opens, Reads as Reading, Shuts, Picks, Spares}
 use Rattle.flash_laws.specs.declared.phase.Phase.TheVariants.{Heads, Joins, Sends, Cuts, Offers, Swaps, Sent, Breaks}
@@ -48,11 +50,15 @@ resolved-not (refuse status head_only close) f (File a len) same = cc (same)
 resolved-not x f k same = cc (same)
 
 headed-not : (n size : ℕ) (more : Following) (d : Phase) → ((a b c e : ℕ) → Joins a b c e ≡ d → ⊥)
-    → ((a b c : ℕ) (f : Following) → Sends a b c f ≡ d → ⊥) → headed n size more ≡ d → ⊥
-headed-not n size None d joins sends same = sends n size 0 None same
+    → ((s : Sending) → Sends s ≡ d → ⊥) → headed n size more ≡ d → ⊥
+headed-not n size None d joins sends same = sends (whole n size 0 None) same
 headed-not n size (Some x) d joins sends same =
     either-of (λ (e : Phase). e ≡ d → ⊥) (nat_le (size + x.1) MAX_AGGREGATE_BYTES) (Joins n size x.0 x.1)
-    (Sends n size 0 (Some x)) (λ same. joins n size x.0 x.1 same) (λ same. sends n size 0 (Some x) same) same
+    (Sends (whole n size 0 (Some x))) (λ same. joins n size x.0 x.1 same)
+    (λ same. sends (whole n size 0 (Some x)) same) same
+
+next-not : (s : Sending) (d : Phase) → (Cuts s ≡ d → ⊥) → (Sent s.agg s.taken s.more ≡ d → ⊥) → next_piece s ≡ d → ⊥
+next-not s d cuts sent same = either (nat_lt s.from s.len) (Cuts s) (Sent s.agg s.taken s.more) d cuts sent same
 
 proceeds-not : (q : Answer) (a taken : ℕ) (more : Following) → proceeds q taken more ≡ Sent a taken more → ⊥
 proceeds-not q a taken (Some x) same = cc (same)
@@ -90,23 +96,21 @@ module _ (m n : State) (fd : ℕ) (kept : List ℕ) (q : Answer) where
       drops m n (Spares b k) (λ z. after_drop_whole b k z) b r step (λ e. cc (e)) same
   moved (Heads k) r received going step same = makes m n (Heads k) (λ z. after_head k z received) (text_of q k) r step
       (λ a. headed-not a (count_of received) (following k) (Heads k) (λ a b c e same. cc (same))
-      (λ a b c f same. cc (same))) same
+      (λ s same. cc (same))) same
   moved (Joins b size body len) r received going step same =
       joins m n (Joins b size body len) (λ z. after_join b size body len z) b body r step (λ k e. cc (e)) same
-  moved (Sends b len taken more) r received going step same =
-      writes m n (Sends b len taken more) (λ z. after_send b len taken more z) fd b r step
-      (λ k. either (nat_lt k len) (Cuts b k len (taken + k) more) (Sent b (taken + len) more) (Sends b len taken more)
-      (λ e. cc (e)) (λ e. cc (e))) (λ e. cc (e)) same
-  moved (Cuts b from len taken more) r received going step same =
-      cuts m n (Cuts b from len taken more) (λ z. after_cut b from len taken more z) b from (piece_end from len) r step
+  moved (Sends s) r received going step same =
+      writes m n (Sends s) (λ z. after_send s z) fd s.agg r step
+      (λ k. next-not (after_taking s k) (Sends s) (λ e. cc (e)) (λ e. cc (e))) (λ e. cc (e)) same
+  moved (Cuts s) r received going step same =
+      cuts m n (Cuts s) (λ z. after_cut s z) s.agg s.from (piece_end s) r step
       (λ k e. cc (e)) same
-  moved (Offers b from len piece taken more) r received going step same =
-      writes m n (Offers b from len piece taken more) (λ z. after_offer b from len piece taken more z) fd piece r step
+  moved (Offers s piece) r received going step same =
+      writes m n (Offers s piece) (λ z. after_offer s piece z) fd piece r step
       (λ k e. cc (e)) (λ e. cc (e)) same
-  moved (Swaps b from len piece taken more) r received going step same =
-      drops m n (Swaps b from len piece taken more) (λ z. after_swap b from len piece taken more z) piece r step
-      (either (nat_lt from len) (Cuts b from len taken more) (Sent b taken more) (Swaps b from len piece taken more)
-      (λ e. cc (e)) (λ e. cc (e))) same
+  moved (Swaps s piece) r received going step same =
+      drops m n (Swaps s piece) (λ z. after_swap s piece z) piece r step
+      (next-not s (Swaps s piece) (λ e. cc (e)) (λ e. cc (e))) same
   moved (Sent b taken more) r received going step same =
       drops m n (Sent b taken more) (λ z. after_taken q b taken more z) b r step (proceeds-not q b taken more) same
   moved (Breaks piece b more) r received going step same =

@@ -1,7 +1,7 @@
 -- The result of a call belongs to its connection, and is given up when that connection no longer uses it.
 use Rattle.std.proofs.Common.{◌≡◌, ℕ, ◌+◌, ◌-◌, ◌==◌, List, [], ◌∷◌, ◌++◌, ap, ◌∙◌, refl, sym, Some, None, true, false}
 use Rattle.std.proofs.Common.{Bool, if◌then◌else◌, length, take, drop}
-use Rattle.std.specs.Prelude.{nat_lt, nat_le, ◌||◌, slice_range}
+use Rattle.std.specs.Prelude.{nat_le, ◌||◌, slice_range}
 use Rattle.iol_core.specs.Access.{HasAccess}
 use Rattle.iol_core.specs.State.{State, descriptor, is_live, content}
 use Rattle.iol_core.specs.Run.{StepsTo}
@@ -31,11 +31,12 @@ use Rattle.flash_laws.specs.Answers.{response}
 use Rattle.flash_laws.specs.Conn.{Following, Conn, has_followed, file_result_agg, content_agg, uses_agg, uses_fd}
 use Rattle.flash_laws.specs.Conn.{name_of, text_of, is_head_only, most_kept, most_read, piece_end, count_of, wants}
 use Rattle.flash_laws.specs.Conn.{sends_of, put_out, resolved, following, headed, proceeds, drops_next, after_receive}
-use Rattle.flash_laws.specs.Conn.{after_reply}
+use Rattle.flash_laws.specs.Conn.{after_reply, after_taking, whole}
 use Rattle.flash_laws.specs.declared.phase.FileResult.{FileResult}
 use Rattle.flash_laws.specs.declared.phase.FileResult.TheVariants.{File, Length, Fails, Text as TextOf}
 use Rattle.flash_laws.specs.declared.phase.Payload.{Payload}
 use Rattle.flash_laws.specs.declared.phase.Payload.TheVariants.{Body}
+use Rattle.flash_laws.specs.declared.phase.Sending.{Sending}
 use Rattle.flash_laws.specs.declared.phase.Phase.{Phase}
 use Rattle.flash_laws.specs.declared.phase.Phase.TheVariants.{Rests, Got, Opens, Reads as Reading, Shuts, Picks, Spares}
 use Rattle.flash_laws.specs.declared.phase.Phase.TheVariants.{Heads, Joins, Sends, Cuts, Offers, Swaps, Sent, Breaks}
@@ -47,7 +48,7 @@ use Rattle.flash_laws.proofs.Forms.{at}
 use Rattle.flash_laws.proofs.Lists.{clash, later_of, former_by, former_of}
 use Rattle.flash_laws.proofs.Conn.DoneCalls.{conn-opened}
 use Rattle.flash_laws.proofs.Conn.Touches.{fds-wants, conns-wants, pipes-wants, files-wants, admits-wants}
-use Rattle.flash_laws.proofs.Conn.Uses.{same-number, gives-wants}
+use Rattle.flash_laws.proofs.Conn.Uses.{same-number, gives-wants, next-uses}
 
 -- ---- what is used no more is given up
 
@@ -75,7 +76,7 @@ headed-more : (n size : ℕ) (more : Following) (a : ℕ) → has_followed more 
 headed-more n size None a u = absurd (cc (u))
 headed-more n size (Some x) a u = by (nat_le (size + x.1) MAX_AGGREGATE_BYTES)
   where
-    by : (t : Bool) → uses_agg (if t then Joins n size x.0 x.1 else Sends n size 0 (Some x)) a ≡ true
+    by : (t : Bool) → uses_agg (if t then Joins n size x.0 x.1 else Sends (whole n size 0 (Some x))) a ≡ true
     by true = later_of (n == a) (x.0 == a) u
     by false = later_of (n == a) (x.0 == a) u
 
@@ -96,18 +97,6 @@ drops-more (Some x) a unused = by (x.0 == a) unused
     by false unused = refl
 drops-more None a unused = refl
 
-leaves-sends : (fd : ℕ) (kept : List ℕ) (q : Answer) (b len taken k : ℕ) (more : Following) (a : ℕ) (t : Bool)
-    → ((b == a) || has_followed more a) ≡ true
-    → uses_agg (if t then Cuts b k len (taken + k) more else Sent b (taken + len) more) a ≡ false → ⊥
-leaves-sends fd kept q b len taken k more a true u unused = clash ((b == a) || has_followed more a) u unused
-leaves-sends fd kept q b len taken k more a false u unused = clash ((b == a) || has_followed more a) u unused
-
-swaps-more : (b from len taken : ℕ) (more : Following) (a : ℕ) (t : Bool)
-    → uses_agg (if t then Cuts b from len taken more else Sent b taken more) a ≡ false
-    → ((b == a) || has_followed more a) ≡ false
-swaps-more b from len taken more a true unused = unused
-swaps-more b from len taken more a false unused = unused
-
 pub leaves-after_reply : (fd : ℕ) (kept : List ℕ) (q : Answer) (d : Phase) (r : Reply) (received : List ℕ) (a : ℕ)
     → Leaves fd (at kept q d) r (after_reply (at kept q d) r received).phase a
 leaves-after_reply fd kept q Rests r received a u unused = absurd (cc (u))
@@ -127,23 +116,20 @@ leaves-after_reply fd kept q (Heads k) (reply.Agg n) received a u unused =
     (clash (uses_agg (headed n (count_of received) (following k)) a)
     (headed-more n (count_of received) (following k) a (following-uses k a u)) unused)
 leaves-after_reply fd kept q (Joins b size body len) (reply.Agg n) received a u unused = (u, refl)
-leaves-after_reply fd kept q (Sends b len taken more) (reply.Count k) received a u unused =
-    absurd (leaves-sends fd kept q b len taken k more a (nat_lt k len) u unused)
-leaves-after_reply fd kept q (Sends b len taken more) (reply.Refused no.BrokenPipe) received a u unused =
-    absurd (clash ((b == a) || has_followed more a) u unused)
-leaves-after_reply fd kept q (Cuts b from len taken more) (reply.Agg n) received a u unused =
+leaves-after_reply fd kept q (Sends s) (reply.Count k) received a u unused =
+    absurd (clash ((s.agg == a) || has_followed s.more a) u (sym (next-uses (after_taking s k) a) ∙ unused))
+leaves-after_reply fd kept q (Sends s) (reply.Refused no.BrokenPipe) received a u unused =
+    absurd (clash ((s.agg == a) || has_followed s.more a) u unused)
+leaves-after_reply fd kept q (Cuts s) (reply.Agg n) received a u unused =
     absurd
-    (clash ((n == a) || ((b == a) || has_followed more a)) (later_of (n == a) ((b == a) || has_followed more a) u)
-    unused)
-leaves-after_reply fd kept q (Offers b from len piece taken more) (reply.Count k) received a u unused =
-    absurd (clash ((piece == a) || ((b == a) || has_followed more a)) u unused)
-leaves-after_reply fd kept q (Offers b from len piece taken more) (reply.Refused no.BrokenPipe) received a u unused =
-    absurd (clash ((piece == a) || ((b == a) || has_followed more a)) u unused)
-leaves-after_reply fd kept q (Swaps b from len piece taken more) reply.Done received a u unused = (
-  former_by (piece == a) ((b == a) || has_followed more a) u
-      (swaps-more b from len taken more a (nat_lt from len) unused),
-  refl,
-)
+    (clash ((n == a) || ((s.agg == a) || has_followed s.more a))
+    (later_of (n == a) ((s.agg == a) || has_followed s.more a) u) unused)
+leaves-after_reply fd kept q (Offers s piece) (reply.Count k) received a u unused =
+    absurd (clash ((piece == a) || ((s.agg == a) || has_followed s.more a)) u unused)
+leaves-after_reply fd kept q (Offers s piece) (reply.Refused no.BrokenPipe) received a u unused =
+    absurd (clash ((piece == a) || ((s.agg == a) || has_followed s.more a)) u unused)
+leaves-after_reply fd kept q (Swaps s piece) reply.Done received a u unused =
+    (former_by (piece == a) ((s.agg == a) || has_followed s.more a) u (sym (next-uses s a) ∙ unused), refl)
 leaves-after_reply fd kept q (Sent b taken more) reply.Done received a u unused =
     (former_by (b == a) (has_followed more a) u (proceeds-more q taken more a unused), refl)
 leaves-after_reply fd kept q (Breaks piece b more) reply.Done received a u unused =
@@ -182,7 +168,7 @@ pub headed-first : (n size : ℕ) (more : Following) (a : ℕ) → (n == a) ≡ 
 headed-first n size None a is = former_of (n == a) false is
 headed-first n size (Some x) a is = by (nat_le (size + x.1) MAX_AGGREGATE_BYTES)
   where
-    by : (t : Bool) → uses_agg (if t then Joins n size x.0 x.1 else Sends n size 0 (Some x)) a ≡ true
+    by : (t : Bool) → uses_agg (if t then Joins n size x.0 x.1 else Sends (whole n size 0 (Some x))) a ≡ true
     by true = former_of (n == a) (x.0 == a) is
     by false = former_of (n == a) (x.0 == a) is
 
@@ -330,15 +316,15 @@ module _ (come : AggregatesComeAndGo) (own : CallsServeTheirDomain) (m n : State
           (own.join m n server b body xs ys r order is_readable more step) (λ x is. is) (λ x is. cc (is))
           (λ x is. former_of (x == a) false is)
 
-      cuts : (b from len taken : ℕ) (more : Following) (q : Answer) (whole : List ℕ) (r : Reply) (received : List ℕ)
-          → readable_at m server b ≡ Some whole
-          → StepsTo m (event.Call server (call.AggCut b from (piece_end from len))) r n
-          → uses_agg (after_reply (at kept q (Cuts b from len taken more)) r received).phase a ≡ true
-      cuts b from len taken more q whole r received is_readable step =
-          made (call.AggCut b from (piece_end from len)) (slice_range whole from (piece_end from len))
-          (λ z. uses_agg (after_reply (at kept q (Cuts b from len taken more)) z received).phase a) r step
-          (own.cut m n server b from (piece_end from len) whole r order is_readable step) (λ x is. is) (λ x is. cc (is))
-          (λ x is. former_of (x == a) ((b == a) || has_followed more a) is)
+      cuts : (s : Sending) (q : Answer) (whole : List ℕ) (r : Reply) (received : List ℕ)
+          → readable_at m server s.agg ≡ Some whole
+          → StepsTo m (event.Call server (call.AggCut s.agg s.from (piece_end s))) r n
+          → uses_agg (after_reply (at kept q (Cuts s)) r received).phase a ≡ true
+      cuts s q whole r received is_readable step =
+          made (call.AggCut s.agg s.from (piece_end s)) (slice_range whole s.from (piece_end s))
+          (λ z. uses_agg (after_reply (at kept q (Cuts s)) z received).phase a) r step
+          (own.cut m n server s.agg s.from (piece_end s) whole r order is_readable step) (λ x is. is) (λ x is. cc (is))
+          (λ x is. former_of (x == a) ((s.agg == a) || has_followed s.more a) is)
 
       pub brought : (fd c : ℕ) (q : Answer) (d : Phase) (expected : List ℕ) (r : Reply) (received : List ℕ)
           → HasAccess m
@@ -360,14 +346,13 @@ module _ (come : AggregatesComeAndGo) (own : CallsServeTheirDomain) (m n : State
       brought fd c q (Heads k) expected r received access lives open_on has step = heads fd q k r received step
       brought fd c q (Joins b size body len) expected r received access lives open_on has step =
           joins b size body len q has.0.bytes has.0.after r received has.0.is_readable has.0.follows.0 step
-      brought fd c q (Sends b len taken more) expected r received access lives open_on has step =
-          absurd (written fd c b has.bytes r open_on has.is_readable step)
-      brought fd c q (Cuts b from len taken more) expected r received access lives open_on has step =
-          cuts b from len taken more q has.0.bytes r received has.0.is_readable step
-      brought fd c q (Offers b from len piece taken more) expected r received access lives open_on has step =
-          absurd (written fd c piece (slice_range has.whole.bytes from (piece_end from len)) r open_on has.is_readable
-          step)
-      brought fd c q (Swaps b from len piece taken more) expected r received access lives open_on has step =
+      brought fd c q (Sends s) expected r received access lives open_on has step =
+          absurd (written fd c s.agg has.0.bytes r open_on has.0.is_readable step)
+      brought fd c q (Cuts s) expected r received access lives open_on has step =
+          cuts s q has.0.bytes r received has.0.is_readable step
+      brought fd c q (Offers s piece) expected r received access lives open_on has step =
+          absurd (written fd c piece (slice_range has.whole.bytes s.from (piece_end s)) r open_on has.is_readable step)
+      brought fd c q (Swaps s piece) expected r received access lives open_on has step =
           absurd (dropped piece r step)
       brought fd c q (Sent b taken more) expected r received access lives open_on has step = absurd (dropped b r step)
       brought fd c q (Breaks piece b more) expected r received access lives open_on has step =

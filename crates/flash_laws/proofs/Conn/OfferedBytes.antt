@@ -37,7 +37,7 @@ use Rattle.flash_laws.proofs.Forms.{at}
 use Rattle.flash_laws.proofs.Conn.Responses.{some-inj}
 use Rattle.flash_laws.proofs.Counts.{counted, short-take}
 use Rattle.flash_laws.proofs.Conn.AnswerParts as having
-use Rattle.flash_laws.proofs.Conn.ReadableBytes.{readable-stays, has-stays}
+use Rattle.flash_laws.proofs.Conn.ReadableBytes.{readable-stays, has-stays, at-start}
 use Rattle.flash_laws.proofs.Conn.DoneCalls.{conn-moves}
 use Rattle.flash_laws.proofs.Conn.Progress.{rank, conn-nears, conn-reads}
 use Rattle.flash_laws.proofs.Conn.TakenBytes.{takes, breaks, closes}
@@ -55,26 +55,25 @@ written k other = other
 
 next-of : (m : State) (fd a : ℕ) (kept : List ℕ) (q : Answer) (d : Phase) (o : Outcome)
     → Has m q (response q o) d → wants fd (at kept q d) ≡ call.IolWrite fd a → IsNextOf m q o a (taken_of d)
-next-of m fd a kept q (Sends b len taken more) o has is =
-    let same : b ≡ a = ap (λ k. written k b) is in
+next-of m fd a kept q (Sends s) o has is =
+    let same : s.agg ≡ a = ap (λ k. written k s.agg) is in
     record {
-      bytes = has.bytes;
-      after = has.after;
-      is_readable = ap (λ z. readable_at m server z) (sym same)
-          ∙ has.is_readable;
-      next = has.next;
+      bytes = has.0.bytes;
+      after = has.0.after;
+      is_readable = ap (λ z. readable_at m server z) (sym same) ∙ has.0.is_readable;
+      next = at-start has.0 has.1;
     }
-next-of m fd a kept q (Offers b from len piece taken more) o has is =
+next-of m fd a kept q (Offers s piece) o has is =
     let same : piece ≡ a = ap (λ k. written k piece) is in
     record {
-      bytes = slice_range has.whole.bytes from (piece_end from len);
-      after = drop (piece_end from len - from) (drop from has.whole.bytes) ++ has.whole.after;
+      bytes = slice_range has.whole.bytes s.from (piece_end s);
+      after = drop (piece_end s - s.from) (drop s.from has.whole.bytes) ++ has.whole.after;
       is_readable = ap (λ z. readable_at m server z) (sym same) ∙ has.is_readable;
       next =
-          sym (append_assoc (slice_range has.whole.bytes from (piece_end from len))
-          (drop (piece_end from len - from) (drop from has.whole.bytes)) has.whole.after)
+          sym (append_assoc (slice_range has.whole.bytes s.from (piece_end s))
+          (drop (piece_end s - s.from) (drop s.from has.whole.bytes)) has.whole.after)
           ∙ (ap (λ (l : List ℕ). l ++ has.whole.after)
-          (take-append-drop (piece_end from len - from) (drop from has.whole.bytes)) ∙ has.whole.next);
+          (take-append-drop (piece_end s - s.from) (drop s.from has.whole.bytes)) ∙ has.whole.next);
     }
 next-of m fd a kept q (Reading f) o has is =
     absurd (either-of (λ (k : Call). k ≡ call.IolWrite fd a → ⊥) (is_head_only q) (call.Length f)

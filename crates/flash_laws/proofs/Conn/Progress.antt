@@ -34,8 +34,9 @@ use Rattle.flash_laws.specs.Answers.{keeps}
 use Rattle.flash_laws.specs.Conn.{Following, Conn, is_head_only, most_kept, most_read, name_of, text_of, piece_end}
 use Rattle.flash_laws.specs.Conn.{count_of, wants, sends_of, resolved, following, headed, after_receive, after_open}
 use Rattle.flash_laws.specs.Conn.{after_read, after_close_file, after_slice, after_drop_whole, after_head, after_join}
-use Rattle.flash_laws.specs.Conn.{after_send, after_cut, moved_on, after_offer, after_swap, proceeds, after_taken}
+use Rattle.flash_laws.specs.Conn.{after_send, after_cut, after_offer, after_swap, proceeds, after_taken}
 use Rattle.flash_laws.specs.Conn.{after_break, drops_next, after_drop, after_discard, after_reply}
+use Rattle.flash_laws.specs.Conn.{after_taking, next_piece, whole}
 use Rattle.flash_laws.specs.Conn.Fits.{Has, Names}
 use Rattle.flash_laws.specs.Conn.Progress.{Rank, IsBelow, Nears, HasPlaceFor, CanMake, is_busy}
 use Rattle.flash_laws.specs.Conn.Policy.{is_later}
@@ -44,6 +45,7 @@ use Rattle.flash_laws.specs.declared.phase.FileResult.{FileResult}
 use Rattle.flash_laws.specs.declared.phase.FileResult.TheVariants.{File}
 use Rattle.flash_laws.specs.declared.phase.Payload.{Payload}
 use Rattle.flash_laws.specs.declared.phase.Payload.TheVariants.{Body}
+use Rattle.flash_laws.specs.declared.phase.Sending.{Sending}
 use Rattle.flash_laws.specs.declared.phase.Phase.{Phase}
 use Rattle.flash_laws.specs.declared.phase.Phase.TheVariants.{Rests, Got, Opens, Reads as Reading, Shuts, Picks, Spares}
 use Rattle.flash_laws.specs.declared.phase.Phase.TheVariants.{Heads, Joins, Sends, Cuts, Offers, Swaps, Sent, Breaks}
@@ -52,7 +54,7 @@ use Rattle.flash_laws.proofs.Forms.{at}
 use Rattle.flash_laws.proofs.Conn.Responses.{some-inj}
 use Rattle.flash_laws.proofs.Conn.ReadableBytes.{text-same}
 use Rattle.flash_laws.proofs.Lists.{turned, differ, within-part}
-use Rattle.flash_laws.proofs.Moves.{either-way}
+use Rattle.flash_laws.proofs.Moves.{either-way, either-next}
 
 -- ---- how far it is
 
@@ -79,10 +81,10 @@ ready q (Picks a from to len) = head_calls q (Body a (to - from) len) + 2
 ready q (Spares a k) = head_calls q k + 1
 ready q (Heads k) = head_calls q k
 ready q (Joins a size body len) = 3 * (size + len) + 4
-ready q (Sends a len taken more) = 3 * len + (sent_after more + 2)
-ready q (Cuts a from len taken more) = 3 * (len - from) + (sent_after more + 1)
-ready q (Offers a from len piece taken more) = 3 * (len - from) + sent_after more
-ready q (Swaps a from len piece taken more) = 3 * (len - from) + (sent_after more + 2)
+ready q (Sends s) = 3 * (s.len - s.from) + (sent_after s.more + 2)
+ready q (Cuts s) = 3 * (s.len - s.from) + (sent_after s.more + 1)
+ready q (Offers s piece) = 3 * (s.len - s.from) + sent_after s.more
+ready q (Swaps s piece) = 3 * (s.len - s.from) + (sent_after s.more + 2)
 ready q (Sent a taken more) = sent_after more
 ready q (Breaks piece a more) = 3
 ready q (Drops a more) = drops_left more
@@ -241,12 +243,12 @@ some-taken m n fd a k bytes readable some step =
     (passed (meaning m (event.Call server (call.IolWrite fd a))).refusals 6 step.0)) some
 
 -- a piece has some bytes, where some are left
-some-piece : (from len : ℕ) (bytes : List ℕ) → from < len → len ≡ length bytes
-    → 0 < length (slice_range bytes from (piece_end from len))
-some-piece from len bytes some size =
-    let all = length-drop from bytes in
-    let within : piece_end from len - from ≤ length (drop from bytes) = omega (arith, all, size) in
-    let long = length-take-le (piece_end from len - from) (drop from bytes) within in
+some-piece : (s : Sending) (bytes : List ℕ) → s.from < s.len → s.len ≡ length bytes
+    → 0 < length (slice_range bytes s.from (piece_end s))
+some-piece s bytes some size =
+    let all = length-drop s.from bytes in
+    let within : piece_end s - s.from ≤ length (drop s.from bytes) = omega (arith, all, size) in
+    let long = length-take-le (piece_end s - s.from) (drop s.from bytes) within in
     omega (arith, long, some)
 
 -- ---- how near each phase is
@@ -268,20 +270,30 @@ headed-near : (q : Answer) (a size : ℕ) (k : Payload) → size ≤ length (tex
 headed-near q a size (Body b s len) short = by (nat_le (size + s) MAX_AGGREGATE_BYTES)
   where
     by : (fits : Bool)
-        → IsBelow (rank q (if fits then Joins a size b s else Sends a size 0 (Some (b, s))))
+        → IsBelow (rank q (if fits then Joins a size b s else Sends (whole a size 0 (Some (b, s)))))
         (rank q (Heads (Body b s len)))
     by true = falls q (Joins a size b s) (Heads (Body b s len)) refl (omega (arith, short))
-    by false = falls q (Sends a size 0 (Some (b, s))) (Heads (Body b s len)) refl (omega (arith, short))
-headed-near q a size k short = falls q (Sends a size 0 None) (Heads k) refl (omega (arith, short))
+    by false = falls q (Sends (whole a size 0 (Some (b, s)))) (Heads (Body b s len)) refl (omega (arith, short))
+headed-near q a size k short = falls q (Sends (whole a size 0 None)) (Heads k) refl (omega (arith, short))
 
 some-after : (more : Following) → 1 ≤ sent_after more
 some-after None = omega arith
 some-after (Some x) = omega arith
 
-drops-near : (q : Answer) (a len taken : ℕ) (more : Following)
-    → IsBelow (rank q (Drops a more)) (rank q (Sends a len taken more))
-drops-near q a len taken None = falls q (Drops a None) (Sends a len taken None) refl (omega arith)
-drops-near q a len taken (Some x) = falls q (Drops a (Some x)) (Sends a len taken (Some x)) refl (omega arith)
+few-sent : (more : Following) → drops_left more < sent_after more + 2
+few-sent None = omega arith
+few-sent (Some x) = omega arith
+
+drops-near : (q : Answer) (s : Sending) → IsBelow (rank q (Drops s.agg s.more)) (rank q (Sends s))
+drops-near q s =
+    let few = few-sent s.more in falls q (Drops s.agg s.more) (Sends s) refl (omega (arith, few))
+
+-- the next piece is cut, or the aggregate is dropped, before one is offered that has as many bytes left
+next-near : (q : Answer) (s : Sending) (left : ℕ) → 3 * (s.len - s.from) + (sent_after s.more + 1) < left
+    → IsBelow (rank q (next_piece s)) (0, left)
+next-near q s left fewer =
+    either-next (λ (e : Phase). IsBelow (rank q e) (0, left)) s (inr (refl, fewer))
+    (inr (refl, omega (arith, fewer)))
 
 few-drops : (more : Following) → drops_left more < 3
 few-drops None = omega arith
@@ -289,14 +301,14 @@ few-drops (Some x) = omega arith
 
 goes-near : (q : Answer) (a taken : ℕ) (more : Following)
     → IsBelow (rank q (proceeds q taken more)) (rank q (Sent a taken more))
-goes-near q a taken (Some x) = falls q (Sends x.0 x.1 taken None) (Sent a taken (Some x)) refl (omega arith)
+goes-near q a taken (Some x) = falls q (Sends (whole x.0 x.1 taken None)) (Sent a taken (Some x)) refl (omega arith)
 goes-near q a taken None =
     either-way (λ (e : Phase). IsBelow (rank q e) (rank q (Sent a taken None))) (keeps q)
     (falls q Rests (Sent a taken None) refl (omega arith)) (falls q Closes (Sent a taken None) refl (omega arith))
 
-next-near : (q : Answer) (a : ℕ) (more : Following) → IsBelow (rank q (drops_next more)) (rank q (Drops a more))
-next-near q a None = falls q Closes (Drops a None) refl (omega arith)
-next-near q a (Some x) = falls q (Drops x.0 None) (Drops a (Some x)) refl (omega arith)
+drop-near : (q : Answer) (a : ℕ) (more : Following) → IsBelow (rank q (drops_next more)) (rank q (Drops a more))
+drop-near q a None = falls q Closes (Drops a None) refl (omega arith)
+drop-near q a (Some x) = falls q (Drops x.0 None) (Drops a (Some x)) refl (omega arith)
 
 counts-short : (received bytes : List ℕ) → received ≡ bytes → count_of received ≤ length bytes
 counts-short received bytes same = let e = ap (λ (l : List ℕ). length l) same in omega (arith, e)
@@ -322,53 +334,39 @@ module _ (own : CallsServeTheirDomain) (may : RefusalsThatAreLeft) (m n : State)
   reads q f true r received step = let e = step.1 in absurd (cc (e))
   reads q f false r received step = let e = step.1 in absurd (cc (e))
 
-  sends : (q : Answer) (fd c a len taken : ℕ) (more : Following) (bytes : List ℕ) (r : Reply)
+  sends : (q : Answer) (fd c : ℕ) (s : Sending) (bytes : List ℕ) (r : Reply)
       → descriptor m server fd ≡ Some (on.Connection c)
-      → readable_at m server a ≡ Some bytes → StepsTo m (event.Call server (call.IolWrite fd a)) r n
-      → Nears (rank q) (Sends a len taken more) r (after_send a len taken more r)
-  sends q fd c a len taken more bytes r open_on readable step =
-      writes own may m n order lives (rank q) (Sends a len taken more) (λ z. after_send a len taken more z) fd c a bytes
-      r open_on readable step
-      (λ k did puts. by k (nat_lt k len)) (drops-near q a len taken more) refl refl
-    where
-      by : (k : ℕ) (b : Bool)
-          → IsBelow (rank q (if b then Cuts a k len (taken + k) more else Sent a (taken + len) more))
-          (rank q (Sends a len taken more))
-      by k true = falls q (Cuts a k len (taken + k) more) (Sends a len taken more) refl (omega arith)
-      by k false = falls q (Sent a (taken + len) more) (Sends a len taken more) refl (omega arith)
+      → readable_at m server s.agg ≡ Some bytes → StepsTo m (event.Call server (call.IolWrite fd s.agg)) r n
+      → Nears (rank q) (Sends s) r (after_send s r)
+  sends q fd c s bytes r open_on readable step =
+      writes own may m n order lives (rank q) (Sends s) (λ z. after_send s z) fd c s.agg bytes r open_on readable step
+      (λ k did puts. next-near q (after_taking s k) (ready q (Sends s)) (omega arith)) (drops-near q s) refl refl
 
-  offers : (q : Answer) (fd c a from len piece taken : ℕ) (more : Following) (bytes : List ℕ) (r : Reply)
+  offers : (q : Answer) (fd c : ℕ) (s : Sending) (piece : ℕ) (bytes : List ℕ) (r : Reply)
       → descriptor m server fd ≡ Some (on.Connection c)
-      → readable_at m server piece ≡ Some (slice_range bytes from (piece_end from len)) → from < len
-      → len ≡ length bytes
+      → readable_at m server piece ≡ Some (slice_range bytes s.from (piece_end s)) → s.from < s.len
+      → s.len ≡ length bytes
       → StepsTo m (event.Call server (call.IolWrite fd piece)) r n
-      → Nears (rank q) (Offers a from len piece taken more) r (after_offer a from len piece taken more r)
-  offers q fd c a from len piece taken more bytes r open_on readable some size step =
-      writes own may m n order lives (rank q) (Offers a from len piece taken more)
-      (λ z. after_offer a from len piece taken more z) fd c piece
-      (slice_range bytes from (piece_end from len)) r open_on readable step
-      (λ k did puts. taken-some k (some-taken m n fd piece k (slice_range bytes from (piece_end from len)) readable
-      (some-piece from len bytes some size) did))
-      (falls q (Breaks piece a more) (Offers a from len piece taken more) refl (let one = some-after more in
+      → Nears (rank q) (Offers s piece) r (after_offer s piece r)
+  offers q fd c s piece bytes r open_on readable some size step =
+      writes own may m n order lives (rank q) (Offers s piece) (λ z. after_offer s piece z) fd c piece
+      (slice_range bytes s.from (piece_end s)) r open_on readable step
+      (λ k did puts. taken-some k (some-taken m n fd piece k (slice_range bytes s.from (piece_end s)) readable
+      (some-piece s bytes some size) did))
+      (falls q (Breaks piece s.agg s.more) (Offers s piece) refl (let one = some-after s.more in
       omega (arith, one, some))) refl refl
     where
-      taken-some : (k : ℕ) → 0 < k
-          → IsBelow (rank q (moved_on a from len piece taken more (min k (len - from))))
-          (rank q (Offers a from len piece taken more))
+      taken-some : (k : ℕ) → 0 < k → IsBelow (rank q (Swaps (after_taking s k) piece)) (rank q (Offers s piece))
       taken-some k one =
-          falls q (moved_on a from len piece taken more (min k (len - from))) (Offers a from len piece taken more) refl
-          (omega (arith, one, some))
+          falls q (Swaps (after_taking s k) piece) (Offers s piece) refl (omega (arith, one, some))
 
-  swaps : (q : Answer) (a from len piece taken : ℕ) (more : Following) (bytes : List ℕ) (r : Reply)
+  swaps : (q : Answer) (s : Sending) (piece : ℕ) (bytes : List ℕ) (r : Reply)
       → readable_at m server piece ≡ Some bytes
       → StepsTo m (event.Call server (call.AggDrop piece)) r n
-      → Nears (rank q) (Swaps a from len piece taken more) r (after_swap a from len piece taken more r)
-  swaps q a from len piece taken more bytes r readable step =
-      drops own may m n order lives (rank q) (Swaps a from len piece taken more)
-      (λ z. after_swap a from len piece taken more z) piece bytes r readable step
-      (either-way (λ (e : Phase). IsBelow (rank q e) (rank q (Swaps a from len piece taken more))) (nat_lt from len)
-      (falls q (Cuts a from len taken more) (Swaps a from len piece taken more) refl (omega arith))
-      (falls q (Sent a taken more) (Swaps a from len piece taken more) refl (omega arith)))
+      → Nears (rank q) (Swaps s piece) r (after_swap s piece r)
+  swaps q s piece bytes r readable step =
+      drops own may m n order lives (rank q) (Swaps s piece) (λ z. after_swap s piece z) piece bytes r readable step
+      (next-near q s (ready q (Swaps s piece)) (omega arith))
 
   pub near : (fd c : ℕ) (kept : List ℕ) (q : Answer) (d : Phase) (expected : List ℕ) (r : Reply) (received : List ℕ)
       → descriptor m server fd ≡ Some (on.Connection c)
@@ -402,18 +400,18 @@ module _ (own : CallsServeTheirDomain) (may : RefusalsThatAreLeft) (m n : State)
       has.0.bytes has.0.after r has.0.is_readable has.0.follows.0
       (differ a body (turned body a has.0.apart))
       (let one = has.0.size in let two = has.0.follows.1 in let fits = has.1 in omega (arith, one, two, fits)) step
-      (λ k. falls q (Sends k (size + len) 0 None) (Joins a size body len) refl (omega arith)) (λ z. refl)
-  near fd c kept q (Sends a len taken more) expected r received open_on busy has can step names =
-      sends q fd c a len taken more has.bytes r open_on has.is_readable step
-  near fd c kept q (Cuts a from len taken more) expected r received open_on busy has can step names =
-      cuts own may m n order lives (rank q) (Cuts a from len taken more) (λ z. after_cut a from len taken more z) a from
-      (piece_end from len) has.0.bytes r has.0.is_readable
+      (λ k. falls q (Sends (whole k (size + len) 0 None)) (Joins a size body len) refl (omega arith)) (λ z. refl)
+  near fd c kept q (Sends s) expected r received open_on busy has can step names =
+      sends q fd c s has.0.bytes r open_on has.0.is_readable step
+  near fd c kept q (Cuts s) expected r received open_on busy has can step names =
+      cuts own may m n order lives (rank q) (Cuts s) (λ z. after_cut s z) s.agg s.from (piece_end s)
+      has.0.bytes r has.0.is_readable
       (let some = has.1 in omega (arith, some)) (let size = has.0.size in omega (arith, size)) step
-      (λ k. falls q (Offers a from len k taken more) (Cuts a from len taken more) refl (omega arith)) (λ z. refl)
-  near fd c kept q (Offers a from len piece taken more) expected r received open_on busy has can step names =
-      offers q fd c a from len piece taken more has.whole.bytes r open_on has.is_readable has.some has.whole.size step
-  near fd c kept q (Swaps a from len piece taken more) expected r received open_on busy has can step names =
-      swaps q a from len piece taken more has.0.0 r has.0.1 step
+      (λ k. falls q (Offers s k) (Cuts s) refl (omega arith)) (λ z. refl)
+  near fd c kept q (Offers s piece) expected r received open_on busy has can step names =
+      offers q fd c s piece has.whole.bytes r open_on has.is_readable has.some has.whole.size step
+  near fd c kept q (Swaps s piece) expected r received open_on busy has can step names =
+      swaps q s piece has.0.0 r has.0.1 step
   near fd c kept q (Sent a taken more) expected r received open_on busy has can step names =
       drops own may m n order lives (rank q) (Sent a taken more) (λ z. after_taken q a taken more z) a has.bytes r
       has.is_readable step (goes-near q a taken more)
@@ -423,7 +421,7 @@ module _ (own : CallsServeTheirDomain) (may : RefusalsThatAreLeft) (m n : State)
       (falls q (Drops a more) (Breaks piece a more) refl (few-drops more))
   near fd c kept q (Drops a more) expected r received open_on busy has can step names =
       drops own may m n order lives (rank q) (Drops a more) (λ z. after_drop a more z) a has.readable.0 r has.readable.1
-      step (next-near q a more)
+      step (drop-near q a more)
   near fd c kept q d expected r received open_on busy has can step names = absurd (cc (busy))
 
 -- ---- of a connection

@@ -1,5 +1,6 @@
 -- The server's data of its responses remains, if the objects that it uses remain.
-use Rattle.std.proofs.Common.{◌≡◌, ℕ, ◌==◌, List, [], ap, ◌∙◌, refl, sym, arith, Option, Some, None, true, false}
+use Rattle.std.proofs.Common.{◌≡◌, ℕ, ◌==◌, List, [], ◌++◌, drop, ap, ◌∙◌, refl, sym, arith}
+use Rattle.std.proofs.Common.{Option, Some, None, true, false}
 use Rattle.std.specs.Prelude.{option_map, ◌||◌, slice_range}
 use Rattle.std.proofs.lemmas.Bool.Decides.{nat_tests}
 use Rattle.iol_core.specs.Text.{Text, bytes_of}
@@ -16,16 +17,17 @@ use Rattle.iol_laws.specs.Caller.{readable_at}
 use Rattle.iol_laws.specs.Frame.{EachStepLeavesTheRest}
 use Rattle.flash_http.specs.Request.{Answer, serve, refuse}
 use Rattle.flash_laws.specs.Conn.{Following, has_followed, file_result_agg, content_agg, uses_agg, uses_fd, piece_end}
-use Rattle.flash_laws.specs.Conn.{text_of}
+use Rattle.flash_laws.specs.Conn.{text_of, whole}
 use Rattle.flash_laws.specs.declared.phase.FileResult.{FileResult}
 use Rattle.flash_laws.specs.declared.phase.FileResult.TheVariants.{File, Text as TextOf}
 use Rattle.flash_laws.specs.declared.phase.Payload.{Payload}
 use Rattle.flash_laws.specs.declared.phase.Payload.TheVariants.{Body}
+use Rattle.flash_laws.specs.declared.phase.Sending.{Sending}
 use Rattle.flash_laws.specs.declared.phase.Phase.{Phase}
 use Rattle.flash_laws.specs.declared.phase.Phase.TheVariants.{Got, Opens, Reads as Reading, Shuts, Picks, Spares, Heads}
 use Rattle.flash_laws.specs.declared.phase.Phase.TheVariants.{Joins, Sends, Cuts, Offers, Swaps, Sent, Breaks, Drops}
 use Rattle.flash_laws.specs.declared.phase.Phase.TheVariants.{Over}
-use Rattle.flash_laws.specs.Conn.Fits.{IsReadable, MoreIsReadable, HoldsRest, HoldsRestFrom, HoldsUnsent, HasFileResult}
+use Rattle.flash_laws.specs.Conn.Fits.{IsReadable, MoreIsReadable, HoldsRestFrom, HoldsUnsent, HasFileResult}
 use Rattle.flash_laws.specs.Conn.Fits.{HasContent, Has}
 use Rattle.flash_laws.specs.Site.{server}
 use Rattle.flash_laws.proofs.Lists.{not-equal, self, first_of, later_of}
@@ -119,36 +121,26 @@ content-on m n q expected (Body a size len) is_readable h =
 content-on m n q expected k is_readable h = h
 
 -- what is kept of an answer that is being sent stays, if its aggregates do
-rest-on : (m n : State) (expected : List ℕ) (a len taken : ℕ) (more : Following) → ((bytes : List ℕ)
-    → readable_at m server a ≡ Some bytes → readable_at n server a ≡ Some bytes) → KeepsFollowing m n more
-    → HoldsRest m expected a len taken more → HoldsRest n expected a len taken more
-rest-on m n expected a len taken more is_readable follows h =
+abbrev pub rest-on : (m n : State) (expected : List ℕ) (s : Sending) → ((a : ℕ) (bytes : List ℕ)
+    → ((s.agg == a) || has_followed s.more a) ≡ true → readable_at m server a ≡ Some bytes
+    → readable_at n server a ≡ Some bytes) → HoldsRestFrom m expected s → HoldsRestFrom n expected s
+rest-on m n expected s is_readable h =
     record {
       bytes = h.bytes;
       after = h.after;
-      is_readable = is_readable h.bytes h.is_readable;
+      is_readable = is_readable s.agg h.bytes (first_of s.agg (has_followed s.more s.agg)) h.is_readable;
       size = h.size;
       follows =
-          follows-stay m n more h.after follows h.follows;
+          follows-stay m n s.more h.after
+          (λ b l u is. is_readable b l (later_of (s.agg == b) (has_followed s.more b) u) is) h.follows;
       next = h.next;
       apart = h.apart;
     }
 
-abbrev rest-from-on : (m n : State) (expected : List ℕ) (a from len taken : ℕ) (more : Following)
-    → ((bytes : List ℕ) → readable_at m server a ≡ Some bytes → readable_at n server a ≡ Some bytes)
-    → KeepsFollowing m n more → HoldsRestFrom m expected a from len taken more
-    → HoldsRestFrom n expected a from len taken more
-rest-from-on m n expected a from len taken more is_readable follows h =
-    record {
-      bytes = h.bytes;
-      after = h.after;
-      is_readable = is_readable h.bytes h.is_readable;
-      size = h.size;
-      follows =
-          follows-stay m n more h.after follows h.follows;
-      next = h.next;
-      apart = h.apart;
-    }
+-- where none is taken of it, what is next begins with all its bytes
+pub at-start : {m : State} {expected : List ℕ} {s : Sending} (h : HoldsRestFrom m expected s) → s.from ≡ 0
+    → h.bytes ++ h.after ≡ drop s.taken expected
+at-start h is = ap (λ z. drop z h.bytes ++ h.after) (sym is) ∙ h.next
 
 unsent-on : (m n : State) (a : ℕ) (more : Following) → ((bytes : List ℕ)
     → readable_at m server a ≡ Some bytes → readable_at n server a ≡ Some bytes) → KeepsFollowing m n more
@@ -188,42 +180,26 @@ has-stays m n q expected (Spares a k) is_readable opens has = (
 )
 has-stays m n q expected (Heads k) is_readable opens has =
     content-on m n q expected k (λ b l u is. is_readable b l u is) has
-has-stays m n q expected (Joins a size body len) is_readable opens has = (
-  rest-on m n expected a size 0 (Some (body, len)) (λ l is. is_readable a l (first_of a (body == a)) is)
-      (λ b l u is. is_readable b l (later_of (a == b) (body == b) u) is) has.0,
-  has.1,
-)
-has-stays m n q expected (Sends a len taken more) is_readable opens has =
-    rest-on m n expected a len taken more (λ l is. is_readable a l (first_of a (has_followed more a)) is)
-    (λ b l u is. is_readable b l (later_of (a == b) (has_followed more b) u) is) has
-has-stays m n q expected (Cuts a from len taken more) is_readable opens has = (
-  rest-from-on m n expected a from len taken more (λ l is. is_readable a l (first_of a (has_followed more a)) is)
-      (λ b l u is. is_readable b l (later_of (a == b) (has_followed more b) u) is) has.0,
-  has.1,
-)
-has-stays m n q expected (Offers a from len piece taken more) is_readable opens has = record {
+has-stays m n q expected (Joins a size body len) is_readable opens has =
+    (rest-on m n expected (whole a size 0 (Some (body, len))) is_readable has.0, has.1)
+has-stays m n q expected (Sends s) is_readable opens has = (rest-on m n expected s is_readable has.0, has.1)
+has-stays m n q expected (Cuts s) is_readable opens has = (rest-on m n expected s is_readable has.0, has.1)
+has-stays m n q expected (Offers s piece) is_readable opens has = record {
   whole =
-      rest-from-on m n expected a from len taken more
-      (λ l is. is_readable a l
-      (later_of (piece == a) ((a == a) || has_followed more a) (first_of a (has_followed more a))) is)
-      (λ b l u is. is_readable b l
-      (later_of (piece == b) ((a == b) || has_followed more b) (later_of (a == b) (has_followed more b) u)) is)
-      has.whole;
+      rest-on m n expected s
+      (λ a l u is. is_readable a l (later_of (piece == a) ((s.agg == a) || has_followed s.more a) u) is) has.whole;
   some = has.some;
   is_readable =
-      is_readable piece (slice_range has.whole.bytes from (piece_end from len))
-      (first_of piece ((a == piece) || has_followed more piece)) has.is_readable;
+      is_readable piece (slice_range has.whole.bytes s.from (piece_end s))
+      (first_of piece ((s.agg == piece) || has_followed s.more piece)) has.is_readable;
   other = has.other;
 }
-has-stays m n q expected (Swaps a from len piece taken more) is_readable opens has = (
-  readable-on m n piece (λ l is. is_readable piece l (first_of piece ((a == piece) || has_followed more piece)) is)
-      has.0,
+has-stays m n q expected (Swaps s piece) is_readable opens has = (
+  readable-on m n piece
+      (λ l is. is_readable piece l (first_of piece ((s.agg == piece) || has_followed s.more piece)) is) has.0,
   has.1,
-  rest-from-on m n expected a from len taken more
-      (λ l is. is_readable a l
-      (later_of (piece == a) ((a == a) || has_followed more a) (first_of a (has_followed more a))) is)
-      (λ b l u is. is_readable b l
-      (later_of (piece == b) ((a == b) || has_followed more b) (later_of (a == b) (has_followed more b) u)) is) has.2,
+  rest-on m n expected s
+      (λ a l u is. is_readable a l (later_of (piece == a) ((s.agg == a) || has_followed s.more a) u) is) has.2,
 )
 has-stays m n q expected (Sent a taken more) is_readable opens has =
     record {

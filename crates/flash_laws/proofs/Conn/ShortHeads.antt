@@ -1,7 +1,7 @@
 -- The errors with which a head may be refused, and the bounds that each phase preserves.
 use Rattle.std.proofs.Common.{◌≡◌, ℕ, ◌+◌, ◌||◌, List, [], ◌∷◌, refl, sym, subst, Option, Some, None, true, false, Bool}
 use Rattle.std.proofs.Common.{if◌then◌else◌}
-use Rattle.std.specs.Prelude.{nat_lt, nat_le, not, MatchOption}
+use Rattle.std.specs.Prelude.{nat_le, not, MatchOption}
 use Rattle.iol_core.specs.State.{State}
 use Rattle.iol_core.specs.declared.limits.TheConstants.{MAX_AGGREGATE_BYTES}
 use Rattle.iol_core.specs.declared.refusals.Refusal.{Refusal}
@@ -20,6 +20,7 @@ use Rattle.flash_laws.specs.Client.Fits.{Finds}
 use Rattle.flash_laws.specs.Client.ResponseState.{is_read, is_opening}
 use Rattle.flash_laws.specs.Conn.{Following, following, headed, count_of, status_of, sends_of, resolved, proceeds}
 use Rattle.flash_laws.specs.Conn.{drops_next, after_reply}
+use Rattle.flash_laws.specs.Conn.{after_taking}
 use Rattle.flash_laws.specs.Conn.ShortHeads.{is_error_status, FileResultIsShort}
 use Rattle.flash_laws.specs.SiteContents.{SiteContents}
 use Rattle.flash_laws.specs.declared.phase.FileResult.{FileResult}
@@ -30,7 +31,7 @@ use Rattle.flash_laws.specs.declared.phase.Phase.TheVariants.{Rests, Got, Opens,
 use Rattle.flash_laws.specs.declared.phase.Phase.TheVariants.{Spares, Heads, Joins, Sends, Cuts, Offers, Swaps, Sent}
 use Rattle.flash_laws.specs.declared.phase.Phase.TheVariants.{Breaks, Drops, Closes, Over}
 use Rattle.flash_laws.proofs.Forms.{at}
-use Rattle.flash_laws.proofs.Moves.{after-done, after-agg, after-write, either-way}
+use Rattle.flash_laws.proofs.Moves.{after-done, after-agg, after-write, either-way, either-next}
 
 -- ---- statuses
 
@@ -143,16 +144,15 @@ finds-after_reply site_contents m n kept q script (Heads k) r received un unread
     (λ x. headed-finds site_contents n q script x (count_of received) (following k))
 finds-after_reply site_contents m n kept q script (Joins a size body len) r received un unread h =
     after-agg (Finds site_contents n q script) r tt (λ x. tt)
-finds-after_reply site_contents m n kept q script (Sends a len taken more) r received un unread h =
+finds-after_reply site_contents m n kept q script (Sends s) r received un unread h =
     after-write (Finds site_contents n q script) r tt tt
-    (λ k. either-way (Finds site_contents n q script) (nat_lt k len) tt tt)
-finds-after_reply site_contents m n kept q script (Cuts a from len taken more) r received un unread h =
+    (λ k. either-next (Finds site_contents n q script) (after_taking s k) tt tt)
+finds-after_reply site_contents m n kept q script (Cuts s) r received un unread h =
     after-agg (Finds site_contents n q script) r tt (λ x. tt)
-finds-after_reply site_contents m n kept q script (Offers a from len piece taken more) r received un unread h =
+finds-after_reply site_contents m n kept q script (Offers s piece) r received un unread h =
     after-write (Finds site_contents n q script) r tt tt (λ k. tt)
-finds-after_reply site_contents m n kept q script (Swaps a from len piece taken more) r received un unread h =
-    after-done (Finds site_contents n q script) r tt
-    (either-way (Finds site_contents n q script) (nat_lt from len) tt tt)
+finds-after_reply site_contents m n kept q script (Swaps s piece) r received un unread h =
+    after-done (Finds site_contents n q script) r tt (either-next (Finds site_contents n q script) s tt tt)
 finds-after_reply site_contents m n kept q script (Sent a taken more) r received un unread h =
     after-done (Finds site_contents n q script) r tt (goes-finds site_contents n q script taken more)
 finds-after_reply site_contents m n kept q script (Breaks piece a more) r received un unread h =

@@ -2,8 +2,7 @@
 -- connection.
 use Rattle.std.proofs.Common.{◌≡◌, ℕ, ◌+◌, ◌-◌, ◌==◌, ◌≤◌, List, [], ◌∷◌, length, ap, ◌∙◌, refl, sym, arith, Some, None}
 use Rattle.std.proofs.Common.{true, false, Bool, if◌then◌else◌}
-use Rattle.std.specs.Prelude.{nat_lt, nat_le, slice_range}
-use Rattle.std.proofs.lemmas.Bool.Decides.{nat_tests}
+use Rattle.std.specs.Prelude.{nat_le, slice_range, drop}
 use Rattle.iol_core.specs.State.{State, descriptor, is_live, is_gone, conn_at}
 use Rattle.iol_core.specs.Run.{StepsTo}
 use Rattle.iol_core.specs.declared.limits.TheConstants.{MAX_AGGREGATE_BYTES}
@@ -26,21 +25,22 @@ use Rattle.flash_http.specs.Request.{Answer, serve, refuse}
 use Rattle.flash_laws.specs.Answers.{keeps}
 use Rattle.flash_laws.specs.Conn.{Following, is_head_only, most_kept, piece_end, count_of, wants, sends_of}
 use Rattle.flash_laws.specs.Conn.{resolved, following, headed, after_receive, after_send, after_cut, after_offer}
-use Rattle.flash_laws.specs.Conn.{after_swap, after_taken, after_reply}
-use Rattle.flash_laws.specs.Conn.Fits.{Has}
+use Rattle.flash_laws.specs.Conn.{after_swap, after_taken, after_taking, next_piece, after_reply}
+use Rattle.flash_laws.specs.Conn.Fits.{Has, HoldsRestFrom}
 use Rattle.flash_laws.specs.Conn.Progress.{is_busy}
 use Rattle.flash_laws.specs.Conn.OfferedBytes.{taken_of, newly_taken, is_dropping}
 use Rattle.flash_laws.specs.Site.{server}
 use Rattle.flash_laws.specs.declared.phase.FileResult.{FileResult}
 use Rattle.flash_laws.specs.declared.phase.FileResult.TheVariants.{File}
+use Rattle.flash_laws.specs.declared.phase.Sending.{Sending}
 use Rattle.flash_laws.specs.declared.phase.Phase.{Phase}
 use Rattle.flash_laws.specs.declared.phase.Phase.TheVariants.{Rests, Got, Opens, Reads as Reading, Shuts, Picks, Spares}
 use Rattle.flash_laws.specs.declared.phase.Phase.TheVariants.{Heads, Joins, Sends, Cuts, Offers, Swaps, Sent, Breaks}
 use Rattle.flash_laws.specs.declared.phase.Phase.TheVariants.{Drops, Closes, Over}
 use Rattle.flash_laws.proofs.Forms.{at}
-use Rattle.flash_laws.proofs.Lists.{clash, self, few-taken}
+use Rattle.flash_laws.proofs.Lists.{clash, self, few-taken, least-taken, few-whole}
 use Rattle.iol_core.specs.declared.events.Call.{Call}
-use Rattle.flash_laws.proofs.Moves.{after-done, after-agg, after-open, after-read, either-way, either-of}
+use Rattle.flash_laws.proofs.Moves.{after-done, after-agg, after-open, after-read, either-way, either-next, either-of}
 
 -- ---- before anything is sent nothing is taken
 
@@ -92,17 +92,17 @@ begun kept q Over r received is = (refl, refl)
 begun kept q d r received is = absurd (cc (is))
 
 none-taken : (d : Phase) → is_begun d ≡ true → taken_of d ≡ 0
-none-taken (Sends a len taken more) is = absurd (cc (is))
-none-taken (Cuts a from len taken more) is = absurd (cc (is))
-none-taken (Offers a from len piece taken more) is = absurd (cc (is))
-none-taken (Swaps a from len piece taken more) is = absurd (cc (is))
+none-taken (Sends s) is = absurd (cc (is))
+none-taken (Cuts s) is = absurd (cc (is))
+none-taken (Offers s piece) is = absurd (cc (is))
+none-taken (Swaps s piece) is = absurd (cc (is))
 none-taken (Sent a taken more) is = absurd (cc (is))
 none-taken d is = refl
 
 none-newly : (fd : ℕ) (kept : List ℕ) (q : Answer) (d : Phase) (r : Reply) → is_begun d ≡ true
     → newly_taken fd (wants fd (at kept q d)) r ≡ 0
-none-newly fd kept q (Sends a len taken more) r is = absurd (cc (is))
-none-newly fd kept q (Offers a from len piece taken more) r is = absurd (cc (is))
+none-newly fd kept q (Sends s) r is = absurd (cc (is))
+none-newly fd kept q (Offers s piece) r is = absurd (cc (is))
 none-newly fd kept q (Reading f) r is = either-way (λ (k : Call). newly_taken fd k r ≡ 0) (is_head_only q) refl refl
 none-newly fd kept q d r is = refl
 
@@ -111,60 +111,57 @@ none-newly fd kept q d r is = refl
 all-newly : (fd k : ℕ) → (if fd == fd then k else 0) ≡ k
 all-newly fd k = ap (λ b. if b then k else 0) (self fd)
 
+next-taken : (s : Sending) → taken_of (next_piece s) ≡ s.taken
+next-taken s = either-next (λ (e : Phase). taken_of e ≡ s.taken) s refl refl
+
 module _ (own : CallsServeTheirDomain) (m n : State) (order : IsOrderly m) (fd c : ℕ)
     (open_on : descriptor m server fd ≡ Some (on.Connection c)) (q : Answer) (expected : List ℕ) where
-  sends : (a len taken : ℕ) (more : Following) (r : Reply) → Has m q expected (Sends a len taken more)
-      → StepsTo m (event.Call server (call.IolWrite fd a)) r n
-      → is_dropping (after_send a len taken more r) ≡ false
-      → taken_of (after_send a len taken more r) ≡ taken + newly_taken fd (call.IolWrite fd a) r
-  sends a len taken more r has step on =
-      by r (own.write_conn m n server fd c a has.bytes r order open_on has.is_readable step) on
+  counts : (s : Sending) (k : ℕ) (h : HoldsRestFrom m expected s) → k ≤ length (drop s.from h.bytes)
+      → (after_taking s k).taken ≡ s.taken + (if fd == fd then k else 0)
+  counts s k h within =
+      ap (λ z. s.taken + z) (least-taken k s.from s.len h.bytes h.size within ∙ sym (all-newly fd k))
+
+  sends : (s : Sending) (r : Reply) → Has m q expected (Sends s)
+      → StepsTo m (event.Call server (call.IolWrite fd s.agg)) r n
+      → is_dropping (after_send s r) ≡ false
+      → taken_of (after_send s r) ≡ s.taken + newly_taken fd (call.IolWrite fd s.agg) r
+  sends s r has step on =
+      by r (own.write_conn m n server fd c s.agg has.0.bytes r order open_on has.0.is_readable step) on
     where
-      by : (r : Reply) → caller.WritesConn m c has.bytes r n → is_dropping (after_send a len taken more r) ≡ false
-          → taken_of (after_send a len taken more r) ≡ taken + newly_taken fd (call.IolWrite fd a) r
-      by (reply.Count k) puts on = all (nat_lt k len) refl
-        where
-          all : (b : Bool) → nat_lt k len ≡ b
-              → taken_of (if b then Cuts a k len (taken + k) more else Sent a (taken + len) more)
-              ≡ taken + (if fd == fd then k else 0)
-          all true is = ap (λ z. taken + z) (sym (all-newly fd k))
-          all false is = (let size = has.size in let within = puts.within in let new = all-newly fd k in
-              let le : len ≤ k = grind (arith, nat_tests, is) in omega (arith, new, size, within, le))
+      by : (r : Reply) → caller.WritesConn m c has.0.bytes r n → is_dropping (after_send s r) ≡ false
+          → taken_of (after_send s r) ≡ s.taken + newly_taken fd (call.IolWrite fd s.agg) r
+      by (reply.Count k) puts on =
+          next-taken (after_taking s k) ∙ counts s k has.0 (few-whole k s has.0.bytes has.1 puts.within)
       by (reply.Refused no.BrokenPipe) did on = absurd (cc (on))
       by (reply.Refused y) did on = omega arith
       by r did on = absurd did
 
-  offers : (a from len piece taken : ℕ) (more : Following) (r : Reply)
-      → Has m q expected (Offers a from len piece taken more)
+  offers : (s : Sending) (piece : ℕ) (r : Reply)
+      → Has m q expected (Offers s piece)
       → StepsTo m (event.Call server (call.IolWrite fd piece)) r n
-      → is_dropping (after_offer a from len piece taken more r) ≡ false
-      → taken_of (after_offer a from len piece taken more r) ≡ taken + newly_taken fd (call.IolWrite fd piece) r
-  offers a from len piece taken more r has step on =
-      by r (own.write_conn m n server fd c piece (slice_range has.whole.bytes from (piece_end from len)) r order open_on
+      → is_dropping (after_offer s piece r) ≡ false
+      → taken_of (after_offer s piece r) ≡ s.taken + newly_taken fd (call.IolWrite fd piece) r
+  offers s piece r has step on =
+      by r (own.write_conn m n server fd c piece (slice_range has.whole.bytes s.from (piece_end s)) r order open_on
       has.is_readable step) on
     where
-      by : (r : Reply) → caller.WritesConn m c (slice_range has.whole.bytes from (piece_end from len)) r n
-          → is_dropping (after_offer a from len piece taken more r) ≡ false
-          → taken_of (after_offer a from len piece taken more r) ≡ taken + newly_taken fd (call.IolWrite fd piece) r
-      by (reply.Count k) puts on =
-          ap (λ z. taken + z) ((few-taken k from len has.whole.bytes has.whole.size puts.within).1
-          ∙ sym (all-newly fd k))
+      by : (r : Reply) → caller.WritesConn m c (slice_range has.whole.bytes s.from (piece_end s)) r n
+          → is_dropping (after_offer s piece r) ≡ false
+          → taken_of (after_offer s piece r) ≡ s.taken + newly_taken fd (call.IolWrite fd piece) r
+      by (reply.Count k) puts on = counts s k has.whole (few-taken k s has.whole.bytes puts.within)
       by (reply.Refused no.BrokenPipe) did on = absurd (cc (on))
       by (reply.Refused y) did on = omega arith
       by r did on = absurd did
 
-  swaps : (a from len piece taken : ℕ) (more : Following) (r : Reply)
-      → taken_of (after_swap a from len piece taken more r) ≡ taken + newly_taken fd (call.AggDrop piece) r
-  swaps a from len piece taken more reply.Done =
-      either-way (λ (e : Phase). taken_of e ≡ taken + newly_taken fd (call.AggDrop piece) reply.Done) (nat_lt from len)
-      (omega arith) (omega arith)
-  swaps a from len piece taken more r = omega arith
+  swaps : (s : Sending) (piece : ℕ) (r : Reply)
+      → taken_of (after_swap s piece r) ≡ s.taken + newly_taken fd (call.AggDrop piece) r
+  swaps s piece reply.Done = let e = next-taken s in omega (arith, e)
+  swaps s piece r = omega arith
 
-  cuts : (a from len taken : ℕ) (more : Following) (r : Reply)
-      → taken_of (after_cut a from len taken more r) ≡ taken + newly_taken fd (call.AggCut a from (piece_end from len))
-      r
-  cuts a from len taken more (reply.Agg k) = omega arith
-  cuts a from len taken more r = omega arith
+  cuts : (s : Sending) (r : Reply)
+      → taken_of (after_cut s r) ≡ s.taken + newly_taken fd (call.AggCut s.agg s.from (piece_end s)) r
+  cuts s (reply.Agg k) = omega arith
+  cuts s r = omega arith
 
   sent : (a taken : ℕ) (more : Following) (r : Reply) → is_busy (after_taken q a taken more r) ≡ true
       → taken_of (after_taken q a taken more r) ≡ taken + newly_taken fd (call.AggDrop a) r
@@ -205,11 +202,10 @@ module _ (own : CallsServeTheirDomain) (m n : State) (order : IsOrderly m) (fd c
               → taken_of (after_reply (at kept q d) r received).phase ≡ taken_of d + newly_taken fd
               (wants fd (at kept q d)) r
           sending Rests has step at_is on busy is = (let e = rests kept r received on busy in omega (arith, e))
-          sending (Sends a len taken more) has step at_is on busy is = sends a len taken more r has step on
-          sending (Cuts a from len taken more) has step at_is on busy is = cuts a from len taken more r
-          sending (Offers a from len piece taken more) has step at_is on busy is =
-              offers a from len piece taken more r has step on
-          sending (Swaps a from len piece taken more) has step at_is on busy is = swaps a from len piece taken more r
+          sending (Sends s) has step at_is on busy is = sends s r has step on
+          sending (Cuts s) has step at_is on busy is = cuts s r
+          sending (Offers s piece) has step at_is on busy is = offers s piece r has step on
+          sending (Swaps s piece) has step at_is on busy is = swaps s piece r
           sending (Sent a taken more) has step at_is on busy is = sent a taken more r busy
           sending (Breaks piece a more) has step at_is on busy is = absurd (cc (at_is))
           sending (Drops a more) has step at_is on busy is = absurd (cc (at_is))
@@ -220,6 +216,9 @@ module _ (own : CallsServeTheirDomain) (m n : State) (order : IsOrderly m) (fd c
 abbrev Kept : Phase → Type 0
 Kept d = is_dropping d ≡ false
 
+next-kept : (s : Sending) → Kept (next_piece s)
+next-kept s = either-next Kept s refl refl
+
 never : {A : Type 0} (d : Phase) → is_dropping d ≡ true → Kept d → A
 never d off kept = absurd (clash (is_dropping d) off kept)
 
@@ -228,18 +227,16 @@ module _ (why : RefusalsTellWhy) (m n : State) (fd c : ℕ) (open_on : descripto
   pub breaks : (d : Phase) (r : Reply) → is_busy d ≡ true → StepsTo m (event.Call server (wants fd (at kept q d))) r n
       → is_dropping d ≡ false
       → is_dropping (after_reply (at kept q d) r received).phase ≡ true → is_gone (conn_at m c).peer ≡ true
-  breaks (Sends a len taken more) (reply.Refused no.BrokenPipe) busy step at_is off =
-      why.peer_is_gone m n server fd c a open_on step
-  breaks (Sends a len taken more) (reply.Count k) busy step at_is off =
-      never _ off (either-way Kept (nat_lt k len) refl refl)
-  breaks (Sends a len taken more) r busy step at_is off = absurd (cc (off))
-  breaks (Offers a from len piece taken more) (reply.Refused no.BrokenPipe) busy step at_is off =
+  breaks (Sends s) (reply.Refused no.BrokenPipe) busy step at_is off =
+      why.peer_is_gone m n server fd c s.agg open_on step
+  breaks (Sends s) (reply.Count k) busy step at_is off = never _ off (next-kept (after_taking s k))
+  breaks (Sends s) r busy step at_is off = absurd (cc (off))
+  breaks (Offers s piece) (reply.Refused no.BrokenPipe) busy step at_is off =
       why.peer_is_gone m n server fd c piece open_on step
-  breaks (Offers a from len piece taken more) (reply.Count k) busy step at_is off = absurd (cc (off))
-  breaks (Offers a from len piece taken more) r busy step at_is off = absurd (cc (off))
-  breaks (Cuts a from len taken more) r busy step at_is off = never _ off (after-agg Kept r refl (λ k. refl))
-  breaks (Swaps a from len piece taken more) r busy step at_is off =
-      never _ off (after-done Kept r refl (either-way Kept (nat_lt from len) refl refl))
+  breaks (Offers s piece) (reply.Count k) busy step at_is off = absurd (cc (off))
+  breaks (Offers s piece) r busy step at_is off = absurd (cc (off))
+  breaks (Cuts s) r busy step at_is off = never _ off (after-agg Kept r refl (λ k. refl))
+  breaks (Swaps s piece) r busy step at_is off = never _ off (after-done Kept r refl (next-kept s))
   breaks (Sent a taken (Some x)) r busy step at_is off = never _ off (after-done Kept r refl refl)
   breaks (Sent a taken None) r busy step at_is off =
       never _ off (after-done Kept r refl (either-way Kept (keeps q) refl refl))

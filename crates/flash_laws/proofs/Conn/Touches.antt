@@ -49,9 +49,9 @@ fds-wants m fd c kept q (Reading f) g is t = inl (by (is_head_only q) t)
     by true t = absurd (cc)
     by false t = left-of (f == g) (is_file (descriptor m server f)) t
 fds-wants m fd c kept q (Shuts f k) g is t = inl t
-fds-wants m fd c kept q (Sends b len taken more) g is t =
+fds-wants m fd c kept q (Sends s) g is t =
     absurd (clash ((fd == g) && is_file (descriptor m server fd)) t (not-file m fd c g is))
-fds-wants m fd c kept q (Offers b from len piece taken more) g is t =
+fds-wants m fd c kept q (Offers s piece) g is t =
     absurd (clash ((fd == g) && is_file (descriptor m server fd)) t (not-file m fd c g is))
 fds-wants m fd c kept q Closes g is t = inr (same-number fd g t)
 fds-wants m fd c kept q Over g is t = inr (same-number fd g t)
@@ -81,8 +81,8 @@ conns-wants m fd c kept q expected (Reading f) k is has t = absurd (by (is_head_
     by true t = cc
     by false t = uses-no_conn m f has.1.0 has.1.1 k has.1.2 t
 conns-wants m fd c kept q expected (Shuts f x) k is has t = absurd (uses-no_conn m f has.0.0 has.0.1 k has.0.2 t)
-conns-wants m fd c kept q expected (Sends b len taken more) k is has t = uses-conn m fd c k is t
-conns-wants m fd c kept q expected (Offers b from len piece taken more) k is has t = uses-conn m fd c k is t
+conns-wants m fd c kept q expected (Sends s) k is has t = uses-conn m fd c k is t
+conns-wants m fd c kept q expected (Offers s piece) k is has t = uses-conn m fd c k is t
 conns-wants m fd c kept q expected Closes k is has t = uses-conn m fd c k is t
 conns-wants m fd c kept q expected Over k is has t = uses-conn m fd c k is t
 conns-wants m fd c kept q expected d k is has t = absurd (cc)
@@ -104,8 +104,8 @@ pipes-wants m fd c kept q expected (Reading f) p is has =
     either-way (λ (k : Call). touches_pipe m (event.Call server k) p ≡ false) (is_head_only q) refl
     (no-file-end m f has.1.0 has.1.1 p has.1.2)
 pipes-wants m fd c kept q expected (Shuts f x) p is has = no-file-end m f has.0.0 has.0.1 p has.0.2
-pipes-wants m fd c kept q expected (Sends b len taken more) p is has = no-end m fd c p is
-pipes-wants m fd c kept q expected (Offers b from len piece taken more) p is has = no-end m fd c p is
+pipes-wants m fd c kept q expected (Sends s) p is has = no-end m fd c p is
+pipes-wants m fd c kept q expected (Offers s piece) p is has = no-end m fd c p is
 pipes-wants m fd c kept q expected Closes p is has = no-end m fd c p is
 pipes-wants m fd c kept q expected Over p is has = no-end m fd c p is
 pipes-wants m fd c kept q expected d p is has = refl
@@ -116,8 +116,8 @@ pub files-wants : (m : State) (fd c : ℕ) (kept : List ℕ) (q : Answer) (d : P
     → changes_files m (event.Call server (wants fd (at kept q d))) ≡ false
 files-wants m fd c kept q (Reading f) is =
     either-way (λ (k : Call). changes_files m (event.Call server k) ≡ false) (is_head_only q) refl refl
-files-wants m fd c kept q (Sends b len taken more) is = ap is_file is
-files-wants m fd c kept q (Offers b from len piece taken more) is = ap is_file is
+files-wants m fd c kept q (Sends s) is = ap is_file is
+files-wants m fd c kept q (Offers s piece) is = ap is_file is
 files-wants m fd c kept q d is = refl
 
 -- it admits nobody to a pool

@@ -1,6 +1,6 @@
 -- The objects that a phase uses, before its call and after the reply.
 use Rattle.std.proofs.Common.{inl, inr, ◌≡◌, ℕ, ◌+◌, ◌==◌, ◌⊎◌, List, [], ◌∷◌, ap, ◌∙◌, refl, sym, arith, Some, None, true, false, Bool, if◌then◌else◌}
-use Rattle.std.specs.Prelude.{nat_lt, nat_le, ◌||◌, slice_range}
+use Rattle.std.specs.Prelude.{nat_le, ◌||◌, slice_range}
 use Rattle.std.proofs.lemmas.Bool.Decides.{nat_tests}
 use Rattle.iol_core.specs.State.{State, descriptor}
 use Rattle.iol_core.specs.Values.{gives_up}
@@ -19,18 +19,21 @@ use Rattle.flash_http.specs.Range.{selected}
 use Rattle.flash_http.specs.Request.{Answer, serve, refuse}
 use Rattle.flash_laws.specs.Answers.{keeps}
 use Rattle.flash_laws.specs.Conn.{Following, has_followed, file_result_agg, content_agg, uses_agg, uses_fd, is_head_only, most_read, piece_end, count_of, wants, sends_of, resolved, following, headed, proceeds, drops_next, after_reply, after_receive, begins}
+use Rattle.flash_laws.specs.Conn.{after_taking, next_piece, whole}
 use Rattle.flash_laws.specs.declared.phase.FileResult.{FileResult}
 use Rattle.flash_laws.specs.declared.phase.FileResult.TheVariants.{File, Length, Fails, Text as TextOf}
 use Rattle.flash_laws.specs.declared.phase.Payload.{Payload}
 use Rattle.flash_laws.specs.declared.phase.Payload.TheVariants.{Body}
+use Rattle.flash_laws.specs.declared.phase.Sending.{Sending}
 use Rattle.flash_laws.specs.declared.phase.Phase.{Phase}
 use Rattle.flash_laws.specs.declared.phase.Phase.TheVariants.{Rests, Got, Opens, Reads as Reading, Shuts, Picks, Spares, Heads, Joins, Sends, Cuts, Offers, Swaps, Sent, Breaks, Drops, Closes, Over}
 use Rattle.flash_laws.specs.Conn.Fits.{IsReadable, MoreIsReadable, HasContent, HasFileResult, Has}
+use Rattle.flash_laws.specs.Conn.Fits.{HoldsRestFrom}
 use Rattle.flash_laws.specs.Site.{server}
 use Rattle.flash_laws.proofs.Forms.{at}
 use Rattle.flash_laws.proofs.Lists.{clash, later_of, bare}
 use Rattle.iol_core.specs.declared.events.Call.{Call}
-use Rattle.flash_laws.proofs.Moves.{either-way}
+use Rattle.flash_laws.proofs.Moves.{either-way, either-next}
 
 pub one-of : (a b : Bool) → (a || b) ≡ true → (a ≡ true) ⊎ (b ≡ true)
 one-of true b u = inl refl
@@ -51,7 +54,7 @@ gives-wants fd kept q (Reading f) a is = absurd (by (is_head_only q) is)
     by false is = cc
 gives-wants fd kept q (Spares b k) a is = grind (arith, is)
 gives-wants fd kept q (Joins b size body len) a is = grind (arith, is)
-gives-wants fd kept q (Swaps b from len piece taken more) a is = grind (arith, is)
+gives-wants fd kept q (Swaps s piece) a is = grind (arith, is)
 gives-wants fd kept q (Sent b taken more) a is = grind (arith, is)
 gives-wants fd kept q (Breaks piece b more) a is = grind (arith, is)
 gives-wants fd kept q (Drops b more) a is = grind (arith, is)
@@ -98,7 +101,7 @@ uses-headed : (n size : ℕ) (more : Following) (a : ℕ) → uses_agg (headed n
 uses-headed n size None a u = u
 uses-headed n size (Some x) a u = by (nat_le (size + x.1) MAX_AGGREGATE_BYTES) u
   where
-    by : (t : Bool) → uses_agg (if t then Joins n size x.0 x.1 else Sends n size 0 (Some x)) a ≡ true
+    by : (t : Bool) → uses_agg (if t then Joins n size x.0 x.1 else Sends (whole n size 0 (Some x))) a ≡ true
         → ((n == a) || (x.0 == a)) ≡ true
     by true u = u
     by false u = u
@@ -116,6 +119,13 @@ uses-drops : (b : ℕ) (more : Following) (a : ℕ) → uses_agg (drops_next mor
     → ((b == a) || has_followed more a) ≡ true
 uses-drops b (Some x) a u = later_of (b == a) (x.0 == a) (bare (x.0 == a) u)
 uses-drops b None a u = absurd (cc)
+
+pub next-uses : (s : Sending) (a : ℕ) → uses_agg (next_piece s) a ≡ ((s.agg == a) || has_followed s.more a)
+next-uses s a =
+    either-next (λ (e : Phase). uses_agg e a ≡ ((s.agg == a) || has_followed s.more a)) s refl refl
+
+next-no_fd : (s : Sending) (g : ℕ) → uses_fd (next_piece s) g ≡ false
+next-no_fd s g = either-next (λ (e : Phase). uses_fd e g ≡ false) s refl refl
 
 pub uses-after_reply : (kept : List ℕ) (q : Answer) (d : Phase) (r : Reply) (received : List ℕ) (a : ℕ)
     → Uses d r (after_reply (at kept q d) r received).phase a
@@ -135,22 +145,14 @@ uses-after_reply kept q (Picks b first last len) (reply.Agg n) received a u = el
 uses-after_reply kept q (Spares b k) reply.Done received a u = inl (later_of (b == a) (content_agg k a) u)
 uses-after_reply kept q (Heads k) (reply.Agg n) received a u = elim (one-of (n == a) (has_followed (following k) a) (uses-headed n (count_of received) (following k) a u)) [ inl is ↦ inr is | inr is ↦ inl (uses-following k a is) ]
 uses-after_reply kept q (Joins b size body len) (reply.Agg n) received a u = inr (bare (n == a) u)
-uses-after_reply kept q (Sends b len taken more) (reply.Count k) received a u = inl (by (nat_lt k len) u)
-  where
-    by : (t : Bool) → uses_agg (if t then Cuts b k len (taken + k) more else Sent b (taken + len) more) a ≡ true
-        → ((b == a) || has_followed more a) ≡ true
-    by true u = u
-    by false u = u
-uses-after_reply kept q (Sends b len taken more) (reply.Refused no.BrokenPipe) received a u = inl u
-uses-after_reply kept q (Cuts b from len taken more) (reply.Agg n) received a u = elim (one-of (n == a) ((b == a) || has_followed more a) u) [ inl new ↦ inr new | inr old ↦ inl old ]
-uses-after_reply kept q (Offers b from len piece taken more) (reply.Count k) received a u = inl u
-uses-after_reply kept q (Offers b from len piece taken more) (reply.Refused no.BrokenPipe) received a u = inl u
-uses-after_reply kept q (Swaps b from len piece taken more) reply.Done received a u = inl (later_of (piece == a) ((b == a) || has_followed more a) (by (nat_lt from len) u))
-  where
-    by : (t : Bool) → uses_agg (if t then Cuts b from len taken more else Sent b taken more) a ≡ true
-        → ((b == a) || has_followed more a) ≡ true
-    by true u = u
-    by false u = u
+uses-after_reply kept q (Sends s) (reply.Count k) received a u = inl (sym (next-uses (after_taking s k) a) ∙ u)
+uses-after_reply kept q (Sends s) (reply.Refused no.BrokenPipe) received a u = inl u
+uses-after_reply kept q (Cuts s) (reply.Agg n) received a u =
+    elim (one-of (n == a) ((s.agg == a) || has_followed s.more a) u) [ inl new ↦ inr new | inr old ↦ inl old ]
+uses-after_reply kept q (Offers s piece) (reply.Count k) received a u = inl u
+uses-after_reply kept q (Offers s piece) (reply.Refused no.BrokenPipe) received a u = inl u
+uses-after_reply kept q (Swaps s piece) reply.Done received a u =
+    inl (later_of (piece == a) ((s.agg == a) || has_followed s.more a) (sym (next-uses s a) ∙ u))
 uses-after_reply kept q (Sent b taken more) reply.Done received a u = inl (uses-proceeds q b taken more a u)
 uses-after_reply kept q (Breaks piece b more) reply.Done received a u = inl (later_of (piece == a) ((b == a) || has_followed more a) u)
 uses-after_reply kept q (Drops b more) reply.Done received a u = inl (uses-drops b more a u)
@@ -205,20 +207,14 @@ uses_fd-after_reply kept q (Picks b first last len) (reply.Agg n) received g u =
 uses_fd-after_reply kept q (Spares b k) reply.Done received g u = absurd (cc)
 uses_fd-after_reply kept q (Heads k) (reply.Agg n) received g u = absurd (clash (uses_fd (headed n (count_of received) (following k)) g) u (no_fd-headed n (count_of received) (following k) g))
 uses_fd-after_reply kept q (Joins b size body len) (reply.Agg n) received g u = absurd (cc)
-uses_fd-after_reply kept q (Sends b len taken more) (reply.Count k) received g u = absurd (by (nat_lt k len) u)
-  where
-    by : (t : Bool) → uses_fd (if t then Cuts b k len (taken + k) more else Sent b (taken + len) more) g ≡ true → ⊥
-    by true u = cc
-    by false u = cc
-uses_fd-after_reply kept q (Sends b len taken more) (reply.Refused no.BrokenPipe) received g u = absurd (cc)
-uses_fd-after_reply kept q (Cuts b from len taken more) (reply.Agg n) received g u = absurd (cc)
-uses_fd-after_reply kept q (Offers b from len piece taken more) (reply.Count k) received g u = absurd (cc)
-uses_fd-after_reply kept q (Offers b from len piece taken more) (reply.Refused no.BrokenPipe) received g u = absurd (cc)
-uses_fd-after_reply kept q (Swaps b from len piece taken more) reply.Done received g u = absurd (by (nat_lt from len) u)
-  where
-    by : (t : Bool) → uses_fd (if t then Cuts b from len taken more else Sent b taken more) g ≡ true → ⊥
-    by true u = cc
-    by false u = cc
+uses_fd-after_reply kept q (Sends s) (reply.Count k) received g u =
+    absurd (clash (uses_fd (next_piece (after_taking s k)) g) u (next-no_fd (after_taking s k) g))
+uses_fd-after_reply kept q (Sends s) (reply.Refused no.BrokenPipe) received g u = absurd (cc)
+uses_fd-after_reply kept q (Cuts s) (reply.Agg n) received g u = absurd (cc)
+uses_fd-after_reply kept q (Offers s piece) (reply.Count k) received g u = absurd (cc)
+uses_fd-after_reply kept q (Offers s piece) (reply.Refused no.BrokenPipe) received g u = absurd (cc)
+uses_fd-after_reply kept q (Swaps s piece) reply.Done received g u =
+    absurd (clash (uses_fd (next_piece s) g) u (next-no_fd s g))
 uses_fd-after_reply kept q (Sent b taken more) reply.Done received g u = absurd (clash (uses_fd (proceeds q taken more) g) u (no_fd-proceeds q taken more g))
 uses_fd-after_reply kept q (Breaks piece b more) reply.Done received g u = absurd (cc)
 uses_fd-after_reply kept q (Drops b more) reply.Done received g u = absurd (clash (uses_fd (drops_next more) g) u (no_fd-drops more g))
@@ -259,6 +255,11 @@ two : (m : State) (b : ℕ) (rest : Bool) (a : ℕ) → ((b == a) || rest) ≡ t
     → readable_at m server b ≡ Some bytes → (rest ≡ true → IsReadable m a) → IsReadable m a
 two m b rest a u bytes readable other = elim (one-of (b == a) rest u) [ inl is ↦ at-number m b a is bytes readable | inr is ↦ other is ]
 
+at-rest : (m : State) (expected : List ℕ) (s : Sending) (a : ℕ) → ((s.agg == a) || has_followed s.more a) ≡ true
+    → HoldsRestFrom m expected s → IsReadable m a
+at-rest m expected s a u h =
+    two m s.agg (has_followed s.more a) a u h.bytes h.is_readable (λ is. at-following m s.more h.after a is h.follows)
+
 pub has-agg : (m : State) (q : Answer) (expected : List ℕ) (d : Phase) (a : ℕ) → uses_agg d a ≡ true
     → Has m q expected d → IsReadable m a
 has-agg m q expected (Got b) a u has = at-number m b a u has.0 has.1
@@ -267,12 +268,13 @@ has-agg m q expected (Picks b first last len) a u has = at-number m b a u has.by
 has-agg m q expected (Spares b k) a u has = two m b (content_agg k a) a u has.0.0 has.0.1 (λ is. at-content m q expected k a is has.2)
 has-agg m q expected (Heads k) a u has = at-content m q expected k a u has
 has-agg m q expected (Joins b size body len) a u has = two m b (body == a) a u has.0.bytes has.0.is_readable (λ is. at-number m body a is has.0.after has.0.follows.0)
-has-agg m q expected (Sends b len taken more) a u has = two m b (has_followed more a) a u has.bytes has.is_readable (λ is. at-following m more has.after a is has.follows)
-has-agg m q expected (Cuts b from len taken more) a u has = two m b (has_followed more a) a u has.0.bytes has.0.is_readable (λ is. at-following m more has.0.after a is has.0.follows)
-has-agg m q expected (Offers b from len piece taken more) a u has =
-    two m piece ((b == a) || has_followed more a) a u (slice_range has.whole.bytes from (piece_end from len)) has.is_readable
-    (λ v. two m b (has_followed more a) a v has.whole.bytes has.whole.is_readable (λ is. at-following m more has.whole.after a is has.whole.follows))
-has-agg m q expected (Swaps b from len piece taken more) a u has = two m piece ((b == a) || has_followed more a) a u has.0.0 has.0.1 (λ v. two m b (has_followed more a) a v has.2.bytes has.2.is_readable (λ is. at-following m more has.2.after a is has.2.follows))
+has-agg m q expected (Sends s) a u has = at-rest m expected s a u has.0
+has-agg m q expected (Cuts s) a u has = at-rest m expected s a u has.0
+has-agg m q expected (Offers s piece) a u has =
+    two m piece ((s.agg == a) || has_followed s.more a) a u (slice_range has.whole.bytes s.from (piece_end s))
+    has.is_readable (λ v. at-rest m expected s a v has.whole)
+has-agg m q expected (Swaps s piece) a u has =
+    two m piece ((s.agg == a) || has_followed s.more a) a u has.0.0 has.0.1 (λ v. at-rest m expected s a v has.2)
 has-agg m q expected (Sent b taken more) a u has = two m b (has_followed more a) a u has.bytes has.is_readable (λ is. at-following m more has.after a is has.follows)
 has-agg m q expected (Breaks piece b more) a u has = two m piece ((b == a) || has_followed more a) a u has.0.0 has.0.1 (λ v. two m b (has_followed more a) a v has.2.readable.0 has.2.readable.1 (λ is. at-following m more has.2.after a is has.2.follows))
 has-agg m q expected (Drops b more) a u has = two m b (has_followed more a) a u has.readable.0 has.readable.1 (λ is. at-following m more has.after a is has.follows)

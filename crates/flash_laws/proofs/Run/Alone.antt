@@ -187,11 +187,11 @@ module _ (m : State) (fd c : ℕ) (x : Running) where
       → ((a : ℕ) → conn.uses_agg d a ≡ true → uses_agg x a ≡ true)
       → IsSending m expected d → Keeps (conn.wants fd (in_phase w d))
   sends w expected (phase.Heads (Error status)) open_on uses is = makes (conn.text_of (serve w) (Error status))
-  sends w expected (phase.Sends a len taken None) open_on uses is = offers a open_on
-  sends w expected (phase.Cuts a from len taken None) open_on uses is = cuts a from (piece_end from len)
-  sends w expected (phase.Offers a from len piece taken None) open_on uses is = offers piece open_on
-  sends w expected (phase.Swaps a from len piece taken None) open_on uses is =
-      drops piece (λ b u. uses b (former_of (piece == b) ((a == b) || false) u))
+  sends w expected (phase.Sends s) open_on uses is = offers s.agg open_on
+  sends w expected (phase.Cuts s) open_on uses is = cuts s.agg s.from (piece_end s)
+  sends w expected (phase.Offers s piece) open_on uses is = offers piece open_on
+  sends w expected (phase.Swaps s piece) open_on uses is =
+      drops piece (λ b u. uses b (former_of (piece == b) ((s.agg == b) || has_followed s.more b) u))
   sends w expected (phase.Sent a taken None) open_on uses is = drops a (λ b u. uses b (former_of (a == b) false u))
   sends w expected (phase.Breaks piece a None) open_on uses is =
       drops piece (λ b u. uses b (former_of (piece == b) ((a == b) || false) u))

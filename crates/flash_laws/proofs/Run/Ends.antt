@@ -37,10 +37,10 @@ left-ends : (m : State) (w : Wanted) (o : Progress) (d : Phase) → HasLeft m w 
 left-ends m w o phase.Rests has over = inl refl
 left-ends m w o phase.Closes has over = inr refl
 left-ends m w o (phase.Heads k) has over = absurd (cc (over))
-left-ends m w o (phase.Sends a len taken more) has over = absurd (cc (over))
-left-ends m w o (phase.Cuts a from len taken more) has over = absurd (cc (over))
-left-ends m w o (phase.Offers a from len piece taken more) has over = absurd (cc (over))
-left-ends m w o (phase.Swaps a from len piece taken more) has over = absurd (cc (over))
+left-ends m w o (phase.Sends s) has over = absurd (cc (over))
+left-ends m w o (phase.Cuts s) has over = absurd (cc (over))
+left-ends m w o (phase.Offers s piece) has over = absurd (cc (over))
+left-ends m w o (phase.Swaps s piece) has over = absurd (cc (over))
 left-ends m w o (phase.Sent a taken more) has over = absurd (cc (over))
 left-ends m w o (phase.Breaks piece a more) has over = absurd (cc (over))
 left-ends m w o (phase.Drops a more) has over = absurd (cc (over))

@@ -160,22 +160,22 @@ module _ (job : ℕ → List ℕ) (m : State) (fd : ℕ) (w : Wanted) (o : Progr
       apart ((b == a) || false) false (has_frame frame a) u unused (λ x y. (bare (b == a) x, refl))
   sending (phase.Drops b None) frame r h u unused =
       absurd (clash (step_agg (Sending (phase.Drops b None) frame) a) u unused)
-  sending (phase.Sends b len taken None) frame r h u unused =
-      apart (conn.uses_agg (phase.Sends b len taken None) a) (conn.uses_agg (conn.after_send b len taken None r) a)
+  sending (phase.Sends s) frame r h u unused =
+      apart (conn.uses_agg (phase.Sends s) a) (conn.uses_agg (conn.after_send s r) a)
       (has_frame frame a) u unused
-      (leaves-after_reply fd [] (serve w) (phase.Sends b len taken None) r [] a)
-  sending (phase.Cuts b from len taken None) frame r h u unused =
-      apart (conn.uses_agg (phase.Cuts b from len taken None) a)
-      (conn.uses_agg (conn.after_cut b from len taken None r) a) (has_frame frame a) u unused
-      (leaves-after_reply fd [] (serve w) (phase.Cuts b from len taken None) r [] a)
-  sending (phase.Offers b from len piece taken None) frame r h u unused =
-      apart (conn.uses_agg (phase.Offers b from len piece taken None) a)
-      (conn.uses_agg (conn.after_offer b from len piece taken None r) a) (has_frame frame a) u unused
-      (leaves-after_reply fd [] (serve w) (phase.Offers b from len piece taken None) r [] a)
-  sending (phase.Swaps b from len piece taken None) frame r h u unused =
-      apart (conn.uses_agg (phase.Swaps b from len piece taken None) a)
-      (conn.uses_agg (conn.after_swap b from len piece taken None r) a) (has_frame frame a) u unused
-      (leaves-after_reply fd [] (serve w) (phase.Swaps b from len piece taken None) r [] a)
+      (leaves-after_reply fd [] (serve w) (phase.Sends s) r [] a)
+  sending (phase.Cuts s) frame r h u unused =
+      apart (conn.uses_agg (phase.Cuts s) a)
+      (conn.uses_agg (conn.after_cut s r) a) (has_frame frame a) u unused
+      (leaves-after_reply fd [] (serve w) (phase.Cuts s) r [] a)
+  sending (phase.Offers s piece) frame r h u unused =
+      apart (conn.uses_agg (phase.Offers s piece) a)
+      (conn.uses_agg (conn.after_offer s piece r) a) (has_frame frame a) u unused
+      (leaves-after_reply fd [] (serve w) (phase.Offers s piece) r [] a)
+  sending (phase.Swaps s piece) frame r h u unused =
+      apart (conn.uses_agg (phase.Swaps s piece) a)
+      (conn.uses_agg (conn.after_swap s piece r) a) (has_frame frame a) u unused
+      (leaves-after_reply fd [] (serve w) (phase.Swaps s piece) r [] a)
   sending (phase.Breaks piece b None) frame r h u unused =
       apart (conn.uses_agg (phase.Breaks piece b None) a) (conn.uses_agg (conn.after_break piece b None r) a)
       (has_frame frame a) u unused

@@ -69,17 +69,17 @@ sending m n w fd expected run (phase.Sent a taken None) frame r is within step s
 sending m n w fd expected run (phase.Drops a None) frame r is within step same =
     drops m n (Runs run (Sending (phase.Drops a None) frame)) (λ z. after_sending run (phase.Drops a None) frame z) a r
     step (λ e. cc (e)) same
-sending m n w fd expected run (phase.Sends a len taken None) frame r is within step same =
-    sent_phase m n w fd expected (phase.Sends a len taken None) r [] (is, within) step
+sending m n w fd expected run (phase.Sends s) frame r is within step same =
+    sent_phase m n w fd expected (phase.Sends s) r [] (is, within) step
     (ap (λ (z : Running). phase_of z) same)
-sending m n w fd expected run (phase.Cuts a from len taken None) frame r is within step same =
-    sent_phase m n w fd expected (phase.Cuts a from len taken None) r [] (is, within) step
+sending m n w fd expected run (phase.Cuts s) frame r is within step same =
+    sent_phase m n w fd expected (phase.Cuts s) r [] (is, within) step
     (ap (λ (z : Running). phase_of z) same)
-sending m n w fd expected run (phase.Offers a from len piece taken None) frame r is within step same =
-    sent_phase m n w fd expected (phase.Offers a from len piece taken None) r [] (is, within) step
+sending m n w fd expected run (phase.Offers s piece) frame r is within step same =
+    sent_phase m n w fd expected (phase.Offers s piece) r [] (is, within) step
     (ap (λ (z : Running). phase_of z) same)
-sending m n w fd expected run (phase.Swaps a from len piece taken None) frame r is within step same =
-    sent_phase m n w fd expected (phase.Swaps a from len piece taken None) r [] (is, within) step
+sending m n w fd expected run (phase.Swaps s piece) frame r is within step same =
+    sent_phase m n w fd expected (phase.Swaps s piece) r [] (is, within) step
     (ap (λ (z : Running). phase_of z) same)
 sending m n w fd expected run (phase.Breaks piece a None) frame r is within step same =
     sent_phase m n w fd expected (phase.Breaks piece a None) r [] (is, within) step

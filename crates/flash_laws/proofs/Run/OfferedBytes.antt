@@ -29,7 +29,7 @@ use Rattle.flash_laws.specs.Run.Fits.{HasPart, HasRest, HasLeft, HasRun}
 use Rattle.flash_laws.specs.Run.OfferedBytes.{takes_on, Learns, taken_by, past_of, IsNextOf, HasWorker}
 use Rattle.flash_laws.specs.Run.OfferedBytes.{RunsOfferTheResponse}
 use Rattle.flash_laws.specs.Run.{worker_domain, job_pipe, held_size, in_phase, wants, broken, after_sending}
-use Rattle.flash_laws.specs.Run.{after_output, finishing, after_reply, is_left, is_over, stopped, ending}
+use Rattle.flash_laws.specs.Run.{after_output, finishing, after_reply, is_left, is_over, stopped, ending, sends_part}
 use Rattle.flash_laws.specs.Answers.Scripts.{script_body, script_response}
 use Rattle.flash_laws.specs.Site.{server}
 use Rattle.flash_laws.specs.declared.phase.Phase.{Phase}
@@ -134,34 +134,16 @@ module _ (steps : EachStepLeavesTheRest) (own : CallsServeTheirDomain) (m n : St
     sending : (d : Phase) (r : Reply) (received : List ℕ) (o : Progress) → HasPart m w o run d frame
         → StepsTo m (event.Call server (conn.wants fd (in_phase w d))) r n
         → AfterReply (Runs run (Sending d frame)) (after_sending run d frame r) r received o
-    sending (phase.Sends a len taken None) r received o h step =
-        (o, refl, (written a r step, parts.sends steps own m n order w o run frame fd c a len taken r open_on h step))
-    sending (phase.Cuts a from len taken None) r received o h step = (
-      o,
-      refl,
-      (
-        still-hired (call.AggCut a from (piece_end from len)) r step refl,
-        parts.cuts steps own m n order w o run frame a from len taken r h step,
-      ),
-    )
-    sending (phase.Offers a from len piece taken None) r received o h step = (
-      o,
-      refl,
-      (
-        written piece r step,
-        parts.offers steps own m n order w o run frame fd c a from len piece taken r open_on h
-            step,
-      ),
-    )
-    sending (phase.Swaps a from len piece taken None) r received o h step = (
-      o,
-      refl,
-      (
-        still-hired (call.AggDrop piece) r step refl,
-        parts.swaps steps own m n order w o run frame a from len piece
-            taken r h step,
-      ),
-    )
+    sending (phase.Sends s) r received o h step =
+        (o, refl, (written s.agg r step, parts.sends steps own m n order w o run frame fd c s r open_on h step))
+    sending (phase.Cuts s) r received o h step =
+        (o, refl, (still-hired (call.AggCut s.agg s.from (piece_end s)) r step refl,
+        parts.cuts steps own m n order w o run frame s r h step))
+    sending (phase.Offers s piece) r received o h step =
+        (o, refl, (written piece r step, parts.offers steps own m n order w o run frame fd c s piece r open_on h step))
+    sending (phase.Swaps s piece) r received o h step =
+        (o, refl, (still-hired (call.AggDrop piece) r step refl,
+        parts.swaps steps own m n order w o run frame s piece r h step))
     sending (phase.Breaks piece a None) r received o h step = (
       o,
       refl,
@@ -226,7 +208,7 @@ module _ (steps : EachStepLeavesTheRest) (own : CallsServeTheirDomain) (m n : St
     o,
     refl,
     acts.drops steps own m n order job w run has.0 held (Trims held chunk len frame)
-        (Sending (phase.Sends chunk len 0 None) (Some frame)) r o has has.1.0.1 has.1.1 step,
+        (Sending (sends_part chunk len) (Some frame)) r o has has.1.0.1 has.1.1 step,
   )
   replied fd c worker (Runs run (Ended a held frame)) r received o open_on free going has step names = (
     o,

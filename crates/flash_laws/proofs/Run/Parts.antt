@@ -1,7 +1,7 @@
 -- A part of a script's response is sent by the phases of a file's response.
-use Rattle.std.proofs.Common.{◌≡◌, ℕ, ◌+◌, ◌-◌, ◌==◌, List, [], ap, ◌∙◌, refl, sym, subst, arith, Option, Some, None}
+use Rattle.std.proofs.Common.{◌≡◌, ℕ, ◌-◌, ◌==◌, List, [], ap, ◌∙◌, refl, sym, subst, arith, Option, Some, None}
 use Rattle.std.proofs.Common.{true, false, Bool}
-use Rattle.std.specs.Prelude.{◌||◌, ◌&&◌, min, nat_lt, slice_range}
+use Rattle.std.specs.Prelude.{◌||◌, ◌&&◌, slice_range}
 use Rattle.std.proofs.lemmas.Bool.{or_parts, or_from}
 use Rattle.std.proofs.lemmas.Bool.Decides.{nat_tests}
 use Rattle.iol_core.specs.State.{State, descriptor}
@@ -20,13 +20,14 @@ use Rattle.iol_laws.specs.Order.{IsOrderly}
 use Rattle.iol_laws.specs.Caller.{CallsServeTheirDomain, readable_at}
 use Rattle.flash_http.specs.Request.{Wanted}
 use Rattle.flash_laws.specs.Conn as conn
-use Rattle.flash_laws.specs.Conn.{piece_end}
+use Rattle.flash_laws.specs.Conn.{has_followed, piece_end, after_taking}
 use Rattle.flash_laws.specs.Run.Fits.{Progress, Ran, HoldsBack, Continues, Goes, HasFrame, HasReceived, sends_frame}
 use Rattle.flash_laws.specs.Run.Fits.{HasPart}
 use Rattle.flash_laws.specs.Run.OfferedBytes.{takes_on}
 use Rattle.flash_laws.specs.Run.{has_frame}
 use Rattle.flash_laws.specs.Answers.Scripts.{frame_of}
 use Rattle.flash_laws.specs.Site.{server}
+use Rattle.flash_laws.specs.declared.phase.Sending.{Sending}
 use Rattle.flash_laws.specs.declared.phase.Phase.{Phase}
 use Rattle.flash_laws.specs.declared.phase.Phase.TheVariants as phase
 use Rattle.flash_laws.specs.declared.script_run.TheConstants.{CHUNK_BYTES}
@@ -36,7 +37,7 @@ use Rattle.flash_laws.proofs.Lists.{not-equal, turned}
 use Rattle.flash_laws.proofs.Run.Rest as left
 use Rattle.flash_laws.proofs.Run.Rest.{SendsAll}
 use Rattle.flash_laws.proofs.Run.Stays.{frame-on, reading-on}
-use Rattle.flash_laws.proofs.Moves.{made, after-done, after-write, either-way}
+use Rattle.flash_laws.proofs.Moves.{made, after-done, after-write, either-next}
 
 -- another number than one that is used is not used
 pub other : (uses : ℕ → Bool) (b a : ℕ) → uses b ≡ false → uses a ≡ true → (b == a) ≡ false
@@ -108,48 +109,48 @@ module _ (steps : EachStepLeavesTheRest) (own : CallsServeTheirDomain) (m n : St
     continues = h.continues;
   }
 
-  pub sends : (fd c a len taken : ℕ) (r : Reply) → descriptor m server fd ≡ Some (on.Connection c)
-      → HasPart m w o run (phase.Sends a len taken None) frame → StepsTo m (event.Call server (call.IolWrite fd a)) r n
-      → HasPart n w o run (conn.after_send a len taken None r) frame
-  sends fd c a len taken r open_on h step =
-      fits (call.IolWrite fd a) r step (no-position m fd run.from (on.Connection c) open_on refl) (λ f u. refl)
-      (phase.Sends a len taken None) (conn.after_send a len taken None r) h
-      (left.sends steps own m n order w h.part fd c a len taken r open_on (h.has, h.is_part, h.within) step)
-      (after-write Apart r h.apart (fewer (phase.Drops a None) (λ f is. is))
-      (λ k. either-way Apart (nat_lt k len) (fewer (phase.Cuts a k len (taken + k) None) (λ f is. is))
-      (fewer (phase.Sent a (taken + len) None) (λ f is. is))))
+  pub sends : (fd c : ℕ) (s : Sending) (r : Reply) → descriptor m server fd ≡ Some (on.Connection c)
+      → HasPart m w o run (phase.Sends s) frame → StepsTo m (event.Call server (call.IolWrite fd s.agg)) r n
+      → HasPart n w o run (conn.after_send s r) frame
+  sends fd c s r open_on h step =
+      fits (call.IolWrite fd s.agg) r step (no-position m fd run.from (on.Connection c) open_on refl) (λ f u. refl)
+      (phase.Sends s) (conn.after_send s r) h
+      (left.sends steps own m n order w h.part fd c s r open_on (h.has, h.is_part, h.within) step)
+      (after-write Apart r h.apart (fewer (phase.Drops s.agg s.more) (λ f is. is))
+      (λ k. either-next Apart (after_taking s k) (fewer (phase.Cuts (after_taking s k)) (λ f is. is))
+      (fewer (phase.Sent s.agg (after_taking s k).taken s.more) (λ f is. is))))
     where
       fewer : (e : Phase)
-          → ((f : ℕ) → conn.uses_agg (phase.Sends a len taken None) f ≡ false → conn.uses_agg e f ≡ false) → Apart e
-      fewer e of = sends-none (phase.Sends a len taken None) e frame of h.apart
+          → ((f : ℕ) → conn.uses_agg (phase.Sends s) f ≡ false → conn.uses_agg e f ≡ false) → Apart e
+      fewer e of = sends-none (phase.Sends s) e frame of h.apart
 
-  pub cuts : (a from len taken : ℕ) (r : Reply) → HasPart m w o run (phase.Cuts a from len taken None) frame
-      → StepsTo m (event.Call server (call.AggCut a from (piece_end from len))) r n
-      → HasPart n w o run (conn.after_cut a from len taken None r) frame
-  cuts a from len taken r h step =
-      fits (call.AggCut a from (piece_end from len)) r step refl (λ f u. refl) (phase.Cuts a from len taken None)
-      (conn.after_cut a from len taken None r) h
-      (left.cuts steps own m n order w h.part a from len taken r (h.has, h.is_part, h.within) step)
-      (made m n Apart (slice_range h.part from (piece_end from len)) r
-      (own.cut m n server a from (piece_end from len) h.part r order h.is_part step) (λ same. h.apart)
-      (λ x readable new. with-piece m x (phase.Cuts a from len taken None) (phase.Offers a from len x taken None) frame
-      (λ f new is. or_from (x == f) ((a == f) || false) new is) (new-frame m frame x h.frames new) h.apart))
+  pub cuts : (s : Sending) (r : Reply) → HasPart m w o run (phase.Cuts s) frame
+      → StepsTo m (event.Call server (call.AggCut s.agg s.from (piece_end s))) r n
+      → HasPart n w o run (conn.after_cut s r) frame
+  cuts s r h step =
+      fits (call.AggCut s.agg s.from (piece_end s)) r step refl (λ f u. refl) (phase.Cuts s) (conn.after_cut s r) h
+      (left.cuts steps own m n order w h.part s r (h.has, h.is_part, h.within) step)
+      (made m n Apart (slice_range h.has.0.bytes s.from (piece_end s)) r
+      (own.cut m n server s.agg s.from (piece_end s) h.has.0.bytes r order h.has.0.is_readable step) (λ same. h.apart)
+      (λ x readable new. with-piece m x (phase.Cuts s) (phase.Offers s x) frame
+      (λ f new is. or_from (x == f) ((s.agg == f) || has_followed s.more f) new is) (new-frame m frame x h.frames new)
+      h.apart))
 
-  pub offers : (fd c a from len piece taken : ℕ) (r : Reply) → descriptor m server fd ≡ Some (on.Connection c)
-      → HasPart m w o run (phase.Offers a from len piece taken None) frame
+  pub offers : (fd c : ℕ) (s : Sending) (piece : ℕ) (r : Reply) → descriptor m server fd ≡ Some (on.Connection c)
+      → HasPart m w o run (phase.Offers s piece) frame
       → StepsTo m (event.Call server (call.IolWrite fd piece)) r n
-      → HasPart n w o run (conn.after_offer a from len piece taken None r) frame
-  offers fd c a from len piece taken r open_on h step =
+      → HasPart n w o run (conn.after_offer s piece r) frame
+  offers fd c s piece r open_on h step =
       fits (call.IolWrite fd piece) r step (no-position m fd run.from (on.Connection c) open_on refl) (λ f u. refl)
-      (phase.Offers a from len piece taken None) (conn.after_offer a from len piece taken None r) h
-      (left.offers steps own m n order w h.part fd c a from len piece taken r open_on (h.has, h.is_part, h.within) step)
-      (after-write Apart r h.apart (fewer (phase.Breaks piece a None) (λ f is. is))
-      (λ k. fewer (conn.moved_on a from len piece taken None (min k (len - from))) (λ f is. is)))
+      (phase.Offers s piece) (conn.after_offer s piece r) h
+      (left.offers steps own m n order w h.part fd c s piece r open_on (h.has, h.is_part, h.within) step)
+      (after-write Apart r h.apart (fewer (phase.Breaks piece s.agg s.more) (λ f is. is))
+      (λ k. fewer (phase.Swaps (after_taking s k) piece) (λ f is. is)))
     where
       fewer : (e : Phase)
-          → ((f : ℕ) → conn.uses_agg (phase.Offers a from len piece taken None) f ≡ false → conn.uses_agg e f ≡ false)
+          → ((f : ℕ) → conn.uses_agg (phase.Offers s piece) f ≡ false → conn.uses_agg e f ≡ false)
           → Apart e
-      fewer e of = sends-none (phase.Offers a from len piece taken None) e frame of h.apart
+      fewer e of = sends-none (phase.Offers s piece) e frame of h.apart
 
   -- what is dropped is not the frame
   not-frame : (b : ℕ) (d : Phase) → ((f : ℕ) → conn.uses_agg d f ≡ false → (b == f) ≡ false)
@@ -162,24 +163,25 @@ module _ (steps : EachStepLeavesTheRest) (own : CallsServeTheirDomain) (m n : St
       by (Some g) apart is = let e : g ≡ f = grind (arith, nat_tests, is) in
           subst (λ z. (b == z) ≡ false) e (parts g apart)
 
-  pub swaps : (a from len piece taken : ℕ) (r : Reply)
-      → HasPart m w o run (phase.Swaps a from len piece taken None) frame
+  pub swaps : (s : Sending) (piece : ℕ) (r : Reply)
+      → HasPart m w o run (phase.Swaps s piece) frame
       → StepsTo m (event.Call server (call.AggDrop piece)) r n
-      → HasPart n w o run (conn.after_swap a from len piece taken None r) frame
-  swaps a from len piece taken r h step =
+      → HasPart n w o run (conn.after_swap s piece r) frame
+  swaps s piece r h step =
       fits (call.AggDrop piece) r step refl
-      (not-frame piece (phase.Swaps a from len piece taken None)
-      (λ f is. (or_parts (piece == f) ((a == f) || false) is).0) h.apart)
-      (phase.Swaps a from len piece taken None) (conn.after_swap a from len piece taken None r) h
-      (left.swaps steps own m n order w h.part a from len piece taken r (h.has, h.is_part, h.within) step)
+      (not-frame piece (phase.Swaps s piece)
+      (λ f is. (or_parts (piece == f) ((s.agg == f) || has_followed s.more f) is).0) h.apart)
+      (phase.Swaps s piece) (conn.after_swap s piece r) h
+      (left.swaps steps own m n order w h.part s piece r (h.has, h.is_part, h.within) step)
       (after-done Apart r h.apart
-      (either-way Apart (nat_lt from len) (less (phase.Cuts a from len taken None) (λ f is. is))
-      (less (phase.Sent a taken None) (λ f is. is))))
+      (either-next Apart s (less (phase.Cuts s) (λ f is. is))
+      (less (phase.Sent s.agg s.taken s.more) (λ f is. is))))
     where
-      less : (e : Phase) → ((f : ℕ) → ((a == f) || false) ≡ false → conn.uses_agg e f ≡ false) → Apart e
+      less : (e : Phase) → ((f : ℕ) → ((s.agg == f) || has_followed s.more f) ≡ false → conn.uses_agg e f ≡ false)
+          → Apart e
       less e of =
-          sends-none (phase.Swaps a from len piece taken None) e frame
-          (λ f is. of f (or_parts (piece == f) ((a == f) || false) is).1) h.apart
+          sends-none (phase.Swaps s piece) e frame
+          (λ f is. of f (or_parts (piece == f) ((s.agg == f) || has_followed s.more f) is).1) h.apart
 
   pub breaks : (piece a : ℕ) (r : Reply) → HasPart m w o run (phase.Breaks piece a None) frame
       → StepsTo m (event.Call server (call.AggDrop piece)) r n

@@ -33,6 +33,7 @@ use Rattle.flash_laws.specs.Run.{broken, after_wait, after_give, after_make, aft
 use Rattle.flash_laws.specs.Run.{after_gather, after_frame, after_wrap, after_wrap_last, after_return, after_output}
 use Rattle.flash_laws.specs.Run.{after_stop, after_release_frame, after_last, after_unwrap, after_fail, filled, holding}
 use Rattle.flash_laws.specs.Run.{unread, finishing, stopped, ending, after_step, after_reply, is_left, is_over}
+use Rattle.flash_laws.specs.Run.{sends_part}
 use Rattle.flash_laws.specs.Answers.Scripts.{script_text, frame_of, place_in_frame, end_around}
 use Rattle.flash_laws.specs.Site.{server}
 use Rattle.flash_laws.specs.declared.phase.Payload.TheVariants.{Error}
@@ -164,7 +165,7 @@ ending-near : (w : Wanted) (run : Run) (held : Following) (a : ℕ) (received : 
     → IsBelow (rank w (ending run held a (count_of received))) (rank w (Runs run (Lasts held)))
 ending-near w run None a received same =
     let long = ap (λ (l : List ℕ). length l) same in
-    falls w (Leaves (phase.Sends a (count_of received) 0 None)) (Runs run (Lasts None)) (omega (arith, long))
+    falls w (Leaves (sends_part a (count_of received))) (Runs run (Lasts None)) (omega (arith, long))
 ending-near w run (Some x) a received same =
     falls w (Runs run (WrapsLast x.0 x.1 a)) (Runs run (Lasts (Some x))) (omega arith)
 
@@ -279,21 +280,21 @@ module _ (own : CallsServeTheirDomain) (may : RefusalsThatAreLeft) (m n : State)
         (λ z. after_sending run (phase.Drops a None) frame z) a h.part r h.is_part step
         (falls w (Runs (broken run) (Receives None frame)) (Runs run (Sending (phase.Drops a None) frame))
         (omega arith))
-    sending fd c o (phase.Sends a len taken None) frame r received open_on h step names =
-        part (phase.Sends a len taken None) (conn.after_send a len taken None r) frame r refl
-        (near own may m n order lives fd c [] (serve w) (phase.Sends a len taken None) h.part r received open_on
+    sending fd c o (phase.Sends s) frame r received open_on h step names =
+        part (phase.Sends s) (conn.after_send s r) frame r refl
+        (near own may m n order lives fd c [] (serve w) (phase.Sends s) h.part r received open_on
         refl h.has tt step names)
-    sending fd c o (phase.Cuts a from len taken None) frame r received open_on h step names =
-        part (phase.Cuts a from len taken None) (conn.after_cut a from len taken None r) frame r refl
-        (near own may m n order lives fd c [] (serve w) (phase.Cuts a from len taken None) h.part r received open_on
+    sending fd c o (phase.Cuts s) frame r received open_on h step names =
+        part (phase.Cuts s) (conn.after_cut s r) frame r refl
+        (near own may m n order lives fd c [] (serve w) (phase.Cuts s) h.part r received open_on
         refl h.has tt step names)
-    sending fd c o (phase.Offers a from len piece taken None) frame r received open_on h step names =
-        part (phase.Offers a from len piece taken None) (conn.after_offer a from len piece taken None r) frame r refl
-        (near own may m n order lives fd c [] (serve w) (phase.Offers a from len piece taken None) h.part r received
+    sending fd c o (phase.Offers s piece) frame r received open_on h step names =
+        part (phase.Offers s piece) (conn.after_offer s piece r) frame r refl
+        (near own may m n order lives fd c [] (serve w) (phase.Offers s piece) h.part r received
         open_on refl h.has tt step names)
-    sending fd c o (phase.Swaps a from len piece taken None) frame r received open_on h step names =
-        part (phase.Swaps a from len piece taken None) (conn.after_swap a from len piece taken None r) frame r refl
-        (near own may m n order lives fd c [] (serve w) (phase.Swaps a from len piece taken None) h.part r received
+    sending fd c o (phase.Swaps s piece) frame r received open_on h step names =
+        part (phase.Swaps s piece) (conn.after_swap s piece r) frame r refl
+        (near own may m n order lives fd c [] (serve w) (phase.Swaps s piece) h.part r received
         open_on refl h.has tt step names)
     sending fd c o (phase.Breaks piece a None) frame r received open_on h step names =
         part (phase.Breaks piece a None) (conn.after_break piece a None r) frame r refl
@@ -352,7 +353,7 @@ module _ (own : CallsServeTheirDomain) (may : RefusalsThatAreLeft) (m n : State)
         inl (makes own may m n order lives (rank w) (Runs run Heads) (λ z. Runs run (after_head z received))
         (script_text w) received r can step names
         (λ k same. let long = ap (λ (l : List ℕ). length l) same in let short = counts-short received in
-        falls w (Runs run (Sending (phase.Sends k (count_of received) 0 None) None)) (Runs run Heads)
+        falls w (Runs run (Sending (sends_part k (count_of received)) None)) (Runs run Heads)
         (omega (arith, long, short))) (λ z. refl))
     steps fd c o (Sending d frame) r received open_on has can step names =
         inl (sending fd c o d frame r received open_on has.1 step names)
@@ -381,7 +382,7 @@ module _ (own : CallsServeTheirDomain) (may : RefusalsThatAreLeft) (m n : State)
         (λ k most. falls w (Runs run (Trims held k (count_of received) frame)) (Runs run (Wraps held frame))
         (omega (arith, most, long))) (λ z. refl))
     steps fd c o (Trims held chunk len frame) r received open_on has can step names =
-        dropping (Trims held chunk len frame) (Sending (phase.Sends chunk len 0 None) (Some frame)) held has.1.0.0.0 r
+        dropping (Trims held chunk len frame) (Sending (sends_part chunk len) (Some frame)) held has.1.0.0.0 r
         received has.1.0.0.1 step refl (omega arith)
     steps fd c o (Ended a held frame) r received open_on has can step names =
         dropping (Ended a held frame) (Stops held frame) a has.1.0.0.0 r received has.1.0.0.1 step refl (omega arith)
@@ -415,7 +416,7 @@ module _ (own : CallsServeTheirDomain) (may : RefusalsThatAreLeft) (m n : State)
     steps fd c o (Unwraps frame chunk len) r received open_on has can step names =
         inl (drops own may m n order lives (rank w) (Runs run (Unwraps frame chunk len))
         (λ z. after_unwrap run frame chunk len z) frame has.1.0.0.0 r has.1.0.0.1 step
-        (falls w (Leaves (phase.Sends chunk len 0 None)) (Runs run (Unwraps frame chunk len)) (omega arith)))
+        (falls w (Leaves (sends_part chunk len)) (Runs run (Unwraps frame chunk len)) (omega arith)))
     steps fd c o (Returns write) r received open_on has can step names =
         inl (closes own may m n order lives (rank w) (Runs run (Returns write)) (λ z. Runs run (after_return write z))
         write (on.WriteEnd has.1.0.pipe) r has.1.0.write_end step

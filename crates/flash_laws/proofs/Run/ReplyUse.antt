@@ -92,20 +92,19 @@ module _ (come : AggregatesComeAndGo) (own : CallsServeTheirDomain) (m n : State
       sending-brings : (run : Run) (d : Phase) (frame : Option ℕ) (r : Reply) → HasPart m w o run d frame
           → StepsTo m (event.Call server (conn.wants fd (in_phase w d))) r n
           → uses_agg (after_sending run d frame r) a ≡ true
-      sending-brings run (phase.Sends b len taken None) frame r h step =
-          absurd (written fd c b h.has.bytes r open_on h.has.is_readable step)
-      sending-brings run (phase.Cuts b from len taken None) frame r h step =
-          made (call.AggCut b from (piece_end from len)) (slice_range h.has.0.bytes from (piece_end from len))
-          (λ k. after_sending run (phase.Cuts b from len taken None) frame k) r step
-          (own.cut m n server b from (piece_end from len) h.has.0.bytes r order h.has.0.is_readable step) (λ x is. is)
+      sending-brings run (phase.Sends s) frame r h step =
+          absurd (written fd c s.agg h.has.0.bytes r open_on h.has.0.is_readable step)
+      sending-brings run (phase.Cuts s) frame r h step =
+          made (call.AggCut s.agg s.from (piece_end s)) (slice_range h.has.0.bytes s.from (piece_end s))
+          (λ k. after_sending run (phase.Cuts s) frame k) r step
+          (own.cut m n server s.agg s.from (piece_end s) h.has.0.bytes r order h.has.0.is_readable step) (λ x is. is)
           (λ x is. cc (is))
-          (λ x is. former_of ((x == a) || ((b == a) || false)) (has_frame frame a)
-          (former_of (x == a) ((b == a) || false) is))
-      sending-brings run (phase.Offers b from len piece taken None) frame r h step =
-          absurd (written fd c piece (slice_range h.has.whole.bytes from (piece_end from len)) r open_on
-          h.has.is_readable
+          (λ x is. former_of ((x == a) || ((s.agg == a) || has_followed s.more a)) (has_frame frame a)
+          (former_of (x == a) ((s.agg == a) || has_followed s.more a) is))
+      sending-brings run (phase.Offers s piece) frame r h step =
+          absurd (written fd c piece (slice_range h.has.whole.bytes s.from (piece_end s)) r open_on h.has.is_readable
           step)
-      sending-brings run (phase.Swaps b from len piece taken None) frame r h step = absurd (dropped piece r step)
+      sending-brings run (phase.Swaps s piece) frame r h step = absurd (dropped piece r step)
       sending-brings run (phase.Sent b taken None) frame r h step = absurd (dropped b r step)
       sending-brings run (phase.Breaks piece b None) frame r h step = absurd (dropped piece r step)
       sending-brings run (phase.Drops b None) frame r h step = absurd (dropped b r step)
@@ -202,18 +201,17 @@ module _ (come : AggregatesComeAndGo) (own : CallsServeTheirDomain) (m n : State
           (λ z. Leaves (conn.after_reply (in_phase w (phase.Heads k)) z received).phase) r step
           (own.make m n server (conn.text_of (serve w) k) r order step) (λ x is. is) (λ x is. cc (is))
           (λ x is. headed-first x (count_of received) (conn.following k) a is)
-      left-brings expected (phase.Sends b len taken more) r received is has step =
-          absurd (written fd c b has.bytes r open_on has.is_readable step)
-      left-brings expected (phase.Cuts b from len taken more) r received is has step =
-          made (call.AggCut b from (piece_end from len)) (slice_range has.0.bytes from (piece_end from len))
-          (λ z. Leaves (conn.after_reply (in_phase w (phase.Cuts b from len taken more)) z received).phase) r step
-          (own.cut m n server b from (piece_end from len) has.0.bytes r order has.0.is_readable step) (λ x is. is)
-          (λ x is. cc (is)) (λ x is. former_of (x == a) ((b == a) || has_followed more a) is)
-      left-brings expected (phase.Offers b from len piece taken more) r received is has step =
-          absurd (written fd c piece (slice_range has.whole.bytes from (piece_end from len)) r open_on has.is_readable
+      left-brings expected (phase.Sends s) r received is has step =
+          absurd (written fd c s.agg has.0.bytes r open_on has.0.is_readable step)
+      left-brings expected (phase.Cuts s) r received is has step =
+          made (call.AggCut s.agg s.from (piece_end s)) (slice_range has.0.bytes s.from (piece_end s))
+          (λ z. Leaves (conn.after_reply (in_phase w (phase.Cuts s)) z received).phase) r step
+          (own.cut m n server s.agg s.from (piece_end s) has.0.bytes r order has.0.is_readable step) (λ x is. is)
+          (λ x is. cc (is)) (λ x is. former_of (x == a) ((s.agg == a) || has_followed s.more a) is)
+      left-brings expected (phase.Offers s piece) r received is has step =
+          absurd (written fd c piece (slice_range has.whole.bytes s.from (piece_end s)) r open_on has.is_readable
           step)
-      left-brings expected (phase.Swaps b from len piece taken more) r received is has step =
-          absurd (dropped piece r step)
+      left-brings expected (phase.Swaps s piece) r received is has step = absurd (dropped piece r step)
       left-brings expected (phase.Sent b taken more) r received is has step = absurd (dropped b r step)
       left-brings expected (phase.Breaks piece b more) r received is has step = absurd (dropped piece r step)
       left-brings expected (phase.Drops b more) r received is has step = absurd (dropped b r step)

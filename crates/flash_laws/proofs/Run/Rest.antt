@@ -3,7 +3,7 @@
 use Rattle.std.proofs.Common.{inl, ◌≡◌, ℕ, ◌+◌, ◌==◌, ◌≤◌, List, [], ◌++◌, length, drop, ap, ◌∙◌, refl, sym, subst}
 use Rattle.std.proofs.Common.{arith, Some, None, true, false, Bool, append-nil, length-append, length-drop}
 use Rattle.std.proofs.Common.{if◌then◌else◌}
-use Rattle.std.specs.Prelude.{not, nat_lt, slice_range}
+use Rattle.std.specs.Prelude.{not, slice_range}
 use Rattle.std.proofs.lemmas.Bool.{or_parts}
 use Rattle.iol_core.specs.State.{State, descriptor}
 use Rattle.iol_core.specs.Run.{StepsTo}
@@ -15,28 +15,30 @@ use Rattle.iol_core.specs.declared.events.Event.TheVariants as event
 use Rattle.iol_core.specs.declared.events.Reply.{Reply}
 use Rattle.iol_core.specs.declared.events.Reply.TheVariants as reply
 use Rattle.iol_laws.specs.Caller as caller
-use Rattle.iol_laws.specs.Caller.{CallsServeTheirDomain, readable_at}
+use Rattle.iol_laws.specs.Caller.{CallsServeTheirDomain}
 use Rattle.iol_laws.specs.Frame.{EachStepLeavesTheRest}
 use Rattle.iol_laws.specs.Order.{IsOrderly}
 use Rattle.flash_http.specs.Request.{serve, Wanted}
 use Rattle.flash_laws.specs.Answers.{error_text}
 use Rattle.flash_laws.specs.Conn as conn
-use Rattle.flash_laws.specs.Conn.{piece_end}
-use Rattle.flash_laws.specs.Conn.Fits.{Has, Names}
+use Rattle.flash_laws.specs.Conn.{Following, has_followed, piece_end, after_taking}
+use Rattle.flash_laws.specs.Conn.Fits.{Has, Names, HoldsRestFrom}
 use Rattle.flash_laws.specs.Conn.Progress.{is_busy}
 use Rattle.flash_laws.specs.Run.Fits.{Progress, Ran, Broken, NotRun, IsLeft, HasNone, sent_agg, IsPart, IsSending}
-use Rattle.flash_laws.specs.Run.Fits.{HasRest, HasLeft}
+use Rattle.flash_laws.specs.Run.Fits.{last_agg, HasRest, HasLeft}
 use Rattle.flash_laws.specs.Conn.OfferedBytes.{taken_of, newly_taken, is_dropping}
 use Rattle.flash_laws.specs.Run.OfferedBytes.{takes_on, PartLearns}
 use Rattle.flash_laws.specs.Run.{in_phase, is_left}
 use Rattle.flash_laws.specs.Site.{server}
 use Rattle.flash_laws.specs.declared.phase.Payload.TheVariants.{Error}
+use Rattle.flash_laws.specs.declared.phase.Sending.{Sending}
 use Rattle.flash_laws.specs.declared.phase.Phase.{Phase}
 use Rattle.flash_laws.specs.declared.phase.Phase.TheVariants as phase
 use Rattle.flash_laws.proofs.Conn.AnswerParts as having
 use Rattle.flash_laws.proofs.Conn.ReadableBytes.{readable-stays}
-use Rattle.flash_laws.proofs.Lists.{turned, few-taken}
-use Rattle.flash_laws.proofs.Moves.{written, after-done, after-agg, after-write, either-way}
+use Rattle.flash_laws.proofs.Lists.{turned, few-taken, few-whole, least-taken}
+use Rattle.flash_laws.proofs.Run.Stays.{last-on}
+use Rattle.flash_laws.proofs.Moves.{written, after-done, after-agg, after-write, either-next}
 use Rattle.flash_laws.proofs.Conn.TakenBytes.{takes}
 
 -- what a phase that sends all that is expected has
@@ -96,26 +98,25 @@ module _ (steps : EachStepLeavesTheRest) (own : CallsServeTheirDomain) (m n : St
   abbrev Sends : State → Phase → Type 0
   Sends s d = SendsAll s w expected d
 
-  is_readable : (k : Call) (r : Reply) → StepsTo m (event.Call server k) r n → (a : ℕ)
-      → gives_up (event.Call server k) server a ≡ false → readable_at m server a ≡ Some expected
-      → readable_at n server a ≡ Some expected
-  is_readable k r step a un is = readable-stays steps m n (event.Call server k) r step a expected is un
+  is_readable : (k : Call) (r : Reply) → StepsTo m (event.Call server k) r n → (a : ℕ) (more : Following)
+      → gives_up (event.Call server k) server a ≡ false → IsPart m (last_agg a more) expected
+      → IsPart n (last_agg a more) expected
+  is_readable k r step a more un is =
+      last-on m n a more expected (λ is. readable-stays steps m n (event.Call server k) r step a expected is un) is
 
   -- ---- how much is taken
 
   -- a part that is not sent whole is sent on
-  abbrev Sending : Phase → Type 0
-  Sending e = is_busy e ≡ true
+  abbrev IsBusy : Phase → Type 0
+  IsBusy e = is_busy e ≡ true
 
   stays-busy : (d : Phase) (r : Reply) (received : List ℕ) → Sends m d → is_sent d ≡ false → is_dropping d ≡ false
-      → Sending (conn.after_reply (in_phase w d) r received).phase
-  stays-busy (phase.Sends a len taken None) r received has unsent at =
-      after-write Sending r refl refl (λ k. either-way Sending (nat_lt k len) refl refl)
-  stays-busy (phase.Cuts a from len taken None) r received has unsent at = after-agg Sending r refl (λ x. refl)
-  stays-busy (phase.Offers a from len piece taken None) r received has unsent at =
-      after-write Sending r refl refl (λ k. refl)
-  stays-busy (phase.Swaps a from len piece taken None) r received has unsent at =
-      after-done Sending r refl (either-way Sending (nat_lt from len) refl refl)
+      → IsBusy (conn.after_reply (in_phase w d) r received).phase
+  stays-busy (phase.Sends s) r received has unsent at =
+      after-write IsBusy r refl refl (λ k. either-next IsBusy (after_taking s k) refl refl)
+  stays-busy (phase.Cuts s) r received has unsent at = after-agg IsBusy r refl (λ x. refl)
+  stays-busy (phase.Offers s piece) r received has unsent at = after-write IsBusy r refl refl (λ k. refl)
+  stays-busy (phase.Swaps s piece) r received has unsent at = after-done IsBusy r refl (either-next IsBusy s refl refl)
   stays-busy (phase.Sent a taken None) r received has unsent at = absurd (cc (unsent))
   stays-busy (phase.Breaks piece a None) r received has unsent at = absurd (cc (at))
   stays-busy (phase.Drops a None) r received has unsent at = absurd (cc (at))
@@ -140,59 +141,57 @@ module _ (steps : EachStepLeavesTheRest) (own : CallsServeTheirDomain) (m n : St
   both : (d : Phase) → Has n (serve w) expected d → Goes d → Sends n d
   both d has goes = (has, goes.0, goes.1)
 
-  pub sends : (fd c a len taken : ℕ) (r : Reply) → descriptor m server fd ≡ Some (on.Connection c)
-      → Sends m (phase.Sends a len taken None)
-      → StepsTo m (event.Call server (call.IolWrite fd a)) r n → Sends n (conn.after_send a len taken None r)
-  sends fd c a len taken r open_on has step =
-      let here = is_readable (call.IolWrite fd a) r step a refl has.1 in
-      let size = has.0.size in
-      let most = most-left has.0.bytes has.0.after expected taken has.0.next has.2 in
-      both (conn.after_send a len taken None r)
-      (having.sends steps own m n order (serve w) fd c a len taken None expected r open_on has.0 step)
-      (written m n Goes c has.0.bytes r
-      (own.write_conn m n server fd c a has.0.bytes r order open_on has.0.is_readable step) (λ same. (here, has.2))
-      (λ same. (here, omega arith))
-      (λ k puts. let within = puts.within in
-      either-way Goes (nat_lt k len) (here, omega (arith, within, most)) (here, omega (arith, size, most))))
+  -- the first of the bytes that are left are taken
+  taking : (s : Sending) (k : ℕ) (h : HoldsRestFrom m expected s) → s.taken ≤ length expected
+      → k ≤ length (drop s.from h.bytes) → (after_taking s k).taken ≤ length expected
+  taking s k h within few =
+      let most = most-left (drop s.from h.bytes) h.after expected s.taken h.next within in
+      let same = least-taken k s.from s.len h.bytes h.size few in
+      omega (arith, most, few, same)
 
-  pub cuts : (a from len taken : ℕ) (r : Reply) → Sends m (phase.Cuts a from len taken None)
-      → StepsTo m (event.Call server (call.AggCut a from (piece_end from len))) r n
-      → Sends n (conn.after_cut a from len taken None r)
-  cuts a from len taken r has step =
-      let here = is_readable (call.AggCut a from (piece_end from len)) r step a refl has.1 in
-      both (conn.after_cut a from len taken None r)
-      (having.cuts steps own m n order (serve w) a from len taken None expected r has.0 step)
+  pub sends : (fd c : ℕ) (s : Sending) (r : Reply) → descriptor m server fd ≡ Some (on.Connection c)
+      → Sends m (phase.Sends s)
+      → StepsTo m (event.Call server (call.IolWrite fd s.agg)) r n → Sends n (conn.after_send s r)
+  sends fd c s r open_on has step =
+      let here = is_readable (call.IolWrite fd s.agg) r step s.agg s.more refl has.1 in
+      let h : HoldsRestFrom m expected s = has.0.0 in
+      both (conn.after_send s r) (having.sends steps own m n order (serve w) fd c s expected r open_on has.0 step)
+      (written m n Goes c h.bytes r (own.write_conn m n server fd c s.agg h.bytes r order open_on h.is_readable step)
+      (λ same. (here, has.2)) (λ same. (here, omega arith))
+      (λ k puts. let fit = taking s k h has.2 (few-whole k s h.bytes has.0.1 puts.within) in
+      either-next Goes (after_taking s k) (here, fit) (here, fit)))
+
+  pub cuts : (s : Sending) (r : Reply) → Sends m (phase.Cuts s)
+      → StepsTo m (event.Call server (call.AggCut s.agg s.from (piece_end s))) r n → Sends n (conn.after_cut s r)
+  cuts s r has step =
+      let here = is_readable (call.AggCut s.agg s.from (piece_end s)) r step s.agg s.more refl has.1 in
+      both (conn.after_cut s r) (having.cuts steps own m n order (serve w) s expected r has.0 step)
       (after-agg Goes r (here, has.2) (λ x. (here, has.2)))
 
-  pub offers : (fd c a from len piece taken : ℕ) (r : Reply) → descriptor m server fd ≡ Some (on.Connection c)
-      → Sends m (phase.Offers a from len piece taken None)
-      → StepsTo m (event.Call server (call.IolWrite fd piece)) r n
-      → Sends n (conn.after_offer a from len piece taken None r)
-  offers fd c a from len piece taken r open_on has step =
-      let here = is_readable (call.IolWrite fd piece) r step a refl has.1 in
-      let bytes = slice_range has.0.whole.bytes from (piece_end from len) in
-      let most = most-left (drop from has.0.whole.bytes) has.0.whole.after expected taken has.0.whole.next has.2 in
-      both (conn.after_offer a from len piece taken None r)
-      (having.offers_piece steps own m n order (serve w) fd c a from len piece taken None expected r open_on has.0 step)
+  pub offers : (fd c : ℕ) (s : Sending) (piece : ℕ) (r : Reply) → descriptor m server fd ≡ Some (on.Connection c)
+      → Sends m (phase.Offers s piece)
+      → StepsTo m (event.Call server (call.IolWrite fd piece)) r n → Sends n (conn.after_offer s piece r)
+  offers fd c s piece r open_on has step =
+      let here = is_readable (call.IolWrite fd piece) r step s.agg s.more refl has.1 in
+      let bytes = slice_range has.0.whole.bytes s.from (piece_end s) in
+      both (conn.after_offer s piece r)
+      (having.offers_piece steps own m n order (serve w) fd c s piece expected r open_on has.0 step)
       (written m n Goes c bytes r (own.write_conn m n server fd c piece bytes r order open_on has.0.is_readable step)
       (λ same. (here, has.2)) (λ same. (here, omega arith))
-      (λ k puts. let few = few-taken k from len has.0.whole.bytes has.0.whole.size puts.within in
-      let le = few.0 in
-      let same = few.1 in (here, omega (arith, most, le, same))))
+      (λ k puts. (here, taking s k has.0.whole has.2 (few-taken k s has.0.whole.bytes puts.within))))
 
-  pub swaps : (a from len piece taken : ℕ) (r : Reply) → Sends m (phase.Swaps a from len piece taken None)
-      → StepsTo m (event.Call server (call.AggDrop piece)) r n → Sends n (conn.after_swap a from len piece taken None r)
-  swaps a from len piece taken r has step =
-      let here = is_readable (call.AggDrop piece) r step a (turned a piece (or_parts (a == piece) false has.0.1).0)
-      has.1 in
-      both (conn.after_swap a from len piece taken None r)
-      (having.swaps steps own m n order (serve w) a from len piece taken None expected r has.0 step)
-      (after-done Goes r (here, has.2) (either-way Goes (nat_lt from len) (here, has.2) (here, has.2)))
+  pub swaps : (s : Sending) (piece : ℕ) (r : Reply) → Sends m (phase.Swaps s piece)
+      → StepsTo m (event.Call server (call.AggDrop piece)) r n → Sends n (conn.after_swap s piece r)
+  swaps s piece r has step =
+      let other = (or_parts (s.agg == piece) (has_followed s.more piece) has.0.1).0 in
+      let here = is_readable (call.AggDrop piece) r step s.agg s.more (turned s.agg piece other) has.1 in
+      both (conn.after_swap s piece r) (having.swaps steps own m n order (serve w) s piece expected r has.0 step)
+      (after-done Goes r (here, has.2) (either-next Goes s (here, has.2) (here, has.2)))
 
   pub breaks : (piece a : ℕ) (r : Reply) → Sends m (phase.Breaks piece a None)
       → StepsTo m (event.Call server (call.AggDrop piece)) r n → Sends n (conn.after_break piece a None r)
   breaks piece a r has step =
-      let here = is_readable (call.AggDrop piece) r step a (turned a piece (or_parts (a == piece) false has.0.1).0)
+      let here = is_readable (call.AggDrop piece) r step a None (turned a piece (or_parts (a == piece) false has.0.1).0)
       has.1 in
       both (conn.after_break piece a None r)
       (having.breaks steps own m n order (serve w) piece a None expected r has.0 step)
@@ -283,29 +282,14 @@ module _ (steps : EachStepLeavesTheRest) (own : CallsServeTheirDomain) (m n : St
           → HasLeft n w o (conn.after_head (Error status) r received)
       by (reply.Agg x) h = h
       by r h = h
-  leaving fd c (phase.Sends a len taken None) r received o left has is open_on step names = (
-    o,
-    refl,
-    proceeds-on o left (conn.after_send a len taken None r) (sends fd c a len taken r open_on (has, is.0, is.1) step),
-  )
-  leaving fd c (phase.Cuts a from len taken None) r received o left has is open_on step names = (
-    o,
-    refl,
-    proceeds-on o left (conn.after_cut a from len taken None r)
-        (cuts a from len taken r (has, is.0, is.1) step),
-  )
-  leaving fd c (phase.Offers a from len piece taken None) r received o left has is open_on step names = (
-    o,
-    refl,
-    proceeds-on o left (conn.after_offer a from len piece taken None r)
-        (offers fd c a from len piece taken r open_on (has, is.0, is.1) step),
-  )
-  leaving fd c (phase.Swaps a from len piece taken None) r received o left has is open_on step names = (
-    o,
-    refl,
-    proceeds-on o left (conn.after_swap a from len piece taken None r)
-        (swaps a from len piece taken r (has, is.0, is.1) step),
-  )
+  leaving fd c (phase.Sends s) r received o left has is open_on step names =
+      (o, refl, proceeds-on o left (conn.after_send s r) (sends fd c s r open_on (has, is.0, is.1) step))
+  leaving fd c (phase.Cuts s) r received o left has is open_on step names =
+      (o, refl, proceeds-on o left (conn.after_cut s r) (cuts s r (has, is.0, is.1) step))
+  leaving fd c (phase.Offers s piece) r received o left has is open_on step names =
+      (o, refl, proceeds-on o left (conn.after_offer s piece r) (offers fd c s piece r open_on (has, is.0, is.1) step))
+  leaving fd c (phase.Swaps s piece) r received o left has is open_on step names =
+      (o, refl, proceeds-on o left (conn.after_swap s piece r) (swaps s piece r (has, is.0, is.1) step))
   leaving fd c (phase.Breaks piece a None) r received o left has is open_on step names =
       (o, refl, proceeds-on o left (conn.after_break piece a None r) (breaks piece a r (has, is.0, is.1) step))
   leaving fd c (phase.Sent a taken None) r received o left has is open_on step names =

@@ -15,9 +15,9 @@ use Rattle.flash_laws.specs.Conn as conn
 use Rattle.flash_laws.specs.Conn.{Following, has_followed}
 use Rattle.flash_laws.specs.Conn.Fits.{IsReadable}
 use Rattle.flash_laws.specs.Run.Fits.{Progress, HasJobPipe, IsReading, HoldsOutput, IsHeld, HasFrame, HasOutput}
-use Rattle.flash_laws.specs.Run.Fits.{HasReceived, HasAll, HasPipe, sent_agg, IsPart, HasPart, HasEnd, HasStep}
-use Rattle.flash_laws.specs.Run.Fits.{IsSending, HasRest, HasLeft, HasRun}
-use Rattle.flash_laws.specs.Run.{job_pipe, has_frame, step_agg, is_reading, step_fd, uses_agg, uses_fd}
+use Rattle.flash_laws.specs.Run.Fits.{HasReceived, HasAll, HasPipe, last_agg, sent_agg, IsPart, HasPart, HasEnd}
+use Rattle.flash_laws.specs.Run.Fits.{HasStep, IsSending, HasRest, HasLeft, HasRun}
+use Rattle.flash_laws.specs.Run.{job_pipe, has_frame, step_agg, is_reading, step_fd, uses_agg, uses_fd, sends_part}
 use Rattle.flash_laws.specs.Answers.Scripts.{frame_of, end_around}
 use Rattle.flash_laws.specs.Site.{server}
 use Rattle.flash_laws.specs.declared.phase.Payload.TheVariants.{Error}
@@ -57,19 +57,31 @@ no-file m (phase.Reads f) part is g u = is
 no-file m (phase.Shuts f k) part is g u = is
 no-file m d part is g u = absurd (cc (u))
 
+after-piece : (piece a : ℕ) (more : Following) → ((piece == a) || ((a == a) || has_followed more a)) ≡ true
+after-piece piece a more =
+    later_of (piece == a) ((a == a) || has_followed more a) (first_of a (has_followed more a))
+
+-- where its aggregate stays, a part stays
+pub last-on : (m n : State) (a : ℕ) (more : Following) (part : List ℕ)
+    → (readable_at m server a ≡ Some part → readable_at n server a ≡ Some part) → IsPart m (last_agg a more) part
+    → IsPart n (last_agg a more) part
+last-on m n a None part stays is = stays is
+last-on m n a (Some x) part stays is = absurd is
+
 -- the part that is sent is used
 part-used : (m : State) (d : Phase) (part : List ℕ) (n : State) → ((a : ℕ) (bytes : List ℕ) → conn.uses_agg d a ≡ true
     → readable_at m server a ≡ Some bytes → readable_at n server a ≡ Some bytes) → IsPart m (sent_agg d) part
     → IsPart n (sent_agg d) part
-part-used m (phase.Sends a len taken None) part n is_readable is = is_readable a part (first_of a (false)) is
-part-used m (phase.Cuts a from len taken None) part n is_readable is = is_readable a part (first_of a (false)) is
-part-used m (phase.Offers a from len piece taken None) part n is_readable is =
-    is_readable a part (later_of (piece == a) ((a == a) || false) (first_of a (false))) is
-part-used m (phase.Swaps a from len piece taken None) part n is_readable is =
-    is_readable a part (later_of (piece == a) ((a == a) || false) (first_of a (false))) is
+part-used m (phase.Sends s) part n is_readable is =
+    last-on m n s.agg s.more part (is_readable s.agg part (first_of s.agg (has_followed s.more s.agg))) is
+part-used m (phase.Cuts s) part n is_readable is =
+    last-on m n s.agg s.more part (is_readable s.agg part (first_of s.agg (has_followed s.more s.agg))) is
+part-used m (phase.Offers s piece) part n is_readable is =
+    last-on m n s.agg s.more part (is_readable s.agg part (after-piece piece s.agg s.more)) is
+part-used m (phase.Swaps s piece) part n is_readable is =
+    last-on m n s.agg s.more part (is_readable s.agg part (after-piece piece s.agg s.more)) is
 part-used m (phase.Sent a taken None) part n is_readable is = is_readable a part (first_of a (false)) is
-part-used m (phase.Breaks piece a None) part n is_readable is =
-    is_readable a part (later_of (piece == a) ((a == a) || false) (first_of a (false))) is
+part-used m (phase.Breaks piece a None) part n is_readable is = is_readable a part (after-piece piece a None) is
 part-used m (phase.Drops a None) part n is_readable is = is_readable a part (first_of a (false)) is
 part-used m d part n is_readable is = absurd is
 
@@ -268,7 +280,7 @@ module _ (m n : State) where
           (first_of held ((chunk == held) || (frame == held))) is_readable has.0.0,
       has.0.1,
     ),
-    has-part-on w o run (phase.Sends chunk len 0 None) (Some frame) (reads run (Trims held chunk len frame) refl opens)
+    has-part-on w o run (sends_part chunk len) (Some frame) (reads run (Trims held chunk len frame) refl opens)
         (λ a bytes u is. is_readable a bytes
         (later_of (held == a) ((chunk == a) || (frame == a)) (plain (chunk == a) (frame == a) u)) is) has.1,
   )
@@ -346,21 +358,7 @@ module _ (m n : State) where
   sending-on : (expected : List ℕ) (d : Phase) → IsReadableOn (λ a. conn.uses_agg d a) → IsSending m expected d
       → IsSending n expected d
   sending-on expected (phase.Heads (Error status)) is_readable has = tt
-  sending-on expected (phase.Sends a len taken None) is_readable has =
-      (part-used m (phase.Sends a len taken None) expected n is_readable has.0, has.1)
-  sending-on expected (phase.Cuts a from len taken None) is_readable has =
-      (part-used m (phase.Cuts a from len taken None) expected n is_readable has.0, has.1)
-  sending-on expected (phase.Offers a from len piece taken None) is_readable has =
-      (part-used m (phase.Offers a from len piece taken None) expected n is_readable has.0, has.1)
-  sending-on expected (phase.Swaps a from len piece taken None) is_readable has =
-      (part-used m (phase.Swaps a from len piece taken None) expected n is_readable has.0, has.1)
-  sending-on expected (phase.Sent a taken None) is_readable has =
-      (part-used m (phase.Sent a taken None) expected n is_readable has.0, has.1)
-  sending-on expected (phase.Breaks piece a None) is_readable has =
-      (part-used m (phase.Breaks piece a None) expected n is_readable has.0, has.1)
-  sending-on expected (phase.Drops a None) is_readable has =
-      (part-used m (phase.Drops a None) expected n is_readable has.0, has.1)
-  sending-on expected d is_readable has = absurd has.0
+  sending-on expected d is_readable has = (part-used m d expected n is_readable has.0, has.1)
 
   rest-on : (w : Wanted) (o : Progress) (d : Phase) → IsReadableOn (λ a. conn.uses_agg d a)
       → OpensOn (λ g. conn.uses_fd d g)

@@ -21,20 +21,19 @@ use Rattle.iol_laws.specs.Order.{IsOrderly}
 use Rattle.iol_laws.specs.Caller as caller
 use Rattle.iol_laws.specs.Caller.{CallsServeTheirDomain, readable_at}
 use Rattle.flash_http.specs.Chunk.{chunk_head, chunk_end, chunk}
-use Rattle.flash_http.specs.Request.{Wanted}
+use Rattle.flash_http.specs.Request.{serve, Wanted}
 use Rattle.flash_laws.specs.Moves.{or_stay, on_done}
 use Rattle.flash_laws.specs.Conn.{Following, has_followed, count_of}
-use Rattle.flash_laws.specs.Conn.Fits.{HoldsRest, Names}
+use Rattle.flash_laws.specs.Conn.Fits.{Names, Has}
 use Rattle.flash_laws.specs.Run.Fits.{Progress, Broken, nothing_yet, HoldsBack, Continues, Goes, HasJobPipe, IsReading}
 use Rattle.flash_laws.specs.Run.Fits.{IsHeld, HasFrame, meets, HasOutput, HasReceived, sends_frame, HasChunk, HasStep}
 use Rattle.flash_laws.specs.Run.Fits.{HasRun}
 use Rattle.flash_laws.specs.Run.OfferedBytes.{receives_on, Learns}
 use Rattle.flash_laws.specs.Run.{both, worker_domain, job_pipe, has_frame, step_agg, uses_fd, held_size, is_again}
 use Rattle.flash_laws.specs.Run.{broken, after_wait, after_give, after_make, after_hand, after_head, filled, holding}
-use Rattle.flash_laws.specs.Run.{hearing, unread, after_output, after_gather, after_frame, after_wrap}
+use Rattle.flash_laws.specs.Run.{hearing, unread, after_output, after_gather, after_frame, after_wrap, sends_part}
 use Rattle.flash_laws.specs.Answers.Scripts.{script_text, frame_of, place_in_frame}
 use Rattle.flash_laws.specs.Site.{server}
-use Rattle.flash_laws.specs.declared.phase.Phase.TheVariants as phase
 use Rattle.flash_laws.specs.declared.script_run.TheConstants.{CHUNK_BYTES}
 use Rattle.flash_laws.specs.declared.script_run.Run.{Run}
 use Rattle.flash_laws.specs.declared.script_run.Step.{Step}
@@ -54,18 +53,20 @@ use Rattle.flash_laws.proofs.Run.Parts.{other, no-position, new-frame, proceeds-
 use Rattle.flash_laws.proofs.Run.Stays.{run_stays, frame-on, hired-on, reading-on, write-elsewhere}
 
 -- a part that is not yet sent
-pub begun : (n : State) (a len : ℕ) (part : List ℕ) → readable_at n server a ≡ Some part → len ≡ length part
-    → HoldsRest n part a len 0 None
-begun n a len part is_readable size =
-    record {
-      bytes = part;
-      after = [];
-      is_readable = is_readable;
-      size = size;
-      follows = refl;
-      next = append-nil part;
-      apart = refl;
-    }
+pub begun : (n : State) (w : Wanted) (a len : ℕ) (part : List ℕ) → readable_at n server a ≡ Some part
+    → len ≡ length part → Has n (serve w) part (sends_part a len)
+begun n w a len part is_readable size = (
+  record {
+    bytes = part;
+    after = [];
+    is_readable = is_readable;
+    size = size;
+    follows = refl;
+    next = append-nil part;
+    apart = refl;
+  },
+  refl,
+)
 
 module _ (steps : EachStepLeavesTheRest) (own : CallsServeTheirDomain) (m n : State) (order : IsOrderly m) (job : ℕ
     → List ℕ) (w : Wanted) where
@@ -215,7 +216,7 @@ module _ (steps : EachStepLeavesTheRest) (own : CallsServeTheirDomain) (m n : St
             frames = tt;
             part = script_text w;
             is_part = readable;
-            has = begun n x (count_of received) (script_text w) readable
+            has = begun n w x (count_of received) (script_text w) readable
                 (ap (λ (l : List ℕ). count_of l) receives
                 ∙ counted (script_text w)
                 (made-short m n server x (script_text w)
@@ -291,7 +292,7 @@ module _ (steps : EachStepLeavesTheRest) (own : CallsServeTheirDomain) (m n : St
     none-held s (Some x) bytes has plain = let c = has.chunked in absurd (cc (c, plain))
 
     off-frame : (a : ℕ) (frame : Option ℕ) → has_frame frame a ≡ false
-        → sends_frame (phase.Sends a 0 0 None) frame ≡ false
+        → sends_frame (sends_part a 0) frame ≡ false
     off-frame a None apart = refl
     off-frame a (Some f) apart = or_from (a == f) false (turned f a apart) refl
 
@@ -329,7 +330,7 @@ module _ (steps : EachStepLeavesTheRest) (own : CallsServeTheirDomain) (m n : St
               frames = h.has.frames;
               part = b ∷ new;
               is_part = readable;
-              has = begun n x (count_of (b ∷ new)) (b ∷ new) readable count;
+              has = begun n w x (count_of (b ∷ new)) (b ∷ new) readable count;
               within = omega arith;
               apart = off-frame x frame apart;
               whole = is_c;
@@ -504,7 +505,7 @@ module _ (steps : EachStepLeavesTheRest) (own : CallsServeTheirDomain) (m n : St
                   part = chunk has.0.bytes;
                   is_part = readable;
                   has =
-                      begun n x (count_of received) (chunk has.0.bytes) readable
+                      begun n w x (count_of received) (chunk has.0.bytes) readable
                       (ap (λ (l : List ℕ). count_of l) (receives ∙ is_chunk)
                       ∙ counted (chunk has.0.bytes)
                       (short-chunk (length has.0.bytes) has.0.bytes chunk_end few (omega arith)));

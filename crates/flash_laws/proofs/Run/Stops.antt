@@ -27,9 +27,9 @@ use Rattle.flash_laws.specs.Run.Fits.{HasAll, HasStep, HasNone, HasRun}
 use Rattle.flash_laws.specs.Run.OfferedBytes.{Learns}
 use Rattle.flash_laws.specs.Run.{job_pipe, step_agg, uses_fd, finishing, stopped, after_stop, after_release_frame}
 use Rattle.flash_laws.specs.Run.{ending, after_last, after_wrap_last, after_unwrap, after_return, after_fail}
+use Rattle.flash_laws.specs.Run.{sends_part}
 use Rattle.flash_laws.specs.Answers.Scripts.{script_body, place_in_frame, end_around}
 use Rattle.flash_laws.specs.Site.{server}
-use Rattle.flash_laws.specs.declared.phase.Phase.TheVariants as phase
 use Rattle.flash_laws.specs.declared.script_run.TheConstants.{CHUNK_BYTES}
 use Rattle.flash_laws.specs.declared.script_run.Run.{Run}
 use Rattle.flash_laws.specs.declared.script_run.Step.{Step}
@@ -183,7 +183,7 @@ module _ (steps : EachStepLeavesTheRest) (own : CallsServeTheirDomain) (m n : St
         last o None x len hired holds off readable count left = record {
           expected = last_chunk;
           left = subst (λ (l : List ℕ). IsLeft w o (script_body true l)) holds left;
-          has = begun n x len last_chunk readable count;
+          has = begun n w x len last_chunk readable count;
           sends = (readable, omega arith);
         }
         last o (Some y) x len hired holds off readable count left = (
@@ -258,12 +258,12 @@ module _ (steps : EachStepLeavesTheRest) (own : CallsServeTheirDomain) (m n : St
         has.1.is_readable) has.1.count)
       where
         over : (o : Progress) (bytes : List ℕ) → IsLeft w o bytes → readable_at n server a ≡ Some bytes
-            → len ≡ length bytes → HasRun job n w o (Leaves (phase.Sends a len 0 None))
+            → len ≡ length bytes → HasRun job n w o (Leaves (sends_part a len))
         over o bytes left readable count =
             record {
               expected = bytes;
               left = left;
-              has = begun n a len bytes readable count;
+              has = begun n w a len bytes readable count;
               sends =
                   (readable, omega arith);
             }

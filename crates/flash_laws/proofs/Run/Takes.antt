@@ -185,16 +185,16 @@ module _ (steps : EachStepLeavesTheRest) (own : CallsServeTheirDomain) (m n : St
       → breaks_off (after_sending run d frame r) ≡ false
       → past_of after + taken_by (after_sending run d frame r) ≡ past_of before + taken_of d + newly_taken fd
       (conn.wants fd (in_phase w d)) r
-  sending run (phase.Sends a len taken None) frame r before after h step learns at on =
-      part h.part (phase.Sends a len taken None) r [] before after (h.has, h.is_part, h.within) step refl refl on learns
-  sending run (phase.Cuts a from len taken None) frame r before after h step learns at on =
-      part h.part (phase.Cuts a from len taken None) r [] before after (h.has, h.is_part, h.within) step refl refl on
+  sending run (phase.Sends s) frame r before after h step learns at on =
+      part h.part (phase.Sends s) r [] before after (h.has, h.is_part, h.within) step refl refl on learns
+  sending run (phase.Cuts s) frame r before after h step learns at on =
+      part h.part (phase.Cuts s) r [] before after (h.has, h.is_part, h.within) step refl refl on
       learns
-  sending run (phase.Offers a from len piece taken None) frame r before after h step learns at on =
-      part h.part (phase.Offers a from len piece taken None) r [] before after (h.has, h.is_part, h.within) step refl
+  sending run (phase.Offers s piece) frame r before after h step learns at on =
+      part h.part (phase.Offers s piece) r [] before after (h.has, h.is_part, h.within) step refl
       refl on learns
-  sending run (phase.Swaps a from len piece taken None) frame r before after h step learns at on =
-      part h.part (phase.Swaps a from len piece taken None) r [] before after (h.has, h.is_part, h.within) step refl
+  sending run (phase.Swaps s piece) frame r before after h step learns at on =
+      part h.part (phase.Swaps s piece) r [] before after (h.has, h.is_part, h.within) step refl
       refl on learns
   sending run (phase.Sent a taken None) frame r before after h step learns at on =
       by r (own.drops m n server a r order step) learns
@@ -288,14 +288,14 @@ module _ (why : RefusalsTellWhy) (m n : State) (fd c : ℕ) (open_on : descripto
         → HasPart m w o run d frame
         → StepsTo m (event.Call server (conn.wants fd (in_phase w d))) r n → is_dropping d ≡ false
         → breaks_off (after_sending run d frame r) ≡ true → is_gone (conn_at m c).peer ≡ true
-    sending-drops w o run (phase.Sends a len taken None) frame r h step at off =
-        aborts w (phase.Sends a len taken None) r [] refl step at off
-    sending-drops w o run (phase.Cuts a from len taken None) frame r h step at off =
-        aborts w (phase.Cuts a from len taken None) r [] refl step at off
-    sending-drops w o run (phase.Offers a from len piece taken None) frame r h step at off =
-        aborts w (phase.Offers a from len piece taken None) r [] refl step at off
-    sending-drops w o run (phase.Swaps a from len piece taken None) frame r h step at off =
-        aborts w (phase.Swaps a from len piece taken None) r [] refl step at off
+    sending-drops w o run (phase.Sends s) frame r h step at off =
+        aborts w (phase.Sends s) r [] refl step at off
+    sending-drops w o run (phase.Cuts s) frame r h step at off =
+        aborts w (phase.Cuts s) r [] refl step at off
+    sending-drops w o run (phase.Offers s piece) frame r h step at off =
+        aborts w (phase.Offers s piece) r [] refl step at off
+    sending-drops w o run (phase.Swaps s piece) frame r h step at off =
+        aborts w (phase.Swaps s piece) r [] refl step at off
     sending-drops w o run (phase.Sent a taken None) frame reply.Done h step at off =
         absurd (clash run.broken off h.whole)
     sending-drops w o run (phase.Sent a taken None) frame r h step at off = absurd (cc (off))

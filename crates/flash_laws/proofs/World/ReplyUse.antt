@@ -138,10 +138,10 @@ left-fd w d r received g left u = elim (uses_fd-after_reply [] (serve w) d r rec
     made : (r : Reply) → is_fd r g ≡ true → (d : Phase) → is_left d ≡ true
         → conn.uses_fd (conn.after_reply (in_phase w d) r received).phase g ≡ true → ⊥
     made (reply.Fd f) new (Heads k) left u = cc (u)
-    made (reply.Fd f) new (Sends a len taken more) left u = cc (u)
-    made (reply.Fd f) new (Cuts a from len taken more) left u = cc (u)
-    made (reply.Fd f) new (Offers a from len piece taken more) left u = cc (u)
-    made (reply.Fd f) new (Swaps a from len piece taken more) left u = cc (u)
+    made (reply.Fd f) new (Sends s) left u = cc (u)
+    made (reply.Fd f) new (Cuts s) left u = cc (u)
+    made (reply.Fd f) new (Offers s piece) left u = cc (u)
+    made (reply.Fd f) new (Swaps s piece) left u = cc (u)
     made (reply.Fd f) new (Sent a taken more) left u = cc (u)
     made (reply.Fd f) new (Breaks piece a more) left u = cc (u)
     made (reply.Fd f) new (Drops a more) left u = cc (u)

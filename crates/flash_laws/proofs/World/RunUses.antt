@@ -14,6 +14,7 @@ use Rattle.flash_laws.specs.Conn.Fits.{IsReadable}
 use Rattle.flash_laws.specs.Run.Fits.{Progress, HasStep, HasRun, HasLeft, HasFrame, IsHeld, HasOutput, HasPart}
 use Rattle.flash_laws.specs.Run.Holdings.{has_end}
 use Rattle.flash_laws.specs.Run.{has_frame, step_agg, ends_of, is_reading, step_fd, uses_agg, is_again, after_sending, holding, filled, hearing, after_output, both, finishing, after_step, after_reply}
+use Rattle.flash_laws.specs.Run.{sends_part, in_phase}
 use Rattle.flash_laws.specs.Site.{server}
 use Rattle.flash_laws.specs.declared.phase.Phase.{Phase}
 use Rattle.flash_laws.specs.declared.phase.Phase.TheVariants as phase
@@ -40,22 +41,26 @@ module _ (worker : ℕ) (w : Wanted) (run : Run) (a : ℕ) where
   abbrev UsesNew : Step → Reply → Running → Type 0
   UsesNew s r z = uses_agg z a ≡ true → New r a (step_agg s a)
 
-  part-new : (d : Phase) (frame : Option ℕ) (r : Reply) (after : Phase)
-      → (conn.uses_agg after a ≡ true → (conn.uses_agg d a ≡ true) ⊎ (is_agg r a ≡ true))
-      → (conn.uses_agg after a || has_frame frame a) ≡ true → New r a (conn.uses_agg d a || has_frame frame a)
-  part-new d frame r after new u = elim (one-of (conn.uses_agg after a) (has_frame frame a) u) [
-    | inl is ↦ elim (new is) [ inl old ↦ inl (former_of (conn.uses_agg d a) (has_frame frame a) old) | inr made ↦ inr made ]
+  part-new : (d : Phase) (frame : Option ℕ) (r : Reply)
+      → (conn.uses_agg (conn.after_reply (in_phase w d) r []).phase a || has_frame frame a) ≡ true
+      → New r a (conn.uses_agg d a || has_frame frame a)
+  part-new d frame r u = elim
+      (one-of (conn.uses_agg (conn.after_reply (in_phase w d) r []).phase a) (has_frame frame a) u) [
+    | inl is ↦ elim (uses-after_reply [] (serve w) d r [] a is) [
+      | inl old ↦ inl (former_of (conn.uses_agg d a) (has_frame frame a) old)
+      | inr made ↦ inr made
+    ]
     | inr is ↦ inl (later_of (conn.uses_agg d a) (has_frame frame a) is)
   ]
 
   sending-new : (d : Phase) (frame : Option ℕ) (r : Reply) → UsesNew (Sending d frame) r (after_sending run d frame r)
   sending-new (phase.Sent b taken None) frame reply.Done u = inl (later_of ((b == a) || false) (has_frame frame a) u)
   sending-new (phase.Drops b None) frame reply.Done u = inl (later_of ((b == a) || false) (has_frame frame a) u)
-  sending-new (phase.Sends b len taken more) frame r u = part-new (phase.Sends b len taken more) frame r (conn.after_send b len taken more r) (uses-after_reply [] (serve w) (phase.Sends b len taken more) r [] a) u
-  sending-new (phase.Cuts b from len taken more) frame r u = part-new (phase.Cuts b from len taken more) frame r (conn.after_cut b from len taken more r) (uses-after_reply [] (serve w) (phase.Cuts b from len taken more) r [] a) u
-  sending-new (phase.Offers b from len piece taken more) frame r u = part-new (phase.Offers b from len piece taken more) frame r (conn.after_offer b from len piece taken more r) (uses-after_reply [] (serve w) (phase.Offers b from len piece taken more) r [] a) u
-  sending-new (phase.Swaps b from len piece taken more) frame r u = part-new (phase.Swaps b from len piece taken more) frame r (conn.after_swap b from len piece taken more r) (uses-after_reply [] (serve w) (phase.Swaps b from len piece taken more) r [] a) u
-  sending-new (phase.Breaks piece b more) frame r u = part-new (phase.Breaks piece b more) frame r (conn.after_break piece b more r) (uses-after_reply [] (serve w) (phase.Breaks piece b more) r [] a) u
+  sending-new (phase.Sends s) frame r u = part-new (phase.Sends s) frame r u
+  sending-new (phase.Cuts s) frame r u = part-new (phase.Cuts s) frame r u
+  sending-new (phase.Offers s piece) frame r u = part-new (phase.Offers s piece) frame r u
+  sending-new (phase.Swaps s piece) frame r u = part-new (phase.Swaps s piece) frame r u
+  sending-new (phase.Breaks piece b more) frame r u = part-new (phase.Breaks piece b more) frame r u
   sending-new d frame r u = inl u
 
   holding-new : (n size : ℕ) (frame : Option ℕ) (r : Reply) (was : Bool) → (n == a ≡ true → is_agg r a ≡ true) → (has_frame frame a ≡ true → was ≡ true)
@@ -273,7 +278,7 @@ module _ (m : State) (a : ℕ) where
   step-there job w o run (Frames held) u has = at held u has.bytes has.is_readable
   step-there job w o run (Wraps held frame) u has = two held (frame == a) u has.0.bytes has.0.is_readable (λ is. at frame is _ has.1)
   step-there job w o run (Trims held chunk len frame) u has = two held ((chunk == a) || (frame == a)) u has.0.0.0 has.0.0.1
-      (λ v. part-there w o run (phase.Sends chunk len 0 None) (Some frame) (widen (chunk == a) (frame == a) v) has.1)
+      (λ v. part-there w o run (sends_part chunk len) (Some frame) (widen (chunk == a) (frame == a) v) has.1)
     where
       widen : (x y : Bool) → (x || y) ≡ true → ((x || false) || y) ≡ true
       widen true y v = refl

@@ -11,11 +11,12 @@ use Rattle.iol_core.specs.declared.events.Reply.TheVariants as reply
 use Rattle.flash_http.specs.Request.{Answer, serve, refuse, Wanted}
 use Rattle.flash_laws.specs.Answers.{Found, response}
 use Rattle.flash_laws.specs.Site.{server}
-use Rattle.flash_laws.specs.Conn.{Following, has_followed, content_agg, piece_end, text_of, put_out}
+use Rattle.flash_laws.specs.Conn.{Following, has_followed, content_agg, piece_end, whole, text_of, put_out}
 use Rattle.flash_laws.specs.declared.phase.FileResult.{FileResult}
 use Rattle.flash_laws.specs.declared.phase.FileResult.TheVariants.{File, Length, Fails, Text}
 use Rattle.flash_laws.specs.declared.phase.Payload.{Payload}
 use Rattle.flash_laws.specs.declared.phase.Payload.TheVariants.{Body, Bare, Error, Script}
+use Rattle.flash_laws.specs.declared.phase.Sending.{Sending}
 use Rattle.flash_laws.specs.declared.phase.Phase.{Phase}
 use Rattle.flash_laws.specs.declared.phase.Phase.TheVariants.{Rests, Got, Opens, Reads as Reading, Shuts, Picks, Spares}
 use Rattle.flash_laws.specs.declared.phase.Phase.TheVariants.{Heads, Joins, Sends, Cuts, Offers, Swaps, Sent, Breaks}
@@ -30,32 +31,23 @@ abbrev pub MoreIsReadable : State → Following → List ℕ → Type 0
 MoreIsReadable m None bytes = bytes ≡ []
 MoreIsReadable m (Some x) bytes = (readable_at m server x.0 ≡ Some bytes) × (x.1 ≡ length bytes)
 
--- an aggregate, and the one that follows it, are the part of the response that is not yet taken
-pub record HoldsRest (m : State) (expected : List ℕ) (a len taken : ℕ) (more : Following) : Type 0 where
+-- an aggregate without its bytes before `from`, and the one that follows it, are the part of the response that is not
+-- yet taken
+pub record HoldsRestFrom (m : State) (expected : List ℕ) (s : Sending) : Type 0 where
   pub bytes : List ℕ
   pub after : List ℕ
-  pub is_readable : readable_at m server a ≡ Some bytes
-  pub size : len ≡ length bytes
-  pub follows : MoreIsReadable m more after
-  pub next : bytes ++ after ≡ drop taken expected
-  pub apart : has_followed more a ≡ false
-
--- the same, without its bytes before `from`, which are taken
-pub record HoldsRestFrom (m : State) (expected : List ℕ) (a from len taken : ℕ) (more : Following) : Type 0 where
-  pub bytes : List ℕ
-  pub after : List ℕ
-  pub is_readable : readable_at m server a ≡ Some bytes
-  pub size : len ≡ length bytes
-  pub follows : MoreIsReadable m more after
-  pub next : drop from bytes ++ after ≡ drop taken expected
-  pub apart : has_followed more a ≡ false
+  pub is_readable : readable_at m server s.agg ≡ Some bytes
+  pub size : s.len ≡ length bytes
+  pub follows : MoreIsReadable m s.more after
+  pub next : drop s.from bytes ++ after ≡ drop s.taken expected
+  pub apart : has_followed s.more s.agg ≡ false
 
 -- the same, with some bytes left, and a piece of them as another aggregate
-pub record HoldsPiece (m : State) (expected : List ℕ) (a from len piece taken : ℕ) (more : Following) : Type 0 where
-  pub whole : HoldsRestFrom m expected a from len taken more
-  pub some : from < len
-  pub is_readable : readable_at m server piece ≡ Some (slice_range whole.bytes from (piece_end from len))
-  pub other : ((a == piece) || has_followed more piece) ≡ false
+pub record HoldsPiece (m : State) (expected : List ℕ) (s : Sending) (piece : ℕ) : Type 0 where
+  pub whole : HoldsRestFrom m expected s
+  pub some : s.from < s.len
+  pub is_readable : readable_at m server piece ≡ Some (slice_range whole.bytes s.from (piece_end s))
+  pub other : ((s.agg == piece) || has_followed s.more piece) ≡ false
 
 -- all its bytes are taken
 pub record HoldsMore (m : State) (expected : List ℕ) (a taken : ℕ) (more : Following) : Type 0 where
@@ -130,14 +122,13 @@ Has m q expected (Shuts f k) = IsFile m f × HasFileResult m q expected k
 Has m q expected (Picks a from to len) = HasPart m expected (text_of q (Body a 0 len)) a from to
 Has m q expected (Spares a k) = IsReadable m a × (content_agg k a ≡ false) × HasContent m q expected k
 Has m q expected (Heads k) = HasContent m q expected k
-Has m q expected (Joins a size body len) = HoldsRest m expected a size 0 (Some (body, len))
+Has m q expected (Joins a size body len) = HoldsRestFrom m expected (whole a size 0 (Some (body, len)))
     × (size + len ≤ MAX_AGGREGATE_BYTES)
-Has m q expected (Sends a len taken more) = HoldsRest m expected a len taken more
-Has m q expected (Cuts a from len taken more) = HoldsRestFrom m expected a from len taken more × (from < len)
-Has m q expected (Offers a from len piece taken more) = HoldsPiece m expected a from len piece taken more
-Has m q expected (Swaps a from len piece taken more) = IsReadable m piece
-    × (((a == piece) || has_followed more piece) ≡ false)
-    × HoldsRestFrom m expected a from len taken more
+Has m q expected (Sends s) = HoldsRestFrom m expected s × (s.from ≡ 0)
+Has m q expected (Cuts s) = HoldsRestFrom m expected s × (s.from < s.len)
+Has m q expected (Offers s piece) = HoldsPiece m expected s piece
+Has m q expected (Swaps s piece) = IsReadable m piece
+    × (((s.agg == piece) || has_followed s.more piece) ≡ false) × HoldsRestFrom m expected s
 Has m q expected (Sent a taken more) = HoldsMore m expected a taken more
 Has m q expected (Breaks piece a more) = IsReadable m piece
     × (((a == piece) || has_followed more piece) ≡ false) × HoldsUnsent m a more

@@ -54,10 +54,10 @@ Learns d r received before after = after ≡ before
 
 -- the number of bytes of the response that are taken
 abbrev pub taken_of : Phase → ℕ
-taken_of (Sends a len taken more) = taken
-taken_of (Cuts a from len taken more) = taken
-taken_of (Offers a from len piece taken more) = taken
-taken_of (Swaps a from len piece taken more) = taken
+taken_of (Sends s) = s.taken
+taken_of (Cuts s) = s.taken
+taken_of (Offers s piece) = s.taken
+taken_of (Swaps s piece) = s.taken
 taken_of (Sent a taken more) = taken
 taken_of d = 0
 

@@ -11,7 +11,7 @@ use Rattle.flash_laws.specs.Conn as conn
 use Rattle.flash_laws.specs.Conn.{Following}
 use Rattle.flash_laws.specs.Conn.Fits.{IsReadable, Has}
 use Rattle.flash_laws.specs.Conn.OfferedBytes.{taken_of}
-use Rattle.flash_laws.specs.Run.{has_frame, job_pipe, step_agg}
+use Rattle.flash_laws.specs.Run.{has_frame, job_pipe, step_agg, sends_part}
 use Rattle.flash_laws.specs.Answers.Scripts.{script_body, script_response, frame_of, end_around}
 use Rattle.flash_laws.specs.Site.{server}
 use Rattle.flash_laws.specs.declared.phase.Payload.TheVariants.{Error}
@@ -141,15 +141,20 @@ pub record HasAll (m : State) (w : Wanted) (o : Progress) (run : Run) (held : Fo
   pub has : HasOutput m w held frame bytes
   pub ends : Ends run.broken w o bytes
 
+-- an aggregate, if none follows it
+abbrev pub last_agg : (agg : ℕ) → Following → Option ℕ
+last_agg a None = Some a
+last_agg a (Some x) = None
+
 -- the aggregate that is being sent, with none to follow it
 abbrev pub sent_agg : Phase → Option ℕ
-sent_agg (phase.Sends a len taken None) = Some a
-sent_agg (phase.Cuts a from len taken None) = Some a
-sent_agg (phase.Offers a from len piece taken None) = Some a
-sent_agg (phase.Swaps a from len piece taken None) = Some a
-sent_agg (phase.Sent a taken None) = Some a
-sent_agg (phase.Breaks piece a None) = Some a
-sent_agg (phase.Drops a None) = Some a
+sent_agg (phase.Sends s) = last_agg s.agg s.more
+sent_agg (phase.Cuts s) = last_agg s.agg s.more
+sent_agg (phase.Offers s piece) = last_agg s.agg s.more
+sent_agg (phase.Swaps s piece) = last_agg s.agg s.more
+sent_agg (phase.Sent a taken more) = last_agg a more
+sent_agg (phase.Breaks piece a more) = last_agg a more
+sent_agg (phase.Drops a more) = last_agg a more
 sent_agg d = None
 
 -- it has these bytes
@@ -255,8 +260,8 @@ module _ (job : (fd : ℕ) → List ℕ) where
   HasStep m w o run (Gathers held size piece len frame) = HasPiece m w o run held size piece len frame
   HasStep m w o run (Frames held) = HasChunk m w o run held
   HasStep m w o run (Wraps held frame) = HasChunk m w o run held × HasFrame m (Some frame) × ((frame == held) ≡ false)
-  HasStep m w o run (Trims held chunk len frame) = IsSpare m held (Sending (phase.Sends chunk len 0 None) (Some frame))
-      × HasPart m w o run (phase.Sends chunk len 0 None) (Some frame)
+  HasStep m w o run (Trims held chunk len frame) = IsSpare m held (Sending (sends_part chunk len) (Some frame))
+      × HasPart m w o run (sends_part chunk len) (Some frame)
   HasStep m w o run (Ended a held frame) = IsSpare m a (Stops held frame) × IsReading m run
       × HasAll m w o run held frame
   HasStep m w o run (Unholds held frame) = IsSpare m held (Stops None frame) × IsReading m run

@@ -6,7 +6,7 @@ ghost use Rattle.flash_lite.specs.ReceivedBytes.{received};
 ghost use Rattle.flash_lite.specs.Runs.{IsSmallStep};
 
 use crate::received::count;
-use flash_laws::phase::Phase;
+use flash_laws::phase::{Phase, Sending};
 use flash_laws::script_run::Step;
 use iol_agg::Parts;
 use iol_core::events::Reply;
@@ -50,10 +50,7 @@ pub(crate) fn after_trim(held: AggId, chunk: AggId, len: u32, frame: AggId, last
     match last {
         Reply::Done => Step::Sending {
             phase: Phase::Sends {
-                agg: chunk,
-                len,
-                taken: 0,
-                more: None,
+                sending: Sending::whole(chunk, len, 0, None),
             },
             frame: Some(frame),
         },

@@ -8,7 +8,7 @@ ghost use Rattle.flash_lite.specs.Runs.{IsPiece, IsSmallRun, IsSmallStep, IsSmal
 use crate::received::count;
 use crate::send::Following;
 use flash_http::Request;
-use flash_laws::phase::Phase;
+use flash_laws::phase::{Phase, Sending};
 use flash_laws::script_run::{Run, Running, Step};
 use iol_agg::Parts;
 use iol_core::events::Reply;
@@ -129,10 +129,7 @@ fn ending(run: Run, held: Following, agg: AggId, len: u32) -> Running
         },
         None => Running::Leaves {
             phase: Phase::Sends {
-                agg,
-                len,
-                taken: 0,
-                more: None,
+                sending: Sending::whole(agg, len, 0, None),
             },
         },
     }
@@ -212,10 +209,7 @@ pub(crate) fn after_unwrap(run: Run, frame: AggId, chunk: AggId, len: u32, last:
     match last {
         Reply::Done => Running::Leaves {
             phase: Phase::Sends {
-                agg: chunk,
-                len,
-                taken: 0,
-                more: None,
+                sending: Sending::whole(chunk, len, 0, None),
             },
         },
         _ => Running::Runs {

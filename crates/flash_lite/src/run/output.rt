@@ -9,7 +9,7 @@ use crate::received::count;
 use crate::run::parts::broken;
 use crate::send::Following;
 use flash_http::Request;
-use flash_laws::phase::Phase;
+use flash_laws::phase::{Phase, Sending};
 use flash_laws::script_run::{CHUNK_BYTES, Run, Running, Step};
 use iol_agg::Parts;
 use iol_core::events::Reply;
@@ -83,10 +83,7 @@ fn reading(
     } else {
         Step::Sending {
             phase: Phase::Sends {
-                agg,
-                len,
-                taken: 0,
-                more: None,
+                sending: Sending::whole(agg, len, 0, None),
             },
             frame,
         }

@@ -13,7 +13,6 @@ ghost use Rattle.flash_lite.specs.Small.{IsSmall};
 ghost use Rattle.flash_lite.specs.Texts.{text_for};
 
 use crate::answers::served_text;
-use crate::conn::piece_end;
 use crate::request_calls::{cut_call, join_call};
 use crate::send::{Following, after_drop, after_head, after_part, proceeds};
 use flash_http::Request;
@@ -125,8 +124,11 @@ pub(crate) fn part_call(
     Ok(match phase {
         Phase::Heads { content } => make_call(alloc, request, &content)?,
         Phase::Joins { head, body, .. } => join_call(head, body),
-        Phase::Sends { agg, .. } => Call::IolWrite { fd, agg },
-        Phase::Cuts { agg, from, len, .. } => cut_call(agg, from, piece_end(from, len)),
+        Phase::Sends { sending } => Call::IolWrite {
+            fd,
+            agg: sending.agg,
+        },
+        Phase::Cuts { sending } => cut_call(sending.agg, sending.from, sending.piece_end()),
         Phase::Offers { piece, .. } => Call::IolWrite { fd, agg: piece },
         Phase::Swaps { piece, .. } => Call::AggDrop { agg: piece },
         Phase::Sent { agg, .. } => Call::AggDrop { agg },

@@ -7,7 +7,7 @@ ghost use Rattle.flash_lite.specs.Runs.{IsSmallRun, IsSmallStep, IsSmallRunning}
 ghost use Rattle.flash_lite.specs.declared.site.TheConstants.{MAX_WORKERS};
 
 use crate::received::count;
-use flash_laws::phase::{Payload, Phase};
+use flash_laws::phase::{Payload, Phase, Sending};
 use flash_laws::script_run::{Run, Running, Step};
 use http::StatusCode;
 use iol_agg::Parts;
@@ -114,10 +114,7 @@ pub(crate) fn after_head(last: &Reply, parts: Option<Parts<'_>>) -> Step
     match last {
         Reply::Agg(agg) => Step::Sending {
             phase: Phase::Sends {
-                agg: *agg,
-                len: count(parts),
-                taken: 0,
-                more: None,
+                sending: Sending::whole(*agg, count(parts), 0, None),
             },
             frame: None,
         },

@@ -1,7 +1,7 @@
 -- Each phase of a client without running script, from its next call to its state after the reply.
 use Rattle.std.proofs.Common.{inl, inr, ◌≡◌, ℕ, ◌+◌, ◌==◌, List, [], ◌∷◌, ◌++◌, take, drop, ap, ◌∙◌, refl, sym, subst}
 use Rattle.std.proofs.Common.{Option, Some, None, true, false, Bool, if◌then◌else◌}
-use Rattle.std.specs.Prelude.{nat_lt, nat_le, ◌||◌, is_some}
+use Rattle.std.specs.Prelude.{nat_le, ◌||◌, is_some}
 use Rattle.std.specs.List.{list_any}
 use Rattle.iol_core.specs.Text.{bytes_of}
 use Rattle.iol_core.specs.State.{State, Connection, descriptor, conn_at}
@@ -32,6 +32,7 @@ use Rattle.flash_laws.specs.Client.Fits.{FitsRun, Fits, made_of, response_to}
 use Rattle.flash_laws.specs.Conn as conn
 use Rattle.flash_laws.specs.Conn.{Following, Conn, count_of, text_of, sends_of, resolved, after_close_file}
 use Rattle.flash_laws.specs.Conn.{after_drop_whole, following, headed, proceeds, drops_next}
+use Rattle.flash_laws.specs.Conn.{next_piece, whole}
 use Rattle.flash_laws.specs.Workers.WorkerSet.{WorkerSet}
 use Rattle.flash_laws.specs.Conn.Fits.{Has, quits, is_closing, HoldsMore, Names}
 use Rattle.flash_laws.specs.Client.ResponseState as known
@@ -44,13 +45,14 @@ use Rattle.flash_laws.specs.Site.{server, IsFixed}
 use Rattle.flash_laws.specs.declared.phase.FileResult.{FileResult}
 use Rattle.flash_laws.specs.declared.phase.FileResult.TheVariants.{File, Text as TextOf}
 use Rattle.flash_laws.specs.declared.phase.Payload.TheVariants.{Script}
+use Rattle.flash_laws.specs.declared.phase.Sending.{Sending}
 use Rattle.flash_laws.specs.declared.phase.Phase.{Phase}
 use Rattle.flash_laws.specs.declared.phase.Phase.TheVariants.{Rests, Got, Opens, Reads as Reading, Shuts, Picks, Spares}
 use Rattle.flash_laws.specs.declared.phase.Phase.TheVariants.{Heads, Joins, Sends, Cuts, Offers, Swaps, Sent, Breaks}
 use Rattle.flash_laws.specs.declared.phase.Phase.TheVariants.{Drops, Closes, Over}
 use Rattle.flash_laws.specs.declared.script_run.Running.TheVariants.{Awaits}
 use Rattle.flash_laws.proofs.Forms.{at}
-use Rattle.flash_laws.proofs.Moves.{after-done, after-agg, either-way}
+use Rattle.flash_laws.proofs.Moves.{after-done, after-agg, either-way, either-next}
 use Rattle.flash_laws.proofs.Conn.AnswerParts as having
 use Rattle.flash_laws.proofs.Lists.{clash}
 use Rattle.flash_laws.proofs.World.AllLaws.{AllLaws}
@@ -283,12 +285,10 @@ module _ (site_contents : SiteContents) (worker_set : WorkerSet) (laws : AllLaws
       either-way (λ (e : Phase). Stands expected q [] e) (nat_le (size + x.1) MAX_AGGREGATE_BYTES) (refl, refl, refl)
       (refl, refl, refl)
 
-  swaps-stands : (expected : List ℕ) (q : Answer) (a from len taken : ℕ) (more : Following)
-      → Stands expected q (take taken expected)
-      (if nat_lt from len then Cuts a from len taken more else Sent a taken more)
-  swaps-stands expected q a from len taken more =
-      either-way (λ (e : Phase). Stands expected q (take taken expected) e) (nat_lt from len) (refl, refl, refl)
-      (refl, refl, refl)
+  swaps-stands : (expected : List ℕ) (q : Answer) (s : Sending)
+      → Stands expected q (take s.taken expected) (next_piece s)
+  swaps-stands expected q s =
+      either-next (λ (e : Phase). Stands expected q (take s.taken expected) e) s (refl, refl, refl) (refl, refl, refl)
 
   drops-quit : (more : Following) → quits (drops_next more) ≡ true
   drops-quit None = refl
@@ -308,7 +308,7 @@ module _ (site_contents : SiteContents) (worker_set : WorkerSet) (laws : AllLaws
           → ConsistenciesOn site_contents kept script f.expected f.expected q (Sent a taken more)
           (proceeds q taken more)
       after (Some x) h = consistency_on site_contents kept script f.expected f.expected q (Sent a taken (Some x))
-          (Sends x.0 x.1 taken None) refl refl refl refl
+          (Sends (whole x.0 x.1 taken None)) refl refl refl refl
       after None h = ended (keeps q) refl (sym h.next ∙ h.follows)
 
   -- ---- any call of it but the last
@@ -353,22 +353,22 @@ module _ (site_contents : SiteContents) (worker_set : WorkerSet) (laws : AllLaws
   phase q (Joins a size body len) r received plain fixed f waits busy undisturbed step names =
       on-stands [] q (Joins a size body len) r received f refl refl refl step names refl refl (refl, refl, refl)
       (after-agg (Stands f.expected q []) r (refl, refl, refl) (λ x. (refl, refl, refl)))
-  phase q (Sends a len taken more) r received plain fixed f waits busy undisturbed step names =
-      sends site_contents laws.the m n came sent fd c kept script order q a len taken more r f step
-      (has_after_reply q (Sends a len taken more) r received f refl refl refl step names)
-      (finds_after_reply q (Sends a len taken more) r received refl refl f.finds)
-  phase q (Cuts a from len taken more) r received plain fixed f waits busy undisturbed step names =
-      on-stands (take taken f.expected) q (Cuts a from len taken more) r received f refl refl refl step names refl refl
-      (refl, refl, refl) (after-agg (Stands f.expected q (take taken f.expected)) r (refl, refl, refl)
+  phase q (Sends s) r received plain fixed f waits busy undisturbed step names =
+      sends site_contents laws.the m n came sent fd c kept script order q s r f step
+      (has_after_reply q (Sends s) r received f refl refl refl step names)
+      (finds_after_reply q (Sends s) r received refl refl f.finds)
+  phase q (Cuts s) r received plain fixed f waits busy undisturbed step names =
+      on-stands (take s.taken f.expected) q (Cuts s) r received f refl refl refl step names refl refl
+      (refl, refl, refl) (after-agg (Stands f.expected q (take s.taken f.expected)) r (refl, refl, refl)
       (λ x. (refl, refl, refl)))
-  phase q (Offers a from len piece taken more) r received plain fixed f waits busy undisturbed step names =
-      offers site_contents laws.the m n came sent fd c kept script order q a from len piece taken more r f step
-      (has_after_reply q (Offers a from len piece taken more) r received f refl refl refl step names)
-      (finds_after_reply q (Offers a from len piece taken more) r received refl refl f.finds)
-  phase q (Swaps a from len piece taken more) r received plain fixed f waits busy undisturbed step names =
-      on-stands (take taken f.expected) q (Swaps a from len piece taken more) r received f refl refl refl step names
-      refl refl (refl, refl, refl) (after-done (Stands f.expected q (take taken f.expected)) r (refl, refl, refl)
-      (swaps-stands f.expected q a from len taken more))
+  phase q (Offers s piece) r received plain fixed f waits busy undisturbed step names =
+      offers site_contents laws.the m n came sent fd c kept script order q s piece r f step
+      (has_after_reply q (Offers s piece) r received f refl refl refl step names)
+      (finds_after_reply q (Offers s piece) r received refl refl f.finds)
+  phase q (Swaps s piece) r received plain fixed f waits busy undisturbed step names =
+      on-stands (take s.taken f.expected) q (Swaps s piece) r received f refl refl refl step names
+      refl refl (refl, refl, refl) (after-done (Stands f.expected q (take s.taken f.expected)) r (refl, refl, refl)
+      (swaps-stands f.expected q s))
   phase q (Sent a taken more) r received plain fixed f waits busy undisturbed step names =
       on-consistency q (Sent a taken more) r received f refl refl refl step names refl refl
       (after-done (ConsistenciesOn site_contents kept script f.expected f.expected q (Sent a taken more)) r

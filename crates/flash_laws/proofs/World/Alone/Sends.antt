@@ -1,8 +1,7 @@
 -- Writes and reads of a client without running script.
-use Rattle.std.proofs.Common.{inl, inr, ◌≡◌, ℕ, ◌+◌, ◌-◌, ◌==◌, ◌<◌, ◌≤◌, List, [], ◌∷◌, ◌++◌, length, take, drop, ap}
-use Rattle.std.proofs.Common.{◌∙◌, refl, sym, subst, arith, Some, None, true, false, Bool, append_assoc, append-nil}
-use Rattle.std.proofs.Common.{if◌then◌else◌}
-use Rattle.std.specs.Prelude.{min, nat_lt, ◌&&◌, slice_range}
+use Rattle.std.proofs.Common.{inl, inr, ◌≡◌, ℕ, ◌+◌, ◌-◌, ◌==◌, ◌<◌, List, [], ◌∷◌, ◌++◌, length, take, drop, ap}
+use Rattle.std.proofs.Common.{◌∙◌, refl, sym, subst, arith, Some, None, Bool, append_assoc, append-nil}
+use Rattle.std.specs.Prelude.{min, ◌&&◌, slice_range}
 use Rattle.std.proofs.lemmas.Bool.Decides.{nat_tests}
 use Rattle.iol_core.specs.Text.{Text, bytes_of}
 use Rattle.iol_core.specs.State.{State, Connection, descriptor, conn_at, is_gone}
@@ -27,14 +26,18 @@ use Rattle.flash_laws.specs.Answers.{Reads}
 use Rattle.flash_laws.specs.Client.{conn_after_reply}
 use Rattle.flash_laws.specs.Client.Fits.{ConsistencyAlone, expected_in, Finds, FitsAlone}
 use Rattle.flash_laws.specs.Conn as conn
-use Rattle.flash_laws.specs.Conn.{Following, Conn, most_kept, piece_end, moved_on}
-use Rattle.flash_laws.specs.Conn.Fits.{Has, quits, Names}
+use Rattle.flash_laws.specs.Conn.{Conn, most_kept, piece_end, after_taking, next_piece}
+use Rattle.flash_laws.specs.Conn.Fits.{Has, HoldsRestFrom, quits, Names}
 use Rattle.flash_laws.specs.SiteContents.{SiteContents, Responds}
 use Rattle.flash_laws.specs.Site.{server}
+use Rattle.flash_laws.specs.declared.phase.Sending.{Sending}
 use Rattle.flash_laws.specs.declared.phase.Phase.{Phase}
-use Rattle.flash_laws.specs.declared.phase.Phase.TheVariants.{Rests, Got, Sends, Cuts, Offers, Sent, Breaks, Drops}
+use Rattle.flash_laws.specs.declared.phase.Phase.TheVariants.{Rests, Got, Sends, Offers, Swaps, Breaks, Drops}
 use Rattle.flash_laws.proofs.Conn.Responses.{some-inj, order-all, reads-append}
 use Rattle.flash_laws.proofs.Lists.{clash, bytes-append, none-bytes, take-plus, next-front, take-slice, few-taken}
+use Rattle.flash_laws.proofs.Lists.{few-whole, least-taken}
+use Rattle.flash_laws.proofs.Moves.{either-next}
+use Rattle.flash_laws.proofs.Conn.ReadableBytes.{at-start}
 use Rattle.flash_laws.proofs.TheLaws.{TheLaws}
 use Rattle.flash_laws.proofs.World.Alone.Consistencies.{alone, FitsAt, part_of, Stands}
 use Rattle.flash_laws.proofs.World.Responses.{begins-append, begins-consistency}
@@ -137,78 +140,62 @@ module _ (site_contents : SiteContents) (the : TheLaws) (m n : State) (came sent
     proper = f.proper;
   }
 
-  pub sends : (q : Answer) (a len taken : ℕ) (more : Following) (r : Reply)
-      → (f : Fitting m q (Sends a len taken more)) → StepsTo m (event.Call server (call.IolWrite fd a)) r n
-      → Has n q (expected_in f.expected q (conn.after_send a len taken more r)) (conn.after_send a len taken more r)
-      → Finds site_contents n q script (conn.after_send a len taken more r)
-      → Fitting n q (conn.after_send a len taken more r)
-  sends q a len taken more r f step has finds =
-      by r (the.own.write_conn m n server fd c a f.has.bytes r order f.open_on f.has.is_readable step) step has finds
+  pub sends : (q : Answer) (s : Sending) (r : Reply) → (f : Fitting m q (Sends s))
+      → StepsTo m (event.Call server (call.IolWrite fd s.agg)) r n
+      → Has n q (expected_in f.expected q (conn.after_send s r)) (conn.after_send s r)
+      → Finds site_contents n q script (conn.after_send s r) → Fitting n q (conn.after_send s r)
+  sends q s r f step has finds =
+      by r (the.own.write_conn m n server fd c s.agg h.bytes r order f.open_on h.is_readable step) step has finds
     where
-      by : (r : Reply) → o.WritesConn m c f.has.bytes r n
-          → StepsTo m (event.Call server (call.IolWrite fd a)) r n
-          → Has n q (expected_in f.expected q (conn.after_send a len taken more r)) (conn.after_send a len taken more r)
-          → Finds site_contents n q script (conn.after_send a len taken more r)
-          → Fitting n q (conn.after_send a len taken more r)
-      by (reply.Count k) puts step has finds = cases (nat_lt k len) refl has finds
-        where
-          took : (e : Phase) → Stands f.expected q (take (taken + k) f.expected) e
-              → Has n q (expected_in f.expected q e) e → Finds site_contents n q script e → Fitting n q e
-          took e stands has finds =
-              took_on q (Sends a len taken more) e a taken k f.has.bytes f step puts
-              (next-front k f.has.bytes f.has.after (drop taken f.expected) f.has.next puts.within) (
-                refl,
-                refl,
-                refl,
-              ) stands has finds
+      h : HoldsRestFrom m f.expected s
+      h = f.has.0
 
-          cases : (b : Bool) → nat_lt k len ≡ b
-              → Has n q
-              (expected_in f.expected q (if b then Cuts a k len (taken + k) more else Sent a (taken + len) more))
-              (if b then Cuts a k len (taken + k) more else Sent a (taken + len) more)
-              → Finds site_contents n q script (if b then Cuts a k len (taken + k) more else Sent a (taken + len) more)
-              → Fitting n q (if b then Cuts a k len (taken + k) more else Sent a (taken + len) more)
-          cases true is has finds = took (Cuts a k len (taken + k) more) (refl, refl, refl) has finds
-          cases false is has finds =
-              let size = f.has.size in
-              let within = puts.within in
-              let all : length f.has.bytes ≤ k = grind (arith, nat_tests, is, size) in
-              let here : taken + len ≡ taken + k = omega (arith, all, within, size) in
-              took (Sent a (taken + len) more) (refl, ap (λ z. take z f.expected) here, refl) has finds
+      by : (r : Reply) → o.WritesConn m c h.bytes r n → StepsTo m (event.Call server (call.IolWrite fd s.agg)) r n
+          → Has n q (expected_in f.expected q (conn.after_send s r)) (conn.after_send s r)
+          → Finds site_contents n q script (conn.after_send s r) → Fitting n q (conn.after_send s r)
+      by (reply.Count k) puts step has finds =
+          took_on q (Sends s) (next_piece (after_taking s k)) s.agg s.taken k h.bytes f step puts
+          (next-front k h.bytes h.after (drop s.taken f.expected) (at-start h f.has.1) puts.within) (refl, refl, refl)
+          (either-next (λ (e : Phase). Stands f.expected q (take (s.taken + k) f.expected) e) (after_taking s k)
+          (refl, all, refl) (refl, all, refl)) has finds
+        where
+          all : take (after_taking s k).taken f.expected ≡ take (s.taken + k) f.expected
+          all =
+              ap (λ z. take (s.taken + z) f.expected)
+              (least-taken k s.from s.len h.bytes h.size (few-whole k s h.bytes f.has.1 puts.within))
       by (reply.Refused no.BrokenPipe) did step has finds =
-          broken_off q (Sends a len taken more) (Drops a more) a f step did has finds
-      by (reply.Refused y) did step has finds = same q (Sends a len taken more) f did
+          broken_off q (Sends s) (Drops s.agg s.more) s.agg f step did has finds
+      by (reply.Refused y) did step has finds = same q (Sends s) f did
       by r did step has finds = absurd did
 
-  pub offers : (q : Answer) (a from len piece taken : ℕ) (more : Following) (r : Reply)
-      → (f : Fitting m q (Offers a from len piece taken more))
+  pub offers : (q : Answer) (s : Sending) (piece : ℕ) (r : Reply) → (f : Fitting m q (Offers s piece))
       → StepsTo m (event.Call server (call.IolWrite fd piece)) r n
-      → Has n q (expected_in f.expected q (conn.after_offer a from len piece taken more r))
-      (conn.after_offer a from len piece taken more r)
-      → Finds site_contents n q script (conn.after_offer a from len piece taken more r)
-      → Fitting n q (conn.after_offer a from len piece taken more r)
-  offers q a from len piece taken more r f step has finds =
-      by r (the.own.write_conn m n server fd c piece (slice_range f.has.whole.bytes from (piece_end from len)) r order
+      → Has n q (expected_in f.expected q (conn.after_offer s piece r)) (conn.after_offer s piece r)
+      → Finds site_contents n q script (conn.after_offer s piece r) → Fitting n q (conn.after_offer s piece r)
+  offers q s piece r f step has finds =
+      by r (the.own.write_conn m n server fd c piece (slice_range h.bytes s.from (piece_end s)) r order
       f.open_on f.has.is_readable step) step has finds
     where
-      by : (r : Reply) → o.WritesConn m c (slice_range f.has.whole.bytes from (piece_end from len)) r n
+      h : HoldsRestFrom m f.expected s
+      h = f.has.whole
+
+      by : (r : Reply) → o.WritesConn m c (slice_range h.bytes s.from (piece_end s)) r n
           → StepsTo m (event.Call server (call.IolWrite fd piece)) r n
-          → Has n q (expected_in f.expected q (conn.after_offer a from len piece taken more r))
-          (conn.after_offer a from len piece taken more r)
-          → Finds site_contents n q script (conn.after_offer a from len piece taken more r)
-          → Fitting n q (conn.after_offer a from len piece taken more r)
+          → Has n q (expected_in f.expected q (conn.after_offer s piece r)) (conn.after_offer s piece r)
+          → Finds site_contents n q script (conn.after_offer s piece r) → Fitting n q (conn.after_offer s piece r)
       by (reply.Count k) puts step has finds =
-          took_on q (Offers a from len piece taken more) (moved_on a from len piece taken more (min k (len - from)))
-          piece taken k (slice_range f.has.whole.bytes from (piece_end from len)) f step puts
-          (next-front k (drop from f.has.whole.bytes) f.has.whole.after (drop taken f.expected) f.has.whole.next few.0
-          ∙ take-slice k from (piece_end from len) f.has.whole.bytes puts.within)
-          (refl, refl, refl) (refl, ap (λ z. take (taken + z) f.expected) few.1, refl) has finds
-        where
-          few : (k ≤ length (drop from f.has.whole.bytes)) × (min k (len - from) ≡ k)
-          few = few-taken k from len f.has.whole.bytes f.has.whole.size puts.within
+          let few = few-taken k s h.bytes puts.within in
+          took_on q (Offers s piece) (Swaps (after_taking s k) piece) piece s.taken k
+          (slice_range h.bytes s.from (piece_end s)) f step puts
+          (next-front k (drop s.from h.bytes) h.after (drop s.taken f.expected) h.next few
+          ∙ take-slice k s.from (piece_end s) h.bytes puts.within) (refl, refl, refl) (
+            refl,
+            ap (λ z. take (s.taken + z) f.expected) (least-taken k s.from s.len h.bytes h.size few),
+            refl,
+          ) has finds
       by (reply.Refused no.BrokenPipe) did step has finds =
-          broken_off q (Offers a from len piece taken more) (Breaks piece a more) piece f step did has finds
-      by (reply.Refused y) did step has finds = same q (Offers a from len piece taken more) f did
+          broken_off q (Offers s piece) (Breaks piece s.agg s.more) piece f step did has finds
+      by (reply.Refused y) did step has finds = same q (Offers s piece) f did
       by r did step has finds = absurd did
 
   -- what came on the stream is kept, or its end was seen

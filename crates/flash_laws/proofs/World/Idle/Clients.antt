@@ -106,9 +106,9 @@ module _ (site_contents : SiteContents) (worker_set : WorkerSet) (laws : AllLaws
   by-phase came sent fd c kept script q Rests f waits step =
       let empty = laws.the.reasons.conn_is_empty m m server fd c (most_kept - length kept) f.open_on step in
       inl (rests came sent fd c kept q script f waits empty, λ a. refl)
-  by-phase came sent fd c kept script q (Sends a len taken more) f waits step =
-      inr (laws.the.reasons.conn_is_full m m server fd c a f.open_on step)
-  by-phase came sent fd c kept script q (Offers a from len piece taken more) f waits step =
+  by-phase came sent fd c kept script q (Sends s) f waits step =
+      inr (laws.the.reasons.conn_is_full m m server fd c s.agg f.open_on step)
+  by-phase came sent fd c kept script q (Offers s piece) f waits step =
       inr (laws.the.reasons.conn_is_full m m server fd c piece f.open_on step)
   by-phase came sent fd c kept script q (Got a) f waits step =
       absurd (goes worker_set laws m (call.AggDrop a) refl step)
@@ -128,9 +128,9 @@ module _ (site_contents : SiteContents) (worker_set : WorkerSet) (laws : AllLaws
       absurd (goes worker_set laws m (call.AggMake (text_of q k)) refl step)
   by-phase came sent fd c kept script q (Joins a size body len) f waits step =
       absurd (goes worker_set laws m (call.AggJoin a body) refl step)
-  by-phase came sent fd c kept script q (Cuts a from len taken more) f waits step =
-      absurd (goes worker_set laws m (call.AggCut a from (piece_end from len)) refl step)
-  by-phase came sent fd c kept script q (Swaps a from len piece taken more) f waits step =
+  by-phase came sent fd c kept script q (Cuts s) f waits step =
+      absurd (goes worker_set laws m (call.AggCut s.agg s.from (piece_end s)) refl step)
+  by-phase came sent fd c kept script q (Swaps s piece) f waits step =
       absurd (goes worker_set laws m (call.AggDrop piece) refl step)
   by-phase came sent fd c kept script q (Sent a taken more) f waits step =
       absurd (goes worker_set laws m (call.AggDrop a) refl step)

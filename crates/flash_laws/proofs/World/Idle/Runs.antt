@@ -70,9 +70,9 @@ module _ (site_contents : SiteContents) (worker_set : WorkerSet) (laws : AllLaws
   -- a part of the response is offered
   sending : (fd c : ℕ) (w : Wanted) (d : Phase) → descriptor m server fd ≡ Some (on.Connection c) → OnlySends d
       → WouldWait m server (conn.wants fd (in_phase w d)) → IsHeldUp m c
-  sending fd c w (phase.Sends a len taken more) open_on may step =
-      laws.the.reasons.conn_is_full m m server fd c a open_on step
-  sending fd c w (phase.Offers a from len piece taken more) open_on may step =
+  sending fd c w (phase.Sends s) open_on may step =
+      laws.the.reasons.conn_is_full m m server fd c s.agg open_on step
+  sending fd c w (phase.Offers s piece) open_on may step =
       laws.the.reasons.conn_is_full m m server fd c piece open_on step
   sending fd c w (phase.Got a) open_on may step = absurd (goes worker_set laws m (call.AggDrop a) refl step)
   sending fd c w phase.Opens open_on may step =
@@ -85,9 +85,9 @@ module _ (site_contents : SiteContents) (worker_set : WorkerSet) (laws : AllLaws
       absurd (goes worker_set laws m (call.AggMake (text_of (serve w) k)) refl step)
   sending fd c w (phase.Joins a size body len) open_on may step =
       absurd (goes worker_set laws m (call.AggJoin a body) refl step)
-  sending fd c w (phase.Cuts a from len taken more) open_on may step =
-      absurd (goes worker_set laws m (call.AggCut a from (piece_end from len)) refl step)
-  sending fd c w (phase.Swaps a from len piece taken more) open_on may step =
+  sending fd c w (phase.Cuts s) open_on may step =
+      absurd (goes worker_set laws m (call.AggCut s.agg s.from (piece_end s)) refl step)
+  sending fd c w (phase.Swaps s piece) open_on may step =
       absurd (goes worker_set laws m (call.AggDrop piece) refl step)
   sending fd c w (phase.Sent a taken more) open_on may step = absurd (goes worker_set laws m (call.AggDrop a) refl step)
   sending fd c w (phase.Breaks piece a more) open_on may step =

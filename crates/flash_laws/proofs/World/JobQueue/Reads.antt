@@ -28,7 +28,7 @@ use Rattle.flash_laws.specs.Workers.PutsOut.{PutsOut}
 use Rattle.flash_laws.specs.Run.Fits.{Progress, Ran, Broken, NotRun, Follows, MayAnswer, IsSending}
 use Rattle.flash_laws.specs.Run.OfferedBytes.{receives_on, takes_on, PartLearns, StepLearns, IsCutOff}
 use Rattle.flash_laws.specs.Run.{in_phase, held_size, broken, both, after_part, after_sending, after_output, after_step}
-use Rattle.flash_laws.specs.Run.{filled, holding, hearing}
+use Rattle.flash_laws.specs.Run.{filled, holding, hearing, sends_part}
 use Rattle.flash_laws.specs.SiteContents.{SiteContents}
 use Rattle.flash_laws.specs.Site.{server}
 use Rattle.flash_laws.specs.Run.Stages.{IsPuttingOut, IsToCome, IsReceivedWhole, Stage}
@@ -78,10 +78,10 @@ part_to_come m d r o after output more learns come = subst (λ (p : Progress). I
 pub quiet_part : (m : State) (fd : ℕ) (w : Wanted) (expected : List ℕ) (d : Phase) → IsSending m expected d
     → Quiet fd (conn.wants fd (in_phase w d))
 quiet_part m fd w expected (phase.Heads (Error status)) is = tt
-quiet_part m fd w expected (phase.Sends a len taken None) is = refl
-quiet_part m fd w expected (phase.Cuts a from len taken None) is = tt
-quiet_part m fd w expected (phase.Offers a from len piece taken None) is = refl
-quiet_part m fd w expected (phase.Swaps a from len piece taken None) is = tt
+quiet_part m fd w expected (phase.Sends s) is = refl
+quiet_part m fd w expected (phase.Cuts s) is = tt
+quiet_part m fd w expected (phase.Offers s piece) is = refl
+quiet_part m fd w expected (phase.Swaps s piece) is = tt
 quiet_part m fd w expected (phase.Sent a taken None) is = tt
 quiet_part m fd w expected (phase.Breaks piece a None) is = tt
 quiet_part m fd w expected (phase.Drops a None) is = tt
@@ -221,8 +221,8 @@ module _ (site_contents : SiteContents) (worker_set : WorkerSet) (laws : AllLaws
           proceeds worker_set m n c process_slots w made o after run run step (Spills a frame) process_slot refl sits
           now (may (Runs run (Spills a frame))) cut
       hearing_on step false false held frame a len may cut =
-          proceeds worker_set m n c process_slots w made o after run run step (Sending (phase.Sends a len 0 None) frame)
-          process_slot refl sits now (may (Runs run (Sending (phase.Sends a len 0 None) frame))) cut
+          proceeds worker_set m n c process_slots w made o after run run step (Sending (sends_part a len) frame)
+          process_slot refl sits now (may (Runs run (Sending (sends_part a len) frame))) cut
       hearing_on step false true None frame a len may cut = held_on step a len frame may cut
       hearing_on step false true (Some y) frame a len may cut =
           proceeds worker_set m n c process_slots w made o after run run step (Gathers y.0 y.1 a len frame) process_slot
@@ -242,7 +242,7 @@ module _ (site_contents : SiteContents) (worker_set : WorkerSet) (laws : AllLaws
         quiet_steps (Lets j) reply.Done received is cut = to (Lets j) Heads cut now
         quiet_steps (Lets j) r received is cut = to (Lets j) (Lets j) cut now
         quiet_steps Heads (reply.Agg a) received is cut =
-            to Heads (Sending (phase.Sends a (count_of received) 0 None) None) cut now
+            to Heads (Sending (sends_part a (count_of received)) None) cut now
         quiet_steps Heads r received is cut = to Heads Heads cut now
         quiet_steps (Spills a frame) reply.Done received is cut = to (Spills a frame) (Receives None frame) cut now
         quiet_steps (Spills a frame) r received is cut = to (Spills a frame) (Spills a frame) cut now
@@ -257,7 +257,7 @@ module _ (site_contents : SiteContents) (worker_set : WorkerSet) (laws : AllLaws
             to (Wraps held frame) (Trims held a (count_of received) frame) cut now
         quiet_steps (Wraps held frame) r received is cut = to (Wraps held frame) (Wraps held frame) cut now
         quiet_steps (Trims held chunk len frame) reply.Done received is cut =
-            to (Trims held chunk len frame) (Sending (phase.Sends chunk len 0 None) (Some frame)) cut now
+            to (Trims held chunk len frame) (Sending (sends_part chunk len) (Some frame)) cut now
         quiet_steps (Trims held chunk len frame) r received is cut =
             to (Trims held chunk len frame) (Trims held chunk len frame) cut now
         quiet_steps step r received is cut = absurd is

@@ -19,7 +19,7 @@ use Rattle.flash_laws.specs.Conn.{Following, count_of}
 use Rattle.flash_laws.specs.Workers.WorkerSet.{WorkerSet}
 use Rattle.flash_laws.specs.Run.Fits.{Progress}
 use Rattle.flash_laws.specs.Run.OfferedBytes.{PartLearns, breaks_off}
-use Rattle.flash_laws.specs.Run.{in_phase, after_step, finishing, ending}
+use Rattle.flash_laws.specs.Run.{in_phase, after_step, finishing, ending, sends_part}
 use Rattle.flash_laws.specs.SiteContents.{SiteContents}
 use Rattle.flash_laws.specs.Site.{server}
 use Rattle.flash_laws.specs.Run.Stages.{HasWorkerAt, HasPutOut, Stage}
@@ -125,10 +125,10 @@ module _ (site_contents : SiteContents) (worker_set : WorkerSet) (laws : AllLaws
       finishing_on step false false held whole = over step Closes tt (cut_whole m c (Runs run step) Closes refl)
       finishing_on step true chunked held whole = over step Closes tt (cut_whole m c (Runs run step) Closes refl)
 
-      left_on : (step : Step) (a len : ℕ) → After (Runs run step) (Leaves (phase.Sends a len 0 None))
+      left_on : (step : Step) (a len : ℕ) → After (Runs run step) (Leaves (sends_part a len))
       left_on step a len =
-          over step (Leaves (phase.Sends a len 0 None)) tt
-          (cut_whole m c (Runs run step) (Leaves (phase.Sends a len 0 None)) refl)
+          over step (Leaves (sends_part a len)) tt
+          (cut_whole m c (Runs run step) (Leaves (sends_part a len)) refl)
 
       ending_on : (held : Following) (a len : ℕ) → After (Runs run (Lasts held)) (ending run held a len)
       ending_on None a len = left_on (Lasts None) a len
