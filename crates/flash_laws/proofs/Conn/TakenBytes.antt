@@ -216,8 +216,8 @@ module _ (own : CallsServeTheirDomain) (m n : State) (order : IsOrderly m) (fd c
 abbrev Kept : Phase → Type 0
 Kept d = is_dropping d ≡ false
 
-next-kept : (s : Sending) → Kept (next_piece s)
-next-kept s = either-next Kept s refl refl
+next-not-dropped : (s : Sending) → Kept (next_piece s)
+next-not-dropped s = either-next Kept s refl refl
 
 never : {A : Type 0} (d : Phase) → is_dropping d ≡ true → Kept d → A
 never d off kept = absurd (clash (is_dropping d) off kept)
@@ -229,14 +229,14 @@ module _ (why : RefusalsTellWhy) (m n : State) (fd c : ℕ) (open_on : descripto
       → is_dropping (after_reply (at kept q d) r received).phase ≡ true → is_gone (conn_at m c).peer ≡ true
   breaks (Sends s) (reply.Refused no.BrokenPipe) busy step at_is off =
       why.peer_is_gone m n server fd c s.agg open_on step
-  breaks (Sends s) (reply.Count k) busy step at_is off = never _ off (next-kept (after_taking s k))
+  breaks (Sends s) (reply.Count k) busy step at_is off = never _ off (next-not-dropped (after_taking s k))
   breaks (Sends s) r busy step at_is off = absurd (cc (off))
   breaks (Offers s piece) (reply.Refused no.BrokenPipe) busy step at_is off =
       why.peer_is_gone m n server fd c piece open_on step
   breaks (Offers s piece) (reply.Count k) busy step at_is off = absurd (cc (off))
   breaks (Offers s piece) r busy step at_is off = absurd (cc (off))
   breaks (Cuts s) r busy step at_is off = never _ off (after-agg Kept r refl (λ k. refl))
-  breaks (Swaps s piece) r busy step at_is off = never _ off (after-done Kept r refl (next-kept s))
+  breaks (Swaps s piece) r busy step at_is off = never _ off (after-done Kept r refl (next-not-dropped s))
   breaks (Sent a taken (Some x)) r busy step at_is off = never _ off (after-done Kept r refl refl)
   breaks (Sent a taken None) r busy step at_is off =
       never _ off (after-done Kept r refl (either-way Kept (keeps q) refl refl))
