@@ -136,14 +136,24 @@ module _ (steps : EachStepLeavesTheRest) (own : CallsServeTheirDomain) (m n : St
         → AfterReply (Runs run (Sending d frame)) (after_sending run d frame r) r received o
     sending (phase.Sends s) r received o h step =
         (o, refl, (written s.agg r step, parts.sends steps own m n order w o run frame fd c s r open_on h step))
-    sending (phase.Cuts s) r received o h step =
-        (o, refl, (still-hired (call.AggCut s.agg s.from (piece_end s)) r step refl,
-        parts.cuts steps own m n order w o run frame s r h step))
+    sending (phase.Cuts s) r received o h step = (
+      o,
+      refl,
+      (
+        still-hired (call.AggCut s.agg s.from (piece_end s)) r step refl,
+        parts.cuts steps own m n order w o run frame s r h step,
+      ),
+    )
     sending (phase.Offers s piece) r received o h step =
         (o, refl, (written piece r step, parts.offers steps own m n order w o run frame fd c s piece r open_on h step))
-    sending (phase.Swaps s piece) r received o h step =
-        (o, refl, (still-hired (call.AggDrop piece) r step refl,
-        parts.swaps steps own m n order w o run frame s piece r h step))
+    sending (phase.Swaps s piece) r received o h step = (
+      o,
+      refl,
+      (
+        still-hired (call.AggDrop piece) r step refl,
+        parts.swaps steps own m n order w o run frame s piece r h step,
+      ),
+    )
     sending (phase.Breaks piece a None) r received o h step = (
       o,
       refl,

@@ -46,12 +46,12 @@ module _ (worker : ℕ) (w : Wanted) (run : Run) (a : ℕ) where
       → New r a (conn.uses_agg d a || has_frame frame a)
   part-new d frame r u = elim
       (one-of (conn.uses_agg (conn.after_reply (in_phase w d) r []).phase a) (has_frame frame a) u) [
-    | inl is ↦ elim (uses-after_reply [] (serve w) d r [] a is) [
-      | inl old ↦ inl (former_of (conn.uses_agg d a) (has_frame frame a) old)
-      | inr made ↦ inr made
-    ]
-    | inr is ↦ inl (later_of (conn.uses_agg d a) (has_frame frame a) is)
-  ]
+        | inl is ↦ elim (uses-after_reply [] (serve w) d r [] a is) [
+          | inl old ↦ inl (former_of (conn.uses_agg d a) (has_frame frame a) old)
+          | inr made ↦ inr made
+        ]
+        | inr is ↦ inl (later_of (conn.uses_agg d a) (has_frame frame a) is)
+      ]
 
   sending-new : (d : Phase) (frame : Option ℕ) (r : Reply) → UsesNew (Sending d frame) r (after_sending run d frame r)
   sending-new (phase.Sent b taken None) frame reply.Done u = inl (later_of ((b == a) || false) (has_frame frame a) u)
