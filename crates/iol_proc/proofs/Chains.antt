@@ -1,5 +1,5 @@
 -- The events of a world are a chain of steps of its system.
-use Rattle.std.proofs.Common.{◌≡◌, inl, inr, ℕ, List, [], ◌∷◌, ◌++◌, Bool, refl, subst, ap}
+use Rattle.std.proofs.Common.{◌≡◌, inl, inr, ℕ, List, [], ◌∷◌, ◌++◌, Option, Some, None, Bool, refl, subst, ap}
 use Rattle.iol_core.specs.declared.events.Event.{Event}
 use Rattle.iol_core.specs.declared.events.Event.TheVariants as event
 use Rattle.iol_core.specs.declared.events.Reply.{Reply}
@@ -9,7 +9,8 @@ use Rattle.iol_system.proofs.Chains.{chain_honest}
 use Rattle.iol_proc.specs.Histories.{RunsAs}
 use Rattle.iol_proc.specs.Laws.{HasEvents, KeepsHonesty}
 use Rattle.iol_proc.specs.Turns.{TransitionRelation, Comes, ProcessSlotTurn}
-use Rattle.iol_proc.specs.World.{Stage, sharing, DomainTurn, OutsideStep, WorldStep, WorldRun}
+use Rattle.iol_proc.specs.World.{Stage, sharing, DomainTurn, OutsideStep, TurnAt, WorldStep, WorldRun}
+use Rattle.iol_proc.specs.declared.activity.Activity.{Activity}
 use Rattle.iol_proc.specs.declared.choice.Choice.{Choice}
 use Rattle.iol_proc.specs.declared.choice.Choice.TheVariants as choice
 use Rattle.iol_proc.specs.declared.process.Turn.{Turn}
@@ -36,6 +37,13 @@ module _ {P : Type 0} (turns : TransitionRelation P) where
 
   process_slot_chained : (m : SystemState) (process_slot : ProcessSlot P) (yields : Bool) (r : Reply) (after : SystemState) (next : ProcessSlot P) → ProcessSlotTurn sharing turns m process_slot yields r after next → HasEvents m after
   process_slot_chained m process_slot yields r after next t = elim t [ inl s ↦ nothing m after s.machine_stays | inr v ↦ comes_chained m process_slot.by v.turn yields r after v.comes ]
+
+  pub turn_at_chained : (w : Stage SystemState P) (place : ℕ) (a : Option Activity) (after : Stage SystemState P)
+      → TurnAt sharing turns w place a after → HasEvents w.machine after.machine
+  turn_at_chained w place None after t =
+      nothing w.machine after.machine (ap (λ (v : Stage SystemState P). v.machine) t.1)
+  turn_at_chained w place (Some a) after t =
+      process_slot_chained w.machine t.2.process_slot t.0 t.1 after.machine t.2.next t.2.turn
 
   domain_chained : (w : Stage SystemState P) (by : ℕ) (r : Reply) (after : Stage SystemState P) → DomainTurn sharing turns w by r after → HasEvents w.machine after.machine
   domain_chained w by r after t =

@@ -1,12 +1,13 @@
 -- A run on a system over an honest store is one on the copying machine.
-use Rattle.std.proofs.Common.{◌≡◌, inl, inr, ℕ, List, [], ◌∷◌, Bool, true, sym, subst, ap, ◌∙◌}
+use Rattle.std.proofs.Common.{◌≡◌, inl, inr, ℕ, List, [], ◌∷◌, Option, Some, None, Bool, true, sym, subst, ap, ◌∙◌}
 use Rattle.iol_core.specs.declared.events.Event.{Event}
 use Rattle.iol_core.specs.declared.events.Reply.{Reply}
 use Rattle.iol_system.specs.Machine.{SystemState, machine_of}
 use Rattle.iol_proc.specs.Turns.{TransitionRelation, Comes, Starves, ProcessSlotTurn}
 use Rattle.iol_proc.specs.World.{Stage, copying, sharing, copied, PlaceTurn, DomainTurn, OutsideStep, WorldStep}
-use Rattle.iol_proc.specs.World.{WorldRun}
+use Rattle.iol_proc.specs.World.{TurnAt, WorldRun}
 use Rattle.iol_proc.specs.Idle.{Went, RoundRun, Idles}
+use Rattle.iol_proc.specs.declared.activity.Activity.{Activity}
 use Rattle.iol_proc.specs.declared.choice.Choice.{Choice}
 use Rattle.iol_proc.specs.declared.choice.Choice.TheVariants as choice
 use Rattle.iol_proc.specs.declared.process.Turn.{Turn}
@@ -78,6 +79,14 @@ module _ {P : Type 0} (turns : TransitionRelation P) where
         },
         both.1,
       )
+
+  pub turn_at_copied : (w : Stage SystemState P) (place : ℕ) (a : Option Activity) (after : Stage SystemState P)
+      → IsHonest w.machine → TurnAt sharing turns w place a after
+      → TurnAt copying turns (copied w) place a (copied after)
+  unfolding place_copied
+  turn_at_copied w place None after honest t = (t.0, ap copied t.1)
+  turn_at_copied w place (Some a) after honest t =
+      (t.0, t.1, (place_copied w place t.0 t.1 after honest t.2).0, t.3)
 
   domain_copied : (w : Stage SystemState P) (by : ℕ) (r : Reply) (after : Stage SystemState P) → IsHonest w.machine
       → DomainTurn sharing turns w by r after

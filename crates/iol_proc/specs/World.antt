@@ -2,8 +2,8 @@
 --
 -- The definitions are used for two machines: the copying machine, and a system over any store, with all that it
 -- guarantees.
-use Rattle.std.specs.Prelude.{◌≡◌, ◌≢◌, ◌⊎◌, ◌<◌, ◌||◌, ℕ, List, [], ◌∷◌, length, map, Some, IfSome, Bool, All}
-use Rattle.std.specs.Prelude.{slice_get, slice_set}
+use Rattle.std.specs.Prelude.{◌≡◌, ◌≢◌, ◌⊎◌, ◌<◌, ◌≤◌, ◌||◌, ℕ, List, [], ◌∷◌, length, map, Option, Some, None, IfSome}
+use Rattle.std.specs.Prelude.{Bool, All, if◌then◌else◌, slice_get, slice_set}
 use Rattle.iol_core.specs.State.{State}
 use Rattle.iol_core.specs.Run.{StepsTo}
 use Rattle.iol_core.specs.declared.events.Event.{Event}
@@ -14,7 +14,9 @@ use Rattle.iol_laws.specs.Caller.{is_resource_failure}
 use Rattle.iol_system.specs.Machine.{SystemState, machine_of}
 use Rattle.iol_system.specs.Promises.{Promises}
 use Rattle.iol_proc.specs.ReadableBytes.{readable_to}
-use Rattle.iol_proc.specs.Turns.{Machine, TransitionRelation, ProcessSlotTurn}
+use Rattle.iol_proc.specs.Turns.{Machine, TransitionRelation, ProcessSlotTurn, is_would_block}
+use Rattle.iol_proc.specs.declared.activity.Activity.{Activity}
+use Rattle.iol_proc.specs.declared.activity.Activity.TheVariants.{Yields, Waits, Acts}
 use Rattle.iol_proc.specs.declared.choice.Choice.{Choice}
 use Rattle.iol_proc.specs.declared.choice.Choice.TheVariants as choice
 use Rattle.iol_proc.specs.declared.process_slot.ProcessSlot.{ProcessSlot}
@@ -70,6 +72,10 @@ abbrev pub SitsAt : {P : Type 0} → List (ProcessSlot P) → (by place : ℕ) �
 SitsAt process_slots by place = IfSome (slice_get process_slots place) (λ process_slot. process_slot.by ≡ by)
     × (place < length process_slots)
 
+-- what the process did in a turn: whether it yielded, and the reply
+abbrev pub activity_of : (yields : Bool) → Reply → Activity
+activity_of yields r = if yields then Yields else (if is_would_block r then Waits else Acts)
+
 -- the process of a domain
 pub record IsInSlots {P : Type 0} (process_slots : List (ProcessSlot P)) (by : ℕ) (p : P) : Type 0 where
   pub place : ℕ
@@ -87,6 +93,12 @@ module _ {M P : Type 0} (machine : Machine M) (turns : TransitionRelation P) whe
     pub turn : ProcessSlotTurn machine turns w.machine process_slot yields r after.machine next
     pub others_stay : after.process_slots ≡ slice_set w.process_slots place next
     pub notes : after.resource_failure ≡ (w.resource_failure || is_resource_failure r)
+
+  -- A turn of the process at this index, which did this. None: there is no process, and nothing changes.
+  abbrev pub TurnAt : Stage M P → (place : ℕ) → Option Activity → Stage M P → Type 0
+  TurnAt w place None after = (length w.process_slots ≤ place) × (after ≡ w)
+  TurnAt w place (Some a) after =
+      (yields : Bool) × (r : Reply) × PlaceTurn w place yields r after × (a ≡ activity_of yields r)
 
   -- no process is in this domain
   pub record Absent (w : Stage M P) (by : ℕ) (r : Reply) (after : Stage M P) : Type 0 where
@@ -124,9 +136,12 @@ module _ {M P : Type 0} (machine : Machine M) (turns : TransitionRelation P) whe
   WorldRun w (c ∷ cs) [] after = ⊥
 
 module _ {P : Type 0} (turns : TransitionRelation P) where
-  -- An external event, and a list of choices, in the copying machine.
+  -- An external event, a turn, and a list of choices, in the copying machine.
   abbrev pub CopiedStep : Stage SystemState P → Event → Reply → Stage SystemState P → Type 0
   CopiedStep w e r after = OutsideStep copying turns (copied w) e r (copied after)
 
   abbrev pub CopiedRun : Stage SystemState P → List Choice → List Reply → Stage SystemState P → Type 0
   CopiedRun w cs rs after = WorldRun copying turns (copied w) cs rs (copied after)
+
+  abbrev pub CopiedTurnAt : Stage SystemState P → (place : ℕ) → Option Activity → Stage SystemState P → Type 0
+  CopiedTurnAt w place a after = TurnAt copying turns (copied w) place a (copied after)

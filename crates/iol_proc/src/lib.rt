@@ -13,6 +13,7 @@
 //!     let idle = world.until_idle(65536);
 #![tactic(auto)]
 
+pub mod activity;
 pub mod choice;
 pub mod idle;
 mod in_place;

@@ -2,12 +2,13 @@
 ghost use Rattle.std.specs.Prelude.{◌≡◌, ◌<◌, length};
 ghost use Rattle.iol_proc.specs.Idle.{TurnGoes};
 ghost use Rattle.iol_proc.specs.Turns.{ProcessSlotTurn};
-ghost use Rattle.iol_proc.specs.World.{sharing, domains_of, staged};
+ghost use Rattle.iol_proc.specs.World.{activity_of, sharing, domains_of, staged};
 
+use crate::activity::Activity;
 use crate::look::Look;
 use crate::process::{Process, Turn};
 use crate::process_slot::ProcessSlot;
-use crate::replies::{again, is_resource_failure};
+use crate::replies::{again, is_resource_failure, is_would_block};
 use iol_back::backing::Backing;
 use iol_core::events::{Event, Reply};
 use iol_core::refusals::Refusal;
@@ -18,6 +19,21 @@ use iol_system::system::System;
 pub(crate) struct Outcome {
     pub yields: bool,
     pub reply: Reply,
+}
+
+impl Outcome {
+    /// What the process did.
+    pub(crate) fn activity(&self) -> Activity
+        ensures { result ≡ activity_of self.now.yields self.now.reply }
+    {
+        if self.yields {
+            Activity::Yields
+        } else if is_would_block(&self.reply) {
+            Activity::Waits
+        } else {
+            Activity::Acts
+        }
+    }
 }
 
 /// Runs a turn of the process in a process slot.

@@ -10,7 +10,9 @@ ghost use Rattle.iol_proc.specs.Idle.{CopiedIdles, Idles};
 ghost use Rattle.iol_proc.specs.Laws.{HasEvents};
 ghost use Rattle.iol_proc.specs.ReadableBytes.{readable_to};
 ghost use Rattle.iol_proc.specs.World.{Stage, sharing, process_slot_of, domains_of, IsRising, IsInSlots, HasNoProcessSlot, SitsAt, WorldStep, WorldRun, DomainTurn, OutsideStep, CopiedStep, CopiedRun};
+ghost use Rattle.iol_proc.specs.World.{CopiedTurnAt, TurnAt};
 
+use crate::activity::Activity;
 use crate::choice::Choice;
 use crate::look::Look;
 use crate::process::Process;
@@ -166,6 +168,34 @@ impl<B: Backing + Drop, P: Process> World<B, P> {
             replies.push_reserved(reply);
         }
         Ok(replies)
+    }
+
+    /// The number of processes.
+    pub fn processes(&self) -> usize
+        ensures { result ≡ length self.now.process_slots }
+    {
+        self.process_slots.len()
+    }
+
+    /// Runs a turn of the process at an index, in ascending order of domains, and returns what it
+    /// did. None: there is no process at this index, and nothing changes.
+    pub fn turn_at(&mut self, place: usize) -> Option<Activity>
+        ensures shared { TurnAt sharing P.turns self.old place result self.new }
+        ensures run { IfHonest self.old.machine.disk
+            (CopiedTurnAt P.turns self.old place result self.new) }
+        ensures events { HasEvents self.old.machine self.new.machine }
+        ensures honest { KeepsHonesty self.old.machine self.new.machine }
+    {
+        if place >= self.process_slots.len() {
+            return None;
+        }
+        let outcome = place_turn(
+            &mut self.system,
+            &mut self.process_slots,
+            &mut self.resource_failure,
+            place,
+        );
+        Some(outcome.activity())
     }
 
     /// Runs turns of the processes in ascending order of domains, round after round, at most

@@ -1,5 +1,6 @@
 -- A world that serves, one step after another.
-use Rattle.std.proofs.Common.{◌≡◌, ◌∙◌, ℕ, Bool, false, List, [], ◌∷◌, ◌++◌, length, refl, sym, ap, append_assoc}
+use Rattle.std.proofs.Common.{◌≡◌, ◌∙◌, inr, ℕ, Bool, false, List, [], ◌∷◌, ◌++◌, length, Option, Some, None, refl, sym, ap}
+use Rattle.std.proofs.Common.{append_assoc}
 use Rattle.std.proofs.Math.Logic.{∥∥₁_map}
 use Rattle.iol_back.specs.Disk.{IfHonest}
 use Rattle.iol_core.specs.State.{State}
@@ -8,9 +9,11 @@ use Rattle.iol_core.specs.declared.events.Event.TheVariants as event
 use Rattle.iol_core.specs.declared.events.Reply.{Reply}
 use Rattle.iol_system.specs.Machine.{SystemState}
 use Rattle.iol_proc.specs.Laws.{KeepsHonesty}
+use Rattle.iol_proc.specs.Histories.{stream_over, sent_over}
 use Rattle.iol_proc.specs.Streams.{ArrivesAs}
 use Rattle.iol_proc.specs.Turns.{TransitionRelation}
-use Rattle.iol_proc.specs.World.{Stage, copied, copying, OutsideStep}
+use Rattle.iol_proc.specs.World.{Stage, copied, copying, OutsideStep, TurnAt}
+use Rattle.iol_proc.specs.declared.activity.Activity.{Activity}
 use Rattle.iol_proc.specs.declared.choice.Choice.{Choice}
 use Rattle.iol_proc.specs.declared.choice.Choice.TheVariants as choice
 use Rattle.iol_proc.proofs.Streams.{runs_follow}
@@ -67,6 +70,21 @@ module _ {P : Type 0} (turns : TransitionRelation P) where
         run = (after, step, refl);
         serving = (refl, tt);
       }
+
+  -- a turn of one process
+  pub goes_turn_at : (c place : ℕ) (a : Option Activity) (w after : Stage State P)
+      → TurnAt copying turns w place a after → Proceeds turns c [] [] false w after
+  unfolding stream_over sent_over
+  goes_turn_at c place None w after t = goes_none turns c w after t.1
+  goes_turn_at c place (Some a) w after t = record {
+    choices = choice.Turn t.2.process_slot.by ∷ [];
+    replies = t.1 ∷ [];
+    run = (after, inr (record { place = place; yields = t.0; turn = t.2; domain = refl }), refl);
+    alone = (tt, tt);
+    comes = refl;
+    goes = refl;
+    reports = refl;
+  }
 
   -- bytes that arrive
 

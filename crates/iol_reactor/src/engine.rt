@@ -56,6 +56,9 @@ pub struct Engine<S: Socket, B: Backing, P: Process, V: Service<B, P>> {
     // Whether all processes are idle, and whether a world may have changed since they were.
     pub(crate) is_idle: bool,
     pub(crate) is_moved: bool,
+
+    // The process with which rounds of turns go on.
+    pub(crate) next_process: usize,
     now: u64,
 }
 
@@ -107,6 +110,7 @@ impl<S: Socket + Drop, B: Backing + Drop, P: Process, V: Service<B, P>> Engine<S
             retry_at: None,
             is_idle: true,
             is_moved: true,
+            next_process: 0,
             now: 0,
         }
     }

@@ -14,6 +14,7 @@ use iol_back::backing::Backing;
 use iol_core::descriptors::How;
 use iol_core::events::{Event, Reply};
 use iol_core::numbers::{ConnId, PoolId};
+use iol_proc::activity::Activity;
 use iol_proc::process::Process;
 use iol_proc::world::World;
 use iol_sock::{Drained, Gather};
@@ -67,14 +68,19 @@ impl<B: Backing + Drop, P: Process, V: Service<B, P>> Host<B, P, V> {
         }
     }
 
-    /// Gives turns to the processes until all are idle, but at most this number, and returns
-    /// whether all are.
-    pub fn until_idle(&mut self, turns: usize) -> bool
+    /// The number of processes.
+    pub fn processes(&self) -> usize {
+        self.world.processes()
+    }
+
+    /// Gives a turn to the process at an index, and returns what it did. None: there is no process
+    /// at this index.
+    pub fn turn_at(&mut self, place: usize) -> Option<Activity>
         ensures alone { (c : ℕ) → ProceedsIn P.turns c [] [] false self.old.world self.new.world }
         ensures visits { VisitsStay P.turns V.starts self.old.pool self.old.world self.new.world }
         ensures pool { self.new.pool ≡ self.old.pool }
     {
-        self.world.until_idle(turns)
+        self.world.turn_at(place)
     }
 
     /// The peer of a connection sends no more.

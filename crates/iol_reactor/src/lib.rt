@@ -40,4 +40,5 @@ pub mod service;
 pub mod socket;
 pub mod steps;
 pub mod timers;
+pub mod turns;
 pub mod worlds;

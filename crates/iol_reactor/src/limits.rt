@@ -54,27 +54,19 @@ impl Limits {
 /// The events that one poll reports at most.
 pub const EVENTS: usize = 256;
 
-/// The processes of a world at most. With more, some may have no turns while turns are long, and
-/// the processes may never be found idle. A server and its workers are nine at most.
-pub const MAX_PROCESSES: usize = 10;
-
-/// Between two polls of the sockets the processes have portions of turns until all are idle. No
-/// portion begins after this time.
+/// Between two polls of the sockets the processes have turns until all are idle. No time
+/// slice begins after this time, except the first one that is not of the first process.
 pub const RUN_MICROS: u64 = 1_000;
 
-/// A portion is long if it takes `LONG_MICROS`, and `TURN_MICROS` for each of its turns. A turn
-/// that polls takes less than one, and a worker's turn may take thousands: it counts the lines of
-/// a file.
-pub const LONG_MICROS: u64 = 500;
+/// The time slice of a process: it has turns until it is quiet, or for this time.
+pub const SLICE_MICROS: u64 = 500;
 
-pub const TURN_MICROS: u64 = 2;
+/// The clock is read after each turn in which a process acted; for the first one, which serves the
+/// clients, after this number of such turns. They are short.
+pub const UNTIMED_TURNS: usize = 8;
 
-/// The turns of the portion after a long one, in each world. Each portion begins at the first
-/// process, so fewer would leave the last ones without turns.
-pub const MIN_TURNS: usize = MAX_PROCESSES;
-
-/// The portions between two polls at most.
-pub const PORTIONS: usize = 64;
+/// The turns between two polls at most.
+pub const MAX_TURNS: usize = 65_536;
 
 /// The bytes of one read at most.
 pub const READ_BYTES: usize = 16_384;

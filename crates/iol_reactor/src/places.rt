@@ -12,6 +12,7 @@ use crate::service::{Frame, Service};
 use crate::socket::Socket;
 use crate::worlds::Worlds;
 use iol_back::backing::Backing;
+use iol_proc::activity::Activity;
 use iol_proc::process::Process;
 use iol_proc::world::World;
 use std::alloc::{AllocError, Global};
@@ -113,10 +114,10 @@ impl<S: Socket + Drop, B: Backing + Drop, P: Process, V: Service<B, P>> Places<S
         self.worlds.renew(world);
     }
 
-    /// Gives turns to the processes until all are idle, but at most this number in each world, and
-    /// returns whether all are.
-    pub fn until_idle(&mut self, turns: usize) -> bool {
-        self.worlds.until_idle(turns)
+    /// Gives a turn to the process at an index, and returns what it did, as with
+    /// [`Worlds::turn_at`].
+    pub fn turn_at(&mut self, place: usize) -> Option<Activity> {
+        self.worlds.turn_at(place)
     }
 
     /// Whether the client in this place has a connection that the processes have closed.

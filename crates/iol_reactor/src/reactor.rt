@@ -4,10 +4,9 @@ ghost use Rattle.iol_reactor.specs.Accepting.{StaysWithin};
 
 use crate::accept::{Acceptor, Listener};
 use crate::engine::Engine;
-use crate::limits::{
-    EVENTS, LONG_MICROS, Limits, MIN_TURNS, PORTIONS, RENEW_MILLIS, RUN_MICROS, TURN_MICROS,
-};
+use crate::limits::{EVENTS, Limits, MAX_TURNS, RENEW_MILLIS};
 use crate::service::Service;
+use crate::turns::Stopwatch;
 use iol_back::backing::Backing;
 use iol_core::numbers::PoolId;
 use iol_proc::process::Process;
@@ -35,9 +34,6 @@ pub struct Reactor<L, B: Backing, P: Process, V: Service<B, P>> {
 
     // When the service is asked for a new world.
     renew_at: u64,
-
-    // The turns of the next portion: those between two readings of the clock.
-    portion: usize,
 }
 
 impl<B: Backing + Drop, P: Process, V: Service<B, P>> Reactor<TcpListener, B, P, V> {
@@ -86,7 +82,6 @@ impl<B: Backing + Drop, P: Process, V: Service<B, P>> Reactor<TcpListener, B, P,
                 acceptor,
                 engine,
                 renew_at: RENEW_MILLIS,
-                portion: MIN_TURNS,
             }),
             Err(error) => Err(io::Error::from(error)),
         }
@@ -217,26 +212,18 @@ where
         Ok(())
     }
 
-    // The processes have portions of turns until all are idle, or their time is over.
+    // The processes have turns until all are idle, or their time is over.
     fn run(&mut self, start: &Instant, clock: &impl Clock) -> io::Result<()>
         ensures listener { self.new.acceptor.listener ≡ self.old.acceptor.listener }
         ensures left { self.new.acceptor.left ≡ self.old.acceptor.left }
     {
-        let most = self.engine.idle_turns();
         let began = start.elapsed(clock)?;
-        let mut before = began;
-        for _ in 0..PORTIONS {
-            let portion = self.portion.min(most);
-            if self.engine.take_turns(portion) {
-                return Ok(());
-            }
-            let now = start.elapsed(clock)?;
-            self.portion = portion_after(portion, now.saturating_sub(before));
-            if now.saturating_sub(began) >= Duration::from_micros(RUN_MICROS) {
-                return Ok(());
-            }
-            before = now;
-        }
+        let mut watch = Watch {
+            start: *start,
+            clock,
+            began,
+        };
+        self.engine.take_turns(MAX_TURNS, &mut watch);
         Ok(())
     }
 
@@ -334,12 +321,27 @@ fn millis_of(time: Duration) -> u64 {
         .saturating_add(u64::from(time.subsec_millis()))
 }
 
-// The turns of the portion after one that took this time.
-fn portion_after(portion: usize, took: Duration) -> usize {
-    let long = TURN_MICROS.saturating_mul(portion as u64).max(LONG_MICROS);
-    if took >= Duration::from_micros(long) {
-        MIN_TURNS
-    } else {
-        portion.saturating_mul(2)
+// The time since a run of turns began.
+#[derive(Drop)]
+struct Watch<'a, C: Clock> {
+    start: Instant,
+    clock: &'a C,
+    began: Duration,
+}
+
+impl<'a, C: Clock> Stopwatch for Watch<'a, C> {
+    // A clock that fails ends the run.
+    fn micros(&mut self) -> u64 {
+        match self.start.elapsed(self.clock) {
+            Ok(now) => micros_of(now.saturating_sub(self.began)),
+            Err(_) => u64::MAX,
+        }
     }
+}
+
+// A time in microseconds.
+fn micros_of(time: Duration) -> u64 {
+    time.as_secs()
+        .saturating_mul(1_000_000)
+        .saturating_add(u64::from(time.subsec_micros()))
 }

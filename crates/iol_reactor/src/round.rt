@@ -2,10 +2,10 @@
 use crate::client::Phase;
 use crate::engine::Engine;
 use crate::exchange::{Moment, Step};
-use crate::limits::MAX_PROCESSES;
 use crate::service::Service;
 use crate::socket::Socket;
 use crate::timers::Key;
+use crate::turns::{Order, Stopped, Stopwatch};
 use iol_back::backing::Backing;
 use iol_proc::process::Process;
 use std::alloc::AllocError;
@@ -16,7 +16,7 @@ impl<S: Socket + Drop, B: Backing + Drop, P: Process, V: Service<B, P>> Engine<S
     /// sends their output.
     pub fn round(&mut self, turns: usize, service: &mut V) -> Result<(), AllocError> {
         if self.begin_round(service)? {
-            self.take_turns(turns);
+            self.take_turns(turns, &mut Stopped);
             self.end_round(service)?;
         }
         Ok(())
@@ -33,21 +33,25 @@ impl<S: Socket + Drop, B: Backing + Drop, P: Process, V: Service<B, P>> Engine<S
         Ok(true)
     }
 
-    /// The number of turns in which idle processes are found idle: each has yielded twice. Before a
-    /// yield a process polls each connection, and accepts.
-    pub(crate) fn idle_turns(&self) -> usize {
-        let calls = self.worlds().links().saturating_add(2);
-        calls.saturating_mul(2 * MAX_PROCESSES)
-    }
-
-    /// Gives turns to the processes until all are idle, but at most this number in each world, and
-    /// returns whether all are. If they are, and no world changed, they are given none.
-    pub(crate) fn take_turns(&mut self, turns: usize) -> bool {
-        if self.is_moved || !self.is_idle || !self.pending.is_empty() {
-            self.is_moved = false;
-            self.is_idle = self.places.until_idle(turns);
+    /// Gives turns to the processes until all are idle or their time is over, but at most this
+    /// number. If they are idle, and no world changed, they are given none.
+    pub(crate) fn take_turns<W: Stopwatch>(&mut self, most: usize, watch: &mut W) {
+        if !self.is_moved && self.is_idle && self.pending.is_empty() {
+            return;
         }
-        self.is_idle
+        self.is_moved = false;
+        let mut order = Order::new(self.worlds().processes(), self.next_process);
+        for _ in 0..most {
+            if order.is_over() {
+                break;
+            }
+            match self.places.turn_at(order.place()) {
+                Some(activity) => order.note(activity, watch),
+                None => break,
+            }
+        }
+        self.is_idle = order.is_idle();
+        self.next_process = order.next();
     }
 
     /// Ends a round: sends the output of the processes.

@@ -15,6 +15,7 @@ use crate::outbox::Outbox;
 use crate::service::Service;
 use iol_back::backing::Backing;
 use iol_core::numbers::PoolId;
+use iol_proc::activity::Activity;
 use iol_proc::process::Process;
 use iol_proc::world::World;
 use iol_sock::{Drained, Gather};
@@ -218,9 +219,18 @@ impl<B: Backing + Drop, P: Process, V: Service<B, P>> Worlds<B, P, V> {
         }
     }
 
-    /// Gives turns to the processes until all are idle, but at most this number in each world, and
-    /// returns whether all are.
-    pub fn until_idle(&mut self, turns: usize) -> bool
+    /// The number of processes of both worlds.
+    pub fn processes(&self) -> usize {
+        let earlier = match &self.retiring {
+            Some(world) => world.processes(),
+            None => 0,
+        };
+        self.current.processes().saturating_add(earlier)
+    }
+
+    /// Gives a turn to the process at an index, and returns what it did. Those of the current world
+    /// come first. None: there is no process at this index.
+    pub fn turn_at(&mut self, place: usize) -> Option<Activity>
         ensures links { self.new.links ≡ self.old.links }
         ensures pool { self.new.pool ≡ self.old.pool }
         ensures visits { LinksStay P.turns V.starts self.old.pool
@@ -229,10 +239,13 @@ impl<B: Backing + Drop, P: Process, V: Service<B, P>> Worlds<B, P, V> {
             (serving self.new.links.generation self.new.current.world
             (λ h. h.world) self.new.retiring) }
     {
-        let is_idle = self.current.until_idle(turns);
+        let current = self.current.processes();
+        if place < current {
+            return self.current.turn_at(place);
+        }
         match &mut self.retiring {
-            Some(world) => world.until_idle(turns) && is_idle,
-            None => is_idle,
+            Some(world) => world.turn_at(place.saturating_sub(current)),
+            None => None,
         }
     }
 

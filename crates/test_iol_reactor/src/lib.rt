@@ -12,3 +12,5 @@ mod memory_socket;
 mod reading;
 #[cfg(test)]
 mod sending;
+#[cfg(test)]
+mod turns;

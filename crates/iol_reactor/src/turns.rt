@@ -1,0 +1,140 @@
+//! Whose turn is next, and until when.
+use crate::limits::{RUN_MICROS, SLICE_MICROS, UNTIMED_TURNS};
+use iol_proc::activity::Activity;
+
+/// The time of a run of turns.
+pub trait Stopwatch {
+    /// The microseconds since the run began.
+    fn micros(&mut self) -> u64;
+}
+
+/// A time that does not pass: a run ends when all processes are idle, or by its number of turns.
+#[derive(Drop)]
+pub struct Stopped;
+
+impl Stopwatch for Stopped {
+    fn micros(&mut self) -> u64 {
+        0
+    }
+}
+
+/// The order of the turns of a run. Each process has a time slice: turns until it is quiet, that is
+/// has yielded twice and not acted between, or for `SLICE_MICROS`. The first process has the first
+/// one; then rounds of time slices go on with the process at which those of the run before ended.
+#[derive(Debug, Drop)]
+pub struct Order {
+    count: usize,
+
+    // The process that has its time slice, and the one after it if that is not the next in the round.
+    place: usize,
+    resumes: Option<usize>,
+
+    // The yields in the time slice, and the time slices of rounds, one after another, that ended as
+    // the process was quiet: since a process acted.
+    yields: usize,
+    quiet: usize,
+
+    // The turns of the first process in which it acted, since the clock was read.
+    untimed: usize,
+
+    // The time when the clock was read, and when the time slice began.
+    now: u64,
+    began: u64,
+
+    is_over: bool,
+}
+
+impl Order {
+    /// A run of this number of processes, whose rounds go on with the process at this index.
+    pub fn new(count: usize, next: usize) -> Order {
+        Order {
+            count,
+            place: 0,
+            resumes: if 0 < next && next < count {
+                Some(next)
+            } else {
+                None
+            },
+            yields: 0,
+            quiet: 0,
+            untimed: 0,
+            now: 0,
+            began: 0,
+            is_over: false,
+        }
+    }
+
+    /// The process that has the next turn.
+    pub fn place(&self) -> usize {
+        self.place
+    }
+
+    /// The process with which the rounds go on.
+    pub fn next(&self) -> usize {
+        self.resumes.unwrap_or(self.place)
+    }
+
+    /// Whether all processes are idle: each was quiet in a round in which none acted.
+    pub fn is_idle(&self) -> bool {
+        self.count <= self.quiet
+    }
+
+    /// Whether the run ends: all processes are idle, or its time is over. In a run at least one
+    /// time slice is not of the first process.
+    pub fn is_over(&self) -> bool {
+        self.is_over || self.is_idle()
+    }
+
+    /// The process had its turn.
+    pub fn note<W: Stopwatch>(&mut self, activity: Activity, watch: &mut W) {
+        match activity {
+            Activity::Waits => {}
+            Activity::Yields => {
+                self.yields = self.yields.saturating_add(1);
+                if 2 <= self.yields {
+                    self.be_quiet();
+                }
+            }
+            Activity::Acts => {
+                self.yields = 0;
+                self.quiet = 0;
+                self.untimed = self.untimed.saturating_add(1);
+                if 0 < self.place || UNTIMED_TURNS <= self.untimed {
+                    self.read(watch);
+                }
+            }
+        }
+    }
+
+    // The process is quiet, so its time slice is over.
+    fn be_quiet(&mut self) {
+        if self.resumes.is_none() {
+            self.quiet = self.quiet.saturating_add(1);
+        }
+        self.end_slice();
+    }
+
+    // Reads the clock. The time slice may be over.
+    fn read<W: Stopwatch>(&mut self, watch: &mut W) {
+        self.untimed = 0;
+        self.now = watch.micros();
+        if SLICE_MICROS <= self.now.saturating_sub(self.began) {
+            self.end_slice();
+        }
+    }
+
+    // The next process has its time slice.
+    fn end_slice(&mut self) {
+        let is_last = 0 < self.place || self.count <= 1;
+        self.is_over = is_last && RUN_MICROS <= self.now;
+        self.began = self.now;
+        self.yields = 0;
+        self.place = match self.resumes.take() {
+            Some(next) => next,
+            None => {
+                let next = self.place.saturating_add(1);
+                if next < self.count { next } else { 0 }
+            }
+        };
+    }
+}
