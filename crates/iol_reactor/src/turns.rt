@@ -25,7 +25,7 @@ impl Stopwatch for Stopped {
 pub struct Order {
     count: usize,
 
-    // The process that has its time slice, and the one after it if that is not the next in the round.
+    // The process that has its time slice, and the next one if that is not the one after it.
     place: usize,
     resumes: Option<usize>,
 
