@@ -50,7 +50,7 @@ pub record Conn : Type 0 where
 abbrev pub new_connection : Conn
 new_connection = record { kept = []; q = refuse 431 false true; phase = Rests }
 
--- ---- the aggregates and the file descriptor that it has
+-- ---- the aggregates that it has
 
 abbrev pub has_followed : Following → (a : ℕ) → Bool
 has_followed None a = false
@@ -65,28 +65,7 @@ abbrev pub content_agg : Payload → (a : ℕ) → Bool
 content_agg (Body b size len) a = b == a
 content_agg k a = false
 
-abbrev pub uses_agg : Phase → (a : ℕ) → Bool
-uses_agg (Got b) a = b == a
-uses_agg (Shuts g k) a = file_result_agg k a
-uses_agg (Picks b first last len) a = b == a
-uses_agg (Spares b k) a = (b == a) || content_agg k a
-uses_agg (Heads k) a = content_agg k a
-uses_agg (Joins b size body len) a = (b == a) || (body == a)
-uses_agg (Sends s) a = (s.agg == a) || has_followed s.more a
-uses_agg (Cuts s) a = (s.agg == a) || has_followed s.more a
-uses_agg (Offers s piece) a = (piece == a) || ((s.agg == a) || has_followed s.more a)
-uses_agg (Swaps s piece) a = (piece == a) || ((s.agg == a) || has_followed s.more a)
-uses_agg (Sent b taken more) a = (b == a) || has_followed more a
-uses_agg (Breaks piece b more) a = (piece == a) || ((b == a) || has_followed more a)
-uses_agg (Drops b more) a = (b == a) || has_followed more a
-uses_agg d a = false
-
-abbrev pub uses_fd : Phase → (g : ℕ) → Bool
-uses_fd (Reads f) g = f == g
-uses_fd (Shuts f k) g = f == g
-uses_fd d g = false
-
--- ---- its next call
+-- ---- the data of its calls
 
 -- the maximum number of buffered bytes of a stream
 abbrev pub most_kept : ℕ
@@ -120,30 +99,6 @@ text_of (refuse status head_only close) k = error_text status head_only close
 abbrev pub piece_end : Sending → ℕ
 piece_end s = min (s.from + MAX_QUEUE_BYTES) s.len
 
--- its next call; fd is its descriptor
-abbrev pub wants : (fd : ℕ) → Conn → Call
-wants fd x = by x.phase
-  where
-    by : Phase → Call
-    by Rests = call.IolRead fd (most_kept - length x.kept)
-    by (Got a) = call.AggDrop a
-    by Opens = call.OpenFile (name_of x.q) modes.Read
-    by (Reads f) = if is_head_only x.q then call.Length f else call.IolRead f most_read
-    by (Shuts f k) = call.Close f
-    by (Picks a from to len) = call.AggCut a from to
-    by (Spares a k) = call.AggDrop a
-    by (Heads k) = call.AggMake (text_of x.q k)
-    by (Joins a size body len) = call.AggJoin a body
-    by (Sends s) = call.IolWrite fd s.agg
-    by (Cuts s) = call.AggCut s.agg s.from (piece_end s)
-    by (Offers s piece) = call.IolWrite fd piece
-    by (Swaps s piece) = call.AggDrop piece
-    by (Sent a taken more) = call.AggDrop a
-    by (Breaks piece a more) = call.AggDrop piece
-    by (Drops a more) = call.AggDrop a
-    by Closes = call.Close fd
-    by Over = call.Close fd
-
 -- ---- the beginning of a response
 
 abbrev pub begins : Answer → Phase
@@ -172,7 +127,7 @@ IsAwaiting x = by x.phase
     by Rests = window_in x.kept ≡ Wait
     by d = Unit {0}
 
--- ---- its state after the reply to its call; `received` is the contents of the aggregate in the reply
+-- ---- the replies that move a phase; `received` is the contents of the aggregate in the reply
 
 -- the status of a response if opening or reading was refused
 abbrev pub status_of : Refusal → ℕ
@@ -295,25 +250,148 @@ after_discard a r = or_stay (Got a) (on_done r Rests)
 abbrev pub after_disconnect : Reply → Phase
 after_disconnect r = or_stay Closes (on_done r Over)
 
+-- ---- the phases
+
+-- What a phase is. A new phase is one more row of `phase_of`.
+pub record PhaseOf : Type 0 where
+  -- its call: `fd` is the descriptor of the connection
+  pub call : (fd : ℕ) → Conn → Call
+  -- whether it uses an aggregate
+  pub agg : (a : ℕ) → Bool
+  -- whether it has a file at a descriptor
+  pub file : (g : ℕ) → Bool
+  -- the connection after the reply to its call; `received` is the contents of the aggregate in the reply
+  pub after : Conn → Reply → (received : List ℕ) → Conn
+
+abbrev pub none : ℕ → Bool
+none a = false
+
+abbrev pub one : ℕ → (a : ℕ) → Bool
+one b a = b == a
+
+-- the next phase of the same request
+abbrev goes : (Reply → Phase) → Conn → Reply → (received : List ℕ) → Conn
+goes next x r received = record x { phase = next r }
+
+abbrev pub phase_of : Phase → PhaseOf
+phase_of Rests = record {
+  call = λ fd x. call.IolRead fd (most_kept - length x.kept);
+  agg = none;
+  file = none;
+  after = λ x r received. after_receive x.kept x.q r received;
+}
+phase_of (Got read) = record {
+  call = λ fd x. call.AggDrop read;
+  agg = one read;
+  file = none;
+  after = goes (after_discard read);
+}
+phase_of Opens = record {
+  call = λ fd x. call.OpenFile (name_of x.q) modes.Read;
+  agg = none;
+  file = none;
+  after = goes after_open;
+}
+phase_of (Reads f) = record {
+  call = λ fd x. if is_head_only x.q then call.Length f else call.IolRead f most_read;
+  agg = none;
+  file = one f;
+  after = λ x r received. record x { phase = after_read f r received };
+}
+phase_of (Shuts f k) = record {
+  call = λ fd x. call.Close f;
+  agg = file_result_agg k;
+  file = one f;
+  after = λ x r received. record x { phase = after_close_file x.q f k r };
+}
+phase_of (Picks b from to len) = record {
+  call = λ fd x. call.AggCut b from to;
+  agg = one b;
+  file = none;
+  after = goes (after_slice b from to len);
+}
+phase_of (Spares spared k) = record {
+  call = λ fd x. call.AggDrop spared;
+  agg = λ a. (spared == a) || content_agg k a;
+  file = none;
+  after = goes (after_drop_whole spared k);
+}
+phase_of (Heads k) = record {
+  call = λ fd x. call.AggMake (text_of x.q k);
+  agg = content_agg k;
+  file = none;
+  after = λ x r received. record x { phase = after_head k r received };
+}
+phase_of (Joins b size body len) = record {
+  call = λ fd x. call.AggJoin b body;
+  agg = λ a. (b == a) || (body == a);
+  file = none;
+  after = goes (after_join b size body len);
+}
+phase_of (Sends s) = record {
+  call = λ fd x. call.IolWrite fd s.agg;
+  agg = λ a. (s.agg == a) || has_followed s.more a;
+  file = none;
+  after = goes (after_send s);
+}
+phase_of (Cuts s) = record {
+  call = λ fd x. call.AggCut s.agg s.from (piece_end s);
+  agg = λ a. (s.agg == a) || has_followed s.more a;
+  file = none;
+  after = goes (after_cut s);
+}
+phase_of (Offers s piece) = record {
+  call = λ fd x. call.IolWrite fd piece;
+  agg = λ a. (piece == a) || ((s.agg == a) || has_followed s.more a);
+  file = none;
+  after = goes (after_offer s piece);
+}
+phase_of (Swaps s offered) = record {
+  call = λ fd x. call.AggDrop offered;
+  agg = λ a. (offered == a) || ((s.agg == a) || has_followed s.more a);
+  file = none;
+  after = goes (after_swap s offered);
+}
+phase_of (Sent sent taken more) = record {
+  call = λ fd x. call.AggDrop sent;
+  agg = λ a. (sent == a) || has_followed more a;
+  file = none;
+  after = λ x r received. record x { phase = after_taken x.q sent taken more r };
+}
+phase_of (Breaks piece rest more) = record {
+  call = λ fd x. call.AggDrop piece;
+  agg = λ a. (piece == a) || ((rest == a) || has_followed more a);
+  file = none;
+  after = goes (after_break piece rest more);
+}
+phase_of (Drops rest more) = record {
+  call = λ fd x. call.AggDrop rest;
+  agg = λ a. (rest == a) || has_followed more a;
+  file = none;
+  after = goes (after_drop rest more);
+}
+phase_of Closes = record {
+  call = λ fd x. call.Close fd;
+  agg = none;
+  file = none;
+  after = goes after_disconnect;
+}
+phase_of Over = record {
+  call = λ closed x. call.Close closed;
+  agg = none;
+  file = none;
+  after = λ x r received. x;
+}
+
+abbrev pub uses_agg : Phase → (a : ℕ) → Bool
+uses_agg d = (phase_of d).agg
+
+abbrev pub uses_fd : Phase → (g : ℕ) → Bool
+uses_fd d = (phase_of d).file
+
+-- its next call; fd is its descriptor
+abbrev pub wants : (fd : ℕ) → Conn → Call
+wants fd x = (phase_of x.phase).call fd x
+
 abbrev pub after_reply : Conn → Reply → (received : List ℕ) → Conn
-after_reply x r received = by x.phase
-  where
-    by : Phase → Conn
-    by Rests = after_receive x.kept x.q r received
-    by (Got a) = record x { phase = after_discard a r }
-    by Opens = record x { phase = after_open r }
-    by (Reads f) = record x { phase = after_read f r received }
-    by (Shuts f k) = record x { phase = after_close_file x.q f k r }
-    by (Picks a from to len) = record x { phase = after_slice a from to len r }
-    by (Spares a k) = record x { phase = after_drop_whole a k r }
-    by (Heads k) = record x { phase = after_head k r received }
-    by (Joins a size body len) = record x { phase = after_join a size body len r }
-    by (Sends s) = record x { phase = after_send s r }
-    by (Cuts s) = record x { phase = after_cut s r }
-    by (Offers s piece) = record x { phase = after_offer s piece r }
-    by (Swaps s piece) = record x { phase = after_swap s piece r }
-    by (Sent a taken more) = record x { phase = after_taken x.q a taken more r }
-    by (Breaks piece a more) = record x { phase = after_break piece a more r }
-    by (Drops a more) = record x { phase = after_drop a more r }
-    by Closes = record x { phase = after_disconnect r }
-    by Over = x
+after_reply x = (phase_of x.phase).after x

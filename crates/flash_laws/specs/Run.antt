@@ -18,7 +18,7 @@ use Rattle.iol_core.specs.declared.events.Reply.TheVariants as reply
 use Rattle.flash_http.specs.Request.{serve, Wanted}
 use Rattle.flash_laws.specs.Moves.{or_stay, or_else, on_done, on_agg, on_count, on_fd, on_fds, on_refused, if_denied}
 use Rattle.flash_laws.specs.Conn as conn
-use Rattle.flash_laws.specs.Conn.{Following, Conn, has_followed, count_of}
+use Rattle.flash_laws.specs.Conn.{Following, Conn, has_followed, count_of, none, one}
 use Rattle.flash_laws.specs.Answers.Scripts.{script_text, frame_of, place_in_frame, end_around}
 use Rattle.flash_laws.specs.declared.phase.Payload.TheVariants.{Error}
 use Rattle.flash_laws.specs.declared.phase.Phase.{Phase}
@@ -64,60 +64,6 @@ abbrev pub has_frame : Option ℕ → (a : ℕ) → Bool
 has_frame None a = false
 has_frame (Some f) a = f == a
 
-abbrev pub step_agg : Step → (a : ℕ) → Bool
-step_agg (Hands job f) a = job == a
-step_agg (Lets job) a = job == a
-step_agg (Sending d frame) a = conn.uses_agg d a || has_frame frame a
-step_agg (Receives held frame) a = has_followed held a || has_frame frame a
-step_agg (Spills b frame) a = (b == a) || has_frame frame a
-step_agg (Gathers held size piece len frame) a = (held == a) || ((piece == a) || has_frame frame a)
-step_agg (Frames held) a = held == a
-step_agg (Wraps held frame) a = (held == a) || (frame == a)
-step_agg (Trims held chunk len frame) a = (held == a) || ((chunk == a) || (frame == a))
-step_agg (Ended b held frame) a = (b == a) || (has_followed held a || has_frame frame a)
-step_agg (Unholds held frame) a = (held == a) || has_frame frame a
-step_agg (Stops held frame) a = has_followed held a || has_frame frame a
-step_agg (Unframes frame held) a = (frame == a) || has_followed held a
-step_agg (Lasts held) a = has_followed held a
-step_agg (WrapsLast held size frame) a = (held == a) || (frame == a)
-step_agg (TrimsLast held chunk len frame) a = (held == a) || ((chunk == a) || (frame == a))
-step_agg (Unwraps frame chunk len) a = (frame == a) || (chunk == a)
-step_agg (Lapses job) a = job == a
-step_agg s a = false
-
--- whether the read end is still open
-abbrev pub is_reading : Step → Bool
-is_reading (Unframes frame held) = false
-is_reading (Lasts held) = false
-is_reading (WrapsLast held size frame) = false
-is_reading (TrimsLast held chunk len frame) = false
-is_reading (Unwraps frame chunk len) = false
-is_reading s = true
-
--- the write end, as long as the server has it
-abbrev pub step_fd : Step → (g : ℕ) → Bool
-step_fd (Gives write) g = write == g
-step_fd (Returns write) g = write == g
-step_fd s g = false
-
--- the pipe ends that the server has
-abbrev pub ends_of : Run → Step → (g : ℕ) → Bool
-ends_of run step g = (is_reading step && (run.from == g)) || step_fd step g
-
-abbrev pub uses_agg : Running → (a : ℕ) → Bool
-uses_agg Awaits a = false
-uses_agg (Runs run step) a = step_agg step a
-uses_agg (Leaves d) a = conn.uses_agg d a
-uses_agg Closes a = false
-
-abbrev pub uses_fd : Running → (g : ℕ) → Bool
-uses_fd Awaits g = false
-uses_fd (Runs run step) g = (job_pipe run.worker == g) || ends_of run step g
-uses_fd (Leaves d) g = conn.uses_fd d g
-uses_fd Closes g = false
-
--- ---- its next call
-
 abbrev pub held_size : Following → ℕ
 held_size None = 0
 held_size (Some x) = x.1
@@ -126,42 +72,7 @@ held_size (Some x) = x.1
 abbrev pub in_phase : Wanted → Phase → Conn
 in_phase w d = record { kept = []; q = serve w; phase = d }
 
-module _ (job : (fd : ℕ) → List ℕ) where
-  abbrev pub step_wants : (fd : ℕ) → Wanted → Run → Step → Call
-  step_wants fd w run (Gives write) = call.GiveFd write (worker_domain run.worker)
-  step_wants fd w run (Makes f) = call.AggMake (job f)
-  step_wants fd w run (Hands j f) = call.IolWrite (job_pipe run.worker) j
-  step_wants fd w run (Lets j) = call.AggDrop j
-  step_wants fd w run Heads = call.AggMake (script_text w)
-  step_wants fd w run (Sending d frame) = conn.wants fd (in_phase w d)
-  step_wants fd w run (Receives held frame) = call.IolRead run.from (CHUNK_BYTES - held_size held)
-  step_wants fd w run (Spills a frame) = call.AggDrop a
-  step_wants fd w run (Gathers held size piece len frame) = call.AggJoin held piece
-  step_wants fd w run (Frames held) = call.AggMake (frame_of CHUNK_BYTES)
-  step_wants fd w run (Wraps held frame) =
-      call.AggReplace frame (place_in_frame CHUNK_BYTES) (place_in_frame CHUNK_BYTES) held
-  step_wants fd w run (Trims held chunk len frame) = call.AggDrop held
-  step_wants fd w run (Ended a held frame) = call.AggDrop a
-  step_wants fd w run (Unholds held frame) = call.AggDrop held
-  step_wants fd w run (Stops held frame) = call.Close run.from
-  step_wants fd w run (Unframes frame held) = call.AggDrop frame
-  step_wants fd w run (Lasts held) = call.AggMake (end_around held)
-  step_wants fd w run (WrapsLast held size frame) =
-      call.AggReplace frame (place_in_frame size) (place_in_frame size) held
-  step_wants fd w run (TrimsLast held chunk len frame) = call.AggDrop held
-  step_wants fd w run (Unwraps frame chunk len) = call.AggDrop frame
-  step_wants fd w run (Returns write) = call.Close write
-  step_wants fd w run (Lapses j) = call.AggDrop j
-  step_wants fd w run Fails = call.Close run.from
-
-  -- its next call; fd is the descriptor of its connection
-  abbrev pub wants : (fd : ℕ) → Wanted → Running → Call
-  wants fd w Awaits = call.Pipe
-  wants fd w (Runs run step) = step_wants fd w run step
-  wants fd w (Leaves d) = conn.wants fd (in_phase w d)
-  wants fd w Closes = call.Close fd
-
--- ---- its state after the reply to its call; `received` is the contents of the aggregate in the reply
+-- ---- the replies that move a step; `received` is the contents of the aggregate in the reply
 
 -- whether the call is retried
 abbrev pub is_again : Refusal → Bool
@@ -319,30 +230,235 @@ after_lapse j r = or_stay (Lapses j) (on_done r Fails)
 abbrev pub after_fail : Run → Reply → Running
 after_fail run r = or_stay (Runs run Fails) (on_done r (Leaves (phase.Heads (Error 503))))
 
+-- ---- the steps
+
+-- What a step is. A new step is one more row of `step_of`.
+pub record StepOf : Type 0 where
+  -- its call: `job` is the text of the job, and `fd` the descriptor of the connection
+  pub call : (job : ℕ → List ℕ) → (fd : ℕ) → Wanted → Run → Call
+  -- whether it uses an aggregate
+  pub agg : (a : ℕ) → Bool
+  -- whether it has the write end of the pipe at a descriptor
+  pub write_end : (g : ℕ) → Bool
+  -- whether the read end is still open
+  pub is_reading : Bool
+  -- the state after the reply to its call; `received` is the contents of the aggregate in the reply
+  pub after : Wanted → Run → Reply → (received : List ℕ) → Running
+
+-- a call for which only the step matters
+abbrev calls : Call → (job : ℕ → List ℕ) → (fd : ℕ) → Wanted → Run → Call
+calls k job fd w run = k
+
+-- the next step of the same run
+abbrev goes : (Reply → Step) → Wanted → Run → Reply → (received : List ℕ) → Running
+goes next w run r received = Runs run (next r)
+
+abbrev goes_by : (Reply → (received : List ℕ) → Step) → Wanted → Run → Reply → (received : List ℕ) → Running
+goes_by next w run r received = Runs run (next r received)
+
+abbrev pub step_of : Step → StepOf
+step_of (Gives write) = record {
+  call = λ job fd w run. call.GiveFd write (worker_domain run.worker);
+  agg = none;
+  write_end = one write;
+  is_reading = true;
+  after = goes (after_give write);
+}
+step_of (Makes f) = record {
+  call = λ job fd w run. call.AggMake (job f);
+  agg = none;
+  write_end = none;
+  is_reading = true;
+  after = goes (after_make f);
+}
+step_of (Hands handed f) = record {
+  call = λ job fd w run. call.IolWrite (job_pipe run.worker) handed;
+  agg = one handed;
+  write_end = none;
+  is_reading = true;
+  after = goes (after_hand handed f);
+}
+step_of (Lets job) = record {
+  call = calls (call.AggDrop job);
+  agg = one job;
+  write_end = none;
+  is_reading = true;
+  after = goes (after_release_job job);
+}
+step_of Heads = record {
+  call = λ job fd w run. call.AggMake (script_text w);
+  agg = none;
+  write_end = none;
+  is_reading = true;
+  after = goes_by after_head;
+}
+step_of (Sending d frame) = record {
+  call = λ job fd w run. conn.wants fd (in_phase w d);
+  agg = λ a. conn.uses_agg d a || has_frame frame a;
+  write_end = none;
+  is_reading = true;
+  after = λ w run r received. after_sending run d frame r;
+}
+step_of (Receives held frame) = record {
+  call = λ job fd w run. call.IolRead run.from (CHUNK_BYTES - held_size held);
+  agg = λ a. has_followed held a || has_frame frame a;
+  write_end = none;
+  is_reading = true;
+  after = λ w run r received. after_output w run held frame r received;
+}
+step_of (Spills spilt frame) = record {
+  call = calls (call.AggDrop spilt);
+  agg = λ a. (spilt == a) || has_frame frame a;
+  write_end = none;
+  is_reading = true;
+  after = goes (after_spill spilt frame);
+}
+step_of (Gathers held size piece len frame) = record {
+  call = calls (call.AggJoin held piece);
+  agg = λ a. (held == a) || ((piece == a) || has_frame frame a);
+  write_end = none;
+  is_reading = true;
+  after = goes (after_gather held size piece len frame);
+}
+step_of (Frames held) = record {
+  call = calls (call.AggMake (frame_of CHUNK_BYTES));
+  agg = one held;
+  write_end = none;
+  is_reading = true;
+  after = goes (after_frame held);
+}
+step_of (Wraps held frame) = record {
+  call = calls (call.AggReplace frame (place_in_frame CHUNK_BYTES) (place_in_frame CHUNK_BYTES) held);
+  agg = λ a. (held == a) || (frame == a);
+  write_end = none;
+  is_reading = true;
+  after = goes_by (after_wrap held frame);
+}
+step_of (Trims chunked chunk len frame) = record {
+  call = calls (call.AggDrop chunked);
+  agg = λ a. (chunked == a) || ((chunk == a) || (frame == a));
+  write_end = none;
+  is_reading = true;
+  after = goes (after_trim chunked chunk len frame);
+}
+step_of (Ended empty held frame) = record {
+  call = calls (call.AggDrop empty);
+  agg = λ a. (empty == a) || (has_followed held a || has_frame frame a);
+  write_end = none;
+  is_reading = true;
+  after = goes (after_ended empty held frame);
+}
+step_of (Unholds dropped frame) = record {
+  call = calls (call.AggDrop dropped);
+  agg = λ a. (dropped == a) || has_frame frame a;
+  write_end = none;
+  is_reading = true;
+  after = goes (after_release_held dropped frame);
+}
+step_of (Stops held frame) = record {
+  call = λ job fd w run. call.Close run.from;
+  agg = λ a. has_followed held a || has_frame frame a;
+  write_end = none;
+  is_reading = true;
+  after = λ w run r received. after_stop w run held frame r;
+}
+step_of (Unframes frame held) = record {
+  call = calls (call.AggDrop frame);
+  agg = λ a. (frame == a) || has_followed held a;
+  write_end = none;
+  is_reading = false;
+  after = λ w run r received. after_release_frame w run frame held r;
+}
+step_of (Lasts held) = record {
+  call = calls (call.AggMake (end_around held));
+  agg = has_followed held;
+  write_end = none;
+  is_reading = false;
+  after = λ w run r received. after_last run held r received;
+}
+step_of (WrapsLast held size frame) = record {
+  call = calls (call.AggReplace frame (place_in_frame size) (place_in_frame size) held);
+  agg = λ a. (held == a) || (frame == a);
+  write_end = none;
+  is_reading = false;
+  after = goes_by (after_wrap_last held size frame);
+}
+step_of (TrimsLast last chunk len frame) = record {
+  call = calls (call.AggDrop last);
+  agg = λ a. (last == a) || ((chunk == a) || (frame == a));
+  write_end = none;
+  is_reading = false;
+  after = goes (after_trim_last last chunk len frame);
+}
+step_of (Unwraps end chunk len) = record {
+  call = calls (call.AggDrop end);
+  agg = λ a. (end == a) || (chunk == a);
+  write_end = none;
+  is_reading = false;
+  after = λ w run r received. after_unwrap run end chunk len r;
+}
+step_of (Returns write) = record {
+  call = calls (call.Close write);
+  agg = none;
+  write_end = one write;
+  is_reading = true;
+  after = goes (after_return write);
+}
+step_of (Lapses lapsed) = record {
+  call = calls (call.AggDrop lapsed);
+  agg = one lapsed;
+  write_end = none;
+  is_reading = true;
+  after = goes (after_lapse lapsed);
+}
+step_of Fails = record {
+  call = λ job fd w failed. call.Close failed.from;
+  agg = none;
+  write_end = none;
+  is_reading = true;
+  after = λ w run r received. after_fail run r;
+}
+
+abbrev pub step_agg : Step → (a : ℕ) → Bool
+step_agg s = (step_of s).agg
+
+abbrev pub step_fd : Step → (g : ℕ) → Bool
+step_fd s = (step_of s).write_end
+
+abbrev pub is_reading : Step → Bool
+is_reading s = (step_of s).is_reading
+
 abbrev pub after_step : Wanted → Run → Step → Reply → (received : List ℕ) → Running
-after_step w run (Gives write) r received = Runs run (after_give write r)
-after_step w run (Makes f) r received = Runs run (after_make f r)
-after_step w run (Hands j f) r received = Runs run (after_hand j f r)
-after_step w run (Lets j) r received = Runs run (after_release_job j r)
-after_step w run Heads r received = Runs run (after_head r received)
-after_step w run (Sending d frame) r received = after_sending run d frame r
-after_step w run (Receives held frame) r received = after_output w run held frame r received
-after_step w run (Spills a frame) r received = Runs run (after_spill a frame r)
-after_step w run (Gathers held size piece len frame) r received = Runs run (after_gather held size piece len frame r)
-after_step w run (Frames held) r received = Runs run (after_frame held r)
-after_step w run (Wraps held frame) r received = Runs run (after_wrap held frame r received)
-after_step w run (Trims held chunk len frame) r received = Runs run (after_trim held chunk len frame r)
-after_step w run (Ended a held frame) r received = Runs run (after_ended a held frame r)
-after_step w run (Unholds held frame) r received = Runs run (after_release_held held frame r)
-after_step w run (Stops held frame) r received = after_stop w run held frame r
-after_step w run (Unframes frame held) r received = after_release_frame w run frame held r
-after_step w run (Lasts held) r received = after_last run held r received
-after_step w run (WrapsLast held size frame) r received = Runs run (after_wrap_last held size frame r received)
-after_step w run (TrimsLast held chunk len frame) r received = Runs run (after_trim_last held chunk len frame r)
-after_step w run (Unwraps frame chunk len) r received = after_unwrap run frame chunk len r
-after_step w run (Returns write) r received = Runs run (after_return write r)
-after_step w run (Lapses j) r received = Runs run (after_lapse j r)
-after_step w run Fails r received = after_fail run r
+after_step w run s = (step_of s).after w run
+
+-- ---- a run: what it uses, its next call, and its state after the reply
+
+-- the pipe ends that the server has
+abbrev pub ends_of : Run → Step → (g : ℕ) → Bool
+ends_of run step g = (is_reading step && (run.from == g)) || step_fd step g
+
+abbrev pub uses_agg : Running → (a : ℕ) → Bool
+uses_agg Awaits a = false
+uses_agg (Runs run step) a = step_agg step a
+uses_agg (Leaves d) a = conn.uses_agg d a
+uses_agg Closes a = false
+
+abbrev pub uses_fd : Running → (g : ℕ) → Bool
+uses_fd Awaits g = false
+uses_fd (Runs run step) g = (job_pipe run.worker == g) || ends_of run step g
+uses_fd (Leaves d) g = conn.uses_fd d g
+uses_fd Closes g = false
+
+module _ (job : (fd : ℕ) → List ℕ) where
+  abbrev pub step_wants : (fd : ℕ) → Wanted → Run → Step → Call
+  step_wants fd w run s = (step_of s).call job fd w run
+
+  -- its next call; fd is the descriptor of its connection
+  abbrev pub wants : (fd : ℕ) → Wanted → Running → Call
+  wants fd w Awaits = call.Pipe
+  wants fd w (Runs run step) = step_wants fd w run step
+  wants fd w (Leaves d) = conn.wants fd (in_phase w d)
+  wants fd w Closes = call.Close fd
 
 -- Its state after the reply to its call; `worker` is a free worker.
 abbrev pub after_reply : (worker : ℕ) → Wanted → Running → Reply → (received : List ℕ) → Running
