@@ -16,6 +16,7 @@ ghost use Rattle.flash_lite.specs.Small.{IsSmall};
 ghost use Rattle.flash_lite.specs.declared.site.TheConstants.{MAX_WORKERS};
 
 use crate::conn::{Conn, Onward, is_later};
+use crate::received::Received;
 use crate::request_calls::is_head_only;
 use crate::run::{after_reply, after_run, keeps_text, next_call, run_worker, waits};
 use crate::scripts::{Found, is_for_script, received_text, reports, whole};
@@ -23,10 +24,23 @@ use flash_http::Asked;
 use flash_laws::phase::{FileResult, Payload, Phase};
 use flash_laws::script_run::Running;
 use iol_agg::Parts;
-use iol_core::events::{Call, Reply};
+use iol_core::events::Call;
 use iol_core::numbers::{AggId, Fd};
 use std::alloc::{AllocError, Global};
 use std::marker::Model;
+
+/// The context of a client's turn.
+#[derive(Clone, Copy, Debug, PartialEq, Eq)]
+pub struct Context {
+    /// Whether scripts are run.
+    pub scripts: bool,
+
+    /// The descriptor of its connection.
+    pub fd: Fd,
+
+    /// A free worker, if the client waits for one.
+    pub worker: u32,
+}
 
 /// The state of a client whose turn passes to others.
 #[derive(Clone, Copy, Debug, PartialEq, Eq)]
@@ -104,18 +118,17 @@ impl Client {
 
     // The action of its connection, if no script runs.
     #[tactic(auto, using(crate::proofs::Responses::Clients::asks_alone, crate::proofs::Responses::Clients::leaves_alone))]
-    fn advance_alone(
-        &mut self,
-        scripts: bool,
-        fd: Fd,
-        last: &Reply,
-        parts: Option<Parts<'_>>,
-    ) -> Result<Course, AllocError>
+    fn advance_alone(&mut self, context: Context, reply: Received<'_>) -> Result<Course, AllocError>
         requires { self.old.run ≡ None }
-        ensures { ProceedsAlone scripts fd self.old last.now (received parts.entry) result self.new }
+        ensures { ProceedsAlone context.scripts context.fd self.old reply.entry.last.now
+            (received reply.entry.parts) result self.new }
     {
-        match self.conn.advance(fd, last, parts)? {
-            Onward::Asks(call) => Ok(Course::Asks(self.file_call(scripts, fd, call))),
+        match self.conn.advance(context.fd, reply)? {
+            Onward::Asks(call) => Ok(Course::Asks(self.file_call(
+                context.scripts,
+                context.fd,
+                call,
+            ))),
             Onward::Leaves(phase) => Ok(Course::Leaves(Left::Goes { phase })),
         }
     }
@@ -124,66 +137,57 @@ impl Client {
     #[tactic(auto, using(crate::proofs::Responses::Clients::received_goes))]
     fn receive(
         &mut self,
-        scripts: bool,
-        fd: Fd,
+        context: Context,
         file: Fd,
         agg: AggId,
         parts: Option<Parts<'_>>,
     ) -> Result<Course, AllocError>
         requires { self.old.run ≡ None }
-        ensures { ReceivesText scripts fd file agg self.old (received parts.entry) result self.new }
+        ensures { ReceivesText context.scripts context.fd file agg self.old (received parts.entry)
+            result self.new }
     {
         let head_only = is_head_only(self.conn.asked());
         let (runs, text) = received_text(self.alloc, head_only, parts)?;
         let file_result = FileResult::Text { agg, runs };
-        let call = self.conn.proceed(fd, Phase::Shuts { file, file_result })?;
+        let call = self
+            .conn
+            .proceed(context.fd, Phase::Shuts { file, file_result })?;
         self.script = text;
-        Ok(Course::Asks(self.file_call(scripts, fd, call)))
+        Ok(Course::Asks(self.file_call(context.scripts, context.fd, call)))
     }
 
     // The action after the reply to a call for a file, or for a script's text, if no script runs.
     #[tactic(auto, using(crate::proofs::Responses::Clients::file_rules))]
-    fn advance_file(
-        &mut self,
-        scripts: bool,
-        fd: Fd,
-        last: &Reply,
-        parts: Option<Parts<'_>>,
-    ) -> Result<Course, AllocError>
+    fn advance_file(&mut self, context: Context, reply: Received<'_>) -> Result<Course, AllocError>
         requires { self.old.run ≡ None }
-        ensures { ProceedsFile scripts fd self.old last.now (received parts.entry) result self.new }
+        ensures { ProceedsFile context.scripts context.fd self.old reply.entry.last.now
+            (received reply.entry.parts) result self.new }
     {
         let asked = self.conn.asked();
-        let script = is_for_script(scripts, asked);
-        match reports(script, self.conn.phase(), last, is_head_only(asked)) {
+        let script = is_for_script(context.scripts, asked);
+        match reports(script, self.conn.phase(), reply.last, is_head_only(asked)) {
             Found::Text { file, agg } => {
-                let course = self.receive(scripts, fd, file, agg, parts)?;
+                let course = self.receive(context, file, agg, reply.parts)?;
                 Ok(course)
             }
             Found::Runs => Ok(Course::Leaves(Left::Begins)),
             Found::AsFile => {
-                let course = self.advance_alone(scripts, fd, last, parts)?;
+                let course = self.advance_alone(context, reply)?;
                 Ok(course)
             }
         }
     }
 
     // The run after the reply to its call.
-    fn run_after(
-        &self,
-        worker: u32,
-        running: &Running,
-        last: &Reply,
-        parts: Option<Parts<'_>>,
-    ) -> Running
+    fn run_after(&self, worker: u32, running: &Running, reply: Received<'_>) -> Running
         requires worker { worker < MAX_WORKERS }
         requires goes { IsSmallRunning running.now × (is_over running.now ≡ false) }
-        ensures after { result
-            ≡ run_after worker self.now.conn.q running.now last.now (received parts.entry) }
+        ensures after { result ≡ run_after worker self.now.conn.q running.now reply.entry.last.now
+            (received reply.entry.parts) }
         ensures small { IsSmallRunning result }
     {
         match self.conn.asked() {
-            Asked::Serve(request) => after_reply(worker, request, *running, last, parts),
+            Asked::Serve(request) => after_reply(worker, request, *running, reply),
             Asked::Refuse {
                 status: _,
                 head_only: _,
@@ -258,14 +262,15 @@ impl Client {
 
     // The run is over, and all is sent: continues with the buffered stream.
     #[tactic(auto, using(crate::proofs::Responses::Clients::rest_rules))]
-    fn end_free(&mut self, scripts: bool, fd: Fd) -> Result<Course, AllocError>
-        ensures { EndsRun scripts fd Rests self.old (WantsToEnd self.old Rests) result self.new }
+    fn end_free(&mut self, context: Context) -> Result<Course, AllocError>
+        ensures { EndsRun context.scripts context.fd Rests self.old (WantsToEnd self.old Rests)
+            result self.new }
     {
-        match self.conn.advance_free(fd)? {
+        match self.conn.advance_free(context.fd)? {
             Onward::Asks(call) => {
                 self.run = None;
                 self.script = Vec::new(self.alloc);
-                Ok(Course::Asks(self.file_call(scripts, fd, call)))
+                Ok(Course::Asks(self.file_call(context.scripts, context.fd, call)))
             }
             Onward::Leaves(phase) => Ok(Course::Leaves(Left::Ends { phase })),
         }
@@ -273,30 +278,32 @@ impl Client {
 
     // The run is over, and the connection continues in this phase.
     #[tactic(auto, using(crate::proofs::Responses::Clients::ends_asks, crate::proofs::Responses::Clients::ends_wants))]
-    fn end_with(&mut self, scripts: bool, fd: Fd, phase: Phase) -> Result<Course, AllocError>
+    fn end_with(&mut self, context: Context, phase: Phase) -> Result<Course, AllocError>
         requires { (phase ≢ Rests) × (phase ≢ Over) × IsSmall phase × (is_left phase ≡ false) }
-        ensures { EndsRun scripts fd phase self.old (has_bytes phase ≡ true) result self.new }
+        ensures { EndsRun context.scripts context.fd phase self.old (has_bytes phase ≡ true) result
+            self.new }
     {
-        let call = self.conn.proceed(fd, phase)?;
+        let call = self.conn.proceed(context.fd, phase)?;
         self.run = None;
         self.script = Vec::new(self.alloc);
-        Ok(Course::Asks(self.file_call(scripts, fd, call)))
+        Ok(Course::Asks(self.file_call(context.scripts, context.fd, call)))
     }
 
     // The run is over.
     #[tactic(auto, using(crate::proofs::Responses::Clients::over_leaves, crate::proofs::Responses::Clients::ends_wants))]
-    fn end(&mut self, scripts: bool, fd: Fd, phase: Phase) -> Result<Course, AllocError>
+    fn end(&mut self, context: Context, phase: Phase) -> Result<Course, AllocError>
         requires { IsSmall phase × (is_left phase ≡ false) }
-        ensures { EndsRun scripts fd phase self.old (WantsToEnd self.old phase) result self.new }
+        ensures { EndsRun context.scripts context.fd phase self.old (WantsToEnd self.old phase)
+            result self.new }
     {
         match phase {
             Phase::Rests => {
-                let course = self.end_free(scripts, fd)?;
+                let course = self.end_free(context)?;
                 Ok(course)
             }
             Phase::Over => Ok(Course::Leaves(Left::Ends { phase })),
             _ => {
-                let course = self.end_with(scripts, fd, phase)?;
+                let course = self.end_with(context, phase)?;
                 Ok(course)
             }
         }
@@ -324,22 +331,20 @@ impl Client {
     #[tactic(auto, using(crate::proofs::Responses::RunsOn::run_rules))]
     fn advance_running(
         &mut self,
-        scripts: bool,
-        fd: Fd,
-        worker: u32,
+        context: Context,
         running: Running,
-        last: &Reply,
-        parts: Option<Parts<'_>>,
+        reply: Received<'_>,
     ) -> Result<Course, AllocError>
-        requires worker { worker < MAX_WORKERS }
+        requires worker { context.worker < MAX_WORKERS }
         requires runs { self.old.run ≡ Some running }
         requires goes { IsSmallRunning running × (is_over running ≡ false) }
-        ensures { RunsOn scripts fd worker running self.old last.now (received parts.entry) result self.new }
+        ensures { RunsOn context.scripts context.fd context.worker running self.old
+            reply.entry.last.now (received reply.entry.parts) result self.new }
     {
-        if is_later(last) {
+        if is_later(reply.last) {
             return Ok(Course::Leaves(Left::Stays));
         }
-        let next = self.run_after(worker, &running, last, parts);
+        let next = self.run_after(context.worker, &running, reply);
         if waits(&next) {
             return Ok(Course::Leaves(Left::Stays));
         }
@@ -348,38 +353,30 @@ impl Client {
         }
         match after_run(&next) {
             Some(phase) => {
-                let course = self.end(scripts, fd, phase)?;
+                let course = self.end(context, phase)?;
                 Ok(course)
             }
             None => {
-                let call = self.run_on(fd, &running, next)?;
+                let call = self.run_on(context.fd, &running, next)?;
                 Ok(Course::Asks(call))
             }
         }
     }
 
-    /// The action after the reply to its call, with the bytes of the aggregate in the reply.
-    /// `scripts` is whether scripts are run, and `worker` is a free worker, if the client waits
-    /// for one. If memory runs out it is unchanged. It needs memory only to buffer bytes that it
-    /// reads, to begin a request, or for a call with bytes of its own.
-    pub fn advance(
-        &mut self,
-        scripts: bool,
-        fd: Fd,
-        worker: u32,
-        last: &Reply,
-        parts: Option<Parts<'_>>,
-    ) -> Result<Course, AllocError>
-        requires { worker < MAX_WORKERS }
-        ensures { ProceedsAfterReply scripts fd worker self.old last.now (received parts.entry) result self.new }
+    /// The action after the reply to its call. If memory runs out it is unchanged. It needs memory
+    /// only to buffer bytes that it reads, to begin a request, or for a call with bytes of its own.
+    pub fn advance(&mut self, context: Context, reply: Received<'_>) -> Result<Course, AllocError>
+        requires { context.worker < MAX_WORKERS }
+        ensures { ProceedsAfterReply context.scripts context.fd context.worker self.old
+            reply.entry.last.now (received reply.entry.parts) result self.new }
     {
         match self.run {
             Some(running) => {
-                let course = self.advance_running(scripts, fd, worker, running, last, parts)?;
+                let course = self.advance_running(context, running, reply)?;
                 Ok(course)
             }
             None => {
-                let course = self.advance_file(scripts, fd, last, parts)?;
+                let course = self.advance_file(context, reply)?;
                 Ok(course)
             }
         }

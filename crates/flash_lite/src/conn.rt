@@ -14,7 +14,7 @@ ghost use Rattle.flash_lite.specs.Small.{IsSmall};
 use crate::find::{
     after_close_file, after_discard, after_drop_whole, after_open, after_read, after_slice, begins,
 };
-use crate::received::append;
+use crate::received::{Received, append};
 use crate::request_calls::{cut_call, first_call, join_call, make_call, open_call, read_call};
 use crate::send::{after_disconnect, after_drop, after_head, after_join, after_part, after_taken};
 use flash_http::{Asked, MAX_HEAD_BYTES, Window, read_head, window_of};
@@ -142,11 +142,13 @@ impl Conn {
     }
 
     // The phase after the reply to the call of a phase that is not idle.
-    fn next_phase(&self, last: &Reply, parts: Option<Parts<'_>>) -> Phase
+    fn next_phase(&self, reply: Received<'_>) -> Phase
         requires { self.now.phase ≢ Rests }
-        ensures after_reply { spec.after_reply self.now last.now (received parts.entry) ≡ in_phase self.now result }
+        ensures after_reply { spec.after_reply self.now reply.entry.last.now
+            (received reply.entry.parts) ≡ in_phase self.now result }
         ensures small { IsSmall result }
     {
+        let Received { last, parts } = reply;
         match self.phase {
             Phase::Rests => Phase::Rests,
             Phase::Got { agg } => after_discard(agg, last),
@@ -312,19 +314,16 @@ impl Conn {
     }
 
     // After the reply to a call of a phase that was not idle.
-    fn advance_busy(
-        &mut self,
-        fd: Fd,
-        last: &Reply,
-        parts: Option<Parts<'_>>,
-    ) -> Result<Onward, AllocError>
+    fn advance_busy(&mut self, fd: Fd, reply: Received<'_>) -> Result<Onward, AllocError>
         requires { self.old.phase ≢ Rests }
-        ensures onward { IfOk result
-            (λ o. IsOnward fd self.old last.now (received parts.entry) o self.new) }
+        ensures onward { IfOk result (λ o. IsOnward fd self.old reply.entry.last.now
+            (received reply.entry.parts) o self.new) }
         ensures err { OnErr result (self.new ≡ self.old) }
-        ensures wants { OnErr result (WantsOn self.old last.now (received parts.entry)) }
+        ensures wants { OnErr result (WantsOn self.old reply.entry.last.now
+            (received reply.entry.parts)) }
     {
-        let phase = self.next_phase(last, parts);
+        let last = reply.last;
+        let phase = self.next_phase(reply);
         match phase {
             Phase::Rests => self.advance_free(fd),
             Phase::Over => Ok(Onward::Leaves(phase)),
@@ -333,26 +332,22 @@ impl Conn {
     }
 
     // After reading the stream, or its refusal.
-    fn advance_resting(
-        &mut self,
-        fd: Fd,
-        last: &Reply,
-        parts: Option<Parts<'_>>,
-    ) -> Result<Onward, AllocError>
+    fn advance_resting(&mut self, fd: Fd, reply: Received<'_>) -> Result<Onward, AllocError>
         requires { self.old.phase ≡ Rests }
-        ensures onward { IfOk result
-            (λ o. IsOnward fd self.old last.now (received parts.entry) o self.new) }
+        ensures onward { IfOk result (λ o. IsOnward fd self.old reply.entry.last.now
+            (received reply.entry.parts) o self.new) }
         ensures err { OnErr result (self.new ≡ self.old) }
-        ensures wants { OnErr result (WantsOn self.old last.now (received parts.entry)) }
+        ensures wants { OnErr result (WantsOn self.old reply.entry.last.now
+            (received reply.entry.parts)) }
     {
         let _kept = &self.kept;
-        match last {
+        match reply.last {
             Reply::Agg(agg) => {
-                let call = self.receive(fd, *agg, parts)?;
+                let call = self.receive(fd, *agg, reply.parts)?;
                 Ok(Onward::Asks(call))
             }
             _ => {
-                if is_later(last) {
+                if is_later(reply.last) {
                     return Ok(Onward::Leaves(Phase::Rests));
                 }
                 self.advance_free(fd)
@@ -360,25 +355,20 @@ impl Conn {
         }
     }
 
-    /// The action after the reply to its call, with the bytes of the aggregate in the reply. It
-    /// continues at once, unless the call is retried later, the response is taken whole and more
-    /// input is buffered, it is idle without buffered input, or it is over. If memory runs out it
-    /// is unchanged. It needs memory only to buffer bytes that it reads, to begin a request, or for
-    /// a call with bytes of its own.
-    pub fn advance(
-        &mut self,
-        fd: Fd,
-        last: &Reply,
-        parts: Option<Parts<'_>>,
-    ) -> Result<Onward, AllocError>
-        ensures onward { IfOk result
-            (λ o. IsOnward fd self.old last.now (received parts.entry) o self.new) }
+    /// The action after the reply to its call. It continues at once, unless the call is retried
+    /// later, the response is taken whole and more input is buffered, it is idle without buffered
+    /// input, or it is over. If memory runs out it is unchanged. It needs memory only to buffer
+    /// bytes that it reads, to begin a request, or for a call with bytes of its own.
+    pub fn advance(&mut self, fd: Fd, reply: Received<'_>) -> Result<Onward, AllocError>
+        ensures onward { IfOk result (λ o. IsOnward fd self.old reply.entry.last.now
+            (received reply.entry.parts) o self.new) }
         ensures err { OnErr result (self.new ≡ self.old) }
-        ensures wants { OnErr result (WantsOn self.old last.now (received parts.entry)) }
+        ensures wants { OnErr result (WantsOn self.old reply.entry.last.now
+            (received reply.entry.parts)) }
     {
         match self.phase {
-            Phase::Rests => self.advance_resting(fd, last, parts),
-            _ => self.advance_busy(fd, last, parts),
+            Phase::Rests => self.advance_resting(fd, reply),
+            _ => self.advance_busy(fd, reply),
         }
     }
 

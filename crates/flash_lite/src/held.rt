@@ -10,11 +10,11 @@ ghost use Rattle.flash_lite.specs.Order.{CanNote, goers};
 ghost use Rattle.flash_lite.specs.ServerTurn.{MakesCallAt, ProceedsAt, MayRest, left_at, worker_at};
 ghost use Rattle.flash_lite.specs.declared.site.TheConstants.{MAX_WORKERS};
 
-use crate::client::{Client, Course, Left};
+use crate::client::{Client, Context, Course, Left};
 use crate::pick::ends;
 use crate::place_list::{first_from, mark};
-use iol_agg::Parts;
-use iol_core::events::{Call, Reply};
+use crate::received::Received;
+use iol_core::events::Call;
 use iol_core::numbers::Fd;
 use std::alloc::{AllocError, Global};
 use std::marker::Model;
@@ -106,25 +106,22 @@ fn worker_at(clients: &[Option<Client>], place: u32) -> Option<u32>
 
 // The action of the client at an index after the reply to its call, if there is a client.
 fn advance_at(
-    scripts: bool,
-    worker: u32,
     clients: &mut Vec<Option<Client>>,
-    fd: u32,
-    last: &Reply,
-    parts: Option<Parts<'_>>,
+    context: Context,
+    reply: Received<'_>,
 ) -> Result<Option<Course>, AllocError>
-    requires { worker < MAX_WORKERS }
-    ensures goes { ProceedsAt scripts worker clients.old.items fd last.now (received parts.entry) result
-        clients.new.items }
+    requires { context.worker < MAX_WORKERS }
+    ensures goes { ProceedsAt context.scripts context.worker clients.old.items context.fd
+        reply.entry.last.now (received reply.entry.parts) result clients.new.items }
     ensures length { length clients.new.items ≡ length clients.old.items }
 {
-    let at = fd as usize;
+    let at = context.fd.number() as usize;
     if at >= clients.len() {
         return Ok(None);
     }
     match &mut clients[at] {
         Some(client) => {
-            let course = client.advance(scripts, Fd::new(fd), worker, last, parts)?;
+            let course = client.advance(context, reply)?;
             Ok(Some(course))
         }
         None => Ok(None),
@@ -291,17 +288,16 @@ impl Clients {
     /// The action of the client at an index after the reply to its call, if there is a client.
     pub(crate) fn advance_at(
         &mut self,
-        scripts: bool,
-        worker: u32,
-        fd: u32,
-        last: &Reply,
-        parts: Option<Parts<'_>>,
+        context: Context,
+        reply: Received<'_>,
     ) -> Result<Option<Course>, AllocError>
-        requires { worker < MAX_WORKERS }
-        ensures { ProceedsAt scripts worker self.old fd last.now (received parts.entry) result self.new }
+        requires { context.worker < MAX_WORKERS }
+        ensures { ProceedsAt context.scripts context.worker self.old context.fd reply.entry.last.now
+            (received reply.entry.parts) result self.new }
     {
+        let fd = context.fd.number();
         let was = noted(self.places.as_slice(), fd);
-        match advance_at(scripts, worker, &mut self.places, fd, last, parts)? {
+        match advance_at(&mut self.places, context, reply)? {
             Some(course) => {
                 note(
                     self.places.as_slice(),

@@ -22,7 +22,7 @@ pub mod laws;
 pub mod layout;
 mod pick;
 mod place_list;
-mod received;
+pub mod received;
 mod request_calls;
 mod run;
 mod scripts;

@@ -1,11 +1,19 @@
-//! The bytes of the aggregate in a reply.
+//! The reply to a call, and the bytes of the aggregate in it.
 ghost use Rattle.std.specs.Prelude.{◌≡◌, ◌<◌, ◌++◌, IfOk, OnErr, length};
 ghost use Rattle.std.specs.List.{concat};
 ghost use Rattle.flash_lite.specs.ReceivedBytes.{received};
 ghost use Rattle.flash_laws.specs.Prelude.{count_of};
 
 use iol_agg::Parts;
+use iol_core::events::Reply;
 use std::alloc::AllocError;
+
+/// The reply to a call, with the bytes of the aggregate in it, if it has one.
+#[derive(Drop)]
+pub struct Received<'a> {
+    pub last: &'a Reply,
+    pub parts: Option<Parts<'a>>,
+}
 
 // The number of bytes in these parts.
 fn count_in(parts: Parts<'_>) -> u32

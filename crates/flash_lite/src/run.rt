@@ -12,6 +12,7 @@ ghost use Rattle.flash_lite.specs.Runs.{IsSmallRun, IsSmallStep, IsSmallRunning,
 ghost use Rattle.flash_lite.specs.Small.{IsSmall};
 ghost use Rattle.flash_lite.specs.declared.site.TheConstants.{MAX_WORKERS};
 
+use crate::received::Received;
 use crate::run::calls::step_call;
 use crate::run::chunks::{after_frame, after_trim, after_wrap};
 use crate::run::end::{
@@ -27,8 +28,7 @@ use crate::run::start::{
 use flash_http::Request;
 use flash_laws::phase::Phase;
 use flash_laws::script_run::{Run, Running, Step};
-use iol_agg::Parts;
-use iol_core::events::{Call, Reply};
+use iol_core::events::Call;
 use iol_core::numbers::Fd;
 use std::alloc::{AllocError, Global};
 
@@ -41,18 +41,13 @@ mod start;
 pub(crate) mod texts;
 
 // After the reply to the call of a step.
-fn after_step(
-    request: &Request,
-    run: Run,
-    step: Step,
-    last: &Reply,
-    parts: Option<Parts<'_>>,
-) -> Running
+fn after_step(request: &Request, run: Run, step: Step, reply: Received<'_>) -> Running
     requires { IsSmallRun run × IsSmallStep step }
-    ensures after_reply { result
-        ≡ spec.after_step (wanted request.now) run step last.now (received parts.entry) }
+    ensures after_reply { result ≡ spec.after_step (wanted request.now) run step
+        reply.entry.last.now (received reply.entry.parts) }
     ensures small { IsSmallRunning result }
 {
+    let Received { last, parts } = reply;
     let step = match step {
         Step::Gives { write } => after_give(write, last),
         Step::Makes { fd } => after_make(fd, last),
@@ -101,27 +96,25 @@ fn after_step(
     Running::Runs { run, step }
 }
 
-/// The state of a run after the reply to its call, with the bytes of the aggregate in the reply.
-/// `worker` is a free worker.
+/// The state of a run after the reply to its call. `worker` is a free worker.
 pub(crate) fn after_reply(
     worker: u32,
     request: &Request,
     running: Running,
-    last: &Reply,
-    parts: Option<Parts<'_>>,
+    reply: Received<'_>,
 ) -> Running
     requires worker { worker < MAX_WORKERS }
     requires small { IsSmallRunning running }
     requires going { spec.is_over running ≡ false }
-    ensures after_reply { result
-        ≡ spec.after_reply worker (wanted request.now) running last.now (received parts.entry) }
+    ensures after_reply { result ≡ spec.after_reply worker (wanted request.now) running
+        reply.entry.last.now (received reply.entry.parts) }
     ensures small { IsSmallRunning result }
 {
     match running {
-        Running::Awaits => after_wait(worker, last),
-        Running::Runs { run, step } => after_step(request, run, step, last, parts),
+        Running::Awaits => after_wait(worker, reply.last),
+        Running::Runs { run, step } => after_step(request, run, step, reply),
         Running::Leaves { phase } => Running::Leaves {
-            phase: after_reply_left(request, phase, last, parts),
+            phase: after_reply_left(request, phase, reply.last, reply.parts),
         },
         Running::Closes => Running::Closes,
     }

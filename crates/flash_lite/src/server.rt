@@ -8,6 +8,7 @@ ghost use Rattle.flash_lite.specs.ReceivedBytes.{received};
 ghost use Rattle.flash_lite.specs.Offers.{OffersNext};
 ghost use Rattle.flash_lite.specs.declared.site.TheConstants.{MAX_WORKERS};
 
+use crate::received::Received;
 use crate::site::MAX_WORKERS;
 use crate::table::Table;
 use flash_laws::run_laws::clients_law;
@@ -96,7 +97,7 @@ impl Process for Server {
     {
         clients_law();
         let parts = readable_by(last, look);
-        let turn = self.table.advance(last, parts)?;
+        let turn = self.table.advance(Received { last, parts })?;
         Ok(turn)
     }
 }

@@ -8,15 +8,16 @@ ghost use Rattle.flash_lite.specs.Table.{IsKept, new_table};
 ghost use Rattle.flash_lite.specs.ServerTurn.{LeavesPlace, MayRest, PicksNext, Turns, WantsAt, first_in, has_in};
 ghost use Rattle.flash_lite.specs.declared.site.TheConstants.{MAX_WORKERS};
 
-use crate::client::{Course, Left};
+use crate::client::{Context, Course, Left};
 use crate::held::Clients;
 use crate::pick::{accept_step, most_with, pick};
+use crate::received::Received;
 use crate::server::MAX_CONNS;
 use crate::site::MAX_WORKERS;
 use crate::workers::{first_free, turned, worker_left};
 use flash_laws::phase::PendingCall;
-use iol_agg::Parts;
 use iol_core::events::Reply;
+use iol_core::numbers::Fd;
 use iol_proc::process::Turn;
 use std::alloc::{AllocError, Global};
 use std::marker::Model;
@@ -141,22 +142,23 @@ impl Table {
 
     // The next call after the reply to the call of the client at an index.
     #[tactic(auto, using(crate::proofs::Turns::TurnParts::place_rules, crate::proofs::Turns::Wants::place_rules))]
-    fn advance_at(
-        &mut self,
-        fd: u32,
-        last: &Reply,
-        parts: Option<Parts<'_>>,
-    ) -> Result<Turn, AllocError>
+    fn advance_at(&mut self, fd: u32, reply: Received<'_>) -> Result<Turn, AllocError>
         requires flies { self.old.pending_call ≡ At fd }
         requires kept { IsKept self.old }
-        ensures turn { IfOk result
-            (λ turn. Turns self.old last.now (received parts.entry) turn self.new) }
+        ensures turn { IfOk result (λ turn. Turns self.old reply.entry.last.now
+            (received reply.entry.parts) turn self.new) }
         ensures err { OnErr result (self.new ≡ self.old) }
-        ensures wants { OnErr result (WantsAt self.old (At fd) last.now (received parts.entry)) }
+        ensures wants { OnErr result (WantsAt self.old (At fd) reply.entry.last.now
+            (received reply.entry.parts)) }
     {
         let was = self.clients.worker_at(fd);
         let (scripts, worker) = (self.scripts(), self.worker());
-        match self.clients.advance_at(scripts, worker, fd, last, parts)? {
+        let context = Context {
+            scripts,
+            fd: Fd::new(fd),
+            worker,
+        };
+        match self.clients.advance_at(context, reply)? {
             None => self.pick_from(fd as usize + 1),
             Some(Course::Asks(call)) => {
                 let now = self.clients.worker_at(fd);
@@ -173,22 +175,18 @@ impl Table {
 
     /// The next call after the reply to the pending call.
     #[tactic(auto, using(crate::proofs::Turns::TurnParts::silent_rules, crate::proofs::Turns::Wants::nothing_wants))]
-    pub(crate) fn advance(
-        &mut self,
-        last: &Reply,
-        parts: Option<Parts<'_>>,
-    ) -> Result<Turn, AllocError>
+    pub(crate) fn advance(&mut self, reply: Received<'_>) -> Result<Turn, AllocError>
         requires { IsKept self.old }
-        ensures turn { IfOk result
-            (λ turn. Turns self.old last.now (received parts.entry) turn self.new) }
+        ensures turn { IfOk result (λ turn. Turns self.old reply.entry.last.now
+            (received reply.entry.parts) turn self.new) }
         ensures err { OnErr result (self.new ≡ self.old) }
-        ensures wants { OnErr result
-            (WantsAt self.old self.old.pending_call last.now (received parts.entry)) }
+        ensures wants { OnErr result (WantsAt self.old self.old.pending_call reply.entry.last.now
+            (received reply.entry.parts)) }
     {
         match self.pending_call {
             PendingCall::Nothing => self.pick_from(0),
-            PendingCall::Accepting => self.advance_accepting(last),
-            PendingCall::At { fd } => self.advance_at(fd, last, parts),
+            PendingCall::Accepting => self.advance_accepting(reply.last),
+            PendingCall::At { fd } => self.advance_at(fd, reply),
         }
     }
 }

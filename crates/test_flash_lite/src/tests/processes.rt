@@ -2,8 +2,9 @@
 //! enough.
 use super::host::{Host, Plan, on_host};
 use flash_lite::actor::{Actor, Role, Worker};
-use flash_lite::client::{Client, Course};
+use flash_lite::client::{Client, Context, Course};
 use flash_lite::conn::{Conn, Onward};
+use flash_lite::received::Received;
 use flash_lite::server::Server;
 use iol_back::memory::MemoryBacking;
 use iol_core::configuration::Config;
@@ -61,14 +62,16 @@ fn is_open(call: &Option<Call>) -> bool {
 fn conn_receives(conn: &mut Conn, system: &System<MemoryBacking>) -> Option<Call> {
     let agg = AggId::new(1);
     let parts = system.parts(DomainId::new(1), agg).ok();
-    match conn.advance(Fd::new(1), &Reply::Agg(agg), parts) {
+    let last = Reply::Agg(agg);
+    match conn.advance(Fd::new(1), Received { last: &last, parts }) {
         Ok(Onward::Asks(call)) => Some(call),
         _ => None,
     }
 }
 
 fn conn_proceeds(conn: &mut Conn) -> Option<Call> {
-    match conn.advance(Fd::new(1), &Reply::Done, None) {
+    let (last, parts) = (Reply::Done, None);
+    match conn.advance(Fd::new(1), Received { last: &last, parts }) {
         Ok(Onward::Asks(call)) => Some(call),
         _ => None,
     }
@@ -89,17 +92,27 @@ fn conn_answers(alloc: Global, system: &System<MemoryBacking>) -> bool {
 
 // A client, with the same calls.
 
+fn context() -> Context {
+    Context {
+        scripts: true,
+        fd: Fd::new(1),
+        worker: 0,
+    }
+}
+
 fn client_receives(client: &mut Client, system: &System<MemoryBacking>) -> Option<Call> {
     let agg = AggId::new(1);
     let parts = system.parts(DomainId::new(1), agg).ok();
-    match client.advance(true, Fd::new(1), 0, &Reply::Agg(agg), parts) {
+    let last = Reply::Agg(agg);
+    match client.advance(context(), Received { last: &last, parts }) {
         Ok(Course::Asks(call)) => Some(call),
         _ => None,
     }
 }
 
 fn client_proceeds(client: &mut Client) -> Option<Call> {
-    match client.advance(true, Fd::new(1), 0, &Reply::Done, None) {
+    let (last, parts) = (Reply::Done, None);
+    match client.advance(context(), Received { last: &last, parts }) {
         Ok(Course::Asks(call)) => Some(call),
         _ => None,
     }

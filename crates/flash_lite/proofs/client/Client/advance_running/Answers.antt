@@ -5,7 +5,7 @@ use Rattle.flash_lite.proofs.client.Client.advance_running.Goals as goal
 
 pub returns-then-is_later : goal.returns-then-is_later
 returns-then-is_later c = record {
-  course = run_stays c.args.worker c.args.self.now c.args.running c.args.last.now (received c.args.parts)
+  course = run_stays c.args.context.worker c.args.self.now c.args.running c.args.reply.last.now (received c.args.reply.parts)
       c.requires.runs c.requires.goes.1 (sym c.is_later.ensures ∙ c.if-is_later.true);
   err = tt;
   wants = tt;
@@ -13,8 +13,8 @@ returns-then-is_later c = record {
 
 pub returns-then-waits : goal.returns-then-waits
 returns-then-waits c = record {
-  course = run_waits c.args.worker c.args.self.now c.args.running c.run_after-next.result c.args.last.now
-      (received c.args.parts) c.requires.runs c.requires.goes.1 c.run_after-next.ensures.after
+  course = run_waits c.args.context.worker c.args.self.now c.args.running c.run_after-next.result c.args.reply.last.now
+      (received c.args.reply.parts) c.requires.runs c.requires.goes.1 c.run_after-next.ensures.after
       (sym c.waits.ensures ∙ c.if-waits.true);
   err = tt;
   wants = tt;
@@ -22,8 +22,8 @@ returns-then-waits c = record {
 
 pub returns-in-Some : goal.returns-in-Some
 returns-in-Some c = record {
-  course = run_answers c.args.worker c.args.self.now c.args.running c.run_after-next.result c.in-Some.phase
-      c.args.last.now (received c.args.parts) c.requires.runs c.requires.goes.1
+  course = run_answers c.args.context.worker c.args.self.now c.args.running c.run_after-next.result c.in-Some.phase
+      c.args.reply.last.now (received c.args.reply.parts) c.requires.runs c.requires.goes.1
       c.run_after-next.ensures.after c.run_after-next.ensures.small c.in-Some.ensures.phase c.in-Some.ensures.some;
   err = tt;
   wants = tt;
@@ -34,8 +34,8 @@ returns-in_err-course-in-Some-after_run c = record {
   course = search rules;
   err = search rules;
   wants =
-      on_err c.from_residual.result _ (run_wants_on c.args.scripts c.args.worker c.args.self.now c.args.running
-      c.run_after-next.result c.in-Some-after_run.phase c.args.last.now (received c.args.parts) c.requires.runs
+      on_err c.from_residual.result _ (run_wants_on c.args.context.scripts c.args.context.worker c.args.self.now c.args.running
+      c.run_after-next.result c.in-Some-after_run.phase c.args.reply.last.now (received c.args.reply.parts) c.requires.runs
       c.requires.goes.1
       (sym c.is_later.ensures ∙ c.if-is_later.false) c.run_after-next.ensures.after c.in-Some-after_run.ensures.over
       c.in-Some-after_run.ensures.after c.in_err-course-in-Some-after_run.ensures.wants);
@@ -47,8 +47,8 @@ returns-in_err-call-in-None c = record {
   err = search rules;
   wants =
       on_err c.from_residual-in_err-call-in-None.result _
-      (goes_wants c.args.scripts c.args.worker c.args.self.now c.args.running c.run_after-next.result c.args.last.now
-      (received c.args.parts) c.requires.runs c.requires.goes.1
+      (goes_wants c.args.context.scripts c.args.context.worker c.args.self.now c.args.running c.run_after-next.result c.args.reply.last.now
+      (received c.args.reply.parts) c.requires.runs c.requires.goes.1
       (sym c.is_later.ensures ∙ c.if-is_later.false) c.run_after-next.ensures.after (sym c.waits.ensures
       ∙ c.if-waits.false) c.in_default.ensures.none c.in-None.ensures.none c.in_err-call-in-None.ensures.wants);
 }

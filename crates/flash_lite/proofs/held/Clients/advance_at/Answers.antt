@@ -8,9 +8,9 @@ use Rattle.flash_lite.proofs.held.Clients.advance_at.Goals as goal
 pub note-requires : goal.note-requires
 note-requires c =
     let s = c.self.inside in
-    let course : CourseAt c.args.scripts c.args.worker c.self.inside.places.items c.args.fd c.args.last.now
-    (received c.args.parts) c.in-Some.course c.advance_at.new.clients.items = search rules in
-    let w = is_set s.places.items c.as_slice-in-Some.result.now c.args.fd (Some course.now) course.within
+    let course : CourseAt c.args.context.scripts c.args.context.worker c.self.inside.places.items c.number-fd.result c.args.reply.last.now
+    (received c.args.reply.parts) c.in-Some.course c.advance_at.new.clients.items = search rules in
+    let w = is_set s.places.items c.as_slice-in-Some.result.now c.number-fd.result (Some course.now) course.within
     (c.as_slice-in-Some.ensures.value ∙ course.after_is) in
     let long : length c.as_slice-in-Some.result.now ≡ length s.places.items =
     ap (λ (l : List (Option Client)). length l) c.as_slice-in-Some.ensures.value ∙ c.advance_at.ensures.length in
