@@ -30,8 +30,8 @@ use Rattle.flash_lite.specs.declared.client.Course.{Course}
 use Rattle.flash_lite.specs.declared.client.Course.TheVariants.{Asks, Leaves}
 use Rattle.flash_lite.specs.declared.client.Left.{Left}
 use Rattle.flash_lite.specs.declared.client.Left.TheVariants.{Goes, Ends, Begins, Continues, Stays}
-use Rattle.flash_lite.specs.declared.scripts.Found.{Found}
-use Rattle.flash_lite.specs.declared.scripts.Found.TheVariants as reports
+use Rattle.flash_lite.specs.declared.client.scripts.Found.{Found}
+use Rattle.flash_lite.specs.declared.client.scripts.Found.TheVariants as reports
 
 -- a run that continues is small, and not over
 abbrev pub GoesAsRun : Option Running → Type 0

@@ -15,11 +15,11 @@ ghost use Rattle.flash_lite.specs.Runs.{IsSmallRunning};
 ghost use Rattle.flash_lite.specs.Small.{IsSmall};
 ghost use Rattle.flash_lite.specs.declared.site.TheConstants.{MAX_WORKERS};
 
+use crate::client::scripts::{Found, is_for_script, received_text, reports, whole};
+use crate::conn::request_calls::is_head_only;
 use crate::conn::{Conn, Onward, is_later};
 use crate::received::Received;
-use crate::request_calls::is_head_only;
 use crate::run::{after_reply, after_run, keeps_text, next_call, run_worker, waits};
-use crate::scripts::{Found, is_for_script, received_text, reports, whole};
 use flash_http::Asked;
 use flash_laws::phase::{FileResult, Payload, Phase};
 use flash_laws::script_run::Running;
@@ -28,6 +28,8 @@ use iol_core::events::Call;
 use iol_core::numbers::{AggId, Fd};
 use std::alloc::{AllocError, Global};
 use std::marker::Model;
+
+mod scripts;
 
 /// The context of a client's turn.
 #[derive(Clone, Copy, Debug, PartialEq, Eq)]

@@ -11,12 +11,16 @@ ghost use Rattle.flash_lite.specs.ReceivedBytes.{received};
 ghost use Rattle.flash_lite.specs.Onward.{IsOnward, Frees, GoesWith, CanRest, WantsToStart, begun_with, in_phase, is_over, with_received};
 ghost use Rattle.flash_lite.specs.Small.{IsSmall};
 
-use crate::find::{
+use crate::conn::find::{
     after_close_file, after_discard, after_drop_whole, after_open, after_read, after_slice, begins,
 };
+use crate::conn::request_calls::{
+    cut_call, first_call, join_call, make_call, open_call, read_call,
+};
+use crate::conn::send::{
+    after_disconnect, after_drop, after_head, after_join, after_part, after_taken,
+};
 use crate::received::{Received, append};
-use crate::request_calls::{cut_call, first_call, join_call, make_call, open_call, read_call};
-use crate::send::{after_disconnect, after_drop, after_head, after_join, after_part, after_taken};
 use flash_http::{Asked, MAX_HEAD_BYTES, Window, read_head, window_of};
 use flash_laws::phase::Phase;
 use http::StatusCode;
@@ -26,6 +30,11 @@ use iol_core::numbers::{AggId, Fd};
 use iol_core::refusals::Refusal;
 use std::alloc::{AllocError, Global};
 use std::marker::Model;
+
+pub(crate) mod answers;
+mod find;
+pub(crate) mod request_calls;
+pub(crate) mod send;
 
 /// The action of a connection after a reply.
 #[derive(Drop)]

@@ -12,23 +12,14 @@
 #![tactic(auto)]
 
 pub mod actor;
-mod answers;
 pub mod client;
 pub mod conn;
-mod find;
-mod held;
 pub mod host;
 pub mod laws;
 pub mod layout;
-mod pick;
-mod place_list;
 pub mod received;
-mod request_calls;
 mod run;
-mod scripts;
-mod send;
 pub mod server;
 pub mod setup;
 pub mod site;
 mod table;
-mod workers;

@@ -9,18 +9,23 @@ ghost use Rattle.flash_lite.specs.ServerTurn.{LeavesPlace, MayRest, PicksNext, T
 ghost use Rattle.flash_lite.specs.declared.site.TheConstants.{MAX_WORKERS};
 
 use crate::client::{Context, Course, Left};
-use crate::held::Clients;
-use crate::pick::{accept_step, most_with, pick};
 use crate::received::Received;
 use crate::server::MAX_CONNS;
 use crate::site::MAX_WORKERS;
-use crate::workers::{first_free, turned, worker_left};
+use crate::table::held::Clients;
+use crate::table::pick::{accept_step, most_with, pick};
+use crate::table::workers::{first_free, turned, worker_left};
 use flash_laws::phase::PendingCall;
 use iol_core::events::Reply;
 use iol_core::numbers::Fd;
 use iol_proc::process::Turn;
 use std::alloc::{AllocError, Global};
 use std::marker::Model;
+
+mod held;
+mod pick;
+mod place_list;
+mod workers;
 
 /// The clients, by the index of their descriptors, the pending call, and for each worker whether
 /// it is free.

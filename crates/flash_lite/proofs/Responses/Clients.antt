@@ -37,7 +37,7 @@ use Rattle.flash_lite.specs.declared.client.Course.{Course}
 use Rattle.flash_lite.specs.declared.client.Course.TheVariants.{Asks, Leaves}
 use Rattle.flash_lite.specs.declared.client.Left.TheVariants.{Goes, Ends, Begins, Continues, Stays}
 use Rattle.flash_lite.specs.declared.conn.Onward.TheVariants as going
-use Rattle.flash_lite.specs.declared.scripts.Found.TheVariants as reports
+use Rattle.flash_lite.specs.declared.client.scripts.Found.TheVariants as reports
 
 abbrev at : List ℕ → Answer → Phase → Conn
 at kept q d = record { kept = kept; q = q; phase = d }

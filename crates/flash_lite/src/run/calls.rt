@@ -8,10 +8,10 @@ ghost use Rattle.flash_laws.specs.Prelude.{script_text, frame_of, end_around, pl
 ghost use Rattle.flash_laws.specs.declared.script_run.TheConstants.{CHUNK_BYTES};
 ghost use Rattle.flash_lite.specs.Runs.{IsPiece, IsSmallRun, IsSmallStep, job_for, step_call};
 
-use crate::request_calls::join_call;
+use crate::conn::request_calls::join_call;
+use crate::conn::send::Following;
 use crate::run::parts::part_call;
 use crate::run::texts::{end_text, frame_text, place_in_frame, script_text};
-use crate::send::Following;
 use flash_cgi::jobs::job_text;
 use flash_http::Request;
 use flash_laws::script_run::{CHUNK_BYTES, Run, Step};

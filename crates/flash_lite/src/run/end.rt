@@ -5,8 +5,8 @@ ghost use Rattle.flash_laws.specs.Run as spec;
 ghost use Rattle.flash_lite.specs.ReceivedBytes.{received};
 ghost use Rattle.flash_lite.specs.Runs.{IsPiece, IsSmallRun, IsSmallStep, IsSmallRunning};
 
+use crate::conn::send::Following;
 use crate::received::count;
-use crate::send::Following;
 use flash_http::Request;
 use flash_laws::phase::{Phase, Sending};
 use flash_laws::script_run::{Run, Running, Step};

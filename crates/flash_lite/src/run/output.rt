@@ -5,9 +5,9 @@ ghost use Rattle.flash_laws.specs.Run as spec;
 ghost use Rattle.flash_lite.specs.ReceivedBytes.{received};
 ghost use Rattle.flash_lite.specs.Runs.{IsPiece, IsSmallRun, IsSmallStep, IsSmallRunning, reading};
 
+use crate::conn::send::Following;
 use crate::received::count;
 use crate::run::parts::broken;
-use crate::send::Following;
 use flash_http::Request;
 use flash_laws::phase::{Phase, Sending};
 use flash_laws::script_run::{CHUNK_BYTES, Run, Running, Step};

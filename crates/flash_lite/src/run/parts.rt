@@ -12,9 +12,9 @@ ghost use Rattle.flash_lite.specs.Runs.{IsGoing, IsSmallRun, IsSmallRunning, par
 ghost use Rattle.flash_lite.specs.Small.{IsSmall};
 ghost use Rattle.flash_lite.specs.Texts.{text_for};
 
-use crate::answers::served_text;
-use crate::request_calls::{cut_call, join_call};
-use crate::send::{Following, after_drop, after_head, after_part, proceeds};
+use crate::conn::answers::served_text;
+use crate::conn::request_calls::{cut_call, join_call};
+use crate::conn::send::{Following, after_drop, after_head, after_part, proceeds};
 use flash_http::Request;
 use flash_laws::phase::{Payload, Phase};
 use flash_laws::script_run::{Run, Running, Step};

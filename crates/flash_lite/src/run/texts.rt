@@ -4,7 +4,7 @@ ghost use Rattle.flash_http.specs.Prelude.{wanted};
 ghost use Rattle.flash_laws.specs.Answers.Scripts as spec;
 ghost use Rattle.flash_lite.specs.Runs.{IsPiece};
 
-use crate::send::Following;
+use crate::conn::send::Following;
 use flash_http::{CHUNK_END, LAST_CHUNK, Request, ResponseHead, chunk_head};
 use std::alloc::{AllocError, Global};
 
