@@ -1,13 +1,13 @@
 //! The clients, by the index of their descriptors. The next client that may take a turn is found
 //! in a few steps, whatever the number of indices.
-ghost use Rattle.std.specs.Prelude.{◌≡◌, ◌<◌, ◌≤◌, ◌+◌, ◌^◌, [], IfOk, IfSome, OnOk};
+ghost use Rattle.std.specs.Prelude.{◌≡◌, ◌<◌, ◌≤◌, ◌+◌, ◌^◌, [], IfOk, IfSome};
 ghost use Rattle.std.specs.Prelude.{OnErr, Some, length, true, false};
 ghost use Rattle.std.specs.Vec.{vec_capacity};
 ghost use Rattle.iol_core.specs.Prelude.{in_place, taken};
 ghost use Rattle.flash_laws.specs.Prelude.{new_client, goes_in, next_in, grown, with_at};
 ghost use Rattle.flash_lite.specs.ReceivedBytes.{received};
 ghost use Rattle.flash_lite.specs.Order.{CanNote, goers};
-ghost use Rattle.flash_lite.specs.ServerTurn.{MakesCallAt, ProceedsAt, MayRest, left_at, worker_at};
+ghost use Rattle.flash_lite.specs.ServerTurn.{MakesCallAt, ProceedsAt, MayRest, left_as, left_at, worker_at};
 ghost use Rattle.flash_lite.specs.declared.site.TheConstants.{MAX_WORKERS};
 
 use crate::client::{Client, Context, Course, Left};
@@ -75,90 +75,15 @@ fn reach(clients: &mut Vec<Option<Client>>, place: u32) -> Result<(), AllocError
     Ok(())
 }
 
-// Adds a new client at an index.
-fn admit(alloc: Global, clients: &mut Vec<Option<Client>>, place: u32) -> Result<(), AllocError>
-    requires { length clients.old.items ≤ 2 ^ 32 }
-    ensures ok { OnOk result
-        (clients.new.items ≡ with_at clients.old.items place (Some new_client)) }
-    ensures err { OnErr result (clients.new.items ≡ clients.old.items) }
-    ensures wants { OnErr result (vec_capacity clients.old ≤ place) }
-    ensures length { length clients.new.items ≤ 2 ^ 32 }
+// The turn of a client, if there is one, passes to others. One whose connection is over is removed.
+fn leave(place: &mut Option<Client>, left: Left)
+    requires { MayRest place.old left }
+    ensures { place.new ≡ left_as place.old left }
 {
-    reach(clients, place)?;
-    clients[place as usize] = Some(Client::new(alloc));
-    Ok(())
-}
-
-// The worker that runs the script of the client at an index, if any.
-fn worker_at(clients: &[Option<Client>], place: u32) -> Option<u32>
-    ensures worker { result ≡ worker_at clients.now place }
-    ensures within { IfSome result (λ worker. worker < MAX_WORKERS) }
-{
-    let at = place as usize;
-    if at >= clients.len() {
-        return None;
-    }
-    match &clients[at] {
-        Some(client) => client.worker(),
-        None => None,
-    }
-}
-
-// The action of the client at an index after the reply to its call, if there is a client.
-fn advance_at(
-    clients: &mut Vec<Option<Client>>,
-    context: Context,
-    reply: Received<'_>,
-) -> Result<Option<Course>, AllocError>
-    requires { context.worker < MAX_WORKERS }
-    ensures goes { ProceedsAt context.scripts context.worker clients.old.items context.fd
-        reply.entry.last.now (received reply.entry.parts) result clients.new.items }
-    ensures length { length clients.new.items ≡ length clients.old.items }
-{
-    let at = context.fd.number() as usize;
-    if at >= clients.len() {
-        return Ok(None);
-    }
-    match &mut clients[at] {
-        Some(client) => {
-            let course = client.advance(context, reply)?;
-            Ok(Some(course))
-        }
-        None => Ok(None),
-    }
-}
-
-// The turn of the client at an index passes to others. A client whose connection is over is
-// removed.
-fn leave_at(clients: &mut Vec<Option<Client>>, fd: u32, left: Left)
-    requires within { fd < length clients.old.items }
-    requires rests { MayRest (in_place clients.old.items fd) left }
-    ensures left { clients.new.items ≡ left_at clients.old.items fd left }
-    ensures length { length clients.new.items ≡ length clients.old.items }
-{
-    let slot = &mut clients[fd as usize];
     if ends(&left) {
-        *slot = None;
-    } else if let Some(client) = slot {
+        *place = None;
+    } else if let Some(client) = place {
         client.leave(left);
-    }
-}
-
-// The next call of the client at an index.
-fn call_at(
-    scripts: bool,
-    clients: &[Option<Client>],
-    place: u32,
-) -> Result<Option<Call>, AllocError>
-    requires { place < length clients.now }
-    ensures { MakesCallAt scripts clients.now place result }
-{
-    match &clients[place as usize] {
-        Some(client) => {
-            let call = client.next_call(scripts, Fd::new(place))?;
-            Ok(Some(call))
-        }
-        None => Ok(None),
     }
 }
 
@@ -254,7 +179,13 @@ impl Clients {
         requires { place < length self.now }
         ensures { MakesCallAt scripts self.now place result }
     {
-        call_at(scripts, self.places.as_slice(), place)
+        match &self.places[place as usize] {
+            Some(client) => {
+                let call = client.next_call(scripts, Fd::new(place))?;
+                Ok(Some(call))
+            }
+            None => Ok(None),
+        }
     }
 
     /// The worker that runs the script of the client at an index, if any.
@@ -262,7 +193,14 @@ impl Clients {
         ensures worker { result ≡ worker_at self.now place }
         ensures within { IfSome result (λ worker. worker < MAX_WORKERS) }
     {
-        worker_at(self.places.as_slice(), place)
+        let at = place as usize;
+        if at >= self.places.len() {
+            return None;
+        }
+        match &self.places[at] {
+            Some(client) => client.worker(),
+            None => None,
+        }
     }
 
     /// Adds a new client at an index. If the index exists, it allocates nothing.
@@ -274,7 +212,8 @@ impl Clients {
         make_room(&mut self.held, place)?;
         make_room(&mut self.going, place)?;
         let was = noted(self.places.as_slice(), place);
-        admit(self.alloc, &mut self.places, place)?;
+        reach(&mut self.places, place)?;
+        self.places[place as usize] = Some(Client::new(self.alloc));
         note(
             self.places.as_slice(),
             was,
@@ -295,16 +234,21 @@ impl Clients {
         ensures { ProceedsAt context.scripts context.worker self.old context.fd reply.entry.last.now
             (received reply.entry.parts) result self.new }
     {
-        let fd = context.fd.number();
-        let was = noted(self.places.as_slice(), fd);
-        match advance_at(&mut self.places, context, reply)? {
-            Some(course) => {
+        let place = context.fd.number();
+        let at = place as usize;
+        if at >= self.places.len() {
+            return Ok(None);
+        }
+        let was = noted(self.places.as_slice(), place);
+        match &mut self.places[at] {
+            Some(client) => {
+                let course = client.advance(context, reply)?;
                 note(
                     self.places.as_slice(),
                     was,
                     &mut self.held,
                     &mut self.going,
-                    fd,
+                    place,
                 );
                 Ok(Some(course))
             }
@@ -320,7 +264,7 @@ impl Clients {
         ensures { self.new ≡ left_at self.old fd left }
     {
         let was = noted(self.places.as_slice(), fd);
-        leave_at(&mut self.places, fd, left);
+        leave(&mut self.places[fd as usize], left);
         note(
             self.places.as_slice(),
             was,

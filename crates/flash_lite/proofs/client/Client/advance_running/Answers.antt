@@ -5,7 +5,8 @@ use Rattle.flash_lite.proofs.client.Client.advance_running.Goals as goal
 
 pub returns-then-is_later : goal.returns-then-is_later
 returns-then-is_later c = record {
-  course = run_stays c.args.context.worker c.args.self.now c.args.running c.args.reply.last.now (received c.args.reply.parts)
+  course =
+      run_stays c.args.context.worker c.args.self.now c.args.running c.args.reply.last.now (received c.args.reply.parts)
       c.requires.runs c.requires.goes.1 (sym c.is_later.ensures ∙ c.if-is_later.true);
   err = tt;
   wants = tt;
@@ -34,8 +35,10 @@ returns-in_err-course-in-Some-after_run c = record {
   course = search rules;
   err = search rules;
   wants =
-      on_err c.from_residual.result _ (run_wants_on c.args.context.scripts c.args.context.worker c.args.self.now c.args.running
-      c.run_after-next.result c.in-Some-after_run.phase c.args.reply.last.now (received c.args.reply.parts) c.requires.runs
+      on_err c.from_residual.result _ (run_wants_on c.args.context.scripts c.args.context.worker c.args.self.now
+      c.args.running
+      c.run_after-next.result c.in-Some-after_run.phase c.args.reply.last.now (received c.args.reply.parts)
+      c.requires.runs
       c.requires.goes.1
       (sym c.is_later.ensures ∙ c.if-is_later.false) c.run_after-next.ensures.after c.in-Some-after_run.ensures.over
       c.in-Some-after_run.ensures.after c.in_err-course-in-Some-after_run.ensures.wants);
@@ -47,7 +50,8 @@ returns-in_err-call-in-None c = record {
   err = search rules;
   wants =
       on_err c.from_residual-in_err-call-in-None.result _
-      (goes_wants c.args.context.scripts c.args.context.worker c.args.self.now c.args.running c.run_after-next.result c.args.reply.last.now
+      (goes_wants c.args.context.scripts c.args.context.worker c.args.self.now c.args.running c.run_after-next.result
+      c.args.reply.last.now
       (received c.args.reply.parts) c.requires.runs c.requires.goes.1
       (sym c.is_later.ensures ∙ c.if-is_later.false) c.run_after-next.ensures.after (sym c.waits.ensures
       ∙ c.if-waits.false) c.in_default.ensures.none c.in-None.ensures.none c.in_err-call-in-None.ensures.wants);

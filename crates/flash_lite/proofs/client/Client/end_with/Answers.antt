@@ -12,7 +12,8 @@ returns c =
     let is = ap (λ (z : Conn). plain z c.new.result.items) conn
     ∙ ap (λ (l : List ℕ). plain (record c.args.self.now.conn { phase = c.args.phase }) l) c.new.ensures.items in
     record {
-      course = ends_asks c.args.context.scripts c.args.context.fd c.args.self.now y c.args.phase c.file_call.result c.requires.0
+      course = ends_asks c.args.context.scripts c.args.context.fd c.args.self.now y c.args.phase c.file_call.result
+          c.requires.0
           c.requires.1 c.requires.3 is c.file_call.ensures;
       err = tt;
       wants = tt;

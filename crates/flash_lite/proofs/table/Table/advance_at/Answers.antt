@@ -23,12 +23,14 @@ returns-in-Some-Asks-clause-turn c =
     let t : Table =
     table c.advance_at.new.self c.self.inside.pending_call c.self.inside.workers c.turned-self-inside.result in
     let course : CourseAt (runs_scripts c.self.inside.workers) c.worker-worker.result c.self.inside.clients c.args.fd
-    c.args.reply.last.now (received c.args.reply.parts) (Asks c.in-Some-Asks.call) c.advance_at.new.self = search rules in
+    c.args.reply.last.now (received c.args.reply.parts) (Asks c.in-Some-Asks.call) c.advance_at.new.self =
+    search rules in
     let had : c.worker_at-was.result ≡ worker_at c.self.inside.clients c.args.fd = search rules in
     let has : c.worker_at-now.result ≡ worker_at c.advance_at.new.self c.args.fd = search rules in
     subst (λ (u : Table). Turns u c.args.reply.last.now (received c.args.reply.parts) (turn.Make c.in-Some-Asks.call) t)
     c.self.view_is
-    (asks_turns s (subst (λ (u : Table). IsKept u) (sym c.self.view_is) c.requires.kept) c.args.fd flies c.args.reply.last.now
+    (asks_turns s (subst (λ (u : Table). IsKept u) (sym c.self.view_is) c.requires.kept) c.args.fd flies
+    c.args.reply.last.now
     (received c.args.reply.parts) t c.worker-worker.result c.in-Some-Asks.call
     c.advance_at.new.self c.worker_at-was.result c.worker_at-now.result worker_is course
     (ap (λ w. table c.advance_at.new.self w c.self.inside.workers c.turned-self-inside.result) flies) had has
@@ -43,7 +45,8 @@ returns-in_ok-turn-in-Some-Leaves-clause-turn c =
     subst (λ (u : Table). c.worker-worker.result ≡ min (first_in u.workers u.free) 7) (sym c.self.view_is)
     c.worker-worker.ensures.worker in
     let course : CourseAt (runs_scripts c.self.inside.workers) c.worker-worker.result c.self.inside.clients c.args.fd
-    c.args.reply.last.now (received c.args.reply.parts) (Leaves c.in-Some-Leaves.left) c.advance_at.new.self = search rules in
+    c.args.reply.last.now (received c.args.reply.parts) (Leaves c.in-Some-Leaves.left) c.advance_at.new.self =
+    search rules in
     let had : c.worker_at-was.result ≡ worker_at c.self.inside.clients c.args.fd = search rules in
     subst (λ (u : Table). Turns u c.args.reply.last.now (received c.args.reply.parts) c.in_ok-turn-in-Some-Leaves.turn
     c.leave.new.self) c.self.view_is
@@ -62,13 +65,17 @@ returns-in_err-turn-in-Some-Leaves-clause-wants c =
     subst (λ (u : Table). c.worker-worker.result ≡ min (first_in u.workers u.free) 7) (sym c.self.view_is)
     c.worker-worker.ensures.worker in
     let course : CourseAt (runs_scripts c.self.inside.workers) c.worker-worker.result c.self.inside.clients c.args.fd
-    c.args.reply.last.now (received c.args.reply.parts) (Leaves c.in-Some-Leaves.left) c.advance_at.new.self = search rules in
+    c.args.reply.last.now (received c.args.reply.parts) (Leaves c.in-Some-Leaves.left) c.advance_at.new.self =
+    search rules in
     let had : c.worker_at-was.result ≡ worker_at c.self.inside.clients c.args.fd = search rules in
     on_err c.from_residual-in_err-turn-in-Some-Leaves.result
-    (MayWant c.args.self.now.workers c.args.self.now.clients (At c.args.fd) c.args.reply.last.now (received c.args.reply.parts))
-    (subst (λ (u : Table). MayWant u.workers u.clients (At c.args.fd) c.args.reply.last.now (received c.args.reply.parts))
+    (MayWant c.args.self.now.workers c.args.self.now.clients (At c.args.fd) c.args.reply.last.now
+    (received c.args.reply.parts))
+    (subst (λ (u : Table). MayWant u.workers u.clients (At c.args.fd) c.args.reply.last.now
+    (received c.args.reply.parts))
     c.self.view_is
-    (left_wants s (subst (λ (u : Table). IsKept u) (sym c.self.view_is) c.requires.kept) c.args.fd flies c.args.reply.last.now
+    (left_wants s (subst (λ (u : Table). IsKept u) (sym c.self.view_is) c.requires.kept) c.args.fd flies
+    c.args.reply.last.now
     (received c.args.reply.parts) c.worker-worker.result c.in-Some-Leaves.left
     c.advance_at.new.self c.worker_at-was.result c.worker_left.result c.turned-free.result worker_is course had
     c.worker_left.ensures.worker c.turned-free.ensures
