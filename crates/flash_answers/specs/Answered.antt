@@ -1,5 +1,5 @@
 -- The answers to the clients of an event loop whose worlds are those of sites.
-use Rattle.std.specs.Prelude.{◌≡◌, ℕ, true, List, Option, Some}
+use Rattle.std.specs.Prelude.{◌≡◌, ℕ, List, Option, Some, IsTrue}
 use Rattle.iol_proc.specs.World.{Stage}
 use Rattle.iol_system.specs.Machine.{SystemState}
 use Rattle.iol_reactor.specs.Served.{AreKnown}
@@ -18,7 +18,7 @@ use Rattle.flash_answers.specs.Clients.{IsAnswered, IsBegun}
 pub record ServesSites (starts : Stage SystemState (Actor Worker) → Type 0) (frames : List ℕ → Frame → Type 0) :
     Type 0 where
   pub begins : (world : Stage SystemState (Actor Worker)) → starts world → BeginsSite world
-  pub honest : (world : Stage SystemState (Actor Worker)) → starts world → world.machine.disk.honest ≡ true
+  pub honest : (world : Stage SystemState (Actor Worker)) → starts world → IsTrue world.machine.disk.honest
   pub framed : (bytes : List ℕ) (frame : Frame) → frames bytes frame → Framed bytes frame
 
 -- The bytes that a client's socket accepted are a prefix of an answer to those that it supplied, by some sites in turn.
@@ -26,7 +26,7 @@ pub record ServesSites (starts : Stage SystemState (Actor Worker) → Type 0) (f
 pub record HasAnswers {S : Type 0} (supplied accepted : S → Option (List ℕ)) (c : Client S) : Type 0 where
   pub begins : (from to : List ℕ) → supplied c.socket ≡ Some from → accepted c.socket ≡ Some to → ∥ IsBegun from to ∥₁
   pub whole : (from to : List ℕ) → supplied c.socket ≡ Some from → accepted c.socket ≡ Some to → c.phase ≡ Closing
-      → c.is_whole ≡ true → ∥ IsAnswered from to ∥₁
+      → IsTrue c.is_whole → ∥ IsAnswered from to ∥₁
 
 -- The same for the sockets of a type whose bytes are known, where those that arrive are placed in the pool of the net.
 abbrev pub IsAnsweredClient : {S : Type 0} → (supplied accepted : S → Option (List ℕ)) (pool : ℕ) → Client S → Type 0

@@ -1,5 +1,5 @@
 -- The answers to a client of the event loop, whose connections were in worlds of sites.
-use Rattle.std.specs.Prelude.{◌≡◌, ℕ, Bool, true, List, []}
+use Rattle.std.specs.Prelude.{◌≡◌, ℕ, Bool, List, [], IsTrue}
 use Rattle.std.specs.List.{AllByRecursion}
 use Rattle.iol_proc.specs.World.{Stage}
 use Rattle.iol_system.specs.Machine.{SystemState}
@@ -37,7 +37,7 @@ pub record IsAnswered (supplied accepted : List ℕ) : Type 0 where
 
 -- a connection in a world over an honest store
 abbrev pub IsHonest : Visit (Actor Worker) → Type 0
-IsHonest v = v.world.machine.disk.honest ≡ true
+IsHonest v = IsTrue v.world.machine.disk.honest
 
 -- connections that were left, after requests of HTTP that keep them, in worlds of sites over honest stores
 pub record LeftSites (came sent : List ℕ) : Type 0 where

@@ -1,5 +1,5 @@
 -- The connections of clients in the worlds of sites.
-use Rattle.std.specs.Prelude.{◌≡◌, ℕ, Bool, true, false, List}
+use Rattle.std.specs.Prelude.{ℕ, Bool, List, IsTrue, IsFalse}
 use Rattle.iol_core.specs.Calls.Outside.{lacks_conn}
 use Rattle.iol_system.specs.Prelude.{slots_of}
 use Rattle.iol_proc.specs.World.{Stage, copied}
@@ -25,11 +25,11 @@ pub record IsAnsweredBySite (c : ℕ) (came sent : List ℕ) (gone : Bool) (w : 
     (visited : HasVisited (actor_turns in_rounds worker_turns) BeginsSite net_pool c came sent gone w)
     (is : IsSiteWorld visited.begun) : Type 0 where
   pub begins : Begins (site_of visited.begun is) came sent
-  pub whole : gone ≡ false → lacks_conn (copied w).machine c ≡ true → IsAnswer (site_of visited.begun is) came sent
+  pub whole : IsFalse gone → IsTrue (lacks_conn (copied w).machine c) → IsAnswer (site_of visited.begun is) came sent
 
 -- Each connection of a world that began as that of a site is answered by this site.
 abbrev pub SitesAnswer : Type 0
 SitesAnswer = (c : ℕ) (came sent : List ℕ) (gone : Bool) (w : Stage SystemState (Actor Worker))
     → (visited : HasVisited (actor_turns in_rounds worker_turns) BeginsSite net_pool c came sent gone w)
-    → (is : IsSiteWorld visited.begun) → visited.begun.machine.disk.honest ≡ true
+    → (is : IsSiteWorld visited.begun) → IsTrue visited.begun.machine.disk.honest
     → IsAnsweredBySite c came sent gone w visited is

@@ -1,5 +1,5 @@
 -- The effect of others on a worker: calls of other domains, and external events.
-use Rattle.std.specs.Prelude.{◌≡◌, ℕ, ◌==◌, Bool, true, false, List, ◌++◌, Some}
+use Rattle.std.specs.Prelude.{◌≡◌, ℕ, ◌==◌, Bool, false, List, ◌++◌, Some, IsTrue, IsFalse}
 use Rattle.iol_core.specs.Text.{bytes_of}
 use Rattle.iol_core.specs.State.{State, content, descriptor, pipe_at, file, may_read, is_live}
 use Rattle.iol_core.specs.Run.{StepsTo}
@@ -27,12 +27,12 @@ is_call_of e d = false
 
 -- the domain keeps its descriptors, its aggregates, and its access to pools
 pub record LeavesWorker (m : State) (d : ℕ) (n : State) : Type 0 where
-  pub live : is_live m d ≡ true → is_live n d ≡ true
+  pub live : IsTrue (is_live m d) → IsTrue (is_live n d)
   pub fds : (fd : ℕ) (x : Descriptor) → descriptor m d fd ≡ Some x → descriptor n d fd ≡ Some x
   pub bytes : (a : ℕ) (bytes : List ℕ) → readable_at m d a ≡ Some bytes → readable_at n d a ≡ Some bytes
-  pub readers : (q : ℕ) → may_read m d q ≡ true → may_read n d q ≡ true
+  pub readers : (q : ℕ) → IsTrue (may_read m d q) → IsTrue (may_read n d q)
   pub may : (fd number place : ℕ) (mode : Mode) → descriptor m d fd ≡ Some (on.File number place mode)
-      → may_read m d (file m number).pool ≡ true → may_read n d (file n number).pool ≡ true
+      → IsTrue (may_read m d (file m number).pool) → IsTrue (may_read n d (file n number).pool)
 
 -- the outcomes of files for the domain, and the bytes of each file, are unchanged
 pub record LeavesFiles (m : State) (d : ℕ) (n : State) : Type 0 where
@@ -58,14 +58,14 @@ pub record Receives (m n : State) (p : ℕ) (process_slot : ProcessSlot Worker) 
 
 -- Others leave a worker with its job unchanged, except for the front of its output pipe.
 pub record OthersReceive : Type 0 where
-  pub leave : (m n : State) (d : ℕ) (e : Event) (r : Reply) → ArePlaced m → StepsTo m e r n → is_call_of e d ≡ false
+  pub leave : (m n : State) (d : ℕ) (e : Event) (r : Reply) → ArePlaced m → StepsTo m e r n → IsFalse (is_call_of e d)
       → LeavesWorker m d n
   -- a step that may not change a file, and that admits no domain to a pool, leaves the files unchanged
-  pub files : (m n : State) (d : ℕ) (e : Event) (r : Reply) → AreFiles m → StepsTo m e r n → changes_files m e ≡ false
-      → ((q : ℕ) → admits_to e q ≡ false) → LeavesFiles m d n
+  pub files : (m n : State) (d : ℕ) (e : Event) (r : Reply) → AreFiles m → StepsTo m e r n → IsFalse (changes_files m e)
+      → ((q : ℕ) → IsFalse (admits_to e q)) → LeavesFiles m d n
   -- bytes of a pipe to which a worker writes are removed only from its front
   pub front : (m n : State) (d p fd : ℕ) (e : Event) (r : Reply) → IsOrderly m → StepsTo m e r n
-      → is_call_of e d ≡ false
+      → IsFalse (is_call_of e d)
       → descriptor m d fd ≡ Some (on.WriteEnd p) → GoesFromFront m p n
   pub gone : (m n : State) (p : ℕ) (process_slot : ProcessSlot Worker) (unseen : List Outcome → List ℕ)
       → LeavesWorker m process_slot.by n

@@ -1,5 +1,5 @@
 -- The text that a script outputs, from its job to its end, whatever others do.
-use Rattle.std.specs.Prelude.{◌≡◌, ◌≢◌, ◌⊎◌, ℕ, Bool, true, false, List, [], ◌∷◌, ◌++◌, Some}
+use Rattle.std.specs.Prelude.{◌≡◌, ◌≢◌, ◌⊎◌, ℕ, Bool, List, [], ◌∷◌, ◌++◌, Some, IsTrue, IsFalse, ⊤}
 use mathlib.Core.Logic.{inl, inr}
 use Rattle.iol_core.specs.Text.{bytes_of}
 use Rattle.iol_core.specs.State.{State, descriptor, pipe_at}
@@ -41,7 +41,7 @@ text_of made = made.before ++ output made.query made.lines made.outcomes
 pub record IsRefusedIn (r : Reply) (made after : Made) : Type 0 where
   pub why : Refusal
   pub answer : r ≡ reply.Refused why
-  pub resource_failure : is_resource_failure r ≡ true
+  pub resource_failure : IsTrue (is_resource_failure r)
   pub past : List Outcome
   pub instead : Outcome
   pub rest : List Outcome
@@ -61,14 +61,14 @@ Instead r made after text later = ((after ≡ made) × (later ≡ text)) ⊎ IsE
 -- The job pipe of the worker in domain d: the worker has its read end, it has a writer, and it is not the output pipe.
 pub record HasJobQueue (m : State) (d j p : ℕ) : Type 0 where
   pub jobs : descriptor m d 0 ≡ Some (on.ReadEnd j)
-  pub writing : (pipe_at m j).writing ≡ true
+  pub writing : IsTrue (pipe_at m j).writing
   pub apart : j ≢ p
 
 -- the job pipe has the job until it is read, and is empty afterwards
 abbrev pub HasRest : (m : State) → (j p : ℕ) → (process_slot : ProcessSlot Worker) → (unseen : List Outcome → List ℕ)
     → RunsJob m p process_slot unseen
     → Type 0
-HasRest m j p process_slot unseen (inl h) = Unit {0}
+HasRest m j p process_slot unseen (inl h) = ⊤
 HasRest m j p process_slot unseen (inr h) = (pipe_at m j).queue ≡ []
 
 -- Of the output of the running script this text is expected from pipe p, with the current contents of each file that is
@@ -111,7 +111,7 @@ pub record Goes (m n : State) (j p : ℕ) (next : ProcessSlot Worker) (made : Ma
   pub after : Made
   pub later : List ℕ
   pub instead : Instead r made after text later
-  pub goes : IsExpected n j p next after later ⊎ IsWritten m n j p next later r ⊎ ((pipe_at n p).reading ≡ false)
+  pub goes : IsExpected n j p next after later ⊎ IsWritten m n j p next later r ⊎ IsFalse (pipe_at n p).reading
 
 -- If the files do not change, a script outputs one text, with a refusal instead of a file if its worker's call for this
 -- file got it.
@@ -119,7 +119,7 @@ pub record ScriptsPutOut : Type 0 where
   -- for a job that waits for a free worker: the output of its lines, after the bytes already in the pipe
   pub begins : (m : State) (j p fd : ℕ) (process_slot : ProcessSlot Worker) (query script : List ℕ) (lines : List Line)
       → IsFree m process_slot
-      → HasJob m process_slot.by j p fd query script lines → (pipe_at m j).writing ≡ true
+      → HasJob m process_slot.by j p fd query script lines → IsTrue (pipe_at m j).writing
       → IsExpected m j p process_slot
       (record {
         before = bytes_of (pipe_at m p).queue;
@@ -138,6 +138,6 @@ pub record ScriptsPutOut : Type 0 where
   pub others : (m n : State) (j p : ℕ) (process_slot : ProcessSlot Worker) (e : Event) (r : Reply) (made : Made)
       (text : List ℕ) → IsOrderly m
       → ArePlaced m
-      → StepsTo m e r n → is_call_of e process_slot.by ≡ false → LeavesFiles m process_slot.by n
+      → StepsTo m e r n → IsFalse (is_call_of e process_slot.by) → LeavesFiles m process_slot.by n
       → pipe_at n j ≡ pipe_at m j
       → IsExpected m j p process_slot made text → GaveFront m n j p process_slot made text

@@ -1,7 +1,7 @@
 -- The pending output of a running script: the bytes in its pipe, followed by the bytes that its worker has still to
 -- write.
 use Rattle.std.specs.Prelude.{◌≡◌, ◌≢◌, ◌⊎◌, ℕ, Bool, true, false, List, [], ◌∷◌, ◌++◌, length, take, drop, Option}
-use Rattle.std.specs.Prelude.{Some, None, slice_get}
+use Rattle.std.specs.Prelude.{Some, None, slice_get, IsTrue, IsFalse, ⊤}
 use Rattle.iol_core.specs.Text.{bytes_of}
 use Rattle.iol_core.specs.State.{State, descriptor, pipe_at, file, may_read, is_live}
 use Rattle.iol_core.specs.Run.{StepsTo}
@@ -86,7 +86,7 @@ pub record IsOpenFile (m : State) (d fd : ℕ) : Type 0 where
   pub number : ℕ
   pub place : ℕ
   pub open_on : descriptor m d fd ≡ Some (on.File number place Read)
-  pub may : may_read m d (file m number).pool ≡ true
+  pub may : IsTrue (may_read m d (file m number).pool)
 
 -- a file is open under this number
 abbrev pub IsFileOpen : State → (d fd : ℕ) → Type 0
@@ -96,12 +96,12 @@ abbrev pub Needs : State → (d : ℕ) → Phase → Type 0
 Needs m d phase.Waits = ⊥
 Needs m d (phase.Skips agg) = ⊥
 Needs m d (phase.Breaks agg) = ⊥
-Needs m d phase.Runs = Unit {0}
-Needs m d (phase.JoiningFile held agg from len) = Unit {0}
-Needs m d (phase.CuttingPart held agg from) = Unit {0}
-Needs m d (phase.ReplacingPart agg part at) = Unit {0}
-Needs m d (phase.DroppingText agg part made) = Unit {0}
-Needs m d (phase.DroppingPart part made) = Unit {0}
+Needs m d phase.Runs = ⊤
+Needs m d (phase.JoiningFile held agg from len) = ⊤
+Needs m d (phase.CuttingPart held agg from) = ⊤
+Needs m d (phase.ReplacingPart agg part at) = ⊤
+Needs m d (phase.DroppingText agg part made) = ⊤
+Needs m d (phase.DroppingPart part made) = ⊤
 Needs m d (phase.Drops agg) = HasBytes m d agg
 Needs m d (phase.Reads file p) = IsOpenFile m d file
 Needs m d (phase.ShutsToSay file s) = IsFileOpen m d file
@@ -114,7 +114,7 @@ Needs m d (phase.Swaps agg rest) = HasBytes m d rest × (agg ≢ rest)
 -- The worker in domain d runs a job with its output to pipe p: for all outcomes to come, the pending output is the
 -- bytes in the pipe, followed by the bytes still to be written.
 pub record Feeds (m : State) (d p : ℕ) (job : Task) (step : Step) (unseen : List Outcome → List ℕ) : Type 0 where
-  pub live : is_live m d ≡ true
+  pub live : IsTrue (is_live m d)
   pub open_on : descriptor m d job.fd ≡ Some (on.WriteEnd p)
   pub needs : Needs m d step.phase
   pub holds : HoldsAt (readable_at m d) step.piece step.phase
@@ -164,7 +164,7 @@ abbrev pub ComesTo : (m : State) → (d p : ℕ) → Task → Step → (List Out
 ComesTo m d p job step unseen r n None = n ≡ m
 ComesTo m d p job step unseen r n (Some next) =
     Feeds n d p job next (λ os. unseen (resolved job step (readable_at n d) r ++ os))
-    ⊎ (Ends m d p unseen r next n ⊎ ((pipe_at n p).reading ≡ false))
+    ⊎ (Ends m d p unseen r next n ⊎ IsFalse (pipe_at n p).reading)
 
 abbrev pub Comes : (m : State) → (d p : ℕ) → Task → Step → (List Outcome → List ℕ) → (r : Reply) → (n : State) → Type 0
 Comes m d p job step unseen r n = ComesTo m d p job step unseen r n (after_reply job step (readable_at n d) r)

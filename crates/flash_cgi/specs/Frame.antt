@@ -1,5 +1,5 @@
 -- The parts of the state that a worker's turn leaves unchanged: all except its own domain and one pipe.
-use Rattle.std.specs.Prelude.{◌≡◌, ◌≢◌, ℕ, Bool, true, List, Some}
+use Rattle.std.specs.Prelude.{◌≡◌, ◌≢◌, ℕ, Bool, List, Some, IsTrue}
 use Rattle.iol_core.specs.State.{State, domain, descriptor, conn_at, pipe_at, pool, is_live, is_pool}
 use Rattle.iol_core.specs.declared.descriptors.Descriptor.TheVariants as on
 use Rattle.iol_core.specs.declared.events.Reply.{Reply}
@@ -17,9 +17,9 @@ pub record LeavesAllBut (m : State) (d p : ℕ) (n : State) : Type 0 where
   pub conns : (c : ℕ) → conn_at n c ≡ conn_at m c
   pub pipes : (q : ℕ) → q ≢ p → pipe_at n q ≡ pipe_at m q
   pub files : (n.files ≡ m.files) × (n.slots ≡ m.slots)
-  pub pools : (q : ℕ) → is_pool m q ≡ true → pool n q ≡ pool m q
-  pub lives : (e : ℕ) → is_live m e ≡ true → is_live n e ≡ true
-  pub defaults : (e : ℕ) → e ≢ d → is_live m e ≡ true → (domain n e).default ≡ (domain m e).default
+  pub pools : (q : ℕ) → IsTrue (is_pool m q) → pool n q ≡ pool m q
+  pub lives : (e : ℕ) → IsTrue (is_live m e) → IsTrue (is_live n e)
+  pub defaults : (e : ℕ) → e ≢ d → IsTrue (is_live m e) → (domain n e).default ≡ (domain m e).default
   pub fds : (e fd : ℕ) → e ≢ d → descriptor n e fd ≡ descriptor m e fd
   pub aggs : (e a : ℕ) → e ≢ d → readable_at n e a ≡ readable_at m e a
   -- the job pipe of the domain is unchanged, too
@@ -28,7 +28,7 @@ pub record LeavesAllBut (m : State) (d p : ℕ) (n : State) : Type 0 where
 pub record WorkersAreQuiet : Type 0 where
   -- a free worker changes only its job pipe, and will read it again
   pub free : (m n : State) (j : ℕ) (process_slot next : ProcessSlot Worker) (yields : Bool) (r : Reply)
-      → is_live m process_slot.by ≡ true
+      → IsTrue (is_live m process_slot.by)
       → IsFree m process_slot → descriptor m process_slot.by 0 ≡ Some (on.ReadEnd j)
       → ProcessSlotTurn copying worker_turns m process_slot yields r n next
       → LeavesAllBut m process_slot.by j n × (descriptor n process_slot.by 0 ≡ Some (on.ReadEnd j))

@@ -1,5 +1,5 @@
 -- A worker without a job: it stays free until a job arrives, and is free again after a text that is no job.
-use Rattle.std.specs.Prelude.{◌≡◌, ◌⊎◌, ℕ, Bool, true, List, [], ◌∷◌, Some, None}
+use Rattle.std.specs.Prelude.{◌≡◌, ◌⊎◌, ℕ, Bool, List, [], ◌∷◌, Some, None, IsTrue}
 use Rattle.iol_core.specs.State.{State, descriptor, pipe_at, is_live}
 use Rattle.iol_core.specs.declared.descriptors.Descriptor.TheVariants as on
 use Rattle.iol_core.specs.declared.events.Reply.{Reply}
@@ -18,10 +18,10 @@ use Rattle.flash_cgi.specs.declared.worker.Worker.{Worker}
 
 -- its job pipe is empty and has a writer
 pub record HasNoJob (m : State) (d j : ℕ) : Type 0 where
-  pub live : is_live m d ≡ true
+  pub live : IsTrue (is_live m d)
   pub jobs : descriptor m d 0 ≡ Some (on.ReadEnd j)
   pub empty : (pipe_at m j).queue ≡ []
-  pub writing : (pipe_at m j).writing ≡ true
+  pub writing : IsTrue (pipe_at m j).writing
 
 pub record WorkersStayFree : Type 0 where
   -- a new one is free
@@ -37,7 +37,7 @@ pub record WorkersStayFree : Type 0 where
   -- with the same reply
   pub skips : (m n : State) (agg b : ℕ) (bs : List ℕ) (process_slot next : ProcessSlot Worker) (yields : Bool)
       (r : Reply)
-      → is_live m process_slot.by ≡ true
+      → IsTrue (is_live m process_slot.by)
       → process_slot.process.step.phase ≡ phase.Waits → process_slot.process.standing ≡ standing.Asked
       → process_slot.last ≡ reply.Agg agg
       → readable_at m process_slot.by agg ≡ Some (b ∷ bs) → job_of (b ∷ bs) ≡ None

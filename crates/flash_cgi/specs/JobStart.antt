@@ -1,5 +1,5 @@
 -- A worker takes its job, from the time when the job waits in its pipe.
-use Rattle.std.specs.Prelude.{◌≡◌, ◌≢◌, ℕ, ◌<◌, ◌≤◌, ◌^◌, true, List, ◌++◌, length, Some}
+use Rattle.std.specs.Prelude.{◌≡◌, ◌≢◌, ℕ, ◌<◌, ◌≤◌, ◌^◌, List, ◌++◌, length, Some, IsTrue}
 use Rattle.std.specs.List.{AllByRecursion}
 use Rattle.iol_core.specs.Text.{bytes_of}
 use Rattle.iol_core.specs.State.{State, descriptor, pipe_at, may_read, is_live}
@@ -19,10 +19,10 @@ use Rattle.flash_cgi.specs.declared.phase.Phase.TheVariants as phase
 
 -- A job waits in pipe j for the worker in domain d: the text of this script with this query, with its output to pipe p.
 pub record HasJob (m : State) (d j p fd : ℕ) (query script : List ℕ) (lines : List Line) : Type 0 where
-  pub live : is_live m d ≡ true
+  pub live : IsTrue (is_live m d)
   pub jobs : descriptor m d 0 ≡ Some (on.ReadEnd j)
   pub text : bytes_of (pipe_at m j).queue ≡ job_text fd query script
-  pub readable : AllByRecursion (λ b. may_read m d b.1 ≡ true) (pipe_at m j).queue
+  pub readable : AllByRecursion (λ b. IsTrue (may_read m d b.1)) (pipe_at m j).queue
   pub short : length (pipe_at m j).queue ≤ 65536
   pub open_on : descriptor m d fd ≡ Some (on.WriteEnd p)
   pub apart : j ≢ p

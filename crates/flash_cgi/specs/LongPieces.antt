@@ -1,5 +1,5 @@
 -- The minimum length of a worker's writes: all except the last have at least this length.
-use Rattle.std.specs.Prelude.{◌≡◌, ◌≢◌, ◌⊎◌, ℕ, ◌≤◌, true, List, [], ◌∷◌, ◌++◌, length, Option, Some, None}
+use Rattle.std.specs.Prelude.{◌≡◌, ◌≢◌, ◌⊎◌, ℕ, ◌≤◌, List, [], ◌∷◌, ◌++◌, length, Option, Some, None, IsTrue}
 use Rattle.flash_cgi.specs.Collecting.{Collected, bytes_of_one, collected, is_expected, nothing, with_file, with_text}
 use Rattle.flash_cgi.specs.declared.line.Line.{Line}
 use Rattle.flash_cgi.specs.declared.piece.Place.{Place}
@@ -25,5 +25,5 @@ pub record PiecesAreLong : Type 0 where
       → IsCounted now (with_file x a (length (bytes_of_one readable x.held)) (length bytes))
   -- a write before a line is long, or a file of its own follows it
   pub long : (readable : ℕ → Option (List ℕ)) (x : Collected) (l : Line) → IsCounted readable x
-      → is_expected x (Some l) ≡ true
+      → IsTrue (is_expected x (Some l))
       → (MIN_PIECE_BYTES ≤ length (collected readable x)) ⊎ (x.next ≢ None)

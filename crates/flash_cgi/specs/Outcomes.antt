@@ -1,6 +1,6 @@
 -- The outcomes of the files that a script names, with the current files and lists.
-use Rattle.std.specs.Prelude.{◌≡◌, ◌⊎◌, ℕ, ◌-◌, ◌≤◌, true, List, [], ◌∷◌, ◌++◌, length, drop, Option, Some, None}
-use Rattle.std.specs.Prelude.{if◌then◌else◌}
+use Rattle.std.specs.Prelude.{◌≡◌, ◌⊎◌, ℕ, ◌-◌, ◌≤◌, List, [], ◌∷◌, ◌++◌, length, drop, Option, Some, None}
+use Rattle.std.specs.Prelude.{if◌then◌else◌, IsTrue, ⊤}
 use Rattle.iol_core.specs.State.{State, descriptor, file, content, may_read, is_pool}
 use Rattle.iol_core.specs.Calls.Files.{file_called}
 use Rattle.iol_core.specs.NumberedLists.{is_numbered}
@@ -61,7 +61,7 @@ pub record IsReading (m : State) (d : ℕ) (job : Task) (begun fd : ℕ) : Type 
 
 abbrev pub ReadsNamed : State → (d : ℕ) → Task → (begun : ℕ) → Phase → Type 0
 ReadsNamed m d job begun (phase.Reads file u) = IsReading m d job begun file
-ReadsNamed m d job begun x = Unit {0}
+ReadsNamed m d job begun x = ⊤
 
 -- the settled outcome is the one that was to come
 pub record SettlesTruly (m : State) (d : ℕ) (job : Task) (step : Step) (r : Reply) (n : State) (next : Step) :
@@ -75,7 +75,7 @@ pub record SettlesByRefusal (m : State) (d : ℕ) (job : Task) (step : Step) (r 
     Type 0 where
   pub why : Refusal
   pub answer : r ≡ reply.Refused why
-  pub resource_failure : is_resource_failure r ≡ true
+  pub resource_failure : IsTrue (is_resource_failure r)
   pub instead : Outcome
   pub was : to_come m d job step ≡ instead ∷ to_come n d job next
   pub resolves : resolved job step (readable_at n d) r ≡ Failed why ∷ []
@@ -83,8 +83,8 @@ pub record SettlesByRefusal (m : State) (d : ℕ) (job : Task) (step : Step) (r 
 
 -- files are within their limit, and have existing pools
 pub record AreFiles (m : State) : Type 0 where
-  pub lengths : (f : ℕ) → is_numbered m.files f ≡ true → length (content m f) ≤ MAX_FILE_BYTES
-  pub pooled : (name : List ℕ) (f : ℕ) → file_called m name ≡ Some f → is_pool m (file m f).pool ≡ true
+  pub lengths : (f : ℕ) → IsTrue (is_numbered m.files f) → length (content m f) ≤ MAX_FILE_BYTES
+  pub pooled : (name : List ℕ) (f : ℕ) → file_called m name ≡ Some f → IsTrue (is_pool m (file m f).pool)
 
 -- The outcomes that a worker's calls settle are those of the files that its lines name. If the call for a file is
 -- refused with TooMany, NoRoom, Fault or Memory, the outcome is this refusal.

@@ -1,7 +1,7 @@
 -- The pools of a worker's output: those of the files that it reads, and its default pool.
 --
 -- A domain that may read these is never denied the output.
-use Rattle.std.specs.Prelude.{◌≡◌, ℕ, Bool, true, false, List, Option, Some, None}
+use Rattle.std.specs.Prelude.{◌≡◌, ℕ, Bool, List, Option, Some, None, IsTrue, IsFalse, ⊤}
 use Rattle.iol_core.specs.State.{State, descriptor, file, may_read, pipe_at, text}
 use Rattle.iol_core.specs.Calls.Files.{file_called}
 use Rattle.iol_core.specs.Positions.{ArePlaced}
@@ -27,13 +27,13 @@ use Rattle.flash_cgi.specs.declared.worker.Worker.{Worker}
 
 -- the pools include those of all files that the domain may read, and the one that a pause sets
 pub record HoldFiles (pools : ℕ → Bool) (m : State) (d : ℕ) : Type 0 where
-  pub files : (name : List ℕ) (f : ℕ) → file_called m name ≡ Some f → may_read m d (file m f).pool ≡ true
-      → pools (file m f).pool ≡ true
-  pub pauses : pools 3 ≡ true
+  pub files : (name : List ℕ) (f : ℕ) → file_called m name ≡ Some f → IsTrue (may_read m d (file m f).pool)
+      → IsTrue (pools (file m f).pool)
+  pub pauses : IsTrue (pools 3)
 
 abbrev pub OneLies : (pools : ℕ → Bool) → State → (d : ℕ) → Option ℕ → Type 0
-OneLies pools m d None = Unit {0}
-OneLies pools m d (Some a) = lie_in pools (text m d a) ≡ true
+OneLies pools m d None = ⊤
+OneLies pools m d (Some a) = IsTrue (lie_in pools (text m d a))
 
 -- its buffered output is in these pools
 abbrev pub PieceLies : (pools : ℕ → Bool) → State → (d : ℕ) → Collected → Type 0
@@ -42,36 +42,36 @@ PieceLies pools m d x = OneLies pools m d x.held × OneLies pools m d x.next
 -- the same for the file that it reads, and the bytes that it writes
 abbrev pub PhaseLies : (pools : ℕ → Bool) → State → (d : ℕ) → Phase → Type 0
 PhaseLies pools m d (phase.Reads fd u) =
-    (f at : ℕ) (mode : Mode) → descriptor m d fd ≡ Some (on.File f at mode) → pools (file m f).pool ≡ true
-PhaseLies pools m d (phase.Shuts fd a) = lie_in pools (text m d a) ≡ true
+    (f at : ℕ) (mode : Mode) → descriptor m d fd ≡ Some (on.File f at mode) → IsTrue (pools (file m f).pool)
+PhaseLies pools m d (phase.Shuts fd a) = IsTrue (lie_in pools (text m d a))
 PhaseLies pools m d (phase.JoiningFile held a from len) =
-    (lie_in pools (text m d held) ≡ true) × (lie_in pools (text m d a) ≡ true)
-PhaseLies pools m d (phase.CuttingPart held a from) = (lie_in pools (text m d held) ≡ true)
-    × (lie_in pools (text m d a) ≡ true)
-PhaseLies pools m d (phase.ReplacingPart a part at) = (lie_in pools (text m d a) ≡ true)
-    × (lie_in pools (text m d part) ≡ true)
-PhaseLies pools m d (phase.DroppingText a part made) = lie_in pools (text m d made) ≡ true
-PhaseLies pools m d (phase.DroppingPart part made) = lie_in pools (text m d made) ≡ true
-PhaseLies pools m d (phase.Writes a) = lie_in pools (text m d a) ≡ true
-PhaseLies pools m d (phase.Cuts a from to) = lie_in pools (text m d a) ≡ true
-PhaseLies pools m d (phase.Swaps a rest) = lie_in pools (text m d rest) ≡ true
-PhaseLies pools m d x = Unit {0}
+    IsTrue (lie_in pools (text m d held)) × IsTrue (lie_in pools (text m d a))
+PhaseLies pools m d (phase.CuttingPart held a from) = IsTrue (lie_in pools (text m d held))
+    × IsTrue (lie_in pools (text m d a))
+PhaseLies pools m d (phase.ReplacingPart a part at) = IsTrue (lie_in pools (text m d a))
+    × IsTrue (lie_in pools (text m d part))
+PhaseLies pools m d (phase.DroppingText a part made) = IsTrue (lie_in pools (text m d made))
+PhaseLies pools m d (phase.DroppingPart part made) = IsTrue (lie_in pools (text m d made))
+PhaseLies pools m d (phase.Writes a) = IsTrue (lie_in pools (text m d a))
+PhaseLies pools m d (phase.Cuts a from to) = IsTrue (lie_in pools (text m d a))
+PhaseLies pools m d (phase.Swaps a rest) = IsTrue (lie_in pools (text m d rest))
+PhaseLies pools m d x = ⊤
 
 -- for a worker with a job
 abbrev pub LiesIn : (pools : ℕ → Bool) → State → (d : ℕ) → Collected → Phase → Type 0
-LiesIn pools m d x phase.Waits = Unit {0}
+LiesIn pools m d x phase.Waits = ⊤
 LiesIn pools m d x y = PieceLies pools m d x × PhaseLies pools m d y
 
 -- the bytes that it wrote to pipe p, and those that it will make, are in these pools
 pub record IsShown (pools : ℕ → Bool) (m : State) (p : ℕ) (process_slot : ProcessSlot Worker) : Type 0 where
-  pub default : pools (default_pool m process_slot.by) ≡ true
-  pub output : lie_in pools (pipe_at m p).queue ≡ true
+  pub default : IsTrue (pools (default_pool m process_slot.by))
+  pub output : IsTrue (lie_in pools (pipe_at m p).queue)
   pub lies : LiesIn pools m process_slot.by (step_of m process_slot).piece (step_of m process_slot).phase
 
 pub record OutputsAreShown : Type 0 where
   -- for a worker that is free, and a pipe to which no other bytes were written
   pub free : (pools : ℕ → Bool) (m : State) (p : ℕ) (process_slot : ProcessSlot Worker) → IsFree m process_slot
-      → pools (default_pool m process_slot.by) ≡ true → lie_in pools (pipe_at m p).queue ≡ true
+      → IsTrue (pools (default_pool m process_slot.by)) → IsTrue (lie_in pools (pipe_at m p).queue)
       → IsShown pools m p process_slot
   -- its turns and events of others preserve this
   pub turns : (pools : ℕ → Bool) (m n : State) (p : ℕ) (process_slot next : ProcessSlot Worker) (yields : Bool)
@@ -83,4 +83,4 @@ pub record OutputsAreShown : Type 0 where
   pub others : (pools : ℕ → Bool) (m n : State) (p : ℕ) (process_slot : ProcessSlot Worker) (e : Event) (r : Reply)
       (unseen : List Outcome → List ℕ) → IsOrderly m → ArePlaced m → RunsJob m p process_slot unseen
       → IsShown pools m p process_slot
-      → StepsTo m e r n → is_call_of e process_slot.by ≡ false → IsShown pools n p process_slot
+      → StepsTo m e r n → IsFalse (is_call_of e process_slot.by) → IsShown pools n p process_slot

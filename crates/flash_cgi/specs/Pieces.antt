@@ -1,5 +1,5 @@
 -- Invariants of the buffered output of a worker, given the bytes of its domain's aggregates by number.
-use Rattle.std.specs.Prelude.{◌≡◌, ◌≢◌, ℕ, ◌≤◌, List, [], ◌∷◌, length, drop, Option, Some, None}
+use Rattle.std.specs.Prelude.{◌≡◌, ◌≢◌, ℕ, ◌≤◌, List, [], ◌∷◌, length, drop, Option, Some, None, ⊤}
 use Rattle.flash_cgi.specs.Collecting.{Collected, but_last, bytes_of_one, without_last}
 use Rattle.flash_cgi.specs.declared.phase.Phase.{Phase}
 use Rattle.flash_cgi.specs.declared.phase.Phase.TheVariants as phase
@@ -8,7 +8,7 @@ use Rattle.flash_cgi.specs.WorkerSteps.{bytes_at}
 
 -- places are in order, within a text of this length
 abbrev pub AreWithin : ℕ → List Place → Type 0
-AreWithin n [] = Unit {0}
+AreWithin n [] = ⊤
 AreWithin n (p ∷ ps) = (p.at ≤ n) × AreWithin p.at ps
 
 abbrev pub IsReadable : (ℕ → Option (List ℕ)) → (a : ℕ) → Type 0
@@ -20,7 +20,7 @@ FilesAreReadable readable None ps = ps ≡ []
 FilesAreReadable readable (Some held) ps = IsReadable readable held
 
 abbrev pub NextIsReadable : (ℕ → Option (List ℕ)) → (held next : Option ℕ) → Type 0
-NextIsReadable readable held None = Unit {0}
+NextIsReadable readable held None = ⊤
 NextIsReadable readable held (Some next) = IsReadable readable next × (held ≢ Some next)
 
 -- the buffered output exists, with its places within a text of len bytes
@@ -88,9 +88,9 @@ pub record DropsText (readable : ℕ → Option (List ℕ)) (x : Collected) (agg
   pub differ : agg ≢ made
 
 abbrev pub HoldsAt : (ℕ → Option (List ℕ)) → Collected → Phase → Type 0
-HoldsAt readable x phase.Waits = Unit {0}
-HoldsAt readable x (phase.Skips agg) = Unit {0}
-HoldsAt readable x (phase.Breaks agg) = Unit {0}
+HoldsAt readable x phase.Waits = ⊤
+HoldsAt readable x (phase.Skips agg) = ⊤
+HoldsAt readable x (phase.Breaks agg) = ⊤
 HoldsAt readable x phase.Runs = HasPiece readable (length x.text) x
 HoldsAt readable x (phase.Reads file p) = Gathers readable x
 HoldsAt readable x (phase.ShutsToSay file s) = Gathers readable x

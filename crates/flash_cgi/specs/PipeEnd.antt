@@ -1,5 +1,5 @@
 -- The behavior of a worker after the end of its job pipe.
-use Rattle.std.specs.Prelude.{◌≡◌, ℕ, true, false, List, [], Option, Some}
+use Rattle.std.specs.Prelude.{◌≡◌, ℕ, List, [], Option, Some, IsTrue, IsFalse}
 use Rattle.iol_core.specs.State.{State, descriptor, pipe_at}
 use Rattle.iol_core.specs.Run.{StepsTo}
 use Rattle.iol_core.specs.declared.descriptors.Descriptor.TheVariants as on
@@ -30,14 +30,14 @@ pub record WorkersStop : Type 0 where
   -- a read of no bytes means that the job pipe is empty and has no writer any more
   pub reports : (m n : State) (d j a : ℕ) → IsOrderly m → descriptor m d 0 ≡ Some (on.ReadEnd j)
       → StepsTo m (event.Call d (call.IolRead 0 65536)) (reply.Agg a) n → bytes_at (readable_at n d) a ≡ []
-      → ((pipe_at m j).queue ≡ []) × ((pipe_at m j).writing ≡ false)
+      → ((pipe_at m j).queue ≡ []) × IsFalse (pipe_at m j).writing
   -- a worker with such a reply drops the aggregate, and is over
   pub ends : (w v : Worker) (last : Reply) (readable : ℕ → Option (List ℕ)) (t : Turn)
       → (is : ReadNothing w last readable)
       → works w last readable t v → (t ≡ turn.Make (call.AggDrop is.agg)) × (v.standing ≡ standing.Over)
   -- no other worker becomes over
-  pub only : (w v : Worker) (last : Reply) (readable : ℕ → Option (List ℕ)) (t : Turn) → is_over w.standing ≡ false
-      → works w last readable t v → is_over v.standing ≡ true → ReadNothing w last readable
+  pub only : (w v : Worker) (last : Reply) (readable : ℕ → Option (List ℕ)) (t : Turn) → IsFalse (is_over w.standing)
+      → works w last readable t v → IsTrue (is_over v.standing) → ReadNothing w last readable
   -- from then on it yields, and does not change
-  pub stops : (w v : Worker) (last : Reply) (readable : ℕ → Option (List ℕ)) (t : Turn) → is_over w.standing ≡ true
+  pub stops : (w v : Worker) (last : Reply) (readable : ℕ → Option (List ℕ)) (t : Turn) → IsTrue (is_over w.standing)
       → works w last readable t v → (t ≡ turn.Yield) × (v ≡ w)

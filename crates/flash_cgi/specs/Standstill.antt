@@ -1,5 +1,5 @@
 -- The condition of an idle worker: its current call would block, or it makes no more calls.
-use Rattle.std.specs.Prelude.{◌≡◌, ℕ, zero, suc, Bool, true, false, [], Some}
+use Rattle.std.specs.Prelude.{◌≡◌, ℕ, zero, suc, Bool, true, false, [], Some, IsTrue, IsFalse, ⊤}
 use Rattle.iol_core.specs.State.{State, descriptor, pipe_at}
 use Rattle.iol_core.specs.Run.{StepsTo}
 use Rattle.iol_core.specs.declared.descriptors.Descriptor.TheVariants as on
@@ -18,18 +18,18 @@ IsBlocked m by w = StepsTo m (event.Call by (call_at w.job w.step)) (reply.Refus
 
 -- its job pipe has ended, or its call would block; if it made the call, this is its last reply
 abbrev pub IsStuck : State → (by : ℕ) → Worker → (last : Reply) → Standing → Type 0
-IsStuck m by w last standing.Over = Unit {0}
+IsStuck m by w last standing.Over = ⊤
 IsStuck m by w last standing.Asks = IsBlocked m by w
 IsStuck m by w last standing.Asked = IsBlocked m by w × (last ≡ reply.Refused WouldBlock)
 
 -- the call that it made, if any, was refused in this state, and this is its last reply
 abbrev pub IsRefused : State → (by : ℕ) → Worker → (last : Reply) → Standing → Type 0
 IsRefused m by w last standing.Asked = IsBlocked m by w × (last ≡ reply.Refused WouldBlock)
-IsRefused m by w last s = Unit {0}
+IsRefused m by w last s = ⊤
 
 -- the condition after n yields
 abbrev pub HasWaited : (n by : ℕ) → Worker → Reply → State → Type 0
-HasWaited zero by w last m = Unit {0}
+HasWaited zero by w last m = ⊤
 HasWaited (suc zero) by w last m = IsRefused m by w last w.standing
 HasWaited (suc (suc n)) by w last m = IsStuck m by w last w.standing
 
@@ -40,5 +40,5 @@ is_over s = false
 -- If a worker waits for a job when all are idle, its job pipe is empty and has a writer.
 abbrev pub WaitingIsEmpty : Type 0
 WaitingIsEmpty = (m : State) (by j : ℕ) (w : Worker) (last : Reply) → HasWaited 2 by w last m
-    → w.step.phase ≡ phase.Waits → is_over w.standing ≡ false → descriptor m by 0 ≡ Some (on.ReadEnd j)
-    → ((pipe_at m j).queue ≡ []) × ((pipe_at m j).writing ≡ true)
+    → w.step.phase ≡ phase.Waits → IsFalse (is_over w.standing) → descriptor m by 0 ≡ Some (on.ReadEnd j)
+    → ((pipe_at m j).queue ≡ []) × IsTrue (pipe_at m j).writing

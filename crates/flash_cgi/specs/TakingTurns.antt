@@ -1,5 +1,5 @@
 -- Results of the parts of a worker's turn: a turn, or out of memory.
-use Rattle.std.specs.Prelude.{◌≡◌, ◌<◌, ℕ, true, List, length, Option, IfOk, OnErr, Result}
+use Rattle.std.specs.Prelude.{◌≡◌, ◌<◌, ℕ, List, length, Option, IfOk, OnErr, Result, IsTrue}
 use Rattle.iol_core.specs.declared.events.Reply.{Reply}
 use Rattle.iol_proc.specs.Quiet.{IsCopyFree}
 use Rattle.iol_proc.specs.declared.process.Turn.{Turn}
@@ -21,7 +21,7 @@ pub record TakesTurn {E : Type 0} (goes : Turn → Worker → Type 0) (may_want 
 
 -- it makes the call of its step
 abbrev pub MakesItsCall : {E : Type 0} → (old : Worker) → Result Turn E → (new : Worker) → Type 0
-MakesItsCall old result new = TakesTurn (asks old) (has_bytes old.job old.step ≡ true) old result new
+MakesItsCall old result new = TakesTurn (asks old) (IsTrue (has_bytes old.job old.step)) old result new
 
 -- it advances to a step, or makes its call again
 abbrev pub StepsOn : {E : Type 0} → (old : Worker) → Option Step → Result Turn E → (new : Worker) → Type 0

@@ -1,5 +1,6 @@
 -- A script over the turns of its worker: from the time when its job waits to the end of its output.
-use Rattle.std.specs.Prelude.{◌≡◌, ◌⊎◌, ℕ, Bool, true, false, List, [], ◌∷◌, ◌++◌, Option, Some, None}
+use Rattle.std.specs.Prelude.{◌≡◌, ◌⊎◌, ℕ, Bool, true, false, List, [], ◌∷◌, ◌++◌, Option, Some, None, IsTrue, IsFalse}
+use Rattle.std.specs.Prelude.{⊤}
 use mathlib.Core.Logic.{inl, inr}
 use Rattle.iol_core.specs.Text.{bytes_of}
 use Rattle.iol_core.specs.State.{State, pipe_at}
@@ -48,10 +49,10 @@ is_given x r = false
 
 -- The worker in this process slot has no job: its next call reads one.
 pub record IsFree (m : State) (process_slot : ProcessSlot Worker) : Type 0 where
-  pub not_over : is_over process_slot.process.standing ≡ false
+  pub not_over : IsFalse (is_over process_slot.process.standing)
   pub waits : (step_of m process_slot).phase ≡ phase.Waits
   pub not_given : process_slot.process.standing ≡ standing.Asked
-      → is_given process_slot.process.step.phase process_slot.last ≡ false
+      → IsFalse (is_given process_slot.process.step.phase process_slot.last)
 
 -- A job waits for it, and is not yet read.
 pub record Awaits (m : State) (p : ℕ) (process_slot : ProcessSlot Worker) (unseen : List Outcome → List ℕ) :
@@ -78,7 +79,7 @@ pub record HasRead (m : State) (p : ℕ) (process_slot : ProcessSlot Worker) (un
 -- It runs the script; its last reply counts as processed.
 pub record IsRunning (m : State) (p : ℕ) (process_slot : ProcessSlot Worker) (unseen : List Outcome → List ℕ) :
     Type 0 where
-  pub not_over : is_over process_slot.process.standing ≡ false
+  pub not_over : IsFalse (is_over process_slot.process.standing)
   pub feeds : Feeds m process_slot.by p process_slot.process.job (step_of m process_slot) unseen
 
 -- The worker in this process slot has a job with output to pipe p: for all outcomes of the files still to be read, the
@@ -99,8 +100,8 @@ outcomes_to_come m p process_slot unseen (inr (inr i)) =
 -- the file that it is reading, if any, is the one that its line names
 abbrev pub ReadsItsFile : (m : State) (p : ℕ) (process_slot : ProcessSlot Worker) (unseen : List Outcome → List ℕ)
     → RunsJob m p process_slot unseen → Type 0
-ReadsItsFile m p process_slot unseen (inl h) = Unit {0}
-ReadsItsFile m p process_slot unseen (inr (inl h)) = Unit {0}
+ReadsItsFile m p process_slot unseen (inl h) = ⊤
+ReadsItsFile m p process_slot unseen (inr (inl h)) = ⊤
 ReadsItsFile m p process_slot unseen (inr (inr i)) =
     ReadsNamed m process_slot.by process_slot.process.job (step_of m process_slot).begun (step_of m process_slot).phase
 
@@ -109,7 +110,7 @@ ReadsItsFile m p process_slot unseen (inr (inr i)) =
 pub record IsRefused (r : Reply) (expected resolved coming : List Outcome) : Type 0 where
   pub why : Refusal
   pub answer : r ≡ reply.Refused why
-  pub resource_failure : is_resource_failure r ≡ true
+  pub resource_failure : IsTrue (is_resource_failure r)
   pub instead : Outcome
   pub was : expected ≡ instead ∷ coming
   pub is : resolved ≡ Failed why ∷ []
@@ -142,4 +143,4 @@ TurnsFeed = (m n : State) (p : ℕ) (process_slot next : ProcessSlot Worker) (yi
     → ProcessSlotTurn copying worker_turns m process_slot yields r n next
     → Proceeds m n p next r unseen (outcomes_to_come m p process_slot unseen runs)
     (ReadsItsFile m p process_slot unseen runs)
-    ⊎ IsOver m n process_slot.by p next unseen r ⊎ ((pipe_at n p).reading ≡ false)
+    ⊎ IsOver m n process_slot.by p next unseen r ⊎ IsFalse (pipe_at n p).reading

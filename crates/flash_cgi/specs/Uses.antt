@@ -1,5 +1,5 @@
 -- The descriptors and aggregates of a worker: exactly those that its current call uses.
-use Rattle.std.specs.Prelude.{◌≡◌, ℕ, ◌==◌, ◌||◌, ◌&&◌, not, Bool, true, false, Option, Some, None}
+use Rattle.std.specs.Prelude.{◌≡◌, ℕ, ◌==◌, ◌||◌, ◌&&◌, not, Bool, false, Option, Some, None, IsTrue, IsFalse}
 use Rattle.iol_core.specs.State.{State, descriptor, is_live}
 use Rattle.iol_core.specs.Run.{StepsTo}
 use Rattle.iol_core.specs.declared.events.Event.TheVariants as event
@@ -62,8 +62,8 @@ uses_agg x (phase.Swaps agg rest) a = (agg == a) || ((rest == a) || has_collecte
 
 -- in addition to the descriptors and aggregates of these numbers, it has only those that it uses
 pub record HasJust (m : State) (d : ℕ) (fds aggs : ℕ → Bool) (job : Task) (x : Collected) (phase : Phase) : Type 0 where
-  pub no_fd : (fd : ℕ) → fds fd ≡ false → uses_fd job phase fd ≡ false → descriptor m d fd ≡ None
-  pub no_agg : (a : ℕ) → aggs a ≡ false → uses_agg x phase a ≡ false → readable_at m d a ≡ None
+  pub no_fd : (fd : ℕ) → IsFalse (fds fd) → IsFalse (uses_fd job phase fd) → descriptor m d fd ≡ None
+  pub no_agg : (a : ℕ) → IsFalse (aggs a) → IsFalse (uses_agg x phase a) → readable_at m d a ≡ None
 
 -- ---- between two turns
 
@@ -84,17 +84,17 @@ KeepsJust m fds aggs process_slot =
 pub record WorkersKeepNothing : Type 0 where
   -- after its call it has what it then uses
   pub calls : (m n : State) (d : ℕ) (fds aggs : ℕ → Bool) (job : Task) (step next : Step) (r : Reply) → IsOrderly m
-      → is_live m d ≡ true → HasJust m d fds aggs job step.piece step.phase
+      → IsTrue (is_live m d) → HasJust m d fds aggs job step.piece step.phase
       → StepsTo m (event.Call d (call_at job step)) r n
       → after_reply job step (readable_at n d) r ≡ Some next → HasJust n d fds aggs job next.piece next.phase
   -- the same after each of its turns, including those that read a job or a text that is no job
   pub turns : (m n : State) (fds aggs : ℕ → Bool) (process_slot next : ProcessSlot Worker) (yields : Bool) (r : Reply)
       → IsOrderly m
-      → is_live m process_slot.by ≡ true → KeepsJust m fds aggs process_slot
+      → IsTrue (is_live m process_slot.by) → KeepsJust m fds aggs process_slot
       → ProcessSlotTurn copying worker_turns m process_slot yields r n next
       → KeepsJust n fds aggs next
   -- the output descriptor belongs to the job, though another domain gave it: after the script the worker does not have
   -- it any more
   pub output : (m : State) (d : ℕ) (fds aggs : ℕ → Bool) (job : Task) (x : Collected) (phase : Phase)
-      → uses_fd job phase job.fd ≡ true → HasJust m d fds aggs job x phase
+      → IsTrue (uses_fd job phase job.fd) → HasJust m d fds aggs job x phase
       → HasJust m d (λ fd. fds fd && not (job.fd == fd)) aggs job x phase

@@ -1,6 +1,6 @@
 -- The uses of memory by a worker: to parse a job, for the bytes of a call, and to buffer output.
-use Rattle.std.specs.Prelude.{◌≡◌, ◌<◌, ℕ, Bool, true, false, List, length, Option, Some, None, is_some, slice_get}
-use Rattle.std.specs.Prelude.{if◌then◌else◌}
+use Rattle.std.specs.Prelude.{◌<◌, ℕ, Bool, true, false, List, length, Option, Some, None, is_some, slice_get}
+use Rattle.std.specs.Prelude.{if◌then◌else◌, IsTrue, IsFalse}
 use Rattle.iol_core.specs.declared.events.Reply.{Reply}
 use Rattle.iol_core.specs.declared.events.Reply.TheVariants as reply
 use Rattle.flash_cgi.specs.Collecting.{Collected}
@@ -53,11 +53,11 @@ may_copy x d = false
 -- it continues with a call that has bytes, or makes its call again
 abbrev pub WantsOn : Task → Option Step → Type 0
 WantsOn job None = ⊥
-WantsOn job (Some step) = has_bytes job step ≡ true
+WantsOn job (Some step) = IsTrue (has_bytes job step)
 
 -- if it copies nothing, it needs memory only for its next call
 abbrev pub WantsByReply : Worker → Reply → (ℕ → Option (List ℕ)) → Type 0
-WantsByReply w last readable = may_copy w.step.piece w.step.phase ≡ false
+WantsByReply w last readable = IsFalse (may_copy w.step.piece w.step.phase)
     → WantsOn w.job (after_reply w.job w.step readable last)
 
 -- it processes a reply: a text of at least one byte is parsed as a job
@@ -66,7 +66,7 @@ WantsToFile w phase.Waits (reply.Agg agg) readable = 0 < length (bytes_at readab
 WantsToFile w d last readable = WantsByReply w last readable
 
 abbrev pub WantsAs : Standing → Worker → Reply → (ℕ → Option (List ℕ)) → Type 0
-WantsAs standing.Asks w last readable = has_bytes w.job w.step ≡ true
+WantsAs standing.Asks w last readable = IsTrue (has_bytes w.job w.step)
 WantsAs standing.Asked w last readable = WantsToFile w w.step.phase last readable
 WantsAs standing.Over w last readable = ⊥
 

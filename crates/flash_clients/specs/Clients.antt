@@ -1,5 +1,5 @@
 -- The answers to a client that has several connections, one after another.
-use Rattle.std.specs.Prelude.{◌≡◌, ◌⊎◌, ℕ, List, [], ◌∷◌, ◌++◌, map}
+use Rattle.std.specs.Prelude.{◌≡◌, ◌⊎◌, ℕ, List, [], ◌∷◌, ◌++◌, map, ⊤}
 use Rattle.std.specs.List.{AllByRecursion, concat}
 use Rattle.flash_http.specs.declared.windows.Window.TheVariants.{Wait}
 use Rattle.flash_http.specs.Window.{window_in}
@@ -27,7 +27,7 @@ pub record IsClosed (v : Visit) : Type 0 where
 
 -- Each connection except the last was left, and the bytes sent on the last begin its answer.
 abbrev pub AreVisits : List Visit → Type 0
-AreVisits [] = Unit {0}
+AreVisits [] = ⊤
 AreVisits (v ∷ []) = Begins v.site_contents v.came v.sent
 AreVisits (v ∷ w ∷ vs) = IsLeft v × AreVisits (w ∷ vs)
 

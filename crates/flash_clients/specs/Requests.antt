@@ -1,5 +1,5 @@
 -- The requests that are handed in on a connection, one after another.
-use Rattle.std.specs.Prelude.{◌≡◌, ℕ, ◌+◌, true, false, List, [], ◌++◌, take, drop}
+use Rattle.std.specs.Prelude.{◌≡◌, ℕ, ◌+◌, true, false, List, [], ◌++◌, take, drop, IsTrue, IsFalse}
 use Rattle.std.specs.List.{list_all}
 use Rattle.flash_http.specs.declared.windows.Window.{Window}
 use Rattle.flash_http.specs.declared.windows.Window.TheVariants.{Wait, Head, TooLarge}
@@ -12,14 +12,14 @@ use Rattle.flash_laws.specs.Answers.{keeps, Reads}
 pub record AreKept (s : List ℕ) : Type 0 where
   pub qs : List Answer
   pub reads : Reads s qs []
-  pub keep : list_all (λ q. keeps q) qs ≡ true
+  pub keep : IsTrue (list_all (λ q. keeps q) qs)
 
 -- One of the requests of the stream closes the connection.
 pub record Closes (s : List ℕ) : Type 0 where
   pub qs : List Answer
   pub rest : List ℕ
   pub reads : Reads s qs rest
-  pub close : list_all (λ q. keeps q) qs ≡ false
+  pub close : IsFalse (list_all (λ q. keeps q) qs)
 
 -- By the window of these bytes, their first request is the first `size` bytes, with the empty lines before it, and this
 -- is its answer. Of a head that is too long it is the bytes of a whole window.
@@ -33,8 +33,8 @@ pub record RequestsAreKept : Type 0 where
   pub none : AreKept []
   -- it keeps the connection, too
   pub keep : (came waiting : List ℕ) (size : ℕ) (q : Answer) → AreKept came → IsFirst (window_in waiting) waiting size q
-      → keeps q ≡ true → AreKept (came ++ take size waiting)
+      → IsTrue (keeps q) → AreKept (came ++ take size waiting)
   -- it closes the connection
   pub close : (came waiting : List ℕ) (size : ℕ) (q : Answer) → AreKept came
       → IsFirst (window_in waiting) waiting size q
-      → keeps q ≡ false → Closes (came ++ take size waiting)
+      → IsFalse (keeps q) → Closes (came ++ take size waiting)

@@ -1,5 +1,5 @@
 -- A connection of a world, from its creation on.
-use Rattle.std.specs.Prelude.{◌≡◌, ℕ, Bool, true, false, List, ◌∷◌, ◌++◌}
+use Rattle.std.specs.Prelude.{◌≡◌, ℕ, Bool, List, ◌∷◌, ◌++◌, IsTrue, IsFalse}
 use Rattle.std.specs.List.{list_any}
 use Rattle.iol_core.specs.Calls.Outside.{lacks_conn}
 use Rattle.iol_core.specs.State.{State}
@@ -41,7 +41,7 @@ module _ (worker_set : WorkerSet) (site_contents : SiteContents) (past : List Ch
     -- the bytes sent begin an answer to the bytes received
     pub begins : Begins site_contents came sent
     -- and are an answer once the connection is removed, unless its peer was reported as gone
-    pub whole : gone ≡ false → lacks_conn after.machine c ≡ true → IsAnswer site_contents came sent
+    pub whole : IsFalse gone → IsTrue (lacks_conn after.machine c) → IsAnswer site_contents came sent
     -- the world satisfies the server's invariant
     pub consistent : Consistent site_contents worker_set (past ++ choice.Outside (event.ConnNew net_pool)
         ∷ visit.choices) (ps ++ reply.Conn c ∷ visit.replies) after

@@ -1,6 +1,7 @@
 -- The meaning of a head, as a relation between its bytes and an answer.
 use Rattle.std.specs.Prelude.{◌≡◌, ◌≢◌, ℕ, ◌≤◌, ◌||◌, ◌==◌, not, string_bytes, Bool, true, false, List, [], length, map}
-use Rattle.std.specs.Prelude.{codes, bytes_eq, Option, Some, None, MatchOption, option_and_then, if◌then◌else◌}
+use Rattle.std.specs.Prelude.{codes, bytes_eq, Option, Some, None, MatchOption, option_and_then, if◌then◌else◌, IsTrue}
+use Rattle.std.specs.Prelude.{IsFalse}
 use Rattle.std.specs.List.{list_any}
 use Rattle.httparse.specs.Grammar.{RequestHead, ReadsRequest}
 use Rattle.httparse.specs.Spans.{name_and_value}
@@ -61,7 +62,7 @@ IsHead bytes h = ReadsRequest bytes h [] × (length h.fields ≤ MAX_FIELDS)
 
 -- the result of parsing the bytes, if they parse
 abbrev pub Reads : List ℕ → Option Reading → Type 0
-Reads bytes None = (h : RequestHead) → IsHead bytes h → ⊥
+Reads bytes None = (h : RequestHead) → ¬ IsHead bytes h
 Reads bytes (Some reading) = (h : RequestHead) × IsHead bytes h × (reading ≡ reading_of h)
 
 -- ---- its meaning
@@ -120,7 +121,7 @@ IsAnswerTo bytes a = (reading : Option Reading) × Reads bytes reading × Asks r
 -- the target of a head is interpreted: its fields and method refuse nothing, and the target has no fragment
 abbrev pub LooksAtTarget : List ℕ → Type 0
 LooksAtTarget bytes =
-    (reading : Reading) × Reads bytes (Some reading) × (refusal reading ≡ None) × (has_fragment reading.target ≡ false)
+    (reading : Reading) × Reads bytes (Some reading) × (refusal reading ≡ None) × IsFalse (has_fragment reading.target)
 
 -- a head has exactly one answer
 abbrev pub OneAnswer : Type 0
@@ -129,8 +130,8 @@ OneAnswer = (head : List ℕ) (a b : Answer) → IsAnswerTo head a → IsAnswerT
 -- a name is not empty, has no NUL, and none of its segments is `.` or `..`
 pub record IsPlainName (name : List ℕ) : Type 0 where
   pub some : name ≢ []
-  pub no_nul : list_any (λ b. b == 0) name ≡ false
-  pub no_dots : list_any is_dot_segment (segments name) ≡ false
+  pub no_nul : IsFalse (list_any (λ b. b == 0) name)
+  pub no_dots : IsFalse (list_any is_dot_segment (segments name))
 
 -- for every head: a served file has a plain name
 abbrev pub NamesArePlain : Type 0
@@ -138,11 +139,11 @@ NamesArePlain = (head : List ℕ) (w : Wanted) → IsAnswerTo head (serve w) →
 
 -- for every head: if no chunks may be sent, the connection closes
 abbrev pub ClosesWithoutChunks : Type 0
-ClosesWithoutChunks = (head : List ℕ) (w : Wanted) → IsAnswerTo head (serve w) → w.chunked ≡ false → w.keep ≡ false
+ClosesWithoutChunks = (head : List ℕ) (w : Wanted) → IsAnswerTo head (serve w) → IsFalse w.chunked → IsFalse w.keep
 
 -- for every head: HEAD has no range
 abbrev pub HeadsHaveNoRange : Type 0
-HeadsHaveNoRange = (head : List ℕ) (w : Wanted) → IsAnswerTo head (serve w) → w.head_only ≡ true → w.range ≡ None
+HeadsHaveNoRange = (head : List ℕ) (w : Wanted) → IsAnswerTo head (serve w) → IsTrue w.head_only → w.range ≡ None
 
 -- for every head: a query is no longer than the head
 abbrev pub QueriesFit : Type 0

@@ -1,6 +1,6 @@
 -- The request target: the file that it names, and the query (RFC 9112, section 3.2; RFC 3986).
 use Rattle.std.specs.Prelude.{◌≡◌, ℕ, ◌&&◌, ◌||◌, ◌==◌, not, Bool, true, false, IsUtf8, List, [], ◌∷◌, codes, bytes_eq}
-use Rattle.std.specs.Prelude.{Option, Some, None, unwrap_or, if◌then◌else◌}
+use Rattle.std.specs.Prelude.{Option, Some, None, unwrap_or, if◌then◌else◌, IsTrue, IsFalse}
 use Rattle.std.specs.List.{list_any, slice_split}
 use Rattle.std.specs.Char.{is_ascii_hexdigit}
 use Rattle.http_uri.specs.declared.uri.Uri.{Uri}
@@ -21,9 +21,9 @@ has_fragment target = list_any (λ b. b == 35) target
 
 -- the target represents this URI, which has such a form and no fragment
 pub record IsServedUri (target : List ℕ) (uri : Uri) : Type 0 where
-  pub no_fragment : has_fragment target ≡ false
+  pub no_fragment : IsFalse (has_fragment target)
   pub spells : Spells target uri
-  pub form : is_served_form target (uri_scheme uri) (uri_authority uri) ≡ true
+  pub form : IsTrue (is_served_form target (uri_scheme uri) (uri_authority uri))
 
 -- ---- the path (RFC 3986, sections 2.1 and 3.3)
 
@@ -47,10 +47,10 @@ is_dot_segment segment = bytes_eq segment (codes ".") || bytes_eq segment (codes
 
 -- valid escapes, decoded once to text without NUL and without dot segments
 pub record IsFilePath (path : List ℕ) : Type 0 where
-  pub escaped : is_escaped path ≡ true
+  pub escaped : IsTrue (is_escaped path)
   pub text : IsUtf8 (percent_decode path)
-  pub no_nul : list_any (λ b. b == 0) (percent_decode path) ≡ false
-  pub no_dots : list_any is_dot_segment (segments (percent_decode path)) ≡ false
+  pub no_nul : IsFalse (list_any (λ b. b == 0) (percent_decode path))
+  pub no_dots : IsFalse (list_any is_dot_segment (segments (percent_decode path)))
 
 -- ---- the name and the query
 
@@ -80,15 +80,15 @@ pub record Names (target name query : List ℕ) : Type 0 where
 
 -- the file and query that the target names, or None
 abbrev pub TargetIs : (target : List ℕ) → Option (List ℕ × List ℕ) → Type 0
-TargetIs target None = (name query : List ℕ) → Names target name query → ⊥
+TargetIs target None = (name query : List ℕ) → ¬ Names target name query
 TargetIs target (Some file) = Names target file.0 file.1
 
 -- ---- the same in two steps: the URI of the target, and the file name of its path
 
 abbrev pub UriIs : (target : List ℕ) → Option Uri → Type 0
-UriIs target None = (uri : Uri) → IsServedUri target uri → ⊥
+UriIs target None = (uri : Uri) → ¬ IsServedUri target uri
 UriIs target (Some uri) = IsServedUri target uri
 
 abbrev pub NameIs : (path : List ℕ) → Option (List ℕ) → Type 0
-NameIs path None = IsFilePath path → ⊥
+NameIs path None = ¬ IsFilePath path
 NameIs path (Some name) = IsFilePath path × (name ≡ file_name path)

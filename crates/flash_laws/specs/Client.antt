@@ -7,7 +7,7 @@ pub mod Fits
 pub mod OfferedBytes
 pub mod Holdings
 pub mod Wants
-use Rattle.std.specs.Prelude.{◌≡◌, ℕ, ◌&&◌, Bool, true, false, List, [], Option, Some, None, is_some}
+use Rattle.std.specs.Prelude.{◌≡◌, ℕ, ◌&&◌, Bool, true, false, List, [], Option, Some, None, is_some, ⊤}
 use Rattle.iol_core.specs.declared.events.Call.{Call}
 use Rattle.iol_core.specs.declared.events.Call.TheVariants as call
 use Rattle.iol_core.specs.declared.events.Reply.{Reply}
@@ -107,7 +107,7 @@ IsAwaiting x = by x.run
   where
     by : Option Running → Type 0
     by None = conn.IsAwaiting x.conn
-    by (Some y) = Unit {0}
+    by (Some y) = ⊤
 
 -- ---- its state after the reply to its call; `received` is the contents of the aggregate in the reply
 

@@ -7,7 +7,7 @@ pub mod Holdings
 pub mod Policy
 pub mod Wants
 use Rattle.std.specs.Prelude.{◌≡◌, ℕ, ◌+◌, ◌-◌, ◌==◌, ◌||◌, ◌⊎◌, min, nat_lt, nat_le, Bool, true, false, not, List, []}
-use Rattle.std.specs.Prelude.{◌∷◌, ◌++◌, length, Option, Some, None, if◌then◌else◌}
+use Rattle.std.specs.Prelude.{◌∷◌, ◌++◌, length, Option, Some, None, if◌then◌else◌, ⊤}
 use Rattle.iol_core.specs.declared.limits.TheConstants.{MAX_AGGREGATE_BYTES, MAX_QUEUE_BYTES}
 use Rattle.iol_core.specs.declared.descriptors.Mode.TheVariants as modes
 use Rattle.iol_core.specs.declared.refusals.Refusal.{Refusal}
@@ -125,7 +125,7 @@ IsAwaiting x = by x.phase
   where
     by : Phase → Type 0
     by Rests = window_in x.kept ≡ Wait
-    by d = Unit {0}
+    by d = ⊤
 
 -- ---- the replies that move a phase; `received` is the contents of the aggregate in the reply
 

@@ -3,7 +3,7 @@ pub mod Rounds
 pub mod GoesRound
 pub mod FairTurns
 pub mod Wants
-use Rattle.std.specs.Prelude.{◌≡◌, ℕ, true, List, [], Option, Some, unwrap_or}
+use Rattle.std.specs.Prelude.{◌≡◌, ℕ, List, [], Option, Some, unwrap_or, IsTrue, ⊤}
 use Rattle.iol_core.specs.NumberedLists.{in_place}
 use Rattle.iol_core.specs.State.{State}
 use Rattle.iol_core.specs.Run.{StepsTo}
@@ -45,7 +45,7 @@ pub record PicksAt (workers : ℕ) (clients : List (Option Client)) (fd : ℕ) (
   pub there : in_place clients fd ≡ Some was
   pub readies : Readies was ready
   pub after_is : after ≡ with_at clients fd (Some ready)
-  pub goes : may_go (has_free workers after) ready ≡ true
+  pub goes : IsTrue (may_go (has_free workers after) ready)
   pub call_is : made ≡ turn.Make (wants (runs_scripts workers) fd ready)
 
 -- the choices: to yield, to accept, or the client at an index
@@ -62,7 +62,7 @@ Policy = (workers : ℕ) → List (Option Client) → (was : PendingCall) → (l
 
 -- all choices
 abbrev pub any : Policy
-any workers clients was last next = Unit {0}
+any workers clients was last next = ⊤
 
 -- the clients after the last reply is processed
 abbrev pub filed_in : Server → (last : Reply) → (readable : ℕ → Option (List ℕ)) → List (Option Client)

@@ -4,7 +4,8 @@ pub mod Past
 pub mod OtherConns
 pub mod Places
 pub mod ClientConsistency
-use Rattle.std.specs.Prelude.{◌≡◌, ◌≢◌, ◌≤◌, ℕ, true, false, List, length, Option, Some, None, if◌then◌else◌}
+use Rattle.std.specs.Prelude.{◌≡◌, ◌≢◌, ◌≤◌, ℕ, List, length, Option, Some, None, if◌then◌else◌, IsTrue}
+use Rattle.std.specs.Prelude.{IsFalse}
 use Rattle.iol_core.specs.State.{State, content, file, may_read, is_live}
 use Rattle.iol_core.specs.Calls.Files.{file_called}
 use Rattle.iol_core.specs.Run.{StepsTo}
@@ -33,14 +34,14 @@ outcome_in m name = found_in m (file_called m name)
 -- The files and their access lists are those of the site contents; each file is within the limit of one read of the
 -- server and in a pool with a reader; only the server may read the net; and the server is live.
 pub record IsFixed (site_contents : SiteContents) (m : State) : Type 0 where
-  pub lives : is_live m server ≡ true
+  pub lives : IsTrue (is_live m server)
   pub outcomes : (name : List ℕ) → outcome_in m name ≡ site_contents name
   pub lengths : (name : List ℕ) (f : ℕ) → file_called m name ≡ Some f
       → length (content m f) ≤ most_read
   pub read_by : (name : List ℕ) (f : ℕ) → file_called m name ≡ Some f → (d : ℕ)
-      × (may_read m d (file m f).pool ≡ true)
-  pub net_read : may_read m server net_pool ≡ true
-  pub net_alone : (d : ℕ) → d ≢ server → may_read m d net_pool ≡ false
+      × IsTrue (may_read m d (file m f).pool)
+  pub net_read : IsTrue (may_read m server net_pool)
+  pub net_alone : (d : ℕ) → d ≢ server → IsFalse (may_read m d net_pool)
 
 -- No file is made or written, and no domain is admitted to the net or to a file's pool: the site is unchanged.
 pub record KeepsSite (m n : State) : Type 0 where
@@ -54,4 +55,4 @@ pub record KeepsSite (m n : State) : Type 0 where
 abbrev pub SiteStays : Type 0
 SiteStays = (site_contents : SiteContents) (m n : State) (e : Event) (r : Reply) → IsFixed site_contents m
     → StepsTo m e r n
-    → changes_files m e ≡ false → ((p : ℕ) → admits_to e p ≡ false) → KeepsSite m n
+    → IsFalse (changes_files m e) → ((p : ℕ) → IsFalse (admits_to e p)) → KeepsSite m n

@@ -2,7 +2,7 @@
 -- possible if calls are refused; and so the answers to a stream.
 pub mod Expected
 pub mod OneAnswer
-use Rattle.std.specs.Prelude.{◌≡◌, ℕ, ◌⊎◌, Bool, true, false, List, [], ◌∷◌, ◌++◌, Option, Some, None}
+use Rattle.std.specs.Prelude.{◌≡◌, ℕ, ◌⊎◌, Bool, true, false, List, [], ◌∷◌, ◌++◌, Option, Some, None, IsTrue, ⊤}
 use Rattle.std.specs.List.{concat}
 use Rattle.iol_core.specs.declared.refusals.Refusal.{Refusal}
 use Rattle.iol_core.specs.declared.events.Reply.{Reply}
@@ -46,16 +46,16 @@ module _ (site_contents : SiteContents) where
   -- The possible results of the server's calls for a file with this outcome: the outcome, or the status of a refusal
   -- that its calls may get (503, or 500 for a fault).
   abbrev pub MayFind : (there got : Outcome) → Type 0
-  MayFind there got = (got ≡ there) ⊎ ((x : Refusal) × (site_contents.refuses.of_server x ≡ true) × (got ≡ Failed (status_of x)))
+  MayFind there got = (got ≡ there) ⊎ ((x : Refusal) × IsTrue (site_contents.refuses.of_server x) × (got ≡ Failed (status_of x)))
 
   -- The possible results of a worker's calls for a file: its outcome, or a refusal that calls of workers may get.
   abbrev pub MayShow : (there got : script.Outcome) → Type 0
   MayShow there got =
-      (got ≡ there) ⊎ ((x : Refusal) × (site_contents.refuses.of_workers x ≡ true) × (got ≡ script.Failed x))
+      (got ≡ there) ⊎ ((x : Refusal) × IsTrue (site_contents.refuses.of_workers x) × (got ≡ script.Failed x))
 
   -- the same for each file that it names
   abbrev pub AllMayShow : (there got : List script.Outcome) → Type 0
-  AllMayShow [] [] = Unit {0}
+  AllMayShow [] [] = ⊤
   AllMayShow (o ∷ os) (p ∷ ps) = MayShow o p × AllMayShow os ps
   AllMayShow [] (p ∷ ps) = ⊥
   AllMayShow (o ∷ os) [] = ⊥
@@ -83,7 +83,7 @@ module _ (site_contents : SiteContents) where
 
   -- a possible response to each of these requests, in order
   abbrev pub AllMayBeExpected : List Answer → List (List ℕ) → Type 0
-  AllMayBeExpected [] [] = Unit {0}
+  AllMayBeExpected [] [] = ⊤
   AllMayBeExpected (q ∷ qs) (r ∷ rs) = MayBeExpected q r × AllMayBeExpected qs rs
   AllMayBeExpected [] (r ∷ rs) = ⊥
   AllMayBeExpected (q ∷ qs) [] = ⊥
@@ -99,7 +99,7 @@ pub record Begins (site_contents : SiteContents) (s bytes : List ℕ) : Type 0 w
   pub qs : List Answer
   pub rest : List ℕ
   pub reads : Reads s qs rest
-  pub order : last_may_close qs ≡ true
+  pub order : IsTrue (last_may_close qs)
   pub whole : List ℕ
   pub responds : Responds site_contents qs whole
   pub more : List ℕ
@@ -110,11 +110,11 @@ pub record IsAnswer (site_contents : SiteContents) (s bytes : List ℕ) : Type 0
   pub qs : List Answer
   pub rest : List ℕ
   pub reads : Reads s qs rest
-  pub order : last_may_close qs ≡ true
+  pub order : IsTrue (last_may_close qs)
   pub responds : Responds site_contents qs bytes
-  pub no_more : (window_in rest ≡ Wait) ⊎ (last_closes qs ≡ true)
+  pub no_more : (window_in rest ≡ Wait) ⊎ IsTrue (last_closes qs)
 
 -- a reply with TooMany, NoRoom, Fault or Memory is one of these refusals
 abbrev pub IsAmong : (refuses : Refusal → Bool) → Reply → Type 0
-IsAmong refuses (reply.Refused x) = is_resource_failure (reply.Refused x) ≡ true → refuses x ≡ true
-IsAmong refuses r = Unit {0}
+IsAmong refuses (reply.Refused x) = IsTrue (is_resource_failure (reply.Refused x)) → IsTrue (refuses x)
+IsAmong refuses r = ⊤

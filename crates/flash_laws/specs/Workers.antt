@@ -7,7 +7,7 @@ pub mod WorkerSet
 pub mod WorkerSets
 pub mod PutsOut
 pub mod OwnWorkers
-use Rattle.std.specs.Prelude.{◌≡◌, ◌⊎◌, ◌≤◌, ℕ, Bool, true, false, List, ◌++◌, length, Some}
+use Rattle.std.specs.Prelude.{◌≡◌, ◌⊎◌, ◌≤◌, ℕ, Bool, List, ◌++◌, length, Some, IsTrue, IsFalse}
 use Rattle.iol_core.specs.Access.{HasAccess}
 use Rattle.iol_core.specs.Text.{bytes_of}
 use Rattle.iol_core.specs.State.{State, descriptor, pipe_at}
@@ -51,7 +51,7 @@ module _ {W : Type 0} (works : TransitionRelation W) (quiescent : Claim W) (pool
     pub done : r ≡ reply.Done
     pub closes : ClosesWriteEnd m p r n
     pub free : Free n j next
-    pub lies : lie_in pools (pipe_at n p).queue ≡ true
+    pub lies : IsTrue (lie_in pools (pipe_at n p).queue)
 
   -- the bytes removed from the pipe were the front of the text, and the rest is expected
   pub record Gave (m n : State) (j p : ℕ) (process_slot : ProcessSlot W) (made : Made) (text : List ℕ) : Type 0 where
@@ -66,7 +66,7 @@ module _ {W : Type 0} (works : TransitionRelation W) (quiescent : Claim W) (pool
     pub after : Made
     pub later : List ℕ
     pub instead : Instead r made after text later
-    pub goes : Expected n j p next after later ⊎ Wrote m n j p next later r ⊎ ((pipe_at n p).reading ≡ false)
+    pub goes : Expected n j p next after later ⊎ Wrote m n j p next later r ⊎ IsFalse (pipe_at n p).reading
 
   pub record WorkersRun : Type 0 where
     -- the job pipe of a free worker is empty, and a worker with an expected text has the write end of the pipe
@@ -84,14 +84,14 @@ module _ {W : Type 0} (works : TransitionRelation W) (quiescent : Claim W) (pool
         → ProcessSlotTurn copying works m process_slot yields r n next → (n ≡ m) × Free n j next
     pub free_others : (m n : State) (j : ℕ) (process_slot : ProcessSlot W) (e : Event) (r : Reply) → ArePlaced m
         → StepsTo m e r n
-        → is_call_of e process_slot.by ≡ false → pipe_at n j ≡ pipe_at m j → Free m j process_slot
+        → IsFalse (is_call_of e process_slot.by) → pipe_at n j ≡ pipe_at m j → Free m j process_slot
         → Free n j process_slot
     -- with a job in its job pipe, all of that job's output is expected, after the bytes already in the output pipe
     pub begins : (m n : State) (j p fd : ℕ) (process_slot : ProcessSlot W) (query script : List ℕ) (lines : List Line)
         (e : Event) (r : Reply)
-        → ArePlaced m → Free m j process_slot → StepsTo m e r n → is_call_of e process_slot.by ≡ false
-        → HasJob n process_slot.by j p fd query script lines → (pipe_at n j).writing ≡ true
-        → lie_in pools (pipe_at n p).queue ≡ true
+        → ArePlaced m → Free m j process_slot → StepsTo m e r n → IsFalse (is_call_of e process_slot.by)
+        → HasJob n process_slot.by j p fd query script lines → IsTrue (pipe_at n j).writing
+        → IsTrue (lie_in pools (pipe_at n p).queue)
         → Expected n j p process_slot
         (record {
           before = bytes_of (pipe_at n p).queue;
@@ -109,7 +109,7 @@ module _ {W : Type 0} (works : TransitionRelation W) (quiescent : Claim W) (pool
     -- events of others take its front, if they do not change the files and the job pipe
     pub others : (m n : State) (j p : ℕ) (process_slot : ProcessSlot W) (e : Event) (r : Reply) (made : Made)
         (text : List ℕ) → IsOrderly m
-        → ArePlaced m → StepsTo m e r n → is_call_of e process_slot.by ≡ false → LeavesFiles m process_slot.by n
+        → ArePlaced m → StepsTo m e r n → IsFalse (is_call_of e process_slot.by) → LeavesFiles m process_slot.by n
         → pipe_at n j ≡ pipe_at m j
         → Expected m j p process_slot made text → Gave m n j p process_slot made text
     -- its turn changes only its own domain, and one pipe
@@ -121,7 +121,7 @@ module _ {W : Type 0} (works : TransitionRelation W) (quiescent : Claim W) (pool
     -- the bytes in the pipe are in these pools, and when all are idle it is full
     pub shown : (m : State) (j p : ℕ) (process_slot : ProcessSlot W) (made : Made) (text : List ℕ)
         → Expected m j p process_slot made text
-        → lie_in pools (pipe_at m p).queue ≡ true
+        → IsTrue (lie_in pools (pipe_at m p).queue)
     pub full : (m : State) (j p : ℕ) (process_slot : ProcessSlot W) (made : Made) (text : List ℕ) → IsOrderly m
         → HasAccess m → Expected m j p process_slot made text
         → quiescent 2 process_slot.by process_slot.process process_slot.last m
@@ -132,7 +132,7 @@ module _ {W : Type 0} (works : TransitionRelation W) (quiescent : Claim W) (pool
 pub record IsFreeFor (pools : ℕ → Bool) (m : State) (j : ℕ) (process_slot : ProcessSlot Worker) : Type 0 where
   pub free : IsFree m process_slot
   pub none : HasNoJob m process_slot.by j
-  pub default : pools (default_pool m process_slot.by) ≡ true
+  pub default : IsTrue (pools (default_pool m process_slot.by))
 
 pub record IsExpectedOf (pools : ℕ → Bool) (m : State) (j p : ℕ) (process_slot : ProcessSlot Worker) (made : Made)
     (text : List ℕ) : Type 0 where

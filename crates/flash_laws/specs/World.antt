@@ -8,8 +8,8 @@ pub mod Remains
 pub mod Done
 pub mod Fair
 pub mod Host
-use Rattle.std.specs.Prelude.{◌≡◌, ◌==◌, Bool, ◌<◌, ℕ, true, false, List, [], ◌∷◌, ◌++◌, length, map, Some, None}
-use Rattle.std.specs.Prelude.{slice_get, if◌then◌else◌}
+use Rattle.std.specs.Prelude.{◌≡◌, ◌==◌, Bool, ◌<◌, ℕ, List, [], ◌∷◌, ◌++◌, length, map, Some, None}
+use Rattle.std.specs.Prelude.{slice_get, if◌then◌else◌, IsTrue, IsFalse, ⊤}
 use Rattle.iol_core.specs.Text.{bytes_of}
 use Rattle.iol_core.specs.State.{State, conn_at, no_conn}
 use Rattle.iol_core.specs.declared.events.Reply.{Reply}
@@ -94,14 +94,14 @@ module _ (site_contents : SiteContents) (worker_set : WorkerSet) where
 
 -- The bytes sent and queued on each connection of the net begin an answer to its input.
 abbrev pub AllAnswered : SiteContents → List Choice → List Reply → State → Type 0
-AllAnswered site_contents xs rs m = (c : ℕ) → made_over c xs rs ≡ true
+AllAnswered site_contents xs rs m = (c : ℕ) → IsTrue (made_over c xs rs)
     → Begins site_contents (stream_over c xs rs) (sent_over c xs rs ++ bytes_of (conn_at m c).outgoing)
 
 -- Each closed connection of the net whose peer did not leave has its whole answer: the bytes sent and queued are an
 -- answer to its input.
 abbrev pub ClosedAreWhole : SiteContents → List Choice → List Reply → State → Type 0
-ClosedAreWhole site_contents xs rs m = (c : ℕ) → made_over c xs rs ≡ true → (conn_at m c).closed ≡ true
-    → gone_over c xs rs ≡ false
+ClosedAreWhole site_contents xs rs m = (c : ℕ) → IsTrue (made_over c xs rs) → IsTrue (conn_at m c).closed
+    → IsFalse (gone_over c xs rs)
     → IsAnswer site_contents (stream_over c xs rs) (sent_over c xs rs ++ bytes_of (conn_at m c).outgoing)
 
 -- the refusals that a turn of this domain may get
@@ -113,7 +113,7 @@ may_refuse refuses by = if by == server then refuses.of_server else refuses.of_w
 abbrev pub AreFair : Refusals → List Choice → List Reply → Type 0
 AreFair refuses (choice.Turn by ∷ xs) (r ∷ rs) = IsAmong (may_refuse refuses by) r × AreFair refuses xs rs
 AreFair refuses (choice.Outside e ∷ xs) (r ∷ rs) = AreFair refuses xs rs
-AreFair refuses xs rs = Unit {0}
+AreFair refuses xs rs = ⊤
 
 -- job pipes are distinct
 abbrev pub JobQueuesAreApart : WorkerSet → Type 0
@@ -171,6 +171,6 @@ pub record ARunIsUndisturbed (worker_set : WorkerSet) : Type 0 where
   pub site_preserving : AreSitePreserving (actor_turns in_rounds worker_set.turns) first choices replies after run
   pub failure_free : AreFailureFree choices replies
   pub conn : ℕ
-  pub comes : made_over conn choices replies ≡ true
-  pub taken : (conn_at after.machine conn).accepted ≡ true
-  pub open_yet : (conn_at after.machine conn).closed ≡ false
+  pub comes : IsTrue (made_over conn choices replies)
+  pub taken : IsTrue (conn_at after.machine conn).accepted
+  pub open_yet : IsFalse (conn_at after.machine conn).closed

@@ -1,7 +1,7 @@
 -- The action of a client after a reply to its call; `t` is the client after the reply is processed, by the
 -- specification.
 use Rattle.std.specs.Prelude.{◌≡◌, ◌<◌, ℕ, Bool, true, false, not, if◌then◌else◌, List, [], length, Option, Some, None}
-use Rattle.std.specs.Prelude.{Result, IfOk, OnErr}
+use Rattle.std.specs.Prelude.{Result, IfOk, OnErr, IsTrue, IsFalse, ⊤}
 use Rattle.iol_core.specs.declared.events.Call.{Call}
 use Rattle.iol_core.specs.declared.events.Call.TheVariants as call
 use Rattle.iol_core.specs.declared.events.Reply.{Reply}
@@ -35,8 +35,8 @@ use Rattle.flash_lite.specs.declared.client.scripts.Found.TheVariants as reports
 
 -- a run that continues is small, and not over
 abbrev pub GoesAsRun : Option Running → Type 0
-GoesAsRun None = Unit {0}
-GoesAsRun (Some y) = IsSmallRunning y × (is_over y ≡ false)
+GoesAsRun None = ⊤
+GoesAsRun (Some y) = IsSmallRunning y × IsFalse (is_over y)
 
 -- ---- finding a script
 
@@ -116,7 +116,7 @@ abbrev pub CanRest : Client → Left → Type 0
 CanRest x (Goes d) = conn.CanRest x.conn d
 CanRest x (Ends d) = conn.CanRest x.conn d
 CanRest x (Continues d) = GoesAsRun (Some (Parts d))
-CanRest x l = Unit {0}
+CanRest x l = ⊤
 
 -- a client whose connection is over is removed
 abbrev pub remains : Left → Client → Option Client
@@ -126,7 +126,7 @@ remains l t = Some t
 
 -- it is unchanged, and the reply is processed by the state in which it continues
 pub record IsLeft (t x : Client) (r : Reply) (l : Left) (y : Client) : Type 0 where
-  pub passed : leaves_off (left_over t) r ≡ true
+  pub passed : IsTrue (leaves_off (left_over t) r)
   pub after_reply_is : t ≡ left_with x l
   pub remains_is : left_over t ≡ remains l t
   pub can_rest : CanRest x l
@@ -135,7 +135,7 @@ pub record IsLeft (t x : Client) (r : Reply) (l : Left) (y : Client) : Type 0 wh
 -- ---- or it continues at once: the reply is processed, and it becomes ready
 
 pub record Proceeds (t : Client) (r : Reply) (y : Client) : Type 0 where
-  pub on : leaves_off (left_over t) r ≡ false
+  pub on : IsFalse (leaves_off (left_over t) r)
   pub stays : left_over t ≡ Some t
   pub readies : Readies t y
 
@@ -213,4 +213,4 @@ EndsRun scripts fd d x may_want result y = TakesCourse scripts fd (ended x d) x 
 
 -- after its run is over a client continues at once, and begins a request or makes a call with bytes of its own
 abbrev pub WantsToEnd : Client → Phase → Type 0
-WantsToEnd x d = (leaves_off (left_over (ended x d)) reply.Done ≡ false) × (needs_memory (ended x d) ≡ true)
+WantsToEnd x d = IsFalse (leaves_off (left_over (ended x d)) reply.Done) × IsTrue (needs_memory (ended x d))

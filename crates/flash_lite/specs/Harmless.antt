@@ -1,5 +1,5 @@
 -- Choices that do not affect a site and its processes in any machine; this can be decided without a run.
-use Rattle.std.specs.Prelude.{◌≡◌, ◌<◌, ◌+◌, ℕ, Bool, true, false, List}
+use Rattle.std.specs.Prelude.{◌<◌, ◌+◌, ℕ, Bool, true, false, List, IsTrue, IsFalse, ⊤}
 use Rattle.std.specs.List.{AllByRecursion}
 use Rattle.iol_core.specs.State.{State}
 use Rattle.iol_core.specs.declared.events.Call.{Call}
@@ -33,8 +33,8 @@ leaves_site k = true
 -- An external call must be such a call, by a domain after those of the server and of its workers. All other choices are
 -- harmless.
 abbrev pub IsHarmless : (workers : ℕ) → Choice → Type 0
-IsHarmless workers (choice.Outside (event.Call d k)) = (server + workers < d) × (leaves_site k ≡ true)
-IsHarmless workers x = Unit {0}
+IsHarmless workers (choice.Outside (event.Call d k)) = (server + workers < d) × IsTrue (leaves_site k)
+IsHarmless workers x = ⊤
 
 abbrev pub AreHarmless : Site → List Choice → Type 0
 AreHarmless s xs = AllByRecursion (λ x. IsHarmless (workers_used s) x) xs
@@ -57,7 +57,7 @@ module _ (s : Site) (slots : List (List ℕ)) (xs : List Choice) (rs : List Repl
     pub fair : (refuses : Refusals) → AreHarmless s xs → HasFairTurns s slots xs rs turns idle after hosts refuses
         → IsRightNow refuses
     -- with none, if the world's failure flag is clear
-    pub failure_free : AreHarmless s xs → after.resource_failure ≡ false → IsRightNow no_refusal
+    pub failure_free : AreHarmless s xs → IsFalse after.resource_failure → IsRightNow no_refusal
     -- with those that the turns of the server and the workers got, whatever was refused
     pub own : AreHarmless s xs → IsRightNow (refusals_of s slots xs rs turns idle after hosts)
     -- with TooMany, NoRoom, Fault and Memory, whatever was refused

@@ -1,5 +1,5 @@
 -- Progress of a hosted site without scripts.
-use Rattle.std.specs.Prelude.{◌≡◌, ◌≤◌, ℕ, Bool, true, List, ◌++◌, length, map}
+use Rattle.std.specs.Prelude.{◌≡◌, ◌≤◌, ℕ, Bool, List, ◌++◌, length, map, IsTrue}
 use Rattle.iol_core.specs.State.{State}
 use Rattle.iol_core.specs.declared.events.Reply.{Reply}
 use Rattle.iol_proc.specs.Idle.{rounds}
@@ -33,7 +33,7 @@ abbrev pub HostedFilesBecomeIdle : Type 0
 HostedFilesBecomeIdle = (s : Site) (slots : List (List ℕ)) (xs : List Choice) (rs : List Reply) (turns : ℕ)
     (idle : Bool) (after : Stage State (Actor Worker)) (hosts : Hosts s slots xs rs turns idle after)
     → IsHostedLongEnough s slots xs rs turns idle after hosts
-    → (idle ≡ true)
+    → IsTrue idle
     × ((refuses : Refusals) → HasFairTurns s slots xs rs turns idle after hosts refuses
     → AreServed (worker_set_of s) (library_of s slots refuses)
     (xs ++ rounds (domains_of hosts.mid.process_slots) 0 (length hosts.ends.went))

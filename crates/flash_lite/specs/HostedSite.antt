@@ -1,5 +1,5 @@
 -- A hosted site: set up in a new system, run over choices, and then over turns in rounds.
-use Rattle.std.specs.Prelude.{◌≡◌, ℕ, List, ◌++◌, length, map, false, Bool}
+use Rattle.std.specs.Prelude.{◌≡◌, ℕ, List, ◌++◌, length, map, Bool, IsFalse}
 use Rattle.iol_back.specs.Disk.{Disk, IfHonest}
 use Rattle.iol_core.specs.State.{State}
 use Rattle.iol_core.specs.declared.configuration.Config.{Config}
@@ -31,7 +31,7 @@ use Rattle.flash_lite.specs.declared.site.Site.{Site}
 pub record IsNewWorld (s : Site) (slots : List (List ℕ)) (w : Stage State (Actor Worker)) : Type 0 where
   pub machine : w.machine ≡ state_of s slots
   pub process_slots : AreInSlots s w.process_slots
-  pub failure_free : w.resource_failure ≡ false
+  pub failure_free : IsFalse w.resource_failure
   pub new : (refuses : Refusals) → IsNew (library_of s slots refuses) (worker_set_of s) w
 
 -- A site over these slots executes its choices, with these replies, and then takes at most this number of turns in
@@ -94,7 +94,7 @@ module _ (s : Site) (slots : List (List ℕ)) (xs : List Choice) (rs : List Repl
     -- if its turns got no other refusals
     pub fair : (refuses : Refusals) → IsMildlyUsed → HasFairTurns refuses → IsRightAfter refuses
     -- with none, if the world's failure flag is clear
-    pub failure_free : IsMildlyUsed → after.resource_failure ≡ false → IsRightAfter no_refusal
+    pub failure_free : IsMildlyUsed → IsFalse after.resource_failure → IsRightAfter no_refusal
     -- with those that the turns of the server and the workers got, whatever was refused
     pub own : IsMildlyUsed → IsRightAfter refusals_of
     -- with TooMany, NoRoom, Fault and Memory, whatever was refused

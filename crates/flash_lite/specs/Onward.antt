@@ -1,5 +1,5 @@
 -- The action of a connection after a reply to its call.
-use Rattle.std.specs.Prelude.{◌≡◌, ℕ, ◌||◌, Bool, true, false, List, [], Some, drop}
+use Rattle.std.specs.Prelude.{◌≡◌, ℕ, ◌||◌, Bool, true, false, List, [], Some, drop, IsTrue, IsFalse}
 use Rattle.iol_core.specs.declared.events.Reply.{Reply}
 use Rattle.iol_core.specs.declared.events.Reply.TheVariants.{Agg}
 use Rattle.flash_http.specs.Request.{Answer}
@@ -37,13 +37,13 @@ pub record CanRest (x : Conn) (d : Phase) : Type 0 where
 
 -- it continues at once: the reply is processed, it becomes ready, and this is its call
 pub record Proceeds (x : Conn) (r : Reply) (received : List ℕ) (y : Conn) : Type 0 where
-  pub on : leaves_off (left_over (after_reply x r received)) r ≡ false
+  pub on : IsFalse (leaves_off (left_over (after_reply x r received)) r)
   pub stays : left_over (after_reply x r received) ≡ Some (after_reply x r received)
   pub readies : Readies (after_reply x r received) y
 
 -- its turn passes to others, it is unchanged, and the reply is processed by the phase in which it continues
 pub record IsLeft (x : Conn) (r : Reply) (received : List ℕ) (d : Phase) (y : Conn) : Type 0 where
-  pub off : leaves_off (left_over (after_reply x r received)) r ≡ true
+  pub off : IsTrue (leaves_off (left_over (after_reply x r received)) r)
   pub after_reply_is : after_reply x r received ≡ record x { phase = d }
   pub can_rest : CanRest x d
   pub as_it_was : y ≡ x
@@ -55,14 +55,14 @@ IsOnward fd x r received (Leaves d) y = IsLeft x r received d y
 -- From a phase that becomes idle: the first buffered request begins, or there is none.
 abbrev pub Frees : (fd : ℕ) → Conn → Onward → Conn → Type 0
 Frees fd x (Asks call) y =
-    (is_bare (record x { phase = Rests }) ≡ false)
+    IsFalse (is_bare (record x { phase = Rests }))
     × Starts (record x { phase = Rests }) y
     × (call ≡ wants fd y)
 Frees fd x (Leaves d) y = (d ≡ Rests) × (x.kept ≡ []) × (y ≡ x)
 
 -- an idle connection has buffered input, and a request can begin
 abbrev pub WantsToStart : Conn → Type 0
-WantsToStart x = (is_bare (record x { phase = Rests }) ≡ false) × (can_begin (window_in x.kept) ≡ true)
+WantsToStart x = IsFalse (is_bare (record x { phase = Rests })) × IsTrue (can_begin (window_in x.kept))
 
 -- whether its turn passes in this phase: its call is to be retried later, or its response is taken whole and more input
 -- is buffered
@@ -71,5 +71,5 @@ passes x d r = is_later r || has_answered (in_phase x d)
 
 -- From a phase that is not idle: it continues now or later.
 abbrev pub GoesWith : (fd : ℕ) → Conn → Reply → Phase → Onward → Conn → Type 0
-GoesWith fd x r d (Asks call) y = (passes x d r ≡ false) × (y ≡ in_phase x d) × (call ≡ wants fd y)
-GoesWith fd x r d (Leaves e) y = (passes x d r ≡ true) × (e ≡ d) × (y ≡ x)
+GoesWith fd x r d (Asks call) y = IsFalse (passes x d r) × (y ≡ in_phase x d) × (call ≡ wants fd y)
+GoesWith fd x r d (Leaves e) y = IsTrue (passes x d r) × (e ≡ d) × (y ≡ x)

@@ -1,5 +1,5 @@
 -- The calls of a script's run, and the bounds of its numbers.
-use Rattle.std.specs.Prelude.{◌≡◌, ◌<◌, ◌==◌, ℕ, Bool, true, false, List, Option, Some, None, if◌then◌else◌}
+use Rattle.std.specs.Prelude.{◌<◌, ◌==◌, ℕ, Bool, true, false, List, Option, Some, None, if◌then◌else◌, IsTrue, ⊤}
 use Rattle.iol_core.specs.declared.events.Call.{Call}
 use Rattle.iol_core.specs.declared.events.Reply.{Reply}
 use Rattle.flash_cgi.specs.Job.{job_text}
@@ -20,13 +20,13 @@ use Rattle.flash_lite.specs.declared.site.TheConstants.{MAX_WORKERS}
 
 -- the buffered output has some bytes, and fewer than a chunk
 abbrev pub IsPiece : Following → Type 0
-IsPiece None = Unit {0}
+IsPiece None = ⊤
 IsPiece (Some x) = (0 < x.1) × (x.1 < CHUNK_BYTES)
 
 -- the rest of a response is being made or sent
 pub record IsGoing (d : Phase) : Type 0 where
   pub small : IsSmall d
-  pub left : is_left d ≡ true
+  pub left : IsTrue (is_left d)
 
 abbrev pub IsSmallStep : Step → Type 0
 IsSmallStep (Sending d frame) = IsGoing d
@@ -37,7 +37,7 @@ IsSmallStep (Stops held frame) = IsPiece held
 IsSmallStep (Unframes frame held) = IsPiece held
 IsSmallStep (Lasts held) = IsPiece held
 IsSmallStep (WrapsLast held size frame) = IsPiece (Some (held, size))
-IsSmallStep s = Unit {0}
+IsSmallStep s = ⊤
 
 abbrev pub IsSmallRun : Run → Type 0
 IsSmallRun run = run.worker < MAX_WORKERS
@@ -45,7 +45,7 @@ IsSmallRun run = run.worker < MAX_WORKERS
 abbrev pub IsSmallRunning : Running → Type 0
 IsSmallRunning (Runs run step) = IsSmallRun run × IsSmallStep step
 IsSmallRunning (Leaves d) = IsSmall d
-IsSmallRunning x = Unit {0}
+IsSmallRunning x = ⊤
 
 -- whether it waits for a worker
 abbrev pub waits : Running → Bool

@@ -1,7 +1,7 @@
 -- A turn of the server, as its code makes it.
 use Rattle.std.specs.Prelude.{◌≡◌, ℕ, ◌<◌, ◌≤◌, ◌+◌, ◌==◌, ◌||◌, ◌&&◌, not, Bool, true, false, nat_lt, List, length}
 use Rattle.std.specs.Prelude.{get_or, take, Option, Some, None, slice_set, if◌then◌else◌, Result, IfOk, OnErr}
-use Rattle.std.specs.Prelude.{MatchOption}
+use Rattle.std.specs.Prelude.{MatchOption, IsTrue}
 use Rattle.std.specs.List.{position_or_len}
 use Rattle.iol_core.specs.NumberedLists.{in_place, taken}
 use Rattle.iol_core.specs.declared.events.Call.{Call}
@@ -164,7 +164,7 @@ pub record MakesCallAt {E : Type 0} (scripts : Bool) (clients : List (Option Cli
     (result : Result (Option Call) E) : Type 0 where
   pub call :
       IfOk result (λ found. MatchOption found (in_place clients place ≡ None) (λ k. CallAt scripts clients place k))
-  pub wants : OnErr result (wants_there (in_place clients place) ≡ true)
+  pub wants : OnErr result (IsTrue (wants_there (in_place clients place)))
 
 -- The first client from an index on that may take a turn is picked; or after the last index a connection is accepted,
 -- or the round is over. Only the pending call changes. Or there is no memory for a call with bytes of its own, and

@@ -1,6 +1,6 @@
 -- The calls that set a site up.
-use Rattle.std.specs.Prelude.{◌≡◌, ◌⊎◌, ℕ, ◌+◌, ◌&&◌, ◌||◌, not, nat_le, nat_lt, Bool, true, List, [], ◌∷◌, ◌++◌}
-use Rattle.std.specs.Prelude.{length, map, Option, Some, None, if◌then◌else◌}
+use Rattle.std.specs.Prelude.{◌≡◌, ◌⊎◌, ℕ, ◌+◌, ◌&&◌, ◌||◌, not, nat_le, nat_lt, Bool, List, [], ◌∷◌, ◌++◌}
+use Rattle.std.specs.Prelude.{length, map, Option, Some, None, if◌then◌else◌, IsTrue}
 use Rattle.std.specs.List.{range_with_len, list_any, flat_map, slice_get}
 use Rattle.iol_core.specs.State.{State}
 use Rattle.iol_core.specs.Run.{Run}
@@ -114,7 +114,7 @@ WhyRefused s x old new = ((x ≡ Memory) × (new ≡ old)) ⊎ IsRefused s x old
 
 -- the reason for which the setup of a site within its limits was refused
 abbrev pub WhyRefusedWithin : Site → Refusal → (old new : SystemState) → Type 0
-WhyRefusedWithin s x old new = is_in_range s ≡ true → WhyRefused s x old new
+WhyRefusedWithin s x old new = IsTrue (is_in_range s) → WhyRefused s x old new
 
 -- ---- its processes
 

@@ -1,5 +1,5 @@
 -- The world of a site before its first turn, and the reasons for its refusal, over any store.
-use Rattle.std.specs.Prelude.{◌≡◌, ◌⊎◌, ◌*◌, [], replicate, false}
+use Rattle.std.specs.Prelude.{◌≡◌, ◌⊎◌, ◌*◌, [], replicate, false, IsFalse}
 use Rattle.iol_back.specs.Disk.{Disk}
 use Rattle.iol_core.specs.Configuration.{IsInRange}
 use Rattle.iol_core.specs.State.{new_state}
@@ -39,11 +39,11 @@ pub record Starts (config : Config) (store : Disk) (s : Site) (w : Stage SystemS
   pub made : IsMade s begun w.machine
   pub site : IsSetUp s (machine_of w.machine)
   pub process_slots : AreInSlots s w.process_slots
-  pub failure_free : w.resource_failure ≡ false
+  pub failure_free : IsFalse w.resource_failure
 
 -- parameters, or a site, outside their limits
 abbrev pub IsOutOfRange : Config → Site → Type 0
-IsOutOfRange config s = (IsInRange config → ⊥) ⊎ (is_in_range s ≡ false)
+IsOutOfRange config s = (¬ IsInRange config) ⊎ IsFalse (is_in_range s)
 
 -- such a system executes the calls of the site, and this is the first refusal
 pub record IsRefusedNew (config : Config) (store : Disk) (s : Site) (x : Refusal) : Type 0 where

@@ -1,5 +1,5 @@
 -- The world of a site that was set up in a new machine, with scripts or without, before its first turn.
-use Rattle.std.specs.Prelude.{◌≡◌, ◌≤◌, ℕ, true, List, length}
+use Rattle.std.specs.Prelude.{◌≡◌, ◌≤◌, ℕ, List, length, IsTrue}
 use Rattle.iol_back.specs.Disk.{IfHonest}
 use Rattle.iol_core.specs.State.{State, new_state}
 use Rattle.iol_core.specs.declared.limits.TheConstants.{MAX_FILES}
@@ -40,6 +40,6 @@ SetsUpIfHonest s old new = IfHonest old.disk (SetsUpWorld s old new)
 -- The world of a site within its limits is new after the site's calls, none refused, with its processes in their
 -- process slots, if the machine was new and had enough slots.
 abbrev pub SetUpIsANewWorld : Type 0
-SetUpIsANewWorld = (s : Site) (old : State) (w : Stage State (Actor Worker)) → is_in_range s ≡ true
+SetUpIsANewWorld = (s : Site) (old : State) (w : Stage State (Actor Worker)) → IsTrue (is_in_range s)
     → SetsUp s old w.machine
     → AreInSlots s w.process_slots → IsNewFor s old w

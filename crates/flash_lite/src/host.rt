@@ -48,7 +48,7 @@ pub fn host<B: Backing + Drop>(
     choices: &[Choice],
     turns: usize,
 ) -> Result<Hosted<B>, Refusal>
-    ensures sizes { (IsInRange config → ⊥) → result ≡ Err Refusal.BadRange }
+    ensures sizes { ¬ IsInRange config → result ≡ Err Refusal.BadRange }
     ensures range { spec.is_in_range site.now ≡ false → result ≡ Err Refusal.BadRange }
     ensures in_range { OnOk result (IsInRange config × (spec.is_in_range site.now ≡ true)) }
     ensures refused { IfErr result (WhyNone config (B.disk backing) site.now) }
@@ -84,7 +84,7 @@ fn new_world<B: Backing + Drop>(
     backing: B,
     site: &Site,
 ) -> Result<World<B, Actor>, Refusal>
-    ensures sizes { (IsInRange config → ⊥) → result ≡ Err Refusal.BadRange }
+    ensures sizes { ¬ IsInRange config → result ≡ Err Refusal.BadRange }
     ensures range { spec.is_in_range site.now ≡ false → result ≡ Err Refusal.BadRange }
     ensures in_range { OnOk result (IsInRange config × (spec.is_in_range site.now ≡ true)) }
     ensures refused { IfErr result (WhyNone config (B.disk backing) site.now) }

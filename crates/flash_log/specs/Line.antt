@@ -1,6 +1,6 @@
 -- Lines of the Common Log Format.
-use Rattle.std.specs.Prelude.{◌≡◌, ℕ, ◌+◌, ◌/◌, ◌%◌, ◌==◌, ◌||◌, ◌&&◌, Bool, true, if◌then◌else◌, nat_le, nat_lt, List}
-use Rattle.std.specs.Prelude.{[], ◌∷◌, ◌++◌, codes, flat_map}
+use Rattle.std.specs.Prelude.{◌≡◌, ℕ, ◌+◌, ◌/◌, ◌%◌, ◌==◌, ◌||◌, ◌&&◌, Bool, if◌then◌else◌, nat_le, nat_lt, List}
+use Rattle.std.specs.Prelude.{[], ◌∷◌, ◌++◌, codes, flat_map, IsTrue}
 use Rattle.std.specs.Fmt.{decimal}
 use Rattle.std.specs.List.{list_all}
 use Rattle.flash_log.specs.declared.lines.Entry.{Entry}
@@ -45,4 +45,4 @@ is_printable b = nat_le 32 b && nat_lt b 127
 pub record IsOneLine (text : List ℕ) : Type 0 where
   pub front : List ℕ
   pub is : text ≡ front ++ 10 ∷ []
-  pub printable : list_all is_printable front ≡ true
+  pub printable : IsTrue (list_all is_printable front)

@@ -1,5 +1,5 @@
 -- Progress of a site of files, from its new world.
-use Rattle.std.specs.Prelude.{◌≡◌, ◌≤◌, ℕ, Bool, true, List, ◌++◌, length, map}
+use Rattle.std.specs.Prelude.{◌≡◌, ◌≤◌, ℕ, Bool, List, ◌++◌, length, map, IsTrue}
 use Rattle.iol_core.specs.State.{State}
 use Rattle.iol_core.specs.declared.events.Reply.{Reply}
 use Rattle.iol_proc.specs.Idle.{Idles, rounds}
@@ -41,6 +41,6 @@ module _ (worker_set : WorkerSet) where
       (w mid : Stage State (Actor worker_set.Worker)) (most : ℕ)
       (idle : Bool) (after : Stage State (Actor worker_set.Worker))
       → (has : HostsLongEnough site_contents xs rs w mid most idle after)
-      → (idle ≡ true)
+      → IsTrue idle
       × AreServed worker_set site_contents (xs ++ rounds (domains_of mid.process_slots) 0 (length has.ends.went))
       (rs ++ map (λ t. t.1) has.ends.went) after

@@ -1,6 +1,8 @@
 -- Progress of a server of files: if the number of turns suffices, all become idle, and then each request that arrived
 -- has its response, with the exceptions in `IsServed`.
 use Rattle.std.specs.Prelude.{◌≡◌, ◌≤◌, ◌⊎◌, ℕ, Bool, true, false, List, [], ◌∷◌, ◌++◌, length, map, Option, Some}
+use Rattle.std.specs.List.{AllByRecursion}
+use Rattle.std.specs.Prelude.{IsTrue, IsFalse}
 use Rattle.iol_core.specs.Text.{bytes_of}
 use Rattle.iol_core.specs.State.{State, domain, pool, descriptor, may_read, conn_at, new_state}
 use Rattle.iol_core.specs.Run.{Run, StepsTo}
@@ -40,8 +42,7 @@ lacks_resource r = false
 
 -- no turn is refused for lack of a resource
 abbrev pub NoneLacksResource : List Went → Type 0
-NoneLacksResource [] = Unit {0}
-NoneLacksResource (t ∷ ts) = (lacks_resource t.1 ≡ false) × NoneLacksResource ts
+NoneLacksResource turns = AllByRecursion (λ t. IsFalse (lacks_resource t.1)) turns
 
 -- the clients of the first process, if it is the server, after its last reply is processed
 abbrev pub clients_of : {W : Type 0} → State → Reply → Actor W → List (Option Client)
@@ -57,7 +58,7 @@ clients_in {W = W} w = clients_by {W = W} w.machine w.process_slots
 
 -- each domain may read the pools of the connections that it has open
 abbrev pub MayReadConns : State → Type 0
-MayReadConns m = (d fd c : ℕ) → descriptor m d fd ≡ Some (on.Connection c) → may_read m d (conn_at m c).pool ≡ true
+MayReadConns m = (d fd c : ℕ) → descriptor m d fd ≡ Some (on.Connection c) → IsTrue (may_read m d (conn_at m c).pool)
 
 -- The unread bytes of each connection are in its pool, and a domain that has it open may read this pool. This holds in
 -- each reachable state (`ArrivalsCanBeRead`).
@@ -69,7 +70,7 @@ pub record CanRead (m : State) : Type 0 where
 pub record CanPlace (m : State) : Type 0 where
   pub place : ℕ
   pub default : (domain m server).default ≡ Some place
-  pub open_yet : (pool m place).closed ≡ false
+  pub open_yet : IsFalse (pool m place).closed
 
 -- ---- consequences
 
@@ -77,7 +78,7 @@ pub record CanPlace (m : State) : Type 0 where
 -- or it is not accepted and the server has the maximum number of connections.
 abbrev pub IsServed : SiteContents → State → Past → List (Option Client) → (c : ℕ) → Type 0
 IsServed site_contents m p clients c = IsAnswer site_contents (p.came c) (p.sent c ++ bytes_of (conn_at m c).outgoing)
-    ⊎ (p.gone c ≡ true) ⊎ IsHeldUp m c ⊎ (((conn_at m c).accepted ≡ false) × IsFull m clients)
+    ⊎ IsTrue (p.gone c) ⊎ IsHeldUp m c ⊎ (IsFalse (conn_at m c).accepted × IsFull m clients)
 
 module _ (worker_set : WorkerSet) where
   -- A world of files with the invariant takes turns in rounds, at most `most`. Before them calls may have been refused
@@ -101,13 +102,13 @@ module _ (worker_set : WorkerSet) where
       (site_contents : SiteContents) (xs : List Choice) (rs : List Reply) (w : Stage State (Actor worker_set.Worker))
       (most : ℕ)
       (idle : Bool) (after : Stage State (Actor worker_set.Worker))
-      → RunsLongEnough site_contents xs rs w most idle after → idle ≡ true
+      → RunsLongEnough site_contents xs rs w most idle after → IsTrue idle
 
   -- The world has the invariant, and each connection of the net is served.
   pub record AreServed (site_contents : SiteContents) (xs : List Choice) (rs : List Reply)
       (after : Stage State (Actor worker_set.Worker)) : Type 0 where
     pub consistent : Consistent site_contents worker_set xs rs after
-    pub each : (c : ℕ) → (past_of xs rs).net c ≡ true
+    pub each : (c : ℕ) → IsTrue ((past_of xs rs).net c)
         → IsServed site_contents after.machine (past_of xs rs) consistent.in_slots.state.clients c
 
   abbrev pub ServesAll : Type 0

@@ -1,6 +1,6 @@
 -- Connections that are served in a world that satisfies the server's invariant: the bytes sent begin an answer to the
 -- bytes received.
-use Rattle.std.specs.Prelude.{◌≡◌, ℕ, true, false, List, [], ◌∷◌, ◌++◌, Option}
+use Rattle.std.specs.Prelude.{◌≡◌, ℕ, List, [], ◌∷◌, ◌++◌, Option, IsTrue, IsFalse, ◌≢◌, ⊤}
 use Rattle.std.specs.Io.KnownBytes.{Appends, Consumes}
 use Rattle.std.specs.List.{AllByRecursion}
 use Rattle.iol_core.specs.Calls.Outside.{lacks_conn}
@@ -29,10 +29,10 @@ use Rattle.flash_lite.specs.declared.site.Site.{Site}
 
 -- A connection of the net without history: nothing arrived, nothing was sent, and its peer did not leave.
 pub record IsFresh (c : ℕ) (past : List Choice) (ps : List Reply) : Type 0 where
-  pub net : made_over c past ps ≡ true
+  pub net : IsTrue (made_over c past ps)
   pub unread : stream_over c past ps ≡ []
   pub unsent : sent_over c past ps ≡ []
-  pub stays : gone_over c past ps ≡ false
+  pub stays : IsFalse (gone_over c past ps)
 
 -- The bytes sent begin an answer to the bytes received, and are an answer if the connection ended with `Over`.
 pub record IsAnswered (site_contents : SiteContents) (ending : Ending) (came sent : List ℕ) : Type 0 where
@@ -52,7 +52,7 @@ pub record IsSession (it : Session) (w after : Stage State (Actor Worker)) : Typ
   pub made : OutsideStep copying (actor_turns in_rounds worker_turns) w (event.ConnNew net_pool) (reply.Conn it.conn)
       begun
   pub proceeds : Proceeds (actor_turns in_rounds worker_turns) it.conn it.came it.sent (hung_up it.ending) begun after
-  pub over : it.ending ≡ Over → lacks_conn after.machine it.conn ≡ true
+  pub over : it.ending ≡ Over → IsTrue (lacks_conn after.machine it.conn)
 
 abbrev pub AreSessions : List Session → (w after : Stage State (Actor Worker)) → Type 0
 AreSessions [] w after = after ≡ w
@@ -61,7 +61,7 @@ AreSessions (it ∷ more) w after = (mid : Stage State (Actor Worker)) × IsSess
 -- the turns of each are fair if these refusals are allowed
 abbrev pub AreFairSessions : (refuses : Refusals) → (its : List Session) → (w after : Stage State (Actor Worker))
     → AreSessions its w after → Type 0
-AreFairSessions refuses [] w after is = Unit {0}
+AreFairSessions refuses [] w after is = ⊤
 AreFairSessions refuses (it ∷ more) w after is = AreFair refuses is.1.proceeds.choices is.1.proceeds.replies
     × AreFairSessions refuses more is.0 after is.2
 
@@ -86,7 +86,7 @@ module _ (s : Site) (slots : List (List ℕ)) where
           → AreFair refuses served.proceeds.choices served.proceeds.replies
           → IsRight refuses
       -- with none, if the world's failure flag is clear at the end
-      pub failure_free : Holds no_refusal past ps w → after.resource_failure ≡ false → IsRight no_refusal
+      pub failure_free : Holds no_refusal past ps w → IsFalse after.resource_failure → IsRight no_refusal
       -- with TooMany, NoRoom, Fault and Memory, whatever was refused
       pub any : Holds any_refusal past ps w → IsRight any_refusal
 
@@ -112,7 +112,7 @@ abbrev pub ServedIsRight : Type 0
 ServedIsRight = (s : Site) (slots : List (List ℕ)) (past : List Choice) (ps : List Reply) (c : ℕ) (ending : Ending)
     (left rest held now : Option (List ℕ)) (w after : Stage State (Actor Worker)) → IsFresh c past ps
     → (served : Serves (actor_turns in_rounds worker_turns) c (hung_up ending) left rest held now w after)
-    → (ending ≡ Over → lacks_conn after.machine c ≡ true)
+    → (ending ≡ Over → IsTrue (lacks_conn after.machine c))
     → IsServedRight s slots past ps c ending left rest held now w after served
 
 -- A connection is created in the net and served, from a reader and to a writer, with this ending: the bytes received
@@ -136,7 +136,7 @@ pub record ServesRight (ending : Ending) (left rest held now : Option (List ℕ)
 
 -- a reply that is no connection
 abbrev pub IsNoConn : Reply → Type 0
-IsNoConn r = (c : ℕ) → r ≡ reply.Conn c → ⊥
+IsNoConn r = (c : ℕ) → r ≢ reply.Conn c
 
 -- No connection is created: the world satisfies the invariant afterwards, if it did before, for every site and history.
 pub record ServesNone (w after : Stage State (Actor Worker)) : Type 0 where

@@ -1,5 +1,5 @@
 -- The world of a site of files.
-use Rattle.std.specs.Prelude.{◌≡◌, ℕ, Bool, true, List, []}
+use Rattle.std.specs.Prelude.{ℕ, Bool, List, [], IsTrue}
 use Rattle.iol_back.specs.Disk.{Disk}
 use Rattle.iol_core.specs.declared.configuration.Config.{Config}
 use Rattle.iol_core.specs.declared.events.Reply.{Reply}
@@ -34,4 +34,4 @@ BeginsSite world = ∥ IsSiteWorld world ∥₁
 -- The same over an honest store, if the site is to be in memory.
 pub record BeginsSiteIn (in_memory : Bool) (world : Stage SystemState (Actor Worker)) : Type 0 where
   pub site : BeginsSite world
-  pub honest : in_memory ≡ true → world.machine.disk.honest ≡ true
+  pub honest : IsTrue in_memory → IsTrue world.machine.disk.honest

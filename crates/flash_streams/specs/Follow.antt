@@ -1,5 +1,5 @@
 -- Successive streams of requests on one connection, or on several.
-use Rattle.std.specs.Prelude.{◌≡◌, ℕ, true, List, [], ◌++◌}
+use Rattle.std.specs.Prelude.{ℕ, List, [], ◌++◌, IsTrue}
 use Rattle.std.specs.List.{list_all}
 use Rattle.flash_http.specs.Request.{Answer}
 use Rattle.flash_laws.specs.Answers.{keeps, Reads}
@@ -10,7 +10,7 @@ use Rattle.flash_laws.specs.SiteContents.{Begins, IsAnswer, Responds, SiteConten
 pub record IsAnsweredWhole (site_contents : SiteContents) (s bytes : List ℕ) : Type 0 where
   pub qs : List Answer
   pub reads : Reads s qs []
-  pub keep : list_all (λ q. keeps q) qs ≡ true
+  pub keep : IsTrue (list_all (λ q. keeps q) qs)
   pub responds : Responds site_contents qs bytes
 
 -- After such a stream and its answer, the answer continues with that of the remaining stream by itself.

@@ -1,6 +1,6 @@
 -- Each step of a worker brings its script nearer to its end, unless its call is to be retried.
-use Rattle.std.specs.Prelude.{◌≡◌, ◌≢◌, ◌<◌, ◌⊎◌, ℕ, ◌+◌, ◌-◌, ◌*◌, false, List, [], length, Option, Some, None}
-use Rattle.std.specs.Prelude.{is_some, if◌then◌else◌}
+use Rattle.std.specs.Prelude.{◌≡◌, ◌≢◌, ◌<◌, ◌⊎◌, ℕ, ◌+◌, ◌-◌, ◌*◌, List, [], length, Option, Some, None}
+use Rattle.std.specs.Prelude.{is_some, if◌then◌else◌, IsFalse, ⊤}
 use Rattle.iol_core.specs.State.{State, descriptor}
 use Rattle.iol_core.specs.Run.{StepsTo}
 use Rattle.iol_core.specs.declared.descriptors.Descriptor.TheVariants as on
@@ -97,7 +97,7 @@ abbrev pub IsReady : State → (d p : ℕ) → Task → Phase → Type 0
 IsReady m d p job (phase.Writes agg) = (descriptor m d job.fd ≡ Some (on.WriteEnd p)) × HasBytes m d agg
 IsReady m d p job (phase.Cuts agg from to) = HasBytes m d agg
 IsReady m d p job (phase.Swaps agg rest) = HasBytes m d rest × (agg ≢ rest)
-IsReady m d p job x = Unit {0}
+IsReady m d p job x = ⊤
 
 -- its output is at its end, or it is nearer to that
 abbrev pub IsNearer : Task → (was now : ℕ → Option (List ℕ)) → (step next : Step) → Type 0
@@ -122,4 +122,4 @@ pub record WorkersAdvance : Type 0 where
       → (x : Refusal) × (r ≡ reply.Refused x) × (n ≡ m)
   -- events of others leave the rank
   pub others : (m n : State) (d p : ℕ) (job : Task) (step : Step) (e : Event) (r : Reply) → IsReady m d p job step.phase
-      → StepsTo m e r n → is_call_of e d ≡ false → rank job (readable_at n d) step ≡ rank job (readable_at m d) step
+      → StepsTo m e r n → IsFalse (is_call_of e d) → rank job (readable_at n d) step ≡ rank job (readable_at m d) step

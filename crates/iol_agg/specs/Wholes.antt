@@ -1,5 +1,6 @@
 -- Aggregates of whole buffers, and of new bytes.
-use Rattle.std.specs.Prelude.{◌≡◌, ◌≤◌, ℕ, true, false, List, [], length, Result, Err, IfOk, IfErr, OnOk, OnErr}
+use Rattle.std.specs.Prelude.{◌≡◌, ◌≤◌, ℕ, List, [], length, Result, Err, IfOk, IfErr, OnOk, OnErr, IsTrue}
+use Rattle.std.specs.Prelude.{IsFalse}
 use Rattle.std.specs.List.{All}
 use Rattle.std.specs.Vec.{vec_capacity}
 use Rattle.std.specs.declared.vec.Vec.{Vec}
@@ -43,7 +44,7 @@ pub record FillsAgg (s t : Stored) (p : ℕ) (bytes : List ℕ) (r : Result (Lis
   pub reclaims : AllReclaimed s → AllReclaimed t
   pub pools : t.pools ≡ s.pools
   pub lowest : OnOk r (free_pages t.arena (pool_in s.pools p).chunks ≡ others_of s p (length bytes))
-  pub room : OnOk r (has_room s p (length bytes) ≡ true)
-  pub no_room : (q : ℕ) → r ≡ Err (NoRoom q) → has_room s p (length bytes) ≡ false
+  pub room : OnOk r (IsTrue (has_room s p (length bytes)))
+  pub no_room : (q : ℕ) → r ≡ Err (NoRoom q) → IsFalse (has_room s p (length bytes))
   pub late : IfErr r (WantOfRoom p)
   pub err : OnErr r (t ≡ s)

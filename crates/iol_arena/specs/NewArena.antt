@@ -17,6 +17,6 @@ pub record IsAllFree (s : State) (chunks last : ℕ) : Type 0 where
 -- An arena is made as configured: no chunk is taken, and all pages are free and unraised. `BadRange` is returned
 -- exactly if the configuration is out of its ranges. The only other error is `Memory`.
 pub record MakesArena (config : Config) (r : Result State Refusal) : Type 0 where
-  pub range : (r ≡ Err BadRange) ↔ (IsInRange config → ⊥)
+  pub range : (r ≡ Err BadRange) ↔ (¬ IsInRange config)
   pub errors : IfErr r (λ e. (e ≡ BadRange) ⊎ (e ≡ Memory))
   pub all_free : IfOk r (λ s. IsAllFree s config.chunks config.gen_limit)

@@ -1,5 +1,5 @@
 -- Changes of pages: which were raised, which are unchanged, and which buffers were made on them.
-use Rattle.std.specs.Prelude.{◌≡◌, ℕ, ◌+◌, ◌≤◌, true, List, [], ◌∷◌, length, take, map, flat_map}
+use Rattle.std.specs.Prelude.{◌≡◌, ℕ, ◌+◌, ◌≤◌, List, [], ◌∷◌, length, take, map, flat_map, IsTrue}
 use Rattle.std.specs.List.{Contains}
 use Rattle.iol_core.specs.declared.limits.TheConstants.{PAGE_BYTES}
 use Rattle.iol_core.specs.declared.numbers.BufId.{BufId}
@@ -13,19 +13,19 @@ use Rattle.iol_arena.specs.declared.pages.Part.{Part}
 -- each page of the list was raised by one, and no other was
 pub record Raises (old new : State) (placed : List ℕ) : Type 0 where
   pub incremented : (q : ℕ) → Contains placed q → generation_at new q ≡ generation_at old q + 1
-  pub kept : (q : ℕ) → (Contains placed q → ⊥) → generation_at new q ≡ generation_at old q
+  pub kept : (q : ℕ) → ¬ Contains placed q → generation_at new q ≡ generation_at old q
 
 -- all pages except those of the list are unchanged
 pub record IsSameBut (pages : List ℕ) (old new : State) : Type 0 where
-  pub each : (q : ℕ) → (Contains pages q → ⊥) → entry_at new q ≡ entry_at old q
+  pub each : (q : ℕ) → ¬ Contains pages q → entry_at new q ≡ entry_at old q
 
 -- the memory of all pages except those of the list is unchanged
 pub record KeepsMemory (pages : List ℕ) (old new : State) : Type 0 where
-  pub each : (q : ℕ) → (Contains pages q → ⊥) → memory_at new q PAGE_BYTES ≡ memory_at old q PAGE_BYTES
+  pub each : (q : ℕ) → ¬ Contains pages q → memory_at new q PAGE_BYTES ≡ memory_at old q PAGE_BYTES
 
 -- each page of the list may be used for new bytes
 pub record AreUsable (s : State) (pages : List ℕ) : Type 0 where
-  pub each : (q : ℕ) → Contains pages q → usable s q ≡ true
+  pub each : (q : ℕ) → Contains pages q → IsTrue (usable s q)
 
 -- the buffer that a placing begins on a run of pages: of the next generation of its first page
 abbrev pub begun_on : State → Part → BufId

@@ -1,6 +1,6 @@
 -- What a contract sees of a backing store.
-use Rattle.std.specs.Prelude.{◌≡◌, ◌≢◌, ℕ, ◌+◌, ◌<◌, ◌≤◌, ◌^◌, ◌-◌, ◌⊎◌, Bool, true, List, [], ◌++◌, length, map, take}
-use Rattle.std.specs.Prelude.{drop, min, max, slice_index, Result, Ok, Err, OnOk, OnErr}
+use Rattle.std.specs.Prelude.{◌≡◌, ◌≢◌, ℕ, ◌+◌, ◌<◌, ◌≤◌, ◌^◌, ◌-◌, ◌⊎◌, Bool, List, [], ◌++◌, length, map, take}
+use Rattle.std.specs.Prelude.{drop, min, max, slice_index, Result, Ok, Err, OnOk, OnErr, IsTrue}
 use Rattle.iol_core.specs.NumberedLists.{numbered_or}
 use Rattle.iol_core.specs.declared.limits.TheConstants.{MAX_FILES}
 
@@ -49,7 +49,7 @@ Counts old new (Err e) = new.failures ≡ raised old.failures
 
 -- a fact that is promised of an honest store
 abbrev pub IfHonest : Disk → Type 0 → Type 0
-IfHonest disk P = disk.honest ≡ true → P
+IfHonest disk P = IsTrue disk.honest → P
 
 -- if a store is honest, n is the length of a file, or 2^32 - 1 if that is more
 abbrev pub IsHonestLength : Disk → (file n : ℕ) → Type 0

@@ -1,6 +1,6 @@
 -- What a cache of files holds.
-use Rattle.std.specs.Prelude.{◌≡◌, ℕ, ◌+◌, ◌≤◌, ◌&&◌, not, if◌then◌else◌, cond, eqb, List, [], flat_map, length, max}
-use Rattle.std.specs.Prelude.{sum_by, Option, Some, None, Result, OnErr, OnOk}
+use Rattle.std.specs.Prelude.{◌≡◌, ℕ, ◌+◌, ◌≤◌, ◌&&◌, not, if◌then◌else◌, List, [], flat_map, length, max}
+use Rattle.std.specs.Prelude.{sum_by, Option, Some, None, Result, OnErr, OnOk, ◌==◌}
 use Rattle.iol_core.specs.NumberedLists.{numbered_or}
 use Rattle.iol_core.specs.Prelude.{with_numbered}
 use Rattle.iol_core.specs.declared.numbers.BufId.{BufId}
@@ -71,14 +71,14 @@ clean_held fs = flat_map (λ f. bufs_of (clean_in f.extents.extents)) fs
 -- Clean extents and the entries of an order.
 
 abbrev pub begins_clean : (at : ℕ) → Extent → ℕ
-begins_clean at e = cond (eqb e.at at && not e.dirty) 1 0
+begins_clean at e = if e.at == at && not e.dirty then 1 else 0
 
 -- the number of clean extents that begin at a place
 abbrev pub clean_at : (at : ℕ) → List Extent → ℕ
 clean_at at es = sum_by (begins_clean at) es
 
 abbrev pub entry_one : (f at : ℕ) → Entry → ℕ
-entry_one f at e = cond (is_at e f at) 1 0
+entry_one f at e = if is_at e f at then 1 else 0
 
 -- the number of entries of a place
 abbrev pub entries_at : (f at : ℕ) → List Entry → ℕ
@@ -86,7 +86,7 @@ entries_at f at es = sum_by (entry_one f at) es
 
 -- the number of clean extents of a file that begin at a place, if the file is of the pool
 abbrev pub clean_of : List CachedFile → (p f at : ℕ) → ℕ
-clean_of fs p f at = cond (eqb (file_in fs f).pool p) (clean_at at (extents_in fs f)) 0
+clean_of fs p f at = if (file_in fs f).pool == p then clean_at at (extents_in fs f) else 0
 
 -- the entries of a pool's order are of the clean extents of its files
 pub record AreRanked (fs : List CachedFile) (os : List Ranking) : Type 0 where
@@ -96,7 +96,7 @@ pub record AreRanked (fs : List CachedFile) (os : List Ranking) : Type 0 where
 
 -- the number of dirty extents of a file, if the file is of the pool
 abbrev pub dirty_of : (p : ℕ) → CachedFile → ℕ
-dirty_of p x = cond (eqb x.pool p) (dirty_count x.extents.extents) 0
+dirty_of p x = if x.pool == p then dirty_count x.extents.extents else 0
 
 -- a pool's order keeps a place for each dirty extent of the pool's files
 pub record AreReady (fs : List CachedFile) (os : List Ranking) : Type 0 where

@@ -1,6 +1,6 @@
 -- The bytes of a write, as an aggregate of the file's pool: its own are shared, and each run of others is copied.
-use Rattle.std.specs.Prelude.{◌≡◌, ℕ, ◌+◌, ◌==◌, ◌<◌, ◌≤◌, ◌++◌, if◌then◌else◌, Bool, false, not, List, [], ◌∷◌, All}
-use Rattle.std.specs.Prelude.{length, take, drop, slice_index_or, Result, Err, IfErr, IfOk, OnErr}
+use Rattle.std.specs.Prelude.{◌≡◌, ℕ, ◌+◌, ◌==◌, ◌<◌, ◌≤◌, ◌++◌, if◌then◌else◌, Bool, not, List, [], ◌∷◌, All}
+use Rattle.std.specs.Prelude.{length, take, drop, slice_index_or, Result, Err, IfErr, IfOk, OnErr, IsFalse}
 use Rattle.iol_core.specs.Meaning.{WantOfRoom}
 use Rattle.iol_core.specs.Text as text
 use Rattle.iol_core.specs.declared.limits.TheConstants.{MAX_AGGREGATE_BYTES}
@@ -55,7 +55,7 @@ pub record ComposesRun (s t : Stored) (pool : ℕ) (source left out : List Slice
 -- A source's bytes may be composed in a pool: it is open, and the slices are held, can be read, and fit an aggregate.
 -- Each buffer is held fewer than n times, and the store is tidy.
 pub record MayCompose (s : Stored) (n pool : ℕ) (source : List Slice) : Type 0 where
-  pub opened : (pool_in s.pools pool).closed ≡ false
+  pub opened : IsFalse (pool_in s.pools pool).closed
   pub small : byte_len source ≤ MAX_AGGREGATE_BYTES
   pub covered : Covers s (bufs_of source)
   pub few : CountsBelow s n
@@ -81,11 +81,11 @@ pub record IsFirstRun (pool : ℕ) (own : Bool) (xs : List Slice) (n size : ℕ)
 -- slices of other pools may be copied to a pool: it is open, they can be read and fit an aggregate, and the store is
 -- tidy
 pub record MayCopy (s : Stored) (pool : ℕ) (run : List Slice) : Type 0 where
-  pub opened : (pool_in s.pools pool).closed ≡ false
+  pub opened : IsFalse (pool_in s.pools pool).closed
   pub small : byte_len run ≤ MAX_AGGREGATE_BYTES
   pub readable : AllReadable s run
   pub tidy : IsTidy s
-  pub others : All (λ (x : Slice). (x.hold.pool == pool) ≡ false) run
+  pub others : All (λ (x : Slice). IsFalse (x.hold.pool == pool)) run
 
 -- A run of slices was copied to a pool. An error, for lack of room or memory, changes nothing, and NoRoom means that
 -- fewer pages are free than the run's bytes need.

@@ -1,5 +1,5 @@
 -- The bytes of files: those that extents have, and else those of the store.
-use Rattle.std.specs.Prelude.{◌≡◌, ℕ, ◌<◌, max, false, List, map, length, slice_index, Option, Some, None}
+use Rattle.std.specs.Prelude.{◌≡◌, ℕ, ◌<◌, max, List, map, length, slice_index, Option, Some, None, IsFalse, ⊤}
 use Rattle.std.specs.List.{range_with_len}
 use Rattle.iol_back.specs.Disk.{content}
 use Rattle.iol_hold.specs.Places.{Place}
@@ -35,8 +35,8 @@ bytes_in_slot s slots fs f = file_bytes (byte_in s) (content slots f) (extents_i
 
 -- the extent over byte i is dirty, or the store has the same byte
 abbrev pub IsStored : Stored → (stored : List ℕ) → (i : ℕ) → Option Cell → Type 0
-IsStored s stored i None = Unit {0}
-IsStored s stored i (Some c) = c.dirty ≡ false → (i < length stored) × (byte_in s c.place ≡ slice_index stored i)
+IsStored s stored i None = ⊤
+IsStored s stored i (Some c) = IsFalse c.dirty → (i < length stored) × (byte_in s c.place ≡ slice_index stored i)
 
 -- under clean extents the store has the same bytes
 pub record AreStored (s : Stored) (stored : List ℕ) (es : List Extent) : Type 0 where

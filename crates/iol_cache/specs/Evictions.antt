@@ -1,7 +1,7 @@
 -- Clean extents that go, one after another.
-use Rattle.std.specs.Prelude.{◌≡◌, ◌≢◌, ◌↔◌, ℕ, zero, suc, ◌+◌, ◌<◌, ◌≤◌, Bool, true, false, List, [], ◌∷◌, length}
-use Rattle.std.specs.Prelude.{Option, Some, None, MatchOption, IsTrue}
-use Rattle.std.specs.List.{list_any}
+use Rattle.std.specs.Prelude.{◌≡◌, ◌≢◌, ◌↔◌, ℕ, zero, suc, ◌+◌, ◌<◌, ◌≤◌, Bool, List, [], ◌∷◌, length}
+use Rattle.std.specs.Prelude.{Option, Some, None, MatchOption, IsTrue, IsFalse, ⊤}
+use Rattle.std.specs.List.{list_any, AllByRecursion}
 use Rattle.iol_core.specs.declared.numbers.BufId.{BufId}
 use Rattle.iol_hold.specs.StoreState.{Stored, AllReclaimed, count_of}
 use Rattle.iol_hold.specs.Moves.{Moves, Counts, SameLists}
@@ -46,7 +46,7 @@ pub record FindsVictim (rank : Rank) (p : ℕ) (h : Holding) (victim : Option (�
 pub record IsCleanAt (fs : List CachedFile) (f at : ℕ) : Type 0 where
   pub extent : Extent
   pub begins : begins_at (extents_in fs f) at ≡ Some extent
-  pub clean : extent.dirty ≡ false
+  pub clean : IsFalse extent.dirty
 
 -- a clean extent is evicted: its slices are released, and nothing else changes
 pub record Evicts (f at : ℕ) (old new : Holding) : Type 0 where
@@ -67,7 +67,7 @@ pub record EvictsOne (f at : ℕ) (was now : Rank) (old new : Holding) : Type 0 
 
 -- fewer pages of the pool are free than requested, if a number is requested
 abbrev pub IsWanted : (pool : ℕ) → (wanted : Option ℕ) → Stored → Type 0
-IsWanted p None s = Unit {0}
+IsWanted p None s = ⊤
 IsWanted p (Some n) s = length (free_of s p) < n
 
 -- the extent of the pool's files to evict next
@@ -94,8 +94,7 @@ EvictsPools (suc n) old new = (mid : Holding) × EvictsPools n old mid × Evicts
 
 -- each extent is dirty
 abbrev pub AllDirty : List Extent → Type 0
-AllDirty [] = Unit {0}
-AllDirty (e ∷ es) = (e.dirty ≡ true) × AllDirty es
+AllDirty es = AllByRecursion (λ e. IsTrue e.dirty) es
 
 -- the files are the same, no new byte is covered, and there is no less room for extents and entries
 pub record KeepsPlaces (old new : Cached) : Type 0 where
@@ -146,7 +145,7 @@ pub record FreesOrKeeps (p n : ℕ) (old new : Holding) (has_room : Bool) : Type
   pub victims : EvictsAll p (Some n) old new
   pub gives_up : GivesUp old new
   pub sound : IsSound new.store new.cache
-  pub refused : has_room ≡ false → new ≡ old
+  pub refused : IsFalse has_room → new ≡ old
 
 -- All clean extents were evicted, pool by pool. Every file keeps its bytes, and the cache is sound.
 pub record DropsAll (old new : Holding) : Type 0 where

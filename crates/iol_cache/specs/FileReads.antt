@@ -1,5 +1,5 @@
 -- Conditions and effects of reads of files, and their steps on a part of a file.
-use Rattle.std.specs.Prelude.{◌≡◌, ℕ, ◌≤◌, ◌^◌, true, List, [], length, Result, IfErr, IfOk, OnErr}
+use Rattle.std.specs.Prelude.{◌≡◌, ℕ, ◌≤◌, ◌^◌, List, [], length, Result, IfErr, IfOk, OnErr, IsTrue}
 use Rattle.iol_core.specs.NumberedLists.{is_numbered}
 use Rattle.iol_core.specs.Prelude.{WantOfRoomOrFault}
 use Rattle.iol_core.specs.Text.{labelled}
@@ -46,7 +46,7 @@ FillsPinnedPart part pins gaps disk after s c t d r =
 -- a file of a sound cache may be read: each buffer is held fewer than 2^59 times
 pub record MayReadFile (f : ℕ) (h : Holding) : Type 0 where
   pub sound : IsSound h.store h.cache
-  pub file : is_numbered h.cache.files f ≡ true
+  pub file : IsTrue (is_numbered h.cache.files f)
   pub few : CountsBelow h.store (2 ^ 59)
 
 -- At most n bytes of a file were read from `at` on, up to the end of the file: if the store backs the cache, the file's

@@ -1,6 +1,6 @@
 -- Gaps of a file that become clean extents.
-use Rattle.std.specs.Prelude.{◌≡◌, ℕ, ◌+◌, ◌-◌, ◌≤◌, false, List, [], ◌∷◌, ◌++◌, length, take, drop, IsSome}
-use Rattle.std.specs.Prelude.{slice_range, All, Result, IfErr, OnErr, OnOk}
+use Rattle.std.specs.Prelude.{◌≡◌, ℕ, ◌+◌, ◌-◌, ◌≤◌, List, [], ◌∷◌, ◌++◌, length, take, drop, IsSome}
+use Rattle.std.specs.Prelude.{slice_range, All, Result, IfErr, OnErr, OnOk, IsFalse, ⊤}
 use Rattle.std.specs.List.{AllZip}
 use Rattle.iol_core.specs.Prelude.{WantOfRoomOrFault}
 use Rattle.iol_core.specs.Text as text
@@ -34,7 +34,7 @@ pub record HasGaps (s : Stored) (m : ExtentMap) (pool low high : ℕ) (gaps : Li
   pub in_order : AreInOrder low high gaps
   pub each : All (IsGapSpan m.extents) gaps
   pub room : length gaps ≤ m.room
-  pub opened : (pool_in s.pools pool).closed ≡ false
+  pub opened : IsFalse (pool_in s.pools pool).closed
 
 -- with these extents added, one after another
 unfoldable pub all_put : List Extent → List Extent → List Extent
@@ -53,7 +53,7 @@ pub record AreNew (old new : Stored) (xs : List Slice) : Type 0 where
 pub record IsMade (old new : Stored) (pool : ℕ) (g : Span) (e : Extent) : Type 0 where
   pub begins : e.at ≡ g.from
   pub ends : end_of e ≡ g.to
-  pub clean : e.dirty ≡ false
+  pub clean : IsFalse e.dirty
   pub readable : AllReadable new e.parts
   pub pooled : AreOf pool e.parts
   pub fresh : AreNew old new e.parts
@@ -127,7 +127,7 @@ parts_back es (g ∷ gs) = parts_back es gs ++ parts_in (begins_at (without_span
 
 -- an extent begins at each of them
 abbrev pub AllBegin : List Extent → List Span → Type 0
-AllBegin es [] = Unit {0}
+AllBegin es [] = ⊤
 AllBegin es (g ∷ gs) = AllBegin es gs × IsSome (begins_at (without_spans es gs) g.from)
 
 -- these extents are removed, the last first, and released

@@ -16,7 +16,7 @@ WantsOneNumber = (s : Stored) (c : Cached) (f from to : ℕ) → IsSound s c →
 -- a range has room, or it lacks it, and never both
 abbrev pub HasOrLacksRoom : Type 0
 HasOrLacksRoom = (s : Stored) (c : Cached) (f from to : ℕ) → IsSound s c → HasRoom s c f from to
-    → LacksRoom s c f from to → ⊥
+    → ¬ LacksRoom s c f from to
 
 -- a file has one end, whatever the store under it
 abbrev pub HasOneEnd : Type 0
@@ -25,4 +25,4 @@ HasOneEnd = (disk : Disk) (c : Cached) (f m n : ℕ) → IsEnd disk c f m → Is
 -- so a read of a file has room, or it lacks it, and never both
 abbrev pub ReadsOrLacksRoom : Type 0
 ReadsOrLacksRoom = (f at n : ℕ) (disk : Disk) (h : Holding) → IsSound h.store h.cache
-    → RoomToRead f at n disk h → NoRoomToRead f at n disk h → ⊥
+    → RoomToRead f at n disk h → ¬ NoRoomToRead f at n disk h

@@ -1,6 +1,6 @@
 -- Bytes of the store read into new buffers.
-use Rattle.std.specs.Prelude.{◌≡◌, ℕ, ◌+◌, ◌<◌, ◌≤◌, ◌^◌, false, List, [], length, take, drop, min, Result, Ok, Err}
-use Rattle.std.specs.Prelude.{IfErr, IfOk, OnErr, OnOk}
+use Rattle.std.specs.Prelude.{◌≡◌, ℕ, ◌+◌, ◌<◌, ◌≤◌, ◌^◌, List, [], length, take, drop, min, Result, Ok, Err}
+use Rattle.std.specs.Prelude.{IfErr, IfOk, OnErr, OnOk, IsFalse}
 use Rattle.std.specs.List.{All, Contains}
 use Rattle.iol_core.specs.Prelude.{WantOfRoomOrFault}
 use Rattle.iol_core.specs.declared.numbers.BufId.{BufId}
@@ -85,7 +85,7 @@ pub record Asks {A : Type 0} (ranges : ℕ) (old new : Disk) (r : Result A Refus
 pub record PlacesPages (old new : Stored) (pool k : ℕ) : Type 0 where
   pub enough : k ≤ length (free_of old pool)
   pub pages : KeepsPages old new (take k (free_of old pool))
-  pub filled : (q : ℕ) → Contains (take k (free_of old pool)) q → kind_free (entry_at new.arena q).kind ≡ false
+  pub filled : (q : ℕ) → Contains (take k (free_of old pool)) q → IsFalse (kind_free (entry_at new.arena q).kind)
   pub others : IsSameBut (take k (free_of old pool)) old.arena new.arena
   pub free : free_of new pool ≡ drop k (free_of old pool)
   pub pools : new.pools ≡ old.pools
@@ -100,7 +100,7 @@ pub record PlacesSome (old new : Stored) (pool most : ℕ) : Type 0 where
 pub record MayLoad (s : Stored) (pool at n : ℕ) : Type 0 where
   pub some : 0 < n
   pub fits : at + n < 2 ^ 32
-  pub opened : (pool_in s.pools pool).closed ≡ false
+  pub opened : IsFalse (pool_in s.pools pool).closed
 
 -- these buffers were made on the lowest free pages of a pool, those that n bytes need
 pub record PlacesBuffers (old new : Stored) (pool n : ℕ) (bufs : List BufId) : Type 0 where

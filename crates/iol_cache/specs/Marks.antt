@@ -1,6 +1,6 @@
 -- How often clean extents hold each buffer, by the page at which it begins.
-use Rattle.std.specs.Prelude.{◌≡◌, ℕ, ◌+◌, ◌-◌, ◌<◌, ◌≤◌, ◌^◌, eqb, cond, Bool, true, false, nat_lt, List, [], ◌∷◌}
-use Rattle.std.specs.Prelude.{length, slice_index, slice_set}
+use Rattle.std.specs.Prelude.{◌≡◌, ℕ, ◌+◌, ◌-◌, ◌<◌, ◌≤◌, ◌^◌, Bool, true, false, nat_lt, List, [], ◌∷◌}
+use Rattle.std.specs.Prelude.{length, slice_index, slice_set, IsTrue, IsFalse, if◌then◌else◌, ◌==◌}
 use Rattle.std.specs.List.{All, list_any}
 use Rattle.iol_core.specs.declared.numbers.BufId.{BufId}
 use Rattle.iol_hold.specs.StoreState.{Stored, count_of}
@@ -10,7 +10,7 @@ use Rattle.iol_hold.specs.declared.slices.Slice.{Slice}
 
 -- 1 if the buffer begins at page p
 abbrev pub one_at : (p : ℕ) → BufId → ℕ
-one_at p b = cond (eqb b.page p) 1 0
+one_at p b = if b.page == p then 1 else 0
 
 -- the number of these buffers that begin at page p
 unfoldable pub at_page : (p : ℕ) → List BufId → ℕ
@@ -53,8 +53,8 @@ Turns false old new xs = Unmarks old new xs
 -- one slice more, or one fewer, can be counted at a page
 pub record CanTurnAt (is_clean : Bool) (marks : List ℕ) (page : ℕ) : Type 0 where
   pub within : page < length marks
-  pub few : is_clean ≡ true → slice_index marks page < 2 ^ 63
-  pub some : is_clean ≡ false → 0 < slice_index marks page
+  pub few : IsTrue is_clean → slice_index marks page < 2 ^ 63
+  pub some : IsFalse is_clean → 0 < slice_index marks page
 
 -- the mark of a page, with one slice more or fewer
 abbrev pub turned : (is_clean : Bool) → (mark : ℕ) → ℕ

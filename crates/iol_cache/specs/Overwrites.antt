@@ -1,6 +1,6 @@
 -- The effects of a write on files and on extents.
-use Rattle.std.specs.Prelude.{◌≡◌, ◌≢◌, ◌⊎◌, ℕ, ◌+◌, ◌<◌, ◌≤◌, ◌^◌, ◌++◌, true, List, length, Option, Some, None}
-use Rattle.std.specs.Prelude.{Result, Err, IfErr, OnErr, OnOk}
+use Rattle.std.specs.Prelude.{◌≡◌, ◌≢◌, ◌⊎◌, ℕ, ◌+◌, ◌<◌, ◌≤◌, ◌^◌, ◌++◌, List, length, Option, Some, None}
+use Rattle.std.specs.Prelude.{Result, Err, IfErr, OnErr, OnOk, IsTrue}
 use Rattle.iol_back.specs.Disk.{overwritten}
 use Rattle.iol_core.specs.Meaning.{WantOfRoom}
 use Rattle.iol_core.specs.NumberedLists.{is_numbered}
@@ -60,7 +60,7 @@ pub record KeepsMirrors (old new : Holding) : Type 0 where
 
 abbrev pub is_dirty : Option Cell → Type 0
 is_dirty None = ⊥
-is_dirty (Some c) = c.dirty ≡ true
+is_dirty (Some c) = IsTrue c.dirty
 
 -- The bytes of a range are under dirty extents; those of the source in the file's pool are in the same places.
 pub record LiesDirty (f at : ℕ) (source : List Slice) (cache : Cached) : Type 0 where
@@ -121,7 +121,7 @@ pages_copied c f source = copied_pages (pool_of c f) source
 -- a file may have.
 pub record MayMakePlace (f : ℕ) (source : List Slice) (h : Holding) : Type 0 where
   pub sound : IsSound h.store h.cache
-  pub file : is_numbered h.cache.files f ≡ true
+  pub file : IsTrue (is_numbered h.cache.files f)
   pub small : byte_len source ≤ MAX_FILE_BYTES
 
 -- Room was made for a write of these bytes to a file, for three extents, for their entries, and in the file's pool for
@@ -144,7 +144,7 @@ pub record MakesPlace {A : Type 0} (f : ℕ) (source : List Slice) (s : Stored) 
 -- times.
 pub record MayWrite (f at : ℕ) (source : List Slice) (h : Holding) : Type 0 where
   pub sound : IsSound h.store h.cache
-  pub file : is_numbered h.cache.files f ≡ true
+  pub file : IsTrue (is_numbered h.cache.files f)
   pub short : at + byte_len source ≤ MAX_FILE_BYTES
   pub held : Covers h.store (held h.cache.files ++ bufs_of source)
   pub readable : AllReadable h.store source

@@ -1,5 +1,5 @@
 -- The replacement of a range of a file by a write.
-use Rattle.std.specs.Prelude.{◌≡◌, ℕ, ◌+◌, ◌<◌, ◌^◌, true, List, [], ◌++◌, Result, IfErr, IfOk}
+use Rattle.std.specs.Prelude.{◌≡◌, ℕ, ◌+◌, ◌<◌, ◌^◌, List, [], ◌++◌, Result, IfErr, IfOk, IsTrue}
 use Rattle.iol_core.specs.Meaning.{WantOfRoom}
 use Rattle.iol_core.specs.declared.refusals.Refusal.{Refusal}
 use Rattle.iol_extent.specs.Extents.{Extent}
@@ -22,7 +22,7 @@ pub record Prepares (s t : Stored) (pool : ℕ) (es : List Extent) (at : ℕ) (s
   pub after : CutsRight es (at + byte_len source) right
   pub ends : right.at ≡ at + byte_len source
   pub begins : e.at ≡ at
-  pub dirty : e.dirty ≡ true
+  pub dirty : IsTrue e.dirty
   pub mid : Stored
   pub composes : Composes s mid pool (copied_pages pool source) source e.parts
   pub shares : Shares mid t [] (bufs_of left.parts ++ bufs_of right.parts)

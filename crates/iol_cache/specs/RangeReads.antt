@@ -1,6 +1,7 @@
 -- Reading a range of a file.
-use Rattle.std.specs.Prelude.{◌≡◌, ℕ, ◌≤◌, ◌^◌, true, if◌then◌else◌, List, [], ◌∷◌, ◌++◌, All, length, Option, Some}
-use Rattle.std.specs.Prelude.{None, IsSome, Result, IfOk, flat_map}
+use Rattle.std.specs.Prelude.{◌≡◌, ℕ, ◌≤◌, ◌^◌, if◌then◌else◌, List, [], ◌∷◌, ◌++◌, All, length, Option, Some}
+use Rattle.std.specs.List.{AllByRecursion}
+use Rattle.std.specs.Prelude.{None, IsSome, Result, IfOk, flat_map, IsTrue}
 use Rattle.iol_core.specs.NumberedLists.{is_numbered}
 use Rattle.iol_core.specs.declared.limits.TheConstants.{MAX_FILE_BYTES}
 use Rattle.iol_core.specs.declared.refusals.Refusal.{Refusal}
@@ -70,8 +71,7 @@ all_entered r f es (s ∷ ss) = all_entered (entered r f s.from (byte_len (parts
 
 -- an extent begins where each of these spans does
 abbrev pub AllBeginAt : List Extent → List Span → Type 0
-AllBeginAt es [] = Unit {0}
-AllBeginAt es (s ∷ ss) = IsSome (begins_at es s.from) × AllBeginAt es ss
+AllBeginAt es spans = AllByRecursion (λ s. IsSome (begins_at es s.from)) spans
 
 -- the pages of the extents are below n
 pub record AllWithin (n : ℕ) (es : List Extent) : Type 0 where
@@ -79,8 +79,7 @@ pub record AllWithin (n : ℕ) (es : List Extent) : Type 0 where
 
 -- the order has no entry where these spans begin
 abbrev pub AreAbsent : Ranking → (f : ℕ) → List Span → Type 0
-AreAbsent r f [] = Unit {0}
-AreAbsent r f (s ∷ ss) = (entries_at f s.from r.entries ≡ 0) × AreAbsent r f ss
+AreAbsent r f spans = AllByRecursion (λ s. entries_at f s.from r.entries ≡ 0) spans
 
 -- Gaps of a range were read, and the range was assembled from the shared bytes outside the gaps, and from the gaps.
 pub record FillsRange (s t : Stored) (old new : ExtentMap) (pool : ℕ) (beside : List Place) (gaps : List Span)
@@ -112,7 +111,7 @@ pub record FillsAll (part : FilePart) (gs : List Span) (xs : List Slice) (disk a
 
 -- These are gaps of a range of a file, and there is room in the file and in its pool's order for as many extents.
 pub record CanFill (c : Cached) (f from to : ℕ) (gs : List Span) : Type 0 where
-  pub file : is_numbered c.files f ≡ true
+  pub file : IsTrue (is_numbered c.files f)
   pub ordered : from ≤ to
   pub end : to ≤ MAX_FILE_BYTES
   pub in_order : AreInOrder from to gs

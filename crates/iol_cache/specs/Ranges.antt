@@ -1,5 +1,6 @@
 -- A range of a file that is read, step by step.
-use Rattle.std.specs.Prelude.{◌≡◌, ◌⊎◌, ℕ, ◌≤◌, ◌^◌, true, false, List, [], length, All, Some, Result, IfOk, OnErr}
+use Rattle.std.specs.Prelude.{◌≡◌, ◌⊎◌, ℕ, ◌≤◌, ◌^◌, List, [], length, All, Some, Result, IfOk, OnErr}
+use Rattle.std.specs.Prelude.{IsTrue, IsFalse}
 use Rattle.std.specs.Global.{Vec}
 use Rattle.iol_core.specs.NumberedLists.{is_numbered}
 use Rattle.iol_core.specs.declared.refusals.Refusal.{Refusal}
@@ -28,7 +29,7 @@ use Rattle.iol_cache.specs.Weave.{HasSlicesBeside, HasSlicesWoven, places_beside
 -- a range of a file of a sound cache may be read
 pub record MayRead (f from to : ℕ) (h : Holding) : Type 0 where
   pub sound : IsSound h.store h.cache
-  pub file : is_numbered h.cache.files f ≡ true
+  pub file : IsTrue (is_numbered h.cache.files f)
   pub ordered : from ≤ to
   pub few : CountsBelow h.store (2 ^ 59)
 
@@ -64,7 +65,7 @@ pub record IsCleanSpan (es : List Extent) (s : Span) : Type 0 where
   pub extent : Extent
   pub begins : begins_at es s.from ≡ Some extent
   pub ends : end_of extent ≡ s.to
-  pub clean : extent.dirty ≡ false
+  pub clean : IsFalse extent.dirty
 
 -- No byte was missing: the range consists of the shared slices, and nothing else was done.
 pub record IsAllShared (pins : List Slice) (gaps : List Span) (old new : Holding) (xs : List Slice) : Type 0 where

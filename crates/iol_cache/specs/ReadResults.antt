@@ -1,6 +1,6 @@
 -- The effects of a read of a file on a store and a cache over it.
-use Rattle.std.specs.Prelude.{◌≡◌, ◌⊎◌, ℕ, ◌+◌, ◌<◌, ◌≤◌, min, max, true, List, [], length, take, drop, Result, Ok, Err}
-use Rattle.std.specs.Prelude.{IfOk, IfErr, OnErr}
+use Rattle.std.specs.Prelude.{◌≡◌, ◌⊎◌, ℕ, ◌+◌, ◌<◌, ◌≤◌, min, max, List, [], length, take, drop, Result, Ok, Err}
+use Rattle.std.specs.Prelude.{IfOk, IfErr, OnErr, IsTrue, ⊤}
 use Rattle.iol_core.specs.NumberedLists.{is_numbered}
 use Rattle.iol_core.specs.Prelude.{WantOfRoomOrFault}
 use Rattle.iol_core.specs.declared.limits.TheConstants.{MAX_FILE_BYTES}
@@ -35,7 +35,7 @@ abbrev pub ReportsRoom : {A : Type 0} → (has lacks : Type 0) → Result A Refu
 ReportsRoom has lacks (Ok x) = has
 ReportsRoom has lacks (Err (Fault f)) = has
 ReportsRoom has lacks (Err (NoRoom p)) = lacks
-ReportsRoom has lacks (Err x) = Unit {0}
+ReportsRoom has lacks (Err x) = ⊤
 
 -- a failure was counted exactly if the result is a fault
 abbrev pub FaultCounts : {A : Type 0} → (old new : Disk) → Result A Refusal → Type 0
@@ -51,8 +51,8 @@ pub record ReportsFault {A : Type 0} (old new : Disk) (r : Result A Refusal) : T
 
 -- The store is honest, no file of it is too long, and under clean extents it has the same bytes.
 pub record IsBacked (disk : Disk) (h : Holding) : Type 0 where
-  pub honest : disk.honest ≡ true
-  pub short : (f : ℕ) → is_numbered h.cache.files f ≡ true → length (content disk.slots f) ≤ MAX_FILE_BYTES
+  pub honest : IsTrue disk.honest
+  pub short : (f : ℕ) → IsTrue (is_numbered h.cache.files f) → length (content disk.slots f) ≤ MAX_FILE_BYTES
   pub mirrors : Mirrors h.store disk.slots h.cache.files
 
 -- The end of a file for a read: the length that the store reports, up to the limit of files, or the end of the last

@@ -1,6 +1,6 @@
 -- A range of a file that is replaced: which extents stand, their entries in the order and their marks.
 use Rattle.std.specs.Prelude.{◌≡◌, ℕ, ◌+◌, ◌<◌, ◌≤◌, ◌^◌, ◌==◌, max, if◌then◌else◌, List, [], ◌∷◌, length, slice_index}
-use Rattle.std.specs.Prelude.{Option, Some, None, IsSome}
+use Rattle.std.specs.Prelude.{Option, Some, None, IsSome, ◌≢◌}
 use Rattle.std.specs.List.{filter}
 use Rattle.iol_arena.specs.Prelude.{page_count}
 use Rattle.iol_evict.specs.Order.{Ranking, entered, left_at, with_one_given_back, with_one_kept}
@@ -19,7 +19,7 @@ use Rattle.iol_cache.specs.RangeReads.{RanksFile}
 -- The extents of file f changed, and the entries of the file in the order and among the marks. L is unchanged.
 pub record Reindexes (f : ℕ) (es fs : List Extent) (r t : Ranking) (marks new : List ℕ) : Type 0 where
   pub ranked : RanksFile r f es → RanksFile t f fs
-  pub others : (g b : ℕ) → (g ≡ f → ⊥) → entries_at g b t.entries ≡ entries_at g b r.entries
+  pub others : (g b : ℕ) → g ≢ f → entries_at g b t.entries ≡ entries_at g b r.entries
   pub low : t.low ≡ r.low
   pub kept : t.kept + dirty_count es ≡ r.kept + dirty_count fs
   pub each : (p : ℕ) → slice_index new p + at_page p (bufs_of (clean_in es)) ≡ slice_index marks p

@@ -1,7 +1,7 @@
 -- What holds between any two calls of a cache.
-use Rattle.std.specs.Prelude.{◌≡◌, ℕ, ◌+◌, ◌≤◌, ◌<◌, ◌^◌, true, false, List, [], ◌∷◌, ◌++◌, length, Result, IfOk, OnErr}
-use Rattle.std.specs.Prelude.{OnOk}
-use Rattle.std.specs.List.{All}
+use Rattle.std.specs.Prelude.{◌≡◌, ℕ, ◌+◌, ◌≤◌, ◌<◌, ◌^◌, List, [], ◌∷◌, ◌++◌, length, Result, IfOk, OnErr}
+use Rattle.std.specs.Prelude.{OnOk, IsTrue, IsFalse}
+use Rattle.std.specs.List.{All, AllByRecursion}
 use Rattle.iol_core.specs.NumberedLists.{is_numbered}
 use Rattle.iol_core.specs.declared.limits.TheConstants.{MAX_FILES, MAX_FILE_BYTES}
 use Rattle.iol_arena.specs.State.{page_count}
@@ -15,11 +15,6 @@ use Rattle.iol_cache.specs.declared.files.CachedFile.{CachedFile}
 use Rattle.iol_cache.specs.Marks.{Counted}
 use Rattle.iol_cache.specs.CacheState.{Cached, file_in, held, clean_held, new_file, order_in, AreRanked, AreReady}
 
--- P holds of each of a list
-abbrev pub Each : {A : Type 0} → (A → Type 0) → List A → Type 0
-Each P [] = Unit {0}
-Each P (x ∷ xs) = P x × Each P xs
-
 -- an extent's slices are in live buffers of the pool
 pub record IsLaid (s : Stored) (pool : ℕ) (e : Extent) : Type 0 where
   pub readable : AllReadable s e.parts
@@ -28,19 +23,19 @@ pub record IsLaid (s : Stored) (pool : ℕ) (e : Extent) : Type 0 where
 -- a file's extents do not overlap, are in its pool, and end within the limit
 pub record IsFiled (s : Stored) (x : CachedFile) : Type 0 where
   pub apart : IsApart 0 x.extents.extents
-  pub laid : Each (IsLaid s x.pool) x.extents.extents
+  pub laid : AllByRecursion (IsLaid s x.pool) x.extents.extents
   pub short : last_end x.extents.extents ≤ MAX_FILE_BYTES
 
 -- each file is of an open pool, which has an order
 pub record IsOpened (s : Stored) (c : Cached) (f : ℕ) : Type 0 where
-  pub is_open : (pool_in s.pools (file_in c.files f).pool).closed ≡ false
-  pub ordered : is_numbered c.orders (file_in c.files f).pool ≡ true
+  pub is_open : IsFalse (pool_in s.pools (file_in c.files f).pool).closed
+  pub ordered : IsTrue (is_numbered c.orders (file_in c.files f).pool)
 
 -- each slice of an extent holds its buffer, clean extents are marked and are in the orders, which keep a place for each
 -- dirty one
 pub record IsSound (s : Stored) (c : Cached) : Type 0 where
   pub files : (f : ℕ) → IsFiled s (file_in c.files f)
-  pub opened : (f : ℕ) → is_numbered c.files f ≡ true → IsOpened s c f
+  pub opened : (f : ℕ) → IsTrue (is_numbered c.files f) → IsOpened s c f
   pub covered : Covers s (held c.files)
   pub marked : Counted c.marks (clean_held c.files)
   pub pages : length c.marks ≡ page_count s.arena
@@ -71,4 +66,4 @@ pub record AddsFile {E : Type 0} (pool : ℕ) (old new : Cached) (r : Result ℕ
   pub added : OnOk r (new.files ≡ old.files ++ new_file pool ∷ [])
   pub err : OnErr r (new ≡ old)
   pub orders : (p : ℕ) → order_in new.orders p ≡ order_in old.orders p
-  pub sound : (s : Stored) → IsSound s old → (pool_in s.pools pool).closed ≡ false → IsSound s new
+  pub sound : (s : Stored) → IsSound s old → IsFalse (pool_in s.pools pool).closed → IsSound s new

@@ -1,7 +1,7 @@
 -- Dirty extents that are written back.
 use Rattle.std.specs.Prelude.{Bool, ◌≡◌, ℕ, zero, suc, ◌+◌, ◌-◌, ◌<◌, ◌≤◌, ◌^◌, ◌⊎◌, true, false, if◌then◌else◌, List}
 use Rattle.std.specs.Prelude.{[], ◌∷◌, map, length, max, slice_index, Result, Ok, Err, IfErr, IfSome, OnErr, OnOk, Some}
-use Rattle.std.specs.Prelude.{None}
+use Rattle.std.specs.Prelude.{None, IsTrue, ◌≢◌}
 use Rattle.iol_back.specs.Disk.{Disk, IfHonest, OthersStay, Succeeds, Tears, content}
 use Rattle.iol_back.specs.Prelude.{raised}
 use Rattle.iol_core.specs.NumberedLists.{is_numbered}
@@ -152,7 +152,7 @@ StoresFirst s f old new d e (Err x) = Fails f old new d e × (x ≡ Fault f)
 -- a file of a sound cache may be written back: each buffer is held fewer than 2^61 times
 pub record MaySync (s : Stored) (f : ℕ) (c : Cached) : Type 0 where
   pub sound : IsSound s c
-  pub file : is_numbered c.files f ≡ true
+  pub file : IsTrue (is_numbered c.files f)
   pub few : CountsBelow s (2 ^ 61)
 
 -- Its first dirty extent was written back, or not: each file keeps its bytes, and the cache is sound.
@@ -186,7 +186,7 @@ pub record WritesDirty {A : Type 0} (s : Stored) (f : ℕ) (old new : Cached) (d
 pub record Syncs (s : Stored) (f : ℕ) (old new : Cached) (d e : Disk) : Type 0 where
   pub count : ℕ
   pub extents : extents_in new.files f ≡ first_cleaned count (extents_in old.files f)
-  pub others : (g : ℕ) → (g ≡ f → ⊥) → file_in new.files g ≡ file_in old.files g
+  pub others : (g : ℕ) → g ≢ f → file_in new.files g ≡ file_in old.files g
   pub pools : (g : ℕ) → (file_in new.files g).pool ≡ (file_in old.files g).pool
   pub files : length new.files ≡ length old.files
   pub honest : e.honest ≡ d.honest

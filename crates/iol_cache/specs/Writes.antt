@@ -1,5 +1,5 @@
 -- The effects of a write on a store and a cache over it.
-use Rattle.std.specs.Prelude.{◌≡◌, ℕ, ◌≤◌, ◌^◌, true, false, List, ◌++◌}
+use Rattle.std.specs.Prelude.{◌≡◌, ℕ, ◌≤◌, ◌^◌, List, ◌++◌, IsTrue, IsFalse}
 use Rattle.iol_core.specs.NumberedLists.{is_numbered}
 use Rattle.iol_core.specs.declared.limits.TheConstants.{MAX_FILE_BYTES}
 use Rattle.iol_arena.specs.State.{page_count}
@@ -55,7 +55,7 @@ pub record Replaces (f : ℕ) (range : Span) (put : Replacement) (s t : Stored) 
 -- the cache holds, few times, and there is room for three extents and their entries.
 pub record MayPutOver (f : ℕ) (range : Span) (put : Replacement) (h : Holding) : Type 0 where
   pub sound : IsSound h.store h.cache
-  pub file : is_numbered h.cache.files f ≡ true
+  pub file : IsTrue (is_numbered h.cache.files f)
   pub short : range.to ≤ MAX_FILE_BYTES
   pub cuts : CutsAround (extents_in h.cache.files f) range.from range.to put.left put.right put.bytes
   pub laid : IsLaid h.store (file_in h.cache.files f).pool put.bytes
@@ -100,5 +100,5 @@ pub record Changes (f : ℕ) (own : List Slice) (old new : Holding) : Type 0 whe
   pub moves : Moves old.store new.store (bufs_of (all_parts (extents_in old.cache.files f) ++ own))
       (bufs_of (all_parts extents.extents))
   pub pages : page_count new.store.arena ≡ page_count old.store.arena
-  pub pools : (p : ℕ) → (pool_in old.store.pools p).closed ≡ false
+  pub pools : (p : ℕ) → IsFalse (pool_in old.store.pools p).closed
       → pool_in new.store.pools p ≡ pool_in old.store.pools p

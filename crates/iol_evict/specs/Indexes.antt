@@ -1,6 +1,6 @@
 -- Sorted lists of a slab's keys.
 use Rattle.std.specs.Prelude.{◌≡◌, ℕ, ◌+◌, ◌<◌, ◌≤◌, ◌==◌, if◌then◌else◌, List, [], length, sum_by, slice_index, Some}
-use Rattle.std.specs.Prelude.{unwrap_or, insert, remove, Result, OnOk}
+use Rattle.std.specs.Prelude.{unwrap_or, insert, remove, Result, OnOk, ◌≢◌}
 use Rattle.std.specs.Global.{Global}
 use Rattle.std.specs.VecDeque.{deque_len, deque_capacity}
 use Rattle.std.specs.declared.collections.VecDeque.{VecDeque}
@@ -45,7 +45,7 @@ pub record HasRank (by : By) (s : Slab Entry) (keys : List ℕ) (rank : Rank) : 
 -- no entry at these keys has the place of that one
 pub record IsApart (s : Slab Entry) (keys : List ℕ) (key : ℕ) : Type 0 where
   pub each : (i : ℕ) → i < length keys → (entry_of s (slice_index keys i)).file ≡ (entry_of s key).file →
-      (entry_of s (slice_index keys i)).at ≡ (entry_of s key).at → ⊥
+      (entry_of s (slice_index keys i)).at ≢ (entry_of s key).at
 
 abbrev pub one_if : (key k : ℕ) → ℕ
 one_if key k = if k == key then 1 else 0

@@ -1,6 +1,6 @@
 -- The entry to evict next.
-use Rattle.std.specs.Prelude.{◌≡◌, ℕ, ◌<◌, ◌≤◌, ◌⊎◌, Bool, true, false, List, [], length, slice_index, All, Contains}
-use Rattle.std.specs.Prelude.{Option, MatchOption}
+use Rattle.std.specs.Prelude.{◌≡◌, ℕ, ◌<◌, ◌≤◌, ◌⊎◌, Bool, List, [], length, slice_index, All, Contains}
+use Rattle.std.specs.Prelude.{Option, MatchOption, IsTrue, IsFalse}
 use Rattle.slab.specs.Slab.{Slab}
 use Rattle.iol_evict.specs.declared.entry.Entry.{Entry}
 use Rattle.iol_evict.specs.declared.entry.Rank.{Rank}
@@ -17,7 +17,7 @@ pub record KeyLe (a b : Entry) : Type 0 where
 -- those that are not in use before those that are, and then by height, file and place
 abbrev pub Precedes : (in_use : ℕ → ℕ → Bool) → (a b : Entry) → Type 0
 Precedes in_use a b =
-    ((in_use a.file a.at ≡ false) × (in_use b.file b.at ≡ true))
+    (IsFalse (in_use a.file a.at) × IsTrue (in_use b.file b.at))
     ⊎ ((in_use a.file a.at ≡ in_use b.file b.at) × KeyLe a b)
 
 -- the place of the entry to evict next
@@ -29,7 +29,7 @@ pub record IsVictim (in_use : ℕ → ℕ → Bool) (es : List Entry) (place : �
 
 -- all of these entries below a rank are in use
 pub record AreUsedBelow (in_use : ℕ → ℕ → Bool) (rank : Rank) (es : List Entry) : Type 0 where
-  pub each : All (λ e. RankLt (rank_by Height e) rank → in_use e.file e.at ≡ true) es
+  pub each : All (λ e. RankLt (rank_by Height e) rank → IsTrue (in_use e.file e.at)) es
 
 -- For any predicate `in use`: if all old entries below one rank are in use, then all new entries below the other rank
 -- are in use.
@@ -49,9 +49,9 @@ pub record GoesFirst (in_use : ℕ → ℕ → Bool) (s : Slab Entry) (keys : Li
   pub index : ℕ
   pub within : index < length keys
   pub lies : place ≡ ((entry_of s (slice_index keys index)).file, (entry_of s (slice_index keys index)).at)
-  pub before : (i : ℕ) → i < index → is_used in_use s keys i ≡ true
-  pub idle : (is_used in_use s keys index ≡ false)
-      ⊎ ((index ≡ 0) × ((i : ℕ) → i < length keys → is_used in_use s keys i ≡ true))
+  pub before : (i : ℕ) → i < index → IsTrue (is_used in_use s keys i)
+  pub idle : IsFalse (is_used in_use s keys index)
+      ⊎ ((index ≡ 0) × ((i : ℕ) → i < length keys → IsTrue (is_used in_use s keys i)))
 
 -- the place of the entry to evict next, if there are any keys
 abbrev pub FindsIdle : (in_use : ℕ → ℕ → Bool) → Slab Entry → List ℕ → (found : Option (ℕ × ℕ)) → Type 0
@@ -59,7 +59,7 @@ FindsIdle in_use s keys found = MatchOption found (length keys ≡ 0) (GoesFirst
 
 -- all of these keys with entries below a rank are in use
 pub record KeysUsedBelow (in_use : ℕ → ℕ → Bool) (rank : Rank) (s : Slab Entry) (keys : List ℕ) : Type 0 where
-  pub each : (i : ℕ) → i < length keys → RankLt (rank_at Height s keys i) rank → is_used in_use s keys i ≡ true
+  pub each : (i : ℕ) → i < length keys → RankLt (rank_at Height s keys i) rank → IsTrue (is_used in_use s keys i)
 
 -- Keys may be searched from this rank on for the entry to evict next.
 pub record MaySearch (can_ask : ℕ → ℕ → Type 0) (in_use : ℕ → ℕ → Bool) (rank : Rank)

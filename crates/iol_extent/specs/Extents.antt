@@ -1,7 +1,8 @@
 -- The extents of a file: in memory, between gaps that only the store has.
 use Rattle.std.specs.Prelude.{◌≡◌, ℕ, ◌+◌, ◌-◌, ◌<◌, ◌≤◌, ◌&&◌, nat_lt, nat_le, max, Bool, true, false, if◌then◌else◌}
-use Rattle.std.specs.Prelude.{cond, sum_by, List, [], ◌∷◌, Option, Some, None, slice_index_or, slice_set, ◌==◌, Result}
-use Rattle.std.specs.Prelude.{OnOk, OnErr, IfSome, MatchOption}
+use Rattle.std.specs.List.{AllByRecursion}
+use Rattle.std.specs.Prelude.{sum_by, List, [], ◌∷◌, Option, Some, None, slice_index_or, slice_set, ◌==◌, Result}
+use Rattle.std.specs.Prelude.{OnOk, OnErr, IfSome, MatchOption, IsTrue, IsFalse, ⊤}
 use Rattle.std.specs.Borrow.{Bor}
 use Rattle.iol_hold.specs.declared.slices.Slice.{Slice}
 use Rattle.iol_hold.specs.Places.{Place, places, byte_len}
@@ -78,7 +79,7 @@ HasCellOver es i found = MatchOption found (cover es i ≡ None) (λ x. cover es
 
 -- the extents stand in order from low on, none of them empty
 abbrev pub IsApart : ℕ → List Extent → Type 0
-IsApart low [] = Unit {0}
+IsApart low [] = ⊤
 IsApart low (e ∷ es) = (low ≤ e.at) × (0 < byte_len e.parts) × IsApart (end_of e) es
 
 -- the end of the last one
@@ -98,7 +99,7 @@ pub record Adds (es : List Extent) (e : Extent) (es' : List Extent) : Type 0 whe
 pub record Lacks (es : List Extent) (e : Extent) (es' : List Extent) : Type 0 where
   pub some : 0 < byte_len e.parts
   pub adds : Adds es' e es
-  pub gap : (i : ℕ) → is_over e i ≡ true → cover es' i ≡ None
+  pub gap : (i : ℕ) → IsTrue (is_over e i) → cover es' i ≡ None
 
 -- the extent that begins at a place
 abbrev pub begins_at : List Extent → ℕ → Option Extent
@@ -119,16 +120,11 @@ dirty_in [] = None
 dirty_in (e ∷ es) = if e.dirty then Some e else dirty_in es
 
 abbrev pub one_dirty : Extent → ℕ
-one_dirty e = cond e.dirty 1 0
-
--- P holds of each of a list
-abbrev pub Each : {A : Type 0} → (A → Type 0) → List A → Type 0
-Each P [] = Unit {0}
-Each P (x ∷ xs) = P x × Each P xs
+one_dirty e = if e.dirty then 1 else 0
 
 -- none that begins before the place is dirty
 abbrev pub AreCleanBefore : (place : ℕ) → List Extent → Type 0
-AreCleanBefore place es = Each (λ (e : Extent). e.at < place → e.dirty ≡ false) es
+AreCleanBefore place es = AllByRecursion (λ (e : Extent). e.at < place → IsFalse e.dirty) es
 
 -- where the first dirty extent begins, and its slices, if one is dirty
 abbrev pub FindsDirty : List Extent → (found : Option (ℕ × Bor (List Slice))) → Type 0

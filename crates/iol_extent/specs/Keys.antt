@@ -1,8 +1,9 @@
 -- Extents in a slab, by their keys.
 use Rattle.std.specs.Prelude.{◌≡◌, ◌≢◌, ℕ, ◌+◌, ◌-◌, ◌<◌, ◌≤◌, ◌^◌, false, List, [], ◌∷◌, length, slice_index_or}
-use Rattle.std.specs.Prelude.{insert, remove, All, Some, unwrap_or}
+use Rattle.std.specs.List.{AllByRecursion}
+use Rattle.std.specs.Prelude.{insert, remove, All, Some, unwrap_or, ⊤}
 use Rattle.slab.specs.Slab.{Slab, get, ContainsKey, Updates, slab_len}
-use Rattle.iol_extent.specs.Extents.{Each, Extent, ExtentMap, as_clean, end_of, extent_of}
+use Rattle.iol_extent.specs.Extents.{Extent, ExtentMap, as_clean, end_of, extent_of}
 
 -- the extent at a key
 abbrev pub extent_at : Slab Extent → (key : ℕ) → Extent
@@ -10,11 +11,11 @@ extent_at s key = unwrap_or (get s key) (extent_of 0 [] false)
 
 -- a key stands nowhere in a list
 abbrev pub IsNotIn : (key : ℕ) → List ℕ → Type 0
-IsNotIn key keys = Each (λ (other : ℕ). other ≢ key) keys
+IsNotIn key keys = AllByRecursion (λ (other : ℕ). other ≢ key) keys
 
 -- each key stands there once
 abbrev pub AreDistinct : List ℕ → Type 0
-AreDistinct [] = Unit {0}
+AreDistinct [] = ⊤
 AreDistinct (key ∷ keys) = IsNotIn key keys × AreDistinct keys
 
 -- each key has an extent, and stands there once

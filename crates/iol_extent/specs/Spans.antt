@@ -1,6 +1,6 @@
 -- Hits and gaps of a range.
-use Rattle.std.specs.Prelude.{◌≡◌, ℕ, ◌<◌, ◌≤◌, ◌⊎◌, min, Bool, false, IsTrue, List, [], ◌∷◌, length, slice_index_or}
-use Rattle.std.specs.Prelude.{All, IsSome}
+use Rattle.std.specs.Prelude.{◌≡◌, ℕ, ◌<◌, ◌≤◌, ◌⊎◌, min, Bool, IsTrue, List, [], ◌∷◌, length, slice_index_or}
+use Rattle.std.specs.Prelude.{All, IsSome, IsFalse}
 use Rattle.iol_extent.specs.declared.spans.Span.{Span}
 use Rattle.iol_extent.specs.Extents.{Extent, cover, end_of, IsGap}
 
@@ -36,8 +36,8 @@ pub record BeginsAt (es : List Extent) (at to : ℕ) (s : Span) (is_hit : Bool) 
   pub further : at < s.to
   pub within : s.to ≤ to
   pub hit : IsTrue is_hit → IsHit es to s
-  pub gap : is_hit ≡ false → IsGap es at s.to
-  pub whole : is_hit ≡ false → IsWhole es to s
+  pub gap : IsFalse is_hit → IsGap es at s.to
+  pub whole : IsFalse is_hit → IsWhole es to s
 
 -- Hits and gaps of a range, each in order. Each byte of the range lies in one of them.
 pub record Tile (es : List Extent) (from to : ℕ) (found missed : List Span) : Type 0 where

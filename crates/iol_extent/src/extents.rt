@@ -1,5 +1,5 @@
 //! The extents of a file.
-ghost use Rattle.std.specs.Prelude.{◌≡◌, ◌+◌, ◌-◌, ◌<◌, ◌≤◌, ◌^◌, [], length, All, IfOk, IfSome, OnOk, insert, remove, max, cond, IsSome, true, false};
+ghost use Rattle.std.specs.Prelude.{◌≡◌, ◌+◌, ◌-◌, ◌<◌, ◌≤◌, ◌^◌, [], length, All, IfOk, IfSome, OnOk, insert, remove, max, IsSome, true, false, if◌then◌else◌};
 ghost use Rattle.iol_hold.specs.Prelude.{byte_len};
 ghost use Rattle.iol_extent.specs.Extents.{Extent, extent_of, dirty_count, Adds, EndsAtLater, FindsDirty, FindsMet, HasCellOver, IsApart, IsExtentOver, IsFirstDirty, IsGap, KeepsRoom, LacksAt, begins_at, cleaned_at, last_end, put_in, without_at};
 ghost use Rattle.iol_extent.specs.Spans.{BeginsAt, Finds};
@@ -41,7 +41,7 @@ impl Model for Extents {
 
 // 1 if an extent is dirty, else 0.
 fn count_dirty(dirty: bool) -> usize
-    ensures { result ≡ cond dirty 1 0 }
+    ensures { result ≡ (if dirty then 1 else 0) }
 {
     if dirty { 1 } else { 0 }
 }

@@ -1,5 +1,5 @@
 -- A system that C makes.
-use Rattle.std.specs.Prelude.{◌≡◌, ◌⊎◌, ℕ, ℤ, true, List, [], Option, None, Some, Result, Ok, Err, Box}
+use Rattle.std.specs.Prelude.{◌≡◌, ◌⊎◌, ℕ, ℤ, List, [], Option, None, Some, Result, Ok, Err, Box, IsTrue}
 use Rattle.std.specs.Global.{Global}
 use Rattle.iol_back.specs.Disk.{Disk}
 use Rattle.iol_core.specs.declared.configuration.Config.{Config}
@@ -39,7 +39,7 @@ pub record Creates (config : Config) (under : Disk) (number : ℕ) (new : Option
 -- the same over an empty store in memory
 pub record CreatesInMemory (config : Config) (number : ℕ) (new : Option Machine) : Type 0 where
   pub under : Disk
-  pub honest : under.honest ≡ true
+  pub honest : IsTrue under.honest
   pub empty : under.slots ≡ []
   pub creates : Creates config under number new
 

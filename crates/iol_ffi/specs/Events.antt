@@ -1,5 +1,5 @@
 -- The event that C's struct, bytes and domains denote.
-use Rattle.std.specs.Prelude.{◌≡◌, ◌⊎◌, ◌<◌, ℕ, List}
+use Rattle.std.specs.Prelude.{◌≡◌, ◌⊎◌, ◌<◌, ℕ, List, ◌≢◌}
 use Rattle.iol_core.specs.declared.descriptors.How.{How}
 use Rattle.iol_core.specs.declared.descriptors.How.TheVariants as how
 use Rattle.iol_core.specs.declared.descriptors.Mode.{Mode}
@@ -82,7 +82,7 @@ event_with (request.Write by fd) bs = event.Call by (call.Write fd bs)
 
 -- a call of this kind reads bytes or domains or writes to C's memory, or there is none
 abbrev pub IsNoPlainKind : ℕ → Type 0
-IsNoPlainKind k = (k ≡ 2 → ⊥) → (k ≡ 6 → ⊥) → (k ≡ 14 → ⊥) → (k ≡ 15 → ⊥) → (k ≡ 16 → ⊥) → (k ≡ 25 → ⊥) → (k ≡ 26 → ⊥)
+IsNoPlainKind k = k ≢ 2 → k ≢ 6 → k ≢ 14 → k ≢ 15 → k ≢ 16 → k ≢ 25 → k ≢ 26
     → 27 < k
 
 -- no call has this kind, or its mode has no such number

@@ -1,5 +1,5 @@
 -- The calls that need no memory: `show`, and a `read` that is not of a file. Their bytes are written to C's memory.
-use Rattle.std.specs.Prelude.{◌≡◌, ◌⊎◌, ℕ, false, Option, None, Some}
+use Rattle.std.specs.Prelude.{◌≡◌, ◌⊎◌, ℕ, Option, None, Some, IsFalse, ◌≢◌, ⊤}
 use Rattle.iol_core.specs.declared.events.Call.TheVariants as call
 use Rattle.iol_core.specs.declared.events.Event.TheVariants as event
 use Rattle.iol_system.specs.Machine.{SystemState, tables_of}
@@ -12,17 +12,17 @@ use Rattle.iol_ffi.specs.declared.replies.IolReply.{IolReply}
 
 -- a domain's descriptor is not open on a file that it may read
 abbrev pub ReadsNoFile : (by fd count : ℕ) → SystemState → Type 0
-ReadsNoFile by fd count s = asks_store (tables_of s.kernel) (event.Call by (call.Read fd count)) ≡ false
+ReadsNoFile by fd count s = IsFalse (asks_store (tables_of s.kernel) (event.Call by (call.Read fd count)))
 
 -- the request needs no memory in this state
 abbrev pub NeedsNone : Request → SystemState → Type 0
-NeedsNone (request.Show by agg) s = Unit {0}
+NeedsNone (request.Show by agg) s = ⊤
 NeedsNone (request.Read by fd count) s = ReadsNoFile by fd count s
 NeedsNone q s = ⊥
 
 -- the request needs no memory, and C does not get its lack
 abbrev pub IsNotMemory : Request → SystemState → IolReply → Type 0
-IsNotMemory q s r = NeedsNone q s → r.refusal ≡ 17 → ⊥
+IsNotMemory q s r = NeedsNone q s → r.refusal ≢ 17
 
 -- the same by the system in a handle
 abbrev pub NeedsNoneIn : Request → Option Machine → Type 0

@@ -1,5 +1,5 @@
 -- What one call of `iol_step` does.
-use Rattle.std.specs.Prelude.{◌≡◌, ◌⊎◌, ◌≤◌, ℕ, List, length, Option, Some}
+use Rattle.std.specs.Prelude.{◌≡◌, ◌⊎◌, ◌≤◌, ℕ, List, length, Option, Some, ◌≢◌}
 use Rattle.iol_core.specs.declared.events.Event.{Event}
 use Rattle.iol_core.specs.declared.events.Reply.{Reply}
 use Rattle.iol_system.specs.Machine.{SystemState}
@@ -18,7 +18,7 @@ pub record Executes (event : Event) (r : IolReply) (out : List ℕ) (old new : S
   pub reply : Reply
   pub promises : Promises old event reply new
   pub encodes : Encodes reply r out
-  pub fits : TakesBytes event → r.refusal ≡ 101 → ⊥
+  pub fits : TakesBytes event → r.refusal ≢ 101
 
 -- from one machine to the other, by this event and with this reply, all that a step promises
 abbrev pub Steps : Option Machine → Event → Reply → Option Machine → Type 0
@@ -31,7 +31,7 @@ pub record TakesStep (event : Event) (r : IolReply) (out : List ℕ) (old new : 
   pub reply : Reply
   pub steps : Steps old event reply new
   pub encodes : Encodes reply r out
-  pub fits : TakesBytes event → r.refusal ≡ 101 → ⊥
+  pub fits : TakesBytes event → r.refusal ≢ 101
 
 -- The machine takes a step by the event that C passed, for whose bytes `out` has room. If this event needs no memory, C
 -- does not get its lack.
@@ -41,7 +41,7 @@ pub record CarriesOut (e : IolEvent) (bytes names : List ℕ) (r : IolReply) (ou
   pub is : IsEvent event e bytes names
   pub room : most_bytes event ≤ length out
   pub takes : TakesStep event r out old new
-  pub needs : NeedsNoMemory e old → r.refusal ≡ 17 → ⊥
+  pub needs : NeedsNoMemory e old → r.refusal ≢ 17
 
 -- Why nothing was done: there was no memory for the event's list, C passed no event, or `out` has less room than the
 -- event may need for the bytes that it takes.

@@ -1,6 +1,6 @@
 //! The calls of the C interface over a handle. `iol_c` exports each under its name in C, with the
 //! same contract.
-ghost use Rattle.std.specs.Prelude.{◌≡◌, ◌≤◌, IsSome, None, length};
+ghost use Rattle.std.specs.Prelude.{◌≡◌, ◌≤◌, IsSome, None, length, ◌≢◌};
 ghost use Rattle.iol_core.specs.declared.events.Call.TheVariants as call;
 ghost use Rattle.iol_core.specs.declared.events.Event.TheVariants as event;
 ghost use Rattle.iol_ffi.specs.Creation.{Creates, CreatesInMemory, CreatesOver, CreatesOverFiles, IsCreated, sizes};
@@ -78,7 +78,7 @@ fn read_front(
     ensures len { length out.new ≡ length out.old }
     ensures executes { Executes (event.Call by (call.Read fd count)) result out.new
         system.old system.new }
-    ensures needs { ReadsNoFile by fd count system.old → result.refusal ≡ 17 → ⊥ }
+    ensures needs { ReadsNoFile by fd count system.old → result.refusal ≢ 17 }
 {
     read_reply(system.read_into(by, fd, &mut out[..count as usize]))
 }
@@ -119,7 +119,7 @@ fn carry_out(
     ensures len { length out.new ≡ length out.old }
     ensures takes { TakesStep (event_with request.now bytes.now) result out.new
         handle.old.value handle.new.value }
-    ensures needs { NeedsNoneIn request.now handle.old.value → result.refusal ≡ 17 → ⊥ }
+    ensures needs { NeedsNoneIn request.now handle.old.value → result.refusal ≢ 17 }
 {
     let mut machine = mem::replace(handle, Handle::none(alloc)).into_box();
     let reply = execute(&mut machine.system, request, bytes, out);

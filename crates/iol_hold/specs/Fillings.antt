@@ -1,6 +1,6 @@
 -- Fillings: new buffers of a store before they are published.
-use Rattle.std.specs.Prelude.{[], ◌≡◌, ℕ, ◌/◌, ◌<◌, ◌≤◌, true, false, List, Result, Err, IfOk, IfErr, OnOk, length}
-use Rattle.std.specs.Prelude.{slice_index_or, flat_map}
+use Rattle.std.specs.Prelude.{[], ◌≡◌, ℕ, ◌/◌, ◌<◌, ◌≤◌, List, Result, Err, IfOk, IfErr, OnOk, length}
+use Rattle.std.specs.Prelude.{slice_index_or, flat_map, IsTrue, IsFalse}
 use Rattle.std.specs.Borrow.{RestsIfErr, Lends, MutBor, Fml, GName, u8, Array}
 use Rattle.std.specs.List.{All, Contains}
 use mir.Syntax.{named}
@@ -87,9 +87,9 @@ pub record BeginsFilling (old : Stored) (lender : GName) (p n : ℕ) (r : Result
   pub others : IfOk r (λ f. IsSameBut (part_pages (filling_parts f)) old.arena (filling_store f).arena)
   pub pool : IfOk r (λ f. filling_pool f ≡ p)
   pub same_reference : IfOk r (λ f. filling_lender f ≡ lender)
-  pub room : OnOk r (has_room old p n ≡ true)
+  pub room : OnOk r (IsTrue (has_room old p n))
   pub enough : OnOk r (pages_for n ≤ length (free_of old p))
-  pub no_room : (q : ℕ) → r ≡ Err (NoRoom q) → has_room old p n ≡ false
+  pub no_room : (q : ℕ) → r ≡ Err (NoRoom q) → IsFalse (has_room old p n)
   pub late : IfErr r (WantOfRoom p)
 
 -- a filling has a part of this number, and its parts are pending

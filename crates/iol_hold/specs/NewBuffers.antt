@@ -1,6 +1,6 @@
 -- Buffers that are made on pending pages.
-use Rattle.std.specs.Prelude.{◌≡◌, ℕ, ◌≤◌, true, false, List, [], ◌∷◌, length, take, flat_map, Result, Err, IfOk, IfErr}
-use Rattle.std.specs.Prelude.{OnOk, OnErr}
+use Rattle.std.specs.Prelude.{◌≡◌, ℕ, ◌≤◌, List, [], ◌∷◌, length, take, flat_map, Result, Err, IfOk, IfErr}
+use Rattle.std.specs.Prelude.{OnOk, OnErr, IsTrue, IsFalse}
 use Rattle.std.specs.List.{All, Contains}
 use Rattle.smallvec.specs.SmallVec.{SmallVec}
 use Rattle.iol_core.specs.Meaning.{WantOfRoom}
@@ -65,8 +65,8 @@ pub record FillsHolds (s t : Stored) (p : ℕ) (bytes : List ℕ) (r : Result (L
   pub lowest : OnOk r (free_pages t.arena (pool_in s.pools p).chunks ≡ others_of s p (length bytes))
   pub pools : t.pools ≡ s.pools
   pub tidy : IsTidy t
-  pub room : OnOk r (has_room s p (length bytes) ≡ true)
-  pub no_room : (q : ℕ) → r ≡ Err (NoRoom q) → has_room s p (length bytes) ≡ false
+  pub room : OnOk r (IsTrue (has_room s p (length bytes)))
+  pub no_room : (q : ℕ) → r ≡ Err (NoRoom q) → IsFalse (has_room s p (length bytes))
   pub late : IfErr r (WantOfRoom p)
   pub err : OnErr r (t ≡ s)
 

@@ -1,5 +1,5 @@
 -- The effect of any step on pages and chunks.
-use Rattle.std.specs.Prelude.{◌≡◌, ◌⊎◌, ℕ, true, false, List}
+use Rattle.std.specs.Prelude.{◌≡◌, ◌⊎◌, ℕ, List, IsTrue, IsFalse}
 use Rattle.std.specs.List.{Contains}
 use Rattle.iol_arena.specs.State.{entry_at, page_count}
 use Rattle.iol_arena.specs.Pages.{Raises}
@@ -14,8 +14,8 @@ pub record KeepsPages (old new : Stored) (placed : List ℕ) : Type 0 where
   pub count : page_count new.arena ≡ page_count old.arena
   pub limit : new.arena.limit ≡ old.arena.limit
   pub raises : Raises old.arena new.arena placed
-  pub others : (q : ℕ) → (Contains placed q → ⊥) → ((entry_at new.arena q).kind ≡ (entry_at old.arena q).kind)
+  pub others : (q : ℕ) → ¬ Contains placed q → ((entry_at new.arena q).kind ≡ (entry_at old.arena q).kind)
       ⊎ ((entry_at new.arena q).kind ≡ Free)
-  pub chunks : (p : ℕ) → (pool_in old.pools p).closed ≡ false → (pool_in new.pools p).closed ≡ false
+  pub chunks : (p : ℕ) → IsFalse (pool_in old.pools p).closed → IsFalse (pool_in new.pools p).closed
       → (pool_in new.pools p).chunks ≡ (pool_in old.pools p).chunks
-  pub returned : (p : ℕ) → (pool_in new.pools p).closed ≡ true → HasAllOrNone old new p
+  pub returned : (p : ℕ) → IsTrue (pool_in new.pools p).closed → HasAllOrNone old new p

@@ -1,5 +1,5 @@
 -- Pending pages: reserved, and not published yet.
-use Rattle.std.specs.Prelude.{◌≡◌, ℕ, ◌<◌, ◌≤◌, true, false, List, [], ◌∷◌, length, slice_set}
+use Rattle.std.specs.Prelude.{◌≡◌, ℕ, ◌<◌, ◌≤◌, List, [], ◌∷◌, length, slice_set, IsTrue, IsFalse}
 use Rattle.std.specs.List.{Contains}
 use Rattle.iol_arena.specs.State.{State, entry_at, pages_for}
 use Rattle.iol_arena.specs.Chunks.{free_pages, usable}
@@ -31,7 +31,7 @@ pub record Fills (old new : Stored) (ps : List Part) : Type 0 where
 -- n bytes may be placed in a pool: it is open, and n is not 0.
 pub record MayPlace (s : Stored) (pool n : ℕ) : Type 0 where
   pub some : 0 < n
-  pub opened : (pool_in s.pools pool).closed ≡ false
+  pub opened : IsFalse (pool_in s.pools pool).closed
 
 -- The parts of a reservation are the lowest free pages of a pool that n bytes need, and are pending.
 pub record Reserves (old new : Stored) (pool n : ℕ) (r : Reservation) : Type 0 where
@@ -41,7 +41,7 @@ pub record Reserves (old new : Stored) (pool n : ℕ) (r : Reservation) : Type 0
   pub free : free_pages new.arena (pool_in old.pools pool).chunks ≡ others_of old pool n
   pub fills : Fills old new r.parts.items
   pub others : IsSameBut (part_pages r.parts.items) old.arena new.arena
-  pub room : has_room old pool n ≡ true
+  pub room : IsTrue (has_room old pool n)
   pub enough : pages_for n ≤ length (free_of old pool)
 
 -- The parts are no longer pending: these buffers were made on them, each held once, or none.

@@ -1,5 +1,5 @@
 -- The effect of a release on pages.
-use Rattle.std.specs.Prelude.{◌≡◌, ◌⊎◌, ℕ, false, List, [], ◌∷◌, Some, None}
+use Rattle.std.specs.Prelude.{◌≡◌, ◌⊎◌, ℕ, List, [], ◌∷◌, Some, None, IsFalse}
 use Rattle.iol_core.specs.declared.numbers.BufId.{BufId}
 use Rattle.iol_arena.specs.Firsts.{first_on}
 use Rattle.iol_arena.specs.State.{State, HasRuns, entry_at, generation_at, page_count}
@@ -31,7 +31,7 @@ pub record FreesOnly (old new : Stored) : Type 0 where
       ⊎ ((entry_at new.arena q).kind ≡ Free)
   pub freed : (q p : ℕ) → (entry_at new.arena q).kind ≡ Free → first_on (entry_at old.arena q).kind q ≡ Some p
       → count_of new (buf_at old.arena p) ≡ 0
-  pub pools : (p : ℕ) → (pool_in old.pools p).closed ≡ false → pool_in new.pools p ≡ pool_in old.pools p
+  pub pools : (p : ℕ) → IsFalse (pool_in old.pools p).closed → pool_in new.pools p ≡ pool_in old.pools p
   pub chunks : (p : ℕ) → HasAllOrNone old new p
   pub runs : HasRuns old.arena.entries → HasRuns new.arena.entries
 

@@ -15,7 +15,7 @@ use Rattle.iol_hold.specs.StoreState.{Stored, AllReclaimed, IsReclaimed, IsTidy}
 -- A store is made as configured, without pools: no chunk is taken, and all pages are free and unraised. `BadRange` is
 -- returned exactly if the configuration is out of its ranges. The only other error is `Memory`.
 pub record MakesStore (config : Config) (r : Result Stored Refusal) : Type 0 where
-  pub range : (r ≡ Err BadRange) ↔ (IsInRange config → ⊥)
+  pub range : (r ≡ Err BadRange) ↔ (¬ IsInRange config)
   pub errors : IfErr r (λ e. (e ≡ BadRange) ⊎ (e ≡ Memory))
   pub all_free : IfOk r (λ s. IsAllFree s.arena config.chunks config.gen_limit)
   pub pools : IfOk r (λ s. s.pools ≡ [])

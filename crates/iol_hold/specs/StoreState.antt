@@ -1,5 +1,6 @@
 -- A store in contracts: pages, pools, and the number of holds on each buffer.
-use Rattle.std.specs.Prelude.{◌≡◌, ◌≢◌, ℕ, ◌/◌, ◌<◌, ◌⊎◌, true, cond, eqb, List, [], map, slice_index, slice_set}
+use Rattle.std.specs.Prelude.{◌≡◌, ◌≢◌, ℕ, ◌/◌, ◌<◌, ◌⊎◌, List, [], map, slice_index, slice_set}
+use Rattle.std.specs.Prelude.{IsTrue, if◌then◌else◌, ◌==◌}
 use Rattle.std.specs.List.{Contains}
 use Rattle.iol_core.specs.declared.limits.TheConstants.{CHUNK_PAGES}
 use Rattle.iol_core.specs.declared.numbers.BufId.{BufId}
@@ -31,7 +32,7 @@ held_bufs holds = map (λ h. h.buf) holds
 
 -- n if the buffer of generation g begins at the page, else 0
 abbrev pub count_in : Entry → (n g : ℕ) → ℕ
-count_in e n g = cond (kind_head e.kind) (cond (eqb e.generation g) n 0) 0
+count_in e n g = if kind_head e.kind then (if e.generation == g then n else 0) else 0
 
 -- the number of holds on the buffer: 0 if it is not live
 unfoldable pub count_of : Stored → BufId → ℕ
@@ -43,7 +44,7 @@ IsInPool s p b = Contains (pool_in s.pools p).chunks (b.page / CHUNK_PAGES)
 
 -- the pool has no chunks that it should have returned
 abbrev pub IsReclaimed : Stored → (p : ℕ) → Type 0
-IsReclaimed s p = goes_back s.arena s.pools p ≡ true → (pool_in s.pools p).chunks ≡ []
+IsReclaimed s p = IsTrue (goes_back s.arena s.pools p) → (pool_in s.pools p).chunks ≡ []
 
 -- no closed pool keeps chunks whose pages are all empty
 pub record AllReclaimed (s : Stored) : Type 0 where

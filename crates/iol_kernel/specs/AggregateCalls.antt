@@ -1,6 +1,7 @@
 -- A domain's aggregates after a split, a join or a gift, and after all of them are dropped.
-use Rattle.std.specs.Prelude.{◌≡◌, ◌≢◌, ℕ, ◌+◌, ◌<◌, ◌≤◌, ◌^◌, true, List, [], ◌∷◌, ◌++◌, take, drop, None, Result}
-use Rattle.std.specs.Prelude.{IfOk, OnOk, OnErr}
+use Rattle.std.specs.Prelude.{◌≡◌, ◌≢◌, ℕ, ◌+◌, ◌<◌, ◌≤◌, ◌^◌, List, [], ◌∷◌, ◌++◌, take, drop, None, Result}
+use Rattle.std.specs.List.{AllByRecursion}
+use Rattle.std.specs.Prelude.{IfOk, OnOk, OnErr, IsTrue}
 use Rattle.iol_core.specs.NumberedLists.{without}
 use Rattle.iol_core.specs.State.{Domain}
 use Rattle.iol_core.specs.declared.limits.TheConstants.{LAST_AGGREGATE}
@@ -13,7 +14,7 @@ use Rattle.iol_hold.specs.declared.slices.Slice.{Slice}
 use Rattle.iol_desc.specs.Tables.{Row, agg_in, domain_in, domains_of, with_agg_in, with_domain_in, with_next}
 use Rattle.iol_desc.specs.Tables.{without_agg_in}
 use Rattle.iol_kernel.specs.HoldCounts.{MayShare, bufs_in}
-use Rattle.iol_kernel.specs.KernelState.{Each, slices_in}
+use Rattle.iol_kernel.specs.KernelState.{slices_in}
 
 -- the domain with two aggregates in place of a, under the next numbers
 abbrev pub with_two : Domain (List Slice) → (a : ℕ) → (first second : List Slice) → Domain (List Slice)
@@ -38,7 +39,7 @@ pub record SplitsAgg (s t : Stored) (old new : List (Domain (List Slice))) (d a 
 -- A live domain's aggregate may be split at this index: the count of each of its slices can be incremented, and two
 -- aggregate numbers are left.
 pub record MaySplitIn (s : Stored) (ds : List (Domain (List Slice))) (d a at : ℕ) : Type 0 where
-  pub live : (domain_in ds d).live ≡ true
+  pub live : IsTrue (domain_in ds d).live
   pub there : agg_in ds d a ≢ None
   pub few : (domain_in ds d).next_agg + 1 ≤ LAST_AGGREGATE
   pub within : at ≤ byte_len (slices_in ds d a)
@@ -58,7 +59,7 @@ joined_in ds d a b = with_domain_in ds d (with_one (domain_in ds d) a b (slices_
 
 -- Two of a live domain's aggregates may be joined: an aggregate number is left.
 pub record MayJoinIn (ds : List (Domain (List Slice))) (d a b : ℕ) : Type 0 where
-  pub live : (domain_in ds d).live ≡ true
+  pub live : IsTrue (domain_in ds d).live
   pub first : agg_in ds d a ≢ None
   pub second : agg_in ds d b ≢ None
   pub differ : a ≢ b
@@ -74,8 +75,8 @@ pub record JoinsNext {E : Type 0} (old new : List (Domain (List Slice))) (d a b 
 
 -- An aggregate may be given by a live domain to a live one, which has an aggregate number left.
 pub record MayGiveIn (ds : List (Domain (List Slice))) (d a e : ℕ) : Type 0 where
-  pub from : (domain_in ds d).live ≡ true
-  pub to : (domain_in ds e).live ≡ true
+  pub from : IsTrue (domain_in ds d).live
+  pub to : IsTrue (domain_in ds e).live
   pub there : agg_in ds d a ≢ None
   pub few : (domain_in ds e).next_agg ≤ LAST_AGGREGATE
 
@@ -93,4 +94,4 @@ pub record ReleasesAll (s t : Stored) (aggs left : List (ℕ × List Slice)) : T
   pub moves : Moves s t (bufs_in aggs) (bufs_in left)
   pub lists : SameLists s t
   pub frees : FreesOnly s t
-  pub reclaims : Each (λ e. AllReadable s e.1) aggs → AllReclaimed s → AllReclaimed t
+  pub reclaims : AllByRecursion (λ e. AllReadable s e.1) aggs → AllReclaimed s → AllReclaimed t

@@ -1,5 +1,5 @@
 -- A write of an aggregate by reference: its preconditions and tests.
-use Rattle.std.specs.Prelude.{◌≡◌, ℕ, false, [], None, Result, Err, IfOk, IfErr}
+use Rattle.std.specs.Prelude.{◌≡◌, ℕ, [], None, Result, Err, IfOk, IfErr, IsFalse}
 use Rattle.iol_core.specs.Calls.Aggregates.{lacks_agg}
 use Rattle.iol_core.specs.Calls.Writes.{iol_write}
 use Rattle.iol_core.specs.Meaning.{first}
@@ -13,7 +13,7 @@ use Rattle.iol_kernel.specs.Readings.{Reading}
 -- A domain's aggregate may be written to its descriptor, which is open on `target`.
 pub record MayWriteAgg (d fd a : ℕ) (target : Descriptor) (h : KernelState) : Type 0 where
   pub held : IsOpenOn h d fd target
-  pub there : lacks_agg (machine_of [] h) d a ≡ false
+  pub there : IsFalse (lacks_agg (machine_of [] h) d a)
   pub passed : (f : Reading) → first (iol_write (read_of f h) d fd a).refusals ≡ None
 
 -- A write of an aggregate was tested: the descriptor's object, or the refusal.

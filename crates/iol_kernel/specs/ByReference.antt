@@ -1,5 +1,5 @@
 -- Reading and writing by reference, by what a descriptor is open on.
-use Rattle.std.specs.Prelude.{◌≡◌, ℕ, false, Result, OnOk}
+use Rattle.std.specs.Prelude.{ℕ, Result, OnOk, IsFalse}
 use Rattle.iol_core.specs.State.{descriptor}
 use Rattle.iol_core.specs.Calls.Reads.{iol_read}
 use Rattle.iol_core.specs.Calls.Writes.{iol_write, is_file}
@@ -19,7 +19,7 @@ pub record ReadsByReference {B : Type 0} (d fd n : ℕ) (disk : B → Disk) (sto
     (after : B) (new : Kernel) : Type 0 where
   pub serves : Serves (λ s. iol_read s d fd n) (disk store) old r (disk after) new
   pub reads : Reads d fd n (disk store) old r (disk after) new
-  pub slices : is_file (descriptor (machine old) d fd) ≡ false
+  pub slices : IsFalse (is_file (descriptor (machine old) d fd))
       → OnOk r (TakesSlices d (descriptor (machine old) d fd) (state_of old) (state_of new))
 
 -- At most n bytes are read by reference from a file that was found open.
@@ -33,5 +33,5 @@ TakesFound d fd found n disk store old r after new =
 pub record WritesByReference (d fd a : ℕ) (old : Kernel) (r : Result ℕ Refusal) (new : Kernel) : Type 0 where
   pub serves : (disk : Disk) → Serves (λ s. iol_write s d fd a) disk old r disk new
   pub writes : WritesOn d fd a (descriptor (machine old) d fd) (state_of old) r (state_of new)
-  pub slices : is_file (descriptor (machine old) d fd) ≡ false
+  pub slices : IsFalse (is_file (descriptor (machine old) d fd))
       → OnOk r (QueuesAgg d a (descriptor (machine old) d fd) (state_of old) (state_of new))

@@ -1,7 +1,7 @@
 -- The effect of a call on the state of the system, in terms of the copying machine, for each reading of the places of
 -- bytes.
-use Rattle.std.specs.Prelude.{◌≡◌, ℕ, ◌+◌, ◌≤◌, Bool, nat_lt, length, ◌⊎◌, ◌++◌, true, false, List, [], ◌∷◌, None, Some}
-use Rattle.std.specs.Prelude.{Result, Ok, Err, IfOk, IfErr, OnOk, OnErr}
+use Rattle.std.specs.Prelude.{◌≡◌, ℕ, ◌+◌, ◌≤◌, Bool, nat_lt, length, ◌⊎◌, ◌++◌, List, [], ◌∷◌, None, Some}
+use Rattle.std.specs.Prelude.{Result, Ok, Err, IfOk, IfErr, OnOk, OnErr, IsTrue, IsFalse, ◌≢◌}
 use Rattle.iol_core.specs.Text.{Text, labelled}
 use Rattle.iol_core.specs.State.{State, is_live, text, descriptor, conn_at, with_conn}
 use Rattle.iol_core.specs.Meaning.{Meaning}
@@ -63,7 +63,7 @@ pub record CarriesOut {A : Type 0} (m : State → Meaning A) (old : KernelState)
   pub step : (f : Reading) → KeepsPools f → Step (m (read_of f old)) (read_of f old) r (read_of f new)
   pub arena : new.store.arena ≡ old.store.arena
   pub pools : new.store.pools ≡ old.store.pools
-  pub roomy : (p : ℕ) → r ≡ Err (NoRoom p) → ⊥
+  pub roomy : (p : ℕ) → r ≢ Err (NoRoom p)
   pub refused : OnErr r (new ≡ old)
   pub sums : new.sums ≡ old.sums
   pub cache : new.cache ≡ old.cache
@@ -101,7 +101,7 @@ pub record Names {A : Type 0} (disk : Disk) (m : State → Meaning A) (old : Ker
   pub beside : StepsBeside m old r new
   pub places : OnOk r ((f : Reading) → KeepsPools f → read_of f new ≡ (m (read_of f old)).after)
   pub store : new.store ≡ old.store
-  pub roomy : (p : ℕ) → r ≡ Err (NoRoom p) → ⊥
+  pub roomy : (p : ℕ) → r ≢ Err (NoRoom p)
   pub refused : OnErr r (new ≡ old)
   pub sums : new.sums ≡ old.sums
   pub keeps : KeepsCover old.cache new.cache
@@ -131,7 +131,7 @@ pub record AddsFile {A : Type 0} (m : State → Meaning A) (old : KernelState) (
 -- A call is refused by the first of its tests that holds, and the refusal is not NoRoom.
 pub record Refuses {A : Type 0} (m : State → Meaning A) (x : Refusal) (h : KernelState) : Type 0 where
   pub refused : (f : Reading) → first (m (read_of f h)).refusals ≡ Some x
-  pub roomy : (p : ℕ) → x ≡ NoRoom p → ⊥
+  pub roomy : (p : ℕ) → x ≢ NoRoom p
 
 -- The effect of a call that carries out: its answer, and the state after it.
 pub record Answers {A : Type 0} (m : State → Meaning A) (old : KernelState) (a : A) (new : KernelState) : Type 0 where
@@ -187,10 +187,10 @@ MakesAgg d pool n old new = MakesBytes (λ s t. with_agg s d t) pool n old new
 pub record MayMake (by : ℕ) (bytes : List ℕ) (pool : ℕ) (h : KernelState) : Type 0 where
   pub passed : (f : Reading) → first (agg_make (read_of f h) by bytes).refusals ≡ None
   pub lands : (f : Reading) → default_pool (read_of f h) by ≡ pool
-  pub live : is_live (machine_of [] h) by ≡ true
-  pub few : too_many_aggs (machine_of [] h) by 1 0 ≡ false
+  pub live : IsTrue (is_live (machine_of [] h) by)
+  pub few : IsFalse (too_many_aggs (machine_of [] h) by 1 0)
   pub small : length bytes ≤ MAX_AGGREGATE_BYTES
-  pub opened : (machine.pool (machine_of [] h) pool).closed ≡ false
+  pub opened : IsFalse (machine.pool (machine_of [] h) pool).closed
 
 -- New bytes of a pool become a domain's next aggregate; or there is no room or no memory for them, and nothing changed.
 pub record MakesNext (by pool : ℕ) (bytes : List ℕ) (old : KernelState) (r : Result ℕ Refusal) (new : KernelState) :
@@ -215,32 +215,32 @@ pub record MayArrive (c : ℕ) (bytes : List ℕ) (pool count : ℕ) (h : Kernel
   pub passed : (f : Reading) → first (arrive (read_of f h) c bytes).refusals ≡ None
   pub lands : (f : Reading) → (conn_at (read_of f h) c).pool ≡ pool
   pub fits : (f : Reading) → (arrive (read_of f h) c bytes).answer ≡ count
-  pub opened : (pool_in h.store.pools pool).closed ≡ false
+  pub opened : IsFalse (pool_in h.store.pools pool).closed
 
 -- the domain is live, and its aggregate has these slices
 pub record IsFound (h : KernelState) (d a : ℕ) (xs : List Slice) : Type 0 where
   pub found : Some xs ≡ agg_in h.domains d a
-  pub live : (f : Reading) → is_live (read_of f h) d ≡ true
-  pub there : (f : Reading) → lacks_agg (read_of f h) d a ≡ false
+  pub live : (f : Reading) → IsTrue (is_live (read_of f h) d)
+  pub there : (f : Reading) → IsFalse (lacks_agg (read_of f h) d a)
   pub text : (f : Reading) → text (read_of f h) d a ≡ read f xs
 
 -- the domain is live, and its aggregate has n bytes
 pub record IsSoLong (h : KernelState) (d a n : ℕ) : Type 0 where
-  pub live : (f : Reading) → is_live (read_of f h) d ≡ true
-  pub there : (f : Reading) → lacks_agg (read_of f h) d a ≡ false
+  pub live : (f : Reading) → IsTrue (is_live (read_of f h) d)
+  pub there : (f : Reading) → IsFalse (lacks_agg (read_of f h) d a)
   pub len : (f : Reading) → n ≡ length (text (read_of f h) d a)
 
 -- the refusal if there is no such domain, or no such aggregate of it
 abbrev pub IsMissing : KernelState → (d a : ℕ) → Refusal → Type 0
 IsMissing h d a x =
-    ((x ≡ NoDomain) × ((f : Reading) → is_live (read_of f h) d ≡ false))
-    ⊎ ((x ≡ BadAgg) × ((f : Reading) → (is_live (read_of f h) d ≡ true) × (lacks_agg (read_of f h) d a ≡ true)))
+    ((x ≡ NoDomain) × ((f : Reading) → IsFalse (is_live (read_of f h) d)))
+    ⊎ ((x ≡ BadAgg) × ((f : Reading) → IsTrue (is_live (read_of f h) d) × IsTrue (lacks_agg (read_of f h) d a)))
 
 -- the refusal if there is no such domain, or no such descriptor of it
 abbrev pub IsUnopened : KernelState → (d fd : ℕ) → Refusal → Type 0
 IsUnopened h d fd x =
-    ((x ≡ NoDomain) × ((f : Reading) → is_live (read_of f h) d ≡ false))
-    ⊎ ((x ≡ BadFd) × ((f : Reading) → (is_live (read_of f h) d ≡ true) × (descriptor (read_of f h) d fd ≡ None)))
+    ((x ≡ NoDomain) × ((f : Reading) → IsFalse (is_live (read_of f h) d)))
+    ⊎ ((x ≡ BadFd) × ((f : Reading) → IsTrue (is_live (read_of f h) d) × (descriptor (read_of f h) d fd ≡ None)))
 
 -- the segment sent, as its bytes and their checksum
 abbrev pub reported : Result Segment Refusal → Result (List ℕ × ℕ) Refusal
@@ -253,7 +253,7 @@ pub record Transmits (c max : ℕ) (old : KernelState) (r : Result (List ℕ × 
     Type 0 where
   pub step : Steps (λ s. transmit s c max) old r new
   pub places : OnOk r ((f : Reading) → KeepsPools f → read_of f new ≡ (transmit (read_of f old) c max).after)
-  pub roomy : (p : ℕ) → r ≡ Err (NoRoom p) → ⊥
+  pub roomy : (p : ℕ) → r ≢ Err (NoRoom p)
   pub pages : KeepsPages old.store new.store []
   pub uses : OnOk r (UsesSent old.store (conn_in old.conns c).outgoing max old.sums new.sums)
   pub cache : new.cache ≡ old.cache

@@ -1,5 +1,6 @@
 -- The effect of closing an end on a pipe, on the pipes, and on the state of the system.
 use Rattle.std.specs.Prelude.{◌≡◌, ℕ, ◌+◌, ◌≤◌, false, fold, ◌||◌, if◌then◌else◌, List, [], Option, Some, None}
+use Rattle.std.specs.List.{AllByRecursion}
 use Rattle.std.specs.Prelude.{slice_set}
 use Rattle.iol_core.specs.State.{Domain}
 use Rattle.iol_core.specs.Calls.Descriptors.{closed_on}
@@ -10,7 +11,7 @@ use Rattle.iol_hold.specs.declared.slices.Slice.{Slice}
 use Rattle.iol_kernel.specs.Views.{Pipe, Objects}
 use Rattle.iol_kernel.specs.Calls.{Leaves}
 use Rattle.iol_kernel.specs.EndCounts.{same_end, ends_on, all_ends_on}
-use Rattle.iol_kernel.specs.KernelState.{KernelState, objects_of, queue_at, Each, IsOpenEnd, IsSound}
+use Rattle.iol_kernel.specs.KernelState.{KernelState, objects_of, queue_at, IsOpenEnd, IsSound}
 
 -- a pipe whose read end is closed: its queue is empty
 abbrev pub without_reader : Pipe (List Slice) → Pipe (List Slice)
@@ -40,7 +41,7 @@ pub record ClosesEnd (s t : Stored) (old new : List (Option (Pipe (List Slice)))
 -- the objects that a domain's descriptors were open on: each end is open, and in no other descriptor
 pub record AreTaken (domains : List (Domain (List Slice))) (objects : Objects (List Slice))
     (ends : List (Option Descriptor)) : Type 0 where
-  pub opened : Each (IsOpenEnd objects) ends
+  pub opened : AllByRecursion (IsOpenEnd objects) ends
   pub once : (x : Descriptor) → all_ends_on x domains + ends_on x ends ≤ 1
 
 -- all ends except one stay open

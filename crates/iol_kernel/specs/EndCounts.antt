@@ -1,14 +1,14 @@
 -- How often each end of a pipe and each connection is open, over all domains.
-use Rattle.std.specs.Prelude.{ℕ, ◌≤◌, cond, eqb, List, Option, Some, None, sum_by}
+use Rattle.std.specs.Prelude.{ℕ, ◌≤◌, List, Option, Some, None, sum_by, if◌then◌else◌, ◌==◌}
 use Rattle.iol_core.specs.State.{Domain}
 use Rattle.iol_core.specs.declared.descriptors.Descriptor.{Descriptor}
 use Rattle.iol_core.specs.declared.descriptors.Descriptor.TheVariants as on
 
 -- 1 if the two are the same end of one pipe, or the same connection; else 0
 abbrev pub same_end : (x y : Descriptor) → ℕ
-same_end (on.ReadEnd p) (on.ReadEnd q) = cond (eqb p q) 1 0
-same_end (on.WriteEnd p) (on.WriteEnd q) = cond (eqb p q) 1 0
-same_end (on.Connection c) (on.Connection d) = cond (eqb c d) 1 0
+same_end (on.ReadEnd p) (on.ReadEnd q) = if p == q then 1 else 0
+same_end (on.WriteEnd p) (on.WriteEnd q) = if p == q then 1 else 0
+same_end (on.Connection c) (on.Connection d) = if c == d then 1 else 0
 same_end _ _ = 0
 
 -- 1 if the descriptor is open on the end x; else 0

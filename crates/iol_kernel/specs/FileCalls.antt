@@ -1,5 +1,5 @@
 -- Calls on files: their effect with an honest store under the files, and over any store.
-use Rattle.std.specs.Prelude.{◌≡◌, ℕ, List, [], Result, Err, OnErr, OnOk}
+use Rattle.std.specs.Prelude.{◌≡◌, ℕ, List, [], Result, Err, OnErr, OnOk, ◌≢◌}
 use Rattle.iol_core.specs.State.{State}
 use Rattle.iol_core.specs.Meaning.{Meaning, Step}
 use Rattle.iol_core.specs.Positions.{ArePlaced}
@@ -53,5 +53,5 @@ pub record LooksUp {A : Type 0} (m : State → Meaning A) (disk : Disk) (old : K
   pub places : OnOk r ((f : Reading) → KeepsPools f → read_of f new ≡ (m (read_of f old)).after)
   pub store : new.store ≡ old.store
   pub cache : new.cache ≡ old.cache
-  pub roomy : (p : ℕ) → r ≡ Err (NoRoom p) → ⊥
+  pub roomy : (p : ℕ) → r ≢ Err (NoRoom p)
   pub refused : OnErr r (new ≡ old)

@@ -1,7 +1,7 @@
 -- The end of a file, over any store: what the calls that ask for a length say of it, in terms of the length that the
 -- store reports.
-use Rattle.std.specs.Prelude.{◌≡◌, ℕ, ◌+◌, ◌<◌, ◌≤◌, Bool, true, false, [], length, nat_lt, if◌then◌else◌, Option, Some}
-use Rattle.std.specs.Prelude.{None, Result, Ok, Err, OnOk, IfOk, IfErr, OnErr, ⊤}
+use Rattle.std.specs.Prelude.{◌≡◌, ℕ, ◌+◌, ◌<◌, ◌≤◌, Bool, false, [], length, nat_lt, if◌then◌else◌, Option, Some}
+use Rattle.std.specs.Prelude.{None, Result, Ok, Err, OnOk, IfOk, IfErr, OnErr, ⊤, IsTrue, IsFalse}
 use Rattle.iol_core.specs.Prelude.{content, is_live, open_on}
 use Rattle.iol_core.specs.Meaning.{first}
 use Rattle.iol_core.specs.NumberedLists.{is_numbered}
@@ -25,12 +25,12 @@ use Rattle.iol_kernel.specs.declared.open_file.OpenFile.{OpenFile}
 -- Between two events: a file is in this slot.
 pub record HasFile (h : KernelState) (f : ℕ) : Type 0 where
   pub sound : IsSound h
-  pub there : is_numbered h.files f ≡ true
+  pub there : IsTrue (is_numbered h.files f)
 
 -- Between two events: the domain is live, and the file exists.
 pub record HasFileFor (h : KernelState) (d f : ℕ) : Type 0 where
   pub file : HasFile h f
-  pub live : is_live (machine_of [] h) d ≡ true
+  pub live : IsTrue (is_live (machine_of [] h) d)
 
 -- n is the end of the file for a read now; if the store backs the extents in memory, it is the length of the file.
 pub record IsLengthOf (disk : Disk) (h : KernelState) (f n : ℕ) : Type 0 where
@@ -87,10 +87,10 @@ pub record AsksNext (disk : Disk) (h : KernelState) (more : Bool) : Type 0 where
 -- The result of naming the next slot. TooLong is returned only if the store reports too many bytes for it; success and
 -- the refusals tested after TooLong are returned only if it does not.
 abbrev pub FitsNext : {A : Type 0} → Disk → KernelState → Result A Refusal → Type 0
-FitsNext disk h (Ok x) = is_next_long disk h ≡ false
-FitsNext disk h (Err TooLong) = is_next_long disk h ≡ true
-FitsNext disk h (Err TooMany) = is_next_long disk h ≡ false
-FitsNext disk h (Err (Denied p)) = is_next_long disk h ≡ false
-FitsNext disk h (Err (PoolClosed p)) = is_next_long disk h ≡ false
-FitsNext disk h (Err Memory) = is_next_long disk h ≡ false
+FitsNext disk h (Ok x) = IsFalse (is_next_long disk h)
+FitsNext disk h (Err TooLong) = IsTrue (is_next_long disk h)
+FitsNext disk h (Err TooMany) = IsFalse (is_next_long disk h)
+FitsNext disk h (Err (Denied p)) = IsFalse (is_next_long disk h)
+FitsNext disk h (Err (PoolClosed p)) = IsFalse (is_next_long disk h)
+FitsNext disk h (Err Memory) = IsFalse (is_next_long disk h)
 FitsNext disk h (Err x) = ⊤

@@ -1,6 +1,6 @@
 -- Naming and opening files: the preconditions, and the tables of files afterwards.
-use Rattle.std.specs.Prelude.{◌≡◌, ℕ, ◌+◌, ◌<◌, ◌++◌, ◌∷◌, false, true, bytes_eq, is_some, List, [], length, Option}
-use Rattle.std.specs.Prelude.{IfSome, Result, IfOk, OnOk, OnErr}
+use Rattle.std.specs.Prelude.{◌≡◌, ℕ, ◌+◌, ◌<◌, ◌++◌, ◌∷◌, bytes_eq, is_some, List, [], length, Option}
+use Rattle.std.specs.Prelude.{IfSome, Result, IfOk, OnOk, OnErr, IsTrue, IsFalse}
 use Rattle.std.specs.List.{list_any}
 use Rattle.iol_core.specs.NumberedLists.{is_numbered}
 use Rattle.iol_core.specs.State as machine
@@ -31,7 +31,7 @@ pub record HasNone (pages : ℕ) (x : Files) : Type 0 where
 
 -- A file of this name may be added after the present ones: none of them has the name, and a slot is free.
 pub record MayName (name : List ℕ) (x : Files) : Type 0 where
-  pub unnamed : list_any (λ f. bytes_eq f.name name) x.table.files ≡ false
+  pub unnamed : IsFalse (list_any (λ f. bytes_eq f.name name) x.table.files)
   pub few : length (cached_of x.cache).files < MAX_FILES
 
 -- A file of this name and pool was added in the next slot, with no extent in memory; after a refusal, files and cache
@@ -41,7 +41,7 @@ pub record AddsNamed {E : Type 0} (name : List ℕ) (pool : ℕ) (old : Files) (
   pub list : OnOk r (new.table.files ≡ with_named old.table.files name pool)
   pub cached : OnOk r ((cached_of new.cache).files ≡ (cached_of old.cache).files ++ new_file pool ∷ [])
   pub orders : (p : ℕ) → order_in (cached_of new.cache).orders p ≡ order_in (cached_of old.cache).orders p
-  pub sound : (s : Stored) → cache.IsSound s (cached_of old.cache) → (pool_in s.pools pool).closed ≡ false
+  pub sound : (s : Stored) → cache.IsSound s (cached_of old.cache) → IsFalse (pool_in s.pools pool).closed
       → cache.IsSound s (cached_of new.cache)
   pub err_list : OnErr r (new.table.files ≡ old.table.files)
   pub err_cache : OnErr r (cached_of new.cache ≡ cached_of old.cache)
@@ -50,8 +50,8 @@ pub record AddsNamed {E : Type 0} (name : List ℕ) (pool : ℕ) (old : Files) (
 pub record MayAddFile (name : List ℕ) (pool : ℕ) (h : KernelState) : Type 0 where
   pub sound : IsSound h
   pub few : length (machine_of [] h).files < MAX_FILES
-  pub unnamed : is_some (file_called (machine_of [] h) name) ≡ false
-  pub opened : (machine.pool (machine_of [] h) pool).closed ≡ false
+  pub unnamed : IsFalse (is_some (file_called (machine_of [] h) name))
+  pub opened : IsFalse (machine.pool (machine_of [] h) pool).closed
 
 -- A file of this name and pool was added in the next slot; or there was no memory, and nothing changed.
 pub record TriesFile {E : Type 0} (d : ℕ) (name : List ℕ) (pool : ℕ) (old : KernelState) (r : Result ℕ E)
@@ -62,9 +62,9 @@ pub record TriesFile {E : Type 0} (d : ℕ) (name : List ℕ) (pool : ℕ) (old 
 -- The result of looking for the file of a name: it is found if it exists.
 pub record FindsNamed (name : List ℕ) (h : KernelState) (r : Option ℕ) : Type 0 where
   pub called : (f : Reading) → r ≡ file_called (read_of f h) name
-  pub there : IfSome r (λ n. is_numbered h.files n ≡ true)
+  pub there : IfSome r (λ n. IsTrue (is_numbered h.files n))
 
 -- A live domain may have one more descriptor, on a file that exists.
 pub record MayOpenFile (d f : ℕ) (h : KernelState) : Type 0 where
   pub has : HasFileFor h d f
-  pub few : too_many_open (machine_of [] h) d 1 ≡ false
+  pub few : IsFalse (too_many_open (machine_of [] h) d 1)

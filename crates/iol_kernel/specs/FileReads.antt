@@ -2,6 +2,7 @@
 -- and of the cache.
 use Rattle.std.specs.Prelude.{◌≡◌, ◌⊎◌, ℕ, ◌+◌, ◌-◌, ◌≤◌, ◌&&◌, Bool, not, min, List, [], ◌∷◌, length, take, drop}
 use Rattle.std.specs.Prelude.{slice_set, Option, Some, None, Result, Ok, Err, IfOk, IfErr, OnErr, OnOk, if◌then◌else◌}
+use Rattle.std.specs.Prelude.{⊤}
 use Rattle.iol_core.specs.State as machine
 use Rattle.iol_core.specs.State.{State, Domain, is_live, descriptor}
 use Rattle.iol_core.specs.Meaning.{◌when◌, first}
@@ -69,7 +70,7 @@ pub record IsOpenAt (h : KernelState) (x : FileRead) : Type 0 where
 abbrev pub IsBeforeRoom : Refusal → Type 0
 IsBeforeRoom (NoRoom p) = ⊥
 IsBeforeRoom (Fault f) = ⊥
-IsBeforeRoom y = Unit {0}
+IsBeforeRoom y = ⊤
 
 -- the tests that may refuse a read of a file before the store is asked: only a read by reference makes an aggregate
 abbrev pub read_tests : State → (by f : ℕ) → Mode → (makes_agg : Bool) → List (Option Refusal)

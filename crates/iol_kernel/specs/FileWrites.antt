@@ -1,6 +1,6 @@
 -- The state that a write to a file leaves, in addition to its meaning.
 use Rattle.std.specs.Prelude.{◌≡◌, ◌⊎◌, ℕ, ◌+◌, ◌<◌, ◌≤◌, List, [], length, slice_set, Option, Some, Result, Err, IfErr}
-use Rattle.std.specs.Prelude.{OnErr, OnOk, true, false, ⊤}
+use Rattle.std.specs.Prelude.{OnErr, OnOk, ⊤, IsTrue, IsFalse, ◌≢◌}
 use Rattle.iol_arena.specs.State.{pages_for}
 use Rattle.iol_core.specs.Meaning.{WantOfRoom}
 use Rattle.iol_core.specs.State.{Domain}
@@ -148,7 +148,7 @@ pub record GivesUpNew (pool : ℕ) (bytes : List ℕ) (old new : KernelState) : 
 -- eviction, and the bytes placed are released.
 pub record UnlaidRoomy (pool : ℕ) (bytes : List ℕ) (old new : KernelState) (x : Refusal) : Type 0 where
   pub memory : x ≡ Memory
-  pub fits : can_fit old pool (length bytes) ≡ true
+  pub fits : IsTrue (can_fit old pool (length bytes))
   pub left : AfterRoom pool (length bytes) old (λ roomy. (new ≡ roomy) ⊎ GivesUpNew pool bytes roomy new)
 
 -- The state after a refused write. A refusal before room was made, or NoRoom, changed nothing. A refusal for lack of
@@ -167,7 +167,7 @@ pub record LaysInFile {A : Type 0} (f at pool : ℕ) (bytes : List ℕ) (old : K
 pub record FillsFile (d fd : ℕ) (x : OpenFile) (pool : ℕ) (bytes : List ℕ) (old : KernelState) (r : Result ℕ Refusal)
     (new : KernelState) : Type 0 where
   pub serves : (disk : Disk) → Serves (λ s. write s d fd bytes) disk old r disk new
-  pub roomy : (p : ℕ) → r ≡ Err (NoRoom p) → ⊥
+  pub roomy : (p : ℕ) → r ≢ Err (NoRoom p)
   pub late : IfErr r (WantOfRoom pool)
   pub fills : OnOk r (KeepsPages old.store new.store (lowest_of old.store pool (length bytes)))
   pub beside : KeepsBeside x.file x.at (length bytes) pool ⊥ old.cache new.cache
@@ -180,9 +180,9 @@ pub record FillsFile (d fd : ℕ) (x : OpenFile) (pool : ℕ) (bytes : List ℕ)
 pub record PutsOver (d fd : ℕ) (x : OpenFile) (pool : ℕ) (bytes : List ℕ) (old : KernelState) (r : Result ℕ Refusal)
     (new : KernelState) : Type 0 where
   pub serves : (disk : Disk) → Serves (λ s. write s d fd bytes) disk old r disk new
-  pub room : OnOk r (can_fit old pool (length bytes) ≡ true)
-  pub no_room : (p : ℕ) → r ≡ Err (NoRoom p) → can_fit old pool (length bytes) ≡ false
-  pub memory : r ≡ Err Memory → can_fit old pool (length bytes) ≡ true
+  pub room : OnOk r (IsTrue (can_fit old pool (length bytes)))
+  pub no_room : (p : ℕ) → r ≡ Err (NoRoom p) → IsFalse (can_fit old pool (length bytes))
+  pub memory : r ≡ Err Memory → IsTrue (can_fit old pool (length bytes))
   pub late : IfErr r (WantOfRoom pool)
   pub puts : PutsInFile x.file x.at pool (length bytes) old r new
   pub lays : LaysInFile x.file x.at pool bytes old r new

@@ -1,5 +1,5 @@
 -- The bytes of files that keep their places when clean extents may be evicted for new bytes.
-use Rattle.std.specs.Prelude.{◌≡◌, ◌⊎◌, ℕ, ◌+◌, ◌<◌, ◌≤◌, false, List, length, Some}
+use Rattle.std.specs.Prelude.{◌≡◌, ◌⊎◌, ℕ, ◌+◌, ◌<◌, ◌≤◌, List, length, Some, IsFalse}
 use Rattle.iol_back.specs.Disk.{Disk}
 use Rattle.iol_extent.specs.Extents.{Cell, cover}
 use Rattle.iol_extent.specs.Spans.{Tile}
@@ -25,7 +25,7 @@ pub record LacksPagesToRead (f at n : ℕ) (disk : Disk) (old : Holding) : Type 
 
 -- The cell over a byte of file f was evicted: it was clean, the file is of the pool, and pages were needed.
 pub record GaveWay (pool : ℕ) (Lacks : Type 0) (old : Cached) (f : ℕ) (c : Cell) : Type 0 where
-  pub clean : c.dirty ≡ false
+  pub clean : IsFalse c.dirty
   pub pooled : (file_in old.files f).pool ≡ pool
   pub lacks : Lacks
 

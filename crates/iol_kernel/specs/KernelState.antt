@@ -1,6 +1,7 @@
 -- The state of a system, and the state of the copying machine that it represents.
-use Rattle.std.specs.Prelude.{◌≡◌, ℕ, ◌+◌, ◌≤◌, true, false, length, List, [], ◌∷◌, flat_map, map, Option, Some, None}
-use Rattle.std.specs.Prelude.{unwrap_or}
+use Rattle.std.specs.Prelude.{◌≡◌, ℕ, ◌+◌, ◌≤◌, length, List, [], flat_map, map, Option, Some, None}
+use Rattle.std.specs.List.{AllByRecursion}
+use Rattle.std.specs.Prelude.{unwrap_or, IsTrue, IsFalse, ⊤}
 use Rattle.iol_core.specs.NumberedLists.{is_numbered}
 use Rattle.iol_core.specs.State as machine
 use Rattle.iol_core.specs.declared.descriptors.Descriptor.{Descriptor}
@@ -67,18 +68,13 @@ layout_of h = read_of (record { at = number_at; stored = [] }) h
 abbrev pub joined : List (List ℕ) → List ℕ
 joined parts = flat_map (λ w. w) parts
 
--- P holds for each element of a list
-abbrev pub Each : {A : Type 0} → (A → Type 0) → List A → Type 0
-Each P [] = Unit {0}
-Each P (x ∷ xs) = P x × Each P xs
-
 -- the slices of a domain's aggregates are in live buffers of their pools
 abbrev pub IsDomainReadable : Stored → machine.Domain (List Slice) → Type 0
-IsDomainReadable s d = Each (λ e. AllReadable s e.1) d.aggs
+IsDomainReadable s d = AllByRecursion (λ e. AllReadable s e.1) d.aggs
 
 -- the slices of a pipe's queue are in live buffers of their pools
 abbrev pub IsPipeReadable : Stored → Option (Pipe (List Slice)) → Type 0
-IsPipeReadable s None = Unit {0}
+IsPipeReadable s None = ⊤
 IsPipeReadable s (Some p) = AllReadable s p.queue
 
 -- the slices of a connection's queues are in live buffers of their pools
@@ -87,12 +83,12 @@ IsConnReadable s e = AllReadable s e.1.incoming × AllReadable s e.1.outgoing
 
 -- the extents of the file in slot n are in live buffers of its pool
 pub record IsFileReadable (s : Stored) (cached : List CachedFile) (n : ℕ) : Type 0 where
-  pub laid : cache.Each (cache.IsLaid s (file_in cached n).pool) (extents_in cached n)
+  pub laid : AllByRecursion (cache.IsLaid s (file_in cached n).pool) (extents_in cached n)
 
 -- the slices of all queues and extents are in live buffers of their pools
 pub record AreReadable (s : Stored) (objects : Objects (List Slice)) : Type 0 where
-  pub pipes : Each (IsPipeReadable s) objects.pipes
-  pub conns : Each (IsConnReadable s) objects.conns
+  pub pipes : AllByRecursion (IsPipeReadable s) objects.pipes
+  pub conns : AllByRecursion (IsConnReadable s) objects.conns
   pub files : (n : ℕ) → IsFileReadable s objects.cached n
 
 -- the slices of a domain's aggregate: empty if there is no such aggregate
@@ -106,23 +102,23 @@ queue_at pipes p = pipe_in [] pipes p
 -- a descriptor is open on an open end of a pipe, or on a connection that was accepted and not closed, or on a file, at
 -- a position within the limit of a file
 abbrev pub IsOpenEnd : Objects (List Slice) → Option Descriptor → Type 0
-IsOpenEnd objects None = Unit {0}
-IsOpenEnd objects (Some (on.ReadEnd p)) = (queue_at objects.pipes p).reading ≡ true
-IsOpenEnd objects (Some (on.WriteEnd p)) = (queue_at objects.pipes p).writing ≡ true
-IsOpenEnd objects (Some (on.File f at mode)) = (is_numbered objects.files f ≡ true) × (at ≤ MAX_FILE_BYTES)
-IsOpenEnd objects (Some (on.Connection c)) = ((conn_in objects.conns c).accepted ≡ true)
-    × ((conn_in objects.conns c).closed ≡ false)
+IsOpenEnd objects None = ⊤
+IsOpenEnd objects (Some (on.ReadEnd p)) = IsTrue (queue_at objects.pipes p).reading
+IsOpenEnd objects (Some (on.WriteEnd p)) = IsTrue (queue_at objects.pipes p).writing
+IsOpenEnd objects (Some (on.File f at mode)) = IsTrue (is_numbered objects.files f) × (at ≤ MAX_FILE_BYTES)
+IsOpenEnd objects (Some (on.Connection c)) = IsTrue (conn_in objects.conns c).accepted
+    × IsFalse (conn_in objects.conns c).closed
 
 -- a pipe's queue is within the limit
 abbrev pub IsShort : Option (Pipe (List Slice)) → Type 0
-IsShort None = Unit {0}
+IsShort None = ⊤
 IsShort (Some p) = byte_len p.queue ≤ MAX_QUEUE_BYTES
 
 -- a connection's queues are within the limit, and only an accepted one was closed
 pub record IsConn (e : ℕ × Conn (List Slice)) : Type 0 where
   pub incoming : byte_len e.1.incoming ≤ MAX_QUEUE_BYTES
   pub outgoing : byte_len e.1.outgoing ≤ MAX_QUEUE_BYTES
-  pub waits : e.1.accepted ≡ false → e.1.closed ≡ false
+  pub waits : IsFalse e.1.accepted → IsFalse e.1.closed
 
 -- a file's extents are in order without overlap, and end within the limit
 pub record IsFile (x : CachedFile) : Type 0 where
@@ -131,18 +127,18 @@ pub record IsFile (x : CachedFile) : Type 0 where
 
 -- pipes, connections and files are within the limits; the numbers of connections rise, and are below the next
 pub record AreLimited (objects : Objects (List Slice)) : Type 0 where
-  pub queues : Each IsShort objects.pipes
+  pub queues : AllByRecursion IsShort objects.pipes
   pub few_pipes : length objects.pipes ≤ MAX_PIPES
-  pub conns : Each IsConn objects.conns
+  pub conns : AllByRecursion IsConn objects.conns
   pub few_conns : length objects.conns ≤ MAX_CONNECTIONS
   pub rising : Rises 0 objects.conns objects.next_conn
   pub last : objects.next_conn ≤ LAST_CONNECTION + 1
-  pub cached : Each IsFile objects.cached
+  pub cached : AllByRecursion IsFile objects.cached
   pub few_files : length objects.cached ≤ MAX_FILES
 
 -- aggregates, queues and files are within the limits, which keep every count far below 2^63
 pub record IsLimited (domains : List (machine.Domain (List Slice))) (all : Objects (List Slice)) : Type 0 where
-  pub aggs : Each (λ d. Each (λ e. byte_len e.1 ≤ MAX_AGGREGATE_BYTES) d.aggs) domains
+  pub aggs : AllByRecursion (λ d. AllByRecursion (λ e. byte_len e.1 ≤ MAX_AGGREGATE_BYTES) d.aggs) domains
   pub few : live_aggs_in domains ≤ MAX_AGGREGATES
   pub objects : AreLimited all
 
@@ -150,8 +146,8 @@ pub record IsLimited (domains : List (machine.Domain (List Slice))) (all : Objec
 pub record ArePooled (pools : List Pool) (conns : List (ℕ × Conn (List Slice))) (cached : List CachedFile) :
     Type 0 where
   pub few : length pools ≤ MAX_POOLS
-  pub opened : Each (λ e. (pool_in pools e.1.pool).closed ≡ false) conns
-  pub files_open : (n : ℕ) → is_numbered cached n ≡ true → (pool_in pools (file_in cached n).pool).closed ≡ false
+  pub opened : AllByRecursion (λ e. IsFalse (pool_in pools e.1.pool).closed) conns
+  pub files_open : (n : ℕ) → IsTrue (is_numbered cached n) → IsFalse (pool_in pools (file_in cached n).pool).closed
 
 -- the cache has the same files, each in its pool
 abbrev pub AreFiled : List machine.File → List CachedFile → Type 0
@@ -166,9 +162,9 @@ IsCached s c = cache.IsSound s c
 -- descriptors are open on open ends of pipes and on accepted connections, each on one of its own, and on files, the
 -- remembered sums are right, and the cache of files is sound.
 pub record IsSound (h : KernelState) : Type 0 where
-  pub domains : Each (IsDomainReadable h.store) h.domains
+  pub domains : AllByRecursion (IsDomainReadable h.store) h.domains
   pub objects : AreReadable h.store (objects_of h)
-  pub fds : Each (λ d. Each (IsOpenEnd (objects_of h)) d.fds) h.domains
+  pub fds : AllByRecursion (λ d. AllByRecursion (IsOpenEnd (objects_of h)) d.fds) h.domains
   pub once : IsOpenOnce h.domains
   pub counted : IsCounted h.store h.domains (objects_of h)
   pub tidy : IsTidy h.store

@@ -15,7 +15,7 @@ use Rattle.iol_kernel.specs.declared.kernel.Kernel.{Kernel}
 -- with generation 0, no chunk is taken, no sum is remembered, and no pool has an order of eviction. It is refused if
 -- the configuration is out of its ranges, and for lack of memory.
 pub record MakesKernel (config : Config) (r : Result Kernel Refusal) : Type 0 where
-  pub range : (r ≡ Err BadRange) ↔ (IsInRange config → ⊥)
+  pub range : (r ≡ Err BadRange) ↔ (¬ IsInRange config)
   pub errors : IfErr r (λ e. (e ≡ BadRange) ⊎ (e ≡ Memory))
   pub new : IfOk r (λ k. (stored : List (List ℕ)) → machine_of stored (state_of k) ≡ new_state (slots_of stored))
   pub entries : IfOk r (λ k. k.store.arena.entries ≡ replicate (config.chunks * CHUNK_PAGES) no_entry)

@@ -1,5 +1,5 @@
 -- Files that descriptors are open on: how they are found, and their lengths.
-use Rattle.std.specs.Prelude.{◌≡◌, ℕ, ◌≤◌, true, Option, Some, None, IfSome, Result, IfOk}
+use Rattle.std.specs.Prelude.{◌≡◌, ℕ, ◌≤◌, Option, Some, None, IfSome, Result, IfOk, IsTrue}
 use Rattle.iol_core.specs.State.{is_live, descriptor}
 use Rattle.iol_core.specs.Calls.Files.{file_length}
 use Rattle.iol_core.specs.Prelude.{open_on}
@@ -22,7 +22,7 @@ descriptor_of x = on.File x.file x.at x.mode
 -- The result of looking for the file that a domain's descriptor is open on. A file is returned only if the domain is
 -- live and its descriptor is open on it, and None only if no live domain's descriptor is open on a file there.
 pub record FindsOpen (d fd : ℕ) (h : KernelState) (r : Option OpenFile) : Type 0 where
-  pub live : IfSome r (λ x. (f : Reading) → is_live (read_of f h) d ≡ true)
+  pub live : IfSome r (λ x. (f : Reading) → IsTrue (is_live (read_of f h) d))
   pub from : IfSome r (λ x. (f : Reading) → descriptor (read_of f h) d fd ≡ Some (descriptor_of x))
   pub none : r ≡ None → (f : Reading) → open_on (held_by (read_of f h) d fd) ≡ None
 

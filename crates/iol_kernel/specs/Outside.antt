@@ -1,5 +1,5 @@
 -- External events on connections: their preconditions and effects.
-use Rattle.std.specs.Prelude.{◌≡◌, ℕ, ◌<◌, ◌≤◌, false, List, [], length, Result, IfOk, IfErr}
+use Rattle.std.specs.Prelude.{◌≡◌, ℕ, ◌<◌, ◌≤◌, List, [], length, Result, IfOk, IfErr, IsFalse}
 use Rattle.iol_core.specs.State as machine
 use Rattle.iol_core.specs.Calls.Outside.{arrive, lacks_conn}
 use Rattle.iol_core.specs.declared.descriptors.Descriptor.TheVariants as on
@@ -12,14 +12,14 @@ use Rattle.iol_kernel.specs.KernelState.{KernelState, IsSound, machine_of, objec
 -- Between two events: the connection exists.
 pub record HasConn (h : KernelState) (c : ℕ) : Type 0 where
   pub sound : IsSound h
-  pub there : lacks_conn (machine_of [] h) c ≡ false
+  pub there : IsFalse (lacks_conn (machine_of [] h) c)
 
 -- Between two events: one more connection may be made, in this pool, which is open.
 pub record MayConnect (pool : ℕ) (h : KernelState) : Type 0 where
   pub sound : IsSound h
   pub few : length (machine_of [] h).conns < MAX_CONNECTIONS
   pub some : (machine_of [] h).next_conn ≤ LAST_CONNECTION
-  pub opened : (machine.pool (machine_of [] h) pool).closed ≡ false
+  pub opened : IsFalse (machine.pool (machine_of [] h) pool).closed
 
 -- The result of testing whether bytes may arrive: the pool to place them in and how many fit, or the refusal.
 pub record TestsArrival (c : ℕ) (bytes : List ℕ) (h : KernelState) (r : Result (ℕ × ℕ) Refusal) : Type 0 where

@@ -1,6 +1,6 @@
 -- Calls that make, use, admit to and close pools: their preconditions and effects.
 use Rattle.std.specs.Prelude.{◌≡◌, ℕ, ◌+◌, ◌<◌, ◌≤◌, ◌&&◌, Bool, length, true, false, List, [], ◌∷◌, ◌++◌, None, Result}
-use Rattle.std.specs.Prelude.{Err, IfOk, IfErr, OnOk, OnErr}
+use Rattle.std.specs.Prelude.{Err, IfOk, IfErr, OnOk, OnErr, IsTrue, IsFalse}
 use Rattle.std.specs.List.{list_all}
 use Rattle.iol_core.specs.Meaning.{WantOfRoom}
 use Rattle.iol_core.specs.Prelude.{first, with_numbered}
@@ -18,8 +18,8 @@ use Rattle.iol_kernel.specs.Readings.{Reading}
 -- A domain is live, and may place in the pool, or close it: the pool is open, and names the domain.
 pub record MayUse (d p : ℕ) (h : KernelState) : Type 0 where
   pub passed : (f : Reading) → first (set_pool (read_of f h) d p).refusals ≡ None
-  pub live : is_live (machine_of [] h) d ≡ true
-  pub there : is_pool (machine_of [] h) p ≡ true
+  pub live : IsTrue (is_live (machine_of [] h) d)
+  pub there : IsTrue (is_pool (machine_of [] h) p)
 
 -- The result of testing whether a domain may place in the pool, or close it: success, or the refusal of `set_pool`.
 pub record TestsUse {A : Type 0} (d p : ℕ) (h : KernelState) (r : Result A Refusal) : Type 0 where
@@ -67,8 +67,8 @@ pub record CreatesPool (d n : ℕ) (list : List ℕ) (old : KernelState) (r : Re
 -- Between two events: the pool's list names the domain, or has a free entry for it.
 pub record MayAdmit (p d : ℕ) (h : KernelState) : Type 0 where
   pub sound : IsSound h
-  pub there : is_pool (machine_of [] h) p ≡ true
-  pub place : has_place (pool (machine_of [] h) p).domains d ≡ true
+  pub there : IsTrue (is_pool (machine_of [] h) p)
+  pub place : IsTrue (has_place (pool (machine_of [] h) p).domains d)
 
 -- the state in which a pool's list also names the domain
 abbrev pub with_pool_admitting : (p d : ℕ) → State → State
@@ -77,8 +77,8 @@ with_pool_admitting p d s = record s { pools = with_numbered s.pools p (admittin
 -- Between two events: the pool exists, and no file and no connection is of it.
 pub record IsIdle (h : KernelState) (p : ℕ) : Type 0 where
   pub sound : IsSound h
-  pub there : is_pool (machine_of [] h) p ≡ true
-  pub idle : (f : Reading) → is_busy (read_of f h) p ≡ false
+  pub there : IsTrue (is_pool (machine_of [] h) p)
+  pub idle : (f : Reading) → IsFalse (is_busy (read_of f h) p)
 
 -- the state in which a pool is closed
 abbrev pub with_pool_closed : (p : ℕ) → State → State

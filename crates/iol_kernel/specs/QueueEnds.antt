@@ -1,5 +1,5 @@
 -- The object that a descriptor is open on, for reading.
-use Rattle.std.specs.Prelude.{◌≡◌, ℕ, ◌<◌, true, false, List, [], Option, Some, option_map}
+use Rattle.std.specs.Prelude.{◌≡◌, ℕ, ◌<◌, List, [], Option, Some, option_map, IsTrue, IsFalse}
 use Rattle.std.specs.List.{slice_get}
 use Rattle.iol_core.specs.Text.{Text}
 use Rattle.iol_core.specs.Calls.Aggregates.{too_many_aggs}
@@ -33,14 +33,14 @@ IsBarredPool d end n h r = (f : Reading) → KeepsPools f
 pub record IsSource (h : KernelState) (end : Descriptor) : Type 0 where
   pub sound : IsSound h
   pub opened : IsOpenEnd (objects_of h) (Some end)
-  pub readable : can_read (Some end) ≡ true
-  pub no_file : is_file (Some end) ≡ false
+  pub readable : IsTrue (can_read (Some end))
+  pub no_file : IsFalse (is_file (Some end))
 
 -- The domain may take the front of a queue, by this descriptor, as one more aggregate.
 pub record MayTake (d fd : ℕ) (end : Descriptor) (h : KernelState) : Type 0 where
   pub held : IsOpenOn h d fd end
   pub source : IsSource h end
-  pub few : too_many_aggs (machine_of [] h) d 1 0 ≡ false
+  pub few : IsFalse (too_many_aggs (machine_of [] h) d 1 0)
 
 -- Of the first n bytes of a queue the prefix that the domain may see was taken off it, as these slices. Added to the
 -- domain, they answer its read.

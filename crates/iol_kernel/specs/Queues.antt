@@ -1,6 +1,6 @@
 -- Pipes of which one has another queue, and the effect of each call on it.
 use Rattle.std.specs.Prelude.{◌≡◌, ℕ, ◌++◌, List, [], true, length, take, take_while, drop, Option, Some, Result, IfOk}
-use Rattle.std.specs.Prelude.{IfErr, OnOk, OnErr, slice_set}
+use Rattle.std.specs.Prelude.{IfErr, OnOk, OnErr, slice_set, IsTrue}
 use Rattle.iol_core.specs.Meaning.{WantOfRoom}
 use Rattle.iol_core.specs.Text.{bytes_of}
 use Rattle.iol_core.specs.declared.refusals.Refusal.{Refusal}
@@ -67,7 +67,7 @@ pub record CopiesFront (s : Stored) (pipes : List (Option (Pipe (List Slice)))) 
 -- A pipe's read end is open, and the slices of its queue are counted.
 pub record IsTakenFrom (s : Stored) (pipes : List (Option (Pipe (List Slice)))) (p : ℕ) : Type 0 where
   pub covered : Covers s (bufs_of (queue_at pipes p).queue)
-  pub reading : (queue_at pipes p).reading ≡ true
+  pub reading : IsTrue (queue_at pipes p).reading
 
 -- The first n bytes of a pipe's queue are released, or all if there are fewer. No other pipe changes.
 pub record SkipsIn (s t : Stored) (old new : List (Option (Pipe (List Slice)))) (p n : ℕ) : Type 0 where

@@ -1,6 +1,6 @@
 -- The effect of reads by copying on the state of the system, and aggregates that are shown in a memory.
-use Rattle.std.specs.Prelude.{◌≡◌, ◌<◌, ◌≤◌, ◌++◌, ℕ, true, min, List, [], length, drop, Option, Some, None}
-use Rattle.std.specs.Prelude.{Result, Err, IfErr, IfOk, OnErr, OnOk}
+use Rattle.std.specs.Prelude.{◌≡◌, ◌<◌, ◌≤◌, ◌++◌, ℕ, min, List, [], length, drop, Option, Some, None}
+use Rattle.std.specs.Prelude.{Result, Err, IfErr, IfOk, OnErr, OnOk, IsTrue, ◌≢◌}
 use Rattle.iol_core.specs.State.{is_live, descriptor}
 use Rattle.iol_core.specs.Text.{bytes_of}
 use Rattle.iol_core.specs.Calls.Reads.{can_read, read, read_text, unread}
@@ -28,7 +28,7 @@ pub record IsOnNoFile (h : KernelState) (d fd : ℕ) : Type 0 where
 pub record ReadsOut (by fd n : ℕ) (old : KernelState) (r : Result (List ℕ) Refusal) (new : KernelState) : Type 0 where
   pub serves : (disk : Disk) → Serves (λ s. read s by fd n) disk old r disk new
   pub places : OnOk r ((f : Reading) → KeepsPools f → read_of f new ≡ (read (read_of f old) by fd n).after)
-  pub roomy : (p : ℕ) → r ≡ Err (NoRoom p) → ⊥
+  pub roomy : (p : ℕ) → r ≢ Err (NoRoom p)
   pub pages : KeepsPages old.store new.store []
   pub cache : new.cache ≡ old.cache
   pub refused : OnErr r (new ≡ old)
@@ -53,8 +53,8 @@ pub record ReadsList (by fd n : ℕ) (disk : Disk) (old : KernelState) (r : Resu
 -- of n passes its tests, so that the domain is live and its descriptor readable, and is refused as that read is.
 pub record CountsWaiting (d fd n : ℕ) (h : KernelState) (r : Result ℕ Refusal) : Type 0 where
   pub passed : OnOk r (IsPassed (read (machine_of [] h) d fd n).refusals)
-  pub live : OnOk r (is_live (machine_of [] h) d ≡ true)
-  pub readable : OnOk r (can_read (descriptor (machine_of [] h) d fd) ≡ true)
+  pub live : OnOk r (IsTrue (is_live (machine_of [] h) d))
+  pub readable : OnOk r (IsTrue (can_read (descriptor (machine_of [] h) d fd)))
   pub refused : IfErr r (IsRefused (read (machine_of [] h) d fd n).refusals Never)
   pub some : IfOk r (λ many. (f : Reading)
       → many ≡ min n (length (unread (read_of f h) (descriptor (read_of f h) d fd))))
@@ -62,8 +62,8 @@ pub record CountsWaiting (d fd n : ℕ) (h : KernelState) (r : Result ℕ Refusa
 -- Between two events: the domain is live, and its descriptor is open on a queue, for reading.
 pub record MayTakeInto (d fd : ℕ) (h : KernelState) : Type 0 where
   pub queue : IsOnNoFile h d fd
-  pub live : is_live (machine_of [] h) d ≡ true
-  pub readable : can_read (descriptor (machine_of [] h) d fd) ≡ true
+  pub live : IsTrue (is_live (machine_of [] h) d)
+  pub readable : IsTrue (can_read (descriptor (machine_of [] h) d fd))
 
 -- The answer of the machine's read, of as many bytes as a memory has room for, was moved from the queue to the front of
 -- the memory: n bytes. The rest of the memory is unchanged, and the system is in the state that the read leaves.

@@ -1,6 +1,6 @@
 -- Clean extents of files are evicted to make room for new bytes.
-use Rattle.std.specs.Prelude.{◌≡◌, ◌⊎◌, ◌↔◌, ℕ, ◌+◌, ◌≤◌, Bool, IsTrue, true, false, nat_le, List, length, Some, Result}
-use Rattle.std.specs.Prelude.{Err, OnOk, IfErr}
+use Rattle.std.specs.Prelude.{◌≡◌, ◌⊎◌, ◌↔◌, ℕ, ◌+◌, ◌≤◌, Bool, IsTrue, nat_le, List, length, Some, Result}
+use Rattle.std.specs.Prelude.{Err, OnOk, IfErr, IsFalse}
 use Rattle.iol_core.specs.State.{State}
 use Rattle.iol_core.specs.Text.{Text}
 use Rattle.iol_core.specs.Meaning.{Meaning}
@@ -45,7 +45,7 @@ pub record MakesRoom (pool pages : ℕ) (old new : KernelState) : Type 0 where
 -- Between two events: the pool is open, so new bytes may be placed in it.
 pub record MayPlaceIn (pool : ℕ) (h : KernelState) : Type 0 where
   pub sound : IsSound h
-  pub opened : (pool_in h.store.pools pool).closed ≡ false
+  pub opened : IsFalse (pool_in h.store.pools pool).closed
 
 -- The result of asking for this many free pages. Room was made exactly when these, and those that something other than
 -- clean extents holds, are no more than the pool has; otherwise nothing changed.
@@ -54,14 +54,14 @@ pub record AsksRoom (pool pages : ℕ) (old : KernelState) (enough : Bool) (new 
   pub room : IsTrue enough
       ↔ (pinned_beside old.store (clean_held old.cache.files) pool + pages ≤ length (pages_of old.store pool))
   pub free : IsTrue enough → pages ≤ length (free_of new.store pool)
-  pub refused : enough ≡ false → new ≡ old
+  pub refused : IsFalse enough → new ≡ old
 
 -- The result of asking for room for n bytes. Room was made exactly when they fit; otherwise nothing changed.
 pub record AsksToFit (pool n : ℕ) (old : KernelState) (enough : Bool) (new : KernelState) : Type 0 where
   pub made : MakesRoom pool (pages_for n) old new
   pub fits : can_fit old pool n ≡ enough
-  pub room : IsTrue enough → has_room new.store pool n ≡ true
-  pub refused : enough ≡ false → new ≡ old
+  pub room : IsTrue enough → IsTrue (has_room new.store pool n)
+  pub refused : IsFalse enough → new ≡ old
 
 -- Room was made for n bytes, and P holds for the state after that.
 pub record AfterRoom (pool n : ℕ) (old : KernelState) (P : KernelState → Type 0) : Type 0 where
@@ -73,7 +73,7 @@ pub record AfterRoom (pool n : ℕ) (old : KernelState) (P : KernelState → Typ
 -- for them.
 pub record RefusedRoomy (pool n : ℕ) (old new : KernelState) (x : Refusal) : Type 0 where
   pub memory : x ≡ Memory
-  pub fits : can_fit old pool n ≡ true
+  pub fits : IsTrue (can_fit old pool n)
   pub room : MakesRoom pool (pages_for n) old new
 
 -- A refusal, including NoRoom, before anything changed; or a refusal for lack of memory, only if the bytes fit: then
@@ -90,6 +90,6 @@ pub record Places {A : Type 0} (m : State → Meaning A) (put : State → Text �
   pub serves : (disk : Disk) → Serves m disk old r disk new
   pub made : OnOk r (AfterRoom pool n old (λ roomy. MakesBytes put pool n roomy new))
   pub refused : IfErr r (MayHaveEvicted pool n old new)
-  pub room : OnOk r (can_fit old pool n ≡ true)
-  pub no_room : (p : ℕ) → r ≡ Err (NoRoom p) → can_fit old pool n ≡ false
-  pub memory : r ≡ Err Memory → can_fit old pool n ≡ true
+  pub room : OnOk r (IsTrue (can_fit old pool n))
+  pub no_room : (p : ℕ) → r ≡ Err (NoRoom p) → IsFalse (can_fit old pool n)
+  pub memory : r ≡ Err Memory → IsTrue (can_fit old pool n)

@@ -1,6 +1,7 @@
 -- The bytes that arrive from a reader and those that are drained to a writer, in terms of the copying machine.
-use Rattle.std.specs.Prelude.{◌≡◌, ℕ, zero, suc, ◌-◌, ◌<◌, ◌≤◌, ◌==◌, min, Bool, true, false}
+use Rattle.std.specs.Prelude.{◌≡◌, ℕ, zero, suc, ◌-◌, ◌<◌, ◌≤◌, ◌==◌, min, Bool}
 use Rattle.std.specs.Prelude.{List, [], ◌∷◌, length, take, Option, Some, Result, Ok, Err, IfOk, OnOk, IfErr, OnErr}
+use Rattle.std.specs.Prelude.{IsTrue, IsFalse, ◌≢◌}
 use Rattle.std.specs.Io.KnownBytes.{Appends, Consumes}
 use Rattle.iol_core.specs.State.{State, conn_at}
 use Rattle.iol_core.specs.Text.{Text, bytes_of}
@@ -33,15 +34,15 @@ arrive_from_refusals s c max =
 -- One read passes the tests: its bytes are to be placed in this pool.
 pub record MayBringIn (c max pool : ℕ) (h : KernelState) : Type 0 where
   pub passed : IsPassed (arrive_from_refusals (machine_of [] h) c max)
-  pub there : lacks_conn (machine_of [] h) c ≡ false
+  pub there : IsFalse (lacks_conn (machine_of [] h) c)
   pub lands : (conn_at (machine_of [] h) c).pool ≡ pool
-  pub opened : (pool_in h.store.pools pool).closed ≡ false
+  pub opened : IsFalse (pool_in h.store.pools pool).closed
 
 -- A read is refused by the first test that holds, and the refusal is neither NoRoom nor Memory.
 pub record FailsToRead (c max : ℕ) (x : Refusal) (h : KernelState) : Type 0 where
   pub refused : first (arrive_from_refusals (machine_of [] h) c max) ≡ Some x
-  pub roomy : (p : ℕ) → x ≡ NoRoom p → ⊥
-  pub memory : x ≡ Memory → ⊥
+  pub roomy : (p : ℕ) → x ≢ NoRoom p
+  pub memory : x ≢ Memory
 
 -- A reader gave n of the bytes that it has left, if these are known, and P holds for these n bytes.
 pub record TakesIn (left after : Option (List ℕ)) (n : ℕ) (P : List ℕ → Type 0) : Type 0 where
@@ -68,15 +69,15 @@ pub record BringsIn (c max : ℕ) (after : Option (List ℕ)) (old new : KernelS
 pub record RefusesByte {A : Type 0} (s : State) (c max : ℕ) (has_room : Bool) (r : Result A Refusal) : Type 0 where
   pub passed : OnOk r (IsPassed (arrive_from_refusals s c max))
   pub refused : IfErr r (IsRefused (arrive_from_refusals s c max) (WantOfRoom (conn_at s c).pool))
-  pub room : OnOk r (has_room ≡ true)
-  pub no_room : (p : ℕ) → r ≡ Err (NoRoom p) → has_room ≡ false
+  pub room : OnOk r (IsTrue has_room)
+  pub no_room : (p : ℕ) → r ≡ Err (NoRoom p) → IsFalse has_room
 
 -- A read is refused as an arrival of one byte is, before anything was read: at most clean extents were evicted by then.
 -- Memory is returned only if the byte fits in the pool.
 pub record RefusesArrival {A R : Type 0} (c max : ℕ) (old new : KernelState) (reader after : R)
     (r : Result A Refusal) : Type 0 where
   pub byte : RefusesByte (machine_of [] old) c max (can_fit old (conn_at (machine_of [] old) c).pool 1) r
-  pub memory : r ≡ Err Memory → can_fit old (conn_at (machine_of [] old) c).pool 1 ≡ true
+  pub memory : r ≡ Err Memory → IsTrue (can_fit old (conn_at (machine_of [] old) c).pool 1)
   pub err : IfErr r (MayHaveEvicted (conn_at (machine_of [] old) c).pool 1 old new)
   pub err_reader : OnErr r (after ≡ reader)
 
@@ -108,8 +109,8 @@ sent_on c (suc n) s = (transmit s c (suc n)).after
 -- and count as sent. They are all of these bytes, or fewer, and then the writer failed.
 pub record DrainsTo (c max : ℕ) (held now : Option (List ℕ)) (old new : KernelState) (d : Drained) : Type 0 where
   pub most : d.taken ≤ min max (length (conn_at (machine_of [] old) c).outgoing)
-  pub all : d.failed ≡ false → d.taken ≡ min max (length (conn_at (machine_of [] old) c).outgoing)
-  pub fewer : d.failed ≡ true → d.taken < min max (length (conn_at (machine_of [] old) c).outgoing)
+  pub all : IsFalse d.failed → d.taken ≡ min max (length (conn_at (machine_of [] old) c).outgoing)
+  pub fewer : IsTrue d.failed → d.taken < min max (length (conn_at (machine_of [] old) c).outgoing)
   pub written : Appends held now (take d.taken (bytes_of (conn_at (machine_of [] old) c).outgoing))
   pub left : Leaves (sent_on c d.taken) old new
 
@@ -117,7 +118,7 @@ pub record DrainsTo (c max : ℕ) (held now : Option (List ℕ)) (old new : Kern
 -- unchanged.
 pub record RefusesDrain {A S W : Type 0} (s : State) (c : ℕ) (old new : S) (writer after : W)
     (r : Result A Refusal) : Type 0 where
-  pub passed : OnOk r (lacks_conn s c ≡ false)
-  pub refused : IfErr r (λ x. (x ≡ BadFd) × (lacks_conn s c ≡ true))
+  pub passed : OnOk r (IsFalse (lacks_conn s c))
+  pub refused : IfErr r (λ x. (x ≡ BadFd) × IsTrue (lacks_conn s c))
   pub err : OnErr r (new ≡ old)
   pub err_writer : OnErr r (after ≡ writer)

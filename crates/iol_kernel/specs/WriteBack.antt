@@ -1,5 +1,5 @@
 -- Writing back dirty extents, and the state it leaves in addition to its meaning.
-use Rattle.std.specs.Prelude.{◌≡◌, ◌⊎◌, ℕ, [], length, None, Result, Ok, Err, OnOk}
+use Rattle.std.specs.Prelude.{◌≡◌, ◌⊎◌, ℕ, [], length, None, Result, Ok, Err, OnOk, ◌≢◌}
 use Rattle.iol_core.specs.Meaning.{first}
 use Rattle.iol_core.specs.Calls.Files.{fsync}
 use Rattle.iol_core.specs.Calls.Outside as outside
@@ -34,7 +34,7 @@ pub record SyncsFile {A : Type 0} (f : ℕ) (disk : Disk) (old : KernelState) (r
   pub syncs : cache.Syncs old.store f old.cache new.cache disk after
   pub clean : OnOk r (dirty_in (extents_in new.cache.files f) ≡ None)
   pub writes : cache.WritesDirty old.store f old.cache new.cache disk after r
-      ⊎ (((g : ℕ) → r ≡ Err (Fault g) → ⊥) × (new ≡ old) × (after ≡ disk))
+      ⊎ (((g : ℕ) → r ≢ Err (Fault g)) × (new ≡ old) × (after ≡ disk))
   pub counts : FaultCounts disk after r
   pub same : new ≡ record old { cache = new.cache }
 

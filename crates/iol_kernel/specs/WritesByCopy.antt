@@ -1,6 +1,6 @@
 -- Writes of a domain's bytes by copying: their target, and the pool of the new bytes.
-use Rattle.std.specs.Prelude.{◌≡◌, ◌⊎◌, ℕ, Bool, true, false, List, [], length, Some, Result, Err, IfOk, IfErr, OnErr}
-use Rattle.std.specs.Prelude.{OnOk}
+use Rattle.std.specs.Prelude.{◌≡◌, ◌⊎◌, ℕ, Bool, List, [], length, Some, Result, Err, IfOk, IfErr, OnErr}
+use Rattle.std.specs.Prelude.{OnOk, IsTrue, IsFalse, ◌≢◌}
 use Rattle.iol_core.specs.State as machine
 use Rattle.iol_core.specs.State.{State, descriptor}
 use Rattle.iol_core.specs.Text.{Text}
@@ -36,12 +36,12 @@ lands_in d fd s = writing.pool_for s d (descriptor s d fd)
 pub record PassesTests (d fd : ℕ) (bytes : List ℕ) (p : ℕ) (h : KernelState) : Type 0 where
   pub passed : (f : Reading) → IsPassed (writing.write (read_of f h) d fd bytes).refusals
   pub pool : (f : Reading) → p ≡ lands_in d fd (read_of f h)
-  pub opened : (machine.pool (machine_of [] h) p).closed ≡ false
+  pub opened : IsFalse (machine.pool (machine_of [] h) p).closed
 
 -- A write of these bytes is refused by the first test that holds, and the refusal is not NoRoom.
 pub record FailsTests (d fd : ℕ) (bytes : List ℕ) (x : Refusal) (h : KernelState) : Type 0 where
   pub refused : (f : Reading) → IsRefused (writing.write (read_of f h) d fd bytes).refusals Never x
-  pub roomy : (p : ℕ) → x ≡ NoRoom p → ⊥
+  pub roomy : (p : ℕ) → x ≢ NoRoom p
 
 -- The result of testing a write of these bytes: the pool to place them in, or the refusal.
 pub record TestsWrite (d fd : ℕ) (bytes : List ℕ) (h : KernelState) (r : Result ℕ Refusal) : Type 0 where
@@ -69,7 +69,7 @@ pub record Fills (m : State → Meaning ℕ) (put : State → Text → State) (p
   pub cache : new.cache ≡ old.cache
   pub sound : IsSound new
   pub stays : Stays old.store new.store
-  pub no_room : (p : ℕ) → r ≡ Err (NoRoom p) → has_room old.store pool (m (machine_of [] old)).answer ≡ false
+  pub no_room : (p : ℕ) → r ≡ Err (NoRoom p) → IsFalse (has_room old.store pool (m (machine_of [] old)).answer)
 
 -- a write of these bytes to a pipe or a connection, if there is room for them
 abbrev pub FillsQueue : (d fd pool : ℕ) → List ℕ → (old : KernelState) → Result ℕ Refusal → (new : KernelState) → Type 0
@@ -103,12 +103,12 @@ can_fit_write h d fd bytes = can_fit h (pool_to_write h d fd) (writing.write (ma
 pub record WritesBytes (d fd : ℕ) (bytes : List ℕ) (old : KernelState) (r : Result ℕ Refusal) (new : KernelState) :
     Type 0 where
   pub serves : (disk : Disk) → Serves (λ s. writing.write s d fd bytes) disk old r disk new
-  pub queue : writing.is_file (descriptor (machine_of [] old) d fd) ≡ false → PlacesInQueue d fd bytes old r new
-  pub slices : writing.is_file (descriptor (machine_of [] old) d fd) ≡ false
+  pub queue : IsFalse (writing.is_file (descriptor (machine_of [] old) d fd)) → PlacesInQueue d fd bytes old r new
+  pub slices : IsFalse (writing.is_file (descriptor (machine_of [] old) d fd))
       → OnOk r (QueuesFew (length bytes) (descriptor (machine_of [] old) d fd) old new)
-  pub room : OnOk r (can_fit_write old d fd bytes ≡ true)
-  pub no_room : (p : ℕ) → r ≡ Err (NoRoom p) → can_fit_write old d fd bytes ≡ false
-  pub memory : r ≡ Err Memory → can_fit_write old d fd bytes ≡ true
+  pub room : OnOk r (IsTrue (can_fit_write old d fd bytes))
+  pub no_room : (p : ℕ) → r ≡ Err (NoRoom p) → IsFalse (can_fit_write old d fd bytes)
+  pub memory : r ≡ Err Memory → IsTrue (can_fit_write old d fd bytes)
   pub refused : IfErr r (λ x. (new ≡ old) ⊎ WantOfRoom (pool_to_write old d fd) x)
   pub puts : PutsOn (descriptor (machine_of [] old) d fd) (pool_to_write old d fd) (length bytes) old r new
   pub lays : LaysOn (descriptor (machine_of [] old) d fd) (pool_to_write old d fd) bytes old r new

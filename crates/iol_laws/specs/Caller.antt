@@ -3,7 +3,7 @@
 -- Each definition has three cases for the reply: its effect if the call succeeds, an unchanged state if it is refused,
 -- and that no other reply is possible.
 use Rattle.std.specs.Prelude.{◌≡◌, ◌≢◌, ℕ, ◌-◌, ◌<◌, ◌≤◌, ◌==◌, min, Bool, true, false, if◌then◌else◌, List, [], ◌++◌}
-use Rattle.std.specs.Prelude.{is_none, length, take, drop, Option, Some, None, option_map, slice_range}
+use Rattle.std.specs.Prelude.{is_none, length, take, drop, Option, Some, None, option_map, slice_range, IsTrue, IsFalse}
 use Rattle.iol_core.specs.Text.{Text, bytes_of, admitted}
 use Rattle.iol_core.specs.State.{State, Connection, aggregate, descriptor, may_read, conn_at, pipe_at, new_pipe}
 use Rattle.iol_core.specs.State.{no_conn, is_gone, is_over}
@@ -55,7 +55,7 @@ pub record Takes (s : State) (d c count n : ℕ) (t : State) : Type 0 where
   -- the longest prefix that the domain may read
   pub most : text ≡ admitted (may_read s d) (take count (conn_at s c).incoming)
   pub conn : conn_at t c ≡ record (conn_at s c) { incoming = incoming }
-  pub ended : 0 < count → text ≡ [] → ((conn_at s c).incoming ≡ []) × (is_none (conn_at s c).peer ≡ false)
+  pub ended : 0 < count → text ≡ [] → ((conn_at s c).incoming ≡ []) × IsFalse (is_none (conn_at s c).peer)
 
 abbrev pub ReadsConn : State → (d c count : ℕ) → Reply → State → Type 0
 ReadsConn s d c count (reply.Agg n) t = Takes s d c count n t
@@ -69,7 +69,7 @@ pub record Puts (s : State) (c : ℕ) (bytes : List ℕ) (k : ℕ) (t : State) :
   pub text_is : bytes_of text ≡ take k bytes
   -- as many as fit
   pub most : k ≡ min (length bytes) (MAX_QUEUE_BYTES - length (conn_at s c).outgoing)
-  pub takes : is_gone (conn_at s c).peer ≡ false
+  pub takes : IsFalse (is_gone (conn_at s c).peer)
   pub conn : conn_at t c ≡ record (conn_at s c) { outgoing = (conn_at s c).outgoing ++ text }
 
 abbrev pub WritesConn : State → (c : ℕ) → List ℕ → Reply → State → Type 0
@@ -88,7 +88,7 @@ pub record TakesFromPipe (s : State) (d p count n : ℕ) (t : State) : Type 0 wh
   -- the longest prefix that the domain may read
   pub most : text ≡ admitted (may_read s d) (take count (pipe_at s p).queue)
   pub pipe : pipe_at t p ≡ record (pipe_at s p) { queue = rest }
-  pub ended : 0 < count → text ≡ [] → ((pipe_at s p).queue ≡ []) × ((pipe_at s p).writing ≡ false)
+  pub ended : 0 < count → text ≡ [] → ((pipe_at s p).queue ≡ []) × IsFalse (pipe_at s p).writing
 
 abbrev pub ReadsPipe : State → (d p count : ℕ) → Reply → State → Type 0
 ReadsPipe s d p count (reply.Agg n) t = TakesFromPipe s d p count n t
@@ -102,7 +102,7 @@ pub record PutsInPipe (s : State) (p : ℕ) (bytes : List ℕ) (k : ℕ) (t : St
   pub text_is : bytes_of text ≡ take k bytes
   -- as many as fit
   pub most : k ≡ min (length bytes) (MAX_QUEUE_BYTES - length (pipe_at s p).queue)
-  pub takes : (pipe_at s p).reading ≡ true
+  pub takes : IsTrue (pipe_at s p).reading
   pub pipe : pipe_at t p ≡ record (pipe_at s p) { queue = (pipe_at s p).queue ++ text }
 
 abbrev pub WritesPipe : State → (p : ℕ) → List ℕ → Reply → State → Type 0
@@ -172,14 +172,14 @@ ClosesConn s c r t = ⊥
 
 -- a pipe whose write end is closed keeps its bytes while its read end is open
 abbrev pub ClosesWriteEnd : State → (p : ℕ) → Reply → State → Type 0
-ClosesWriteEnd s p reply.Done t = ((pipe_at t p).writing ≡ false)
-    × ((pipe_at s p).reading ≡ true → pipe_at t p ≡ record (pipe_at s p) { writing = false })
+ClosesWriteEnd s p reply.Done t = IsFalse (pipe_at t p).writing
+    × (IsTrue (pipe_at s p).reading → pipe_at t p ≡ record (pipe_at s p) { writing = false })
 ClosesWriteEnd s p (reply.Refused x) t = t ≡ s
 ClosesWriteEnd s p r t = ⊥
 
 -- a pipe whose read end is closed loses its bytes
 abbrev pub ClosesReadEnd : State → (p : ℕ) → Reply → State → Type 0
-ClosesReadEnd s p reply.Done t = ((pipe_at t p).reading ≡ false) × ((pipe_at t p).queue ≡ [])
+ClosesReadEnd s p reply.Done t = IsFalse (pipe_at t p).reading × ((pipe_at t p).queue ≡ [])
     × ((pipe_at t p).writing ≡ (pipe_at s p).writing)
 ClosesReadEnd s p (reply.Refused x) t = t ≡ s
 ClosesReadEnd s p r t = ⊥
@@ -187,8 +187,8 @@ ClosesReadEnd s p r t = ⊥
 -- a waiting connection is accepted, as descriptor fd
 pub record TakesConn (s : State) (d fd : ℕ) (t : State) : Type 0 where
   pub conn : ℕ
-  pub waited : (conn_at s conn).accepted ≡ false
-  pub may : may_read s d (conn_at s conn).pool ≡ true
+  pub waited : IsFalse (conn_at s conn).accepted
+  pub may : IsTrue (may_read s d (conn_at s conn).pool)
   pub open_on : descriptor t d fd ≡ Some (on.Connection conn)
   pub new : descriptor s d fd ≡ None
   pub conn_is : conn_at t conn ≡ record (conn_at s conn) { accepted = true }
@@ -262,8 +262,8 @@ gives_away k = false
 -- The numbers that a domain gets from its calls are new, and the number of an aggregate names an existing one.
 pub record NumbersAreNew : Type 0 where
   pub agg : (s t : State) (d : ℕ) (k : Call) (r : Reply) (a : ℕ) → IsOrderly s → StepsTo s (event.Call d k) r t
-      → gives_away k ≡ false → is_agg r a ≡ true → readable_at s d a ≡ None
+      → IsFalse (gives_away k) → IsTrue (is_agg r a) → readable_at s d a ≡ None
   pub named : (s t : State) (d : ℕ) (k : Call) (r : Reply) (a : ℕ) → IsOrderly s → StepsTo s (event.Call d k) r t
-      → gives_away k ≡ false → is_agg r a ≡ true → (bytes : List ℕ) × (readable_at t d a ≡ Some bytes)
+      → IsFalse (gives_away k) → IsTrue (is_agg r a) → (bytes : List ℕ) × (readable_at t d a ≡ Some bytes)
   pub fd : (s t : State) (d : ℕ) (k : Call) (r : Reply) (g : ℕ) → IsOrderly s → StepsTo s (event.Call d k) r t
-      → gives_away k ≡ false → is_fd r g ≡ true → descriptor s d g ≡ None
+      → IsFalse (gives_away k) → IsTrue (is_fd r g) → descriptor s d g ≡ None

@@ -1,6 +1,7 @@
 -- The effect of the copying calls for their caller: `write` of its own bytes, and `read` without an aggregate. They
 -- write and read the same bytes as `iol_write` and `iol_read`.
-use Rattle.std.specs.Prelude.{◌≡◌, ℕ, ◌+◌, ◌<◌, true, false, List, [], ◌++◌, length, take, drop, Some, is_none}
+use Rattle.std.specs.Prelude.{◌≡◌, ℕ, ◌+◌, ◌<◌, List, [], ◌++◌, length, take, drop, Some, is_none, IsTrue}
+use Rattle.std.specs.Prelude.{IsFalse}
 use Rattle.iol_core.specs.Text.{Text, bytes_of, admitted}
 use Rattle.iol_core.specs.State.{State, descriptor, content, file, may_read, conn_at, pipe_at, is_live}
 use Rattle.iol_core.specs.Positions.{ArePlaced}
@@ -29,7 +30,7 @@ pub record ReportsFile (s : State) (d fd f at : ℕ) (mode : Mode) (bytes found 
 
 abbrev pub CopiesFile : State → (d fd f at : ℕ) → Mode → List ℕ → Reply → State → Type 0
 CopiesFile s d fd f at mode bytes (reply.Bytes found) t = ReportsFile s d fd f at mode bytes found t
-CopiesFile s d fd f at mode bytes (reply.Refused x) t = (is_resource_failure (reply.Refused x) ≡ true) × (t ≡ s)
+CopiesFile s d fd f at mode bytes (reply.Refused x) t = IsTrue (is_resource_failure (reply.Refused x)) × (t ≡ s)
 CopiesFile s d fd f at mode bytes r t = ⊥
 
 -- the reply is the first bytes of a connection's input, at most count, which are removed; if count is positive and
@@ -43,7 +44,7 @@ pub record ReportsConn (s : State) (d c count : ℕ) (found : List ℕ) (t : Sta
   pub most : text ≡ admitted (may_read s d) (take count (conn_at s c).incoming)
   pub conn : conn_at t c ≡ record (conn_at s c) { incoming = incoming }
   pub readable : SameReadable s d t
-  pub ended : 0 < count → text ≡ [] → ((conn_at s c).incoming ≡ []) × (is_none (conn_at s c).peer ≡ false)
+  pub ended : 0 < count → text ≡ [] → ((conn_at s c).incoming ≡ []) × IsFalse (is_none (conn_at s c).peer)
 
 abbrev pub CopiesConn : State → (d c count : ℕ) → Reply → State → Type 0
 CopiesConn s d c count (reply.Bytes found) t = ReportsConn s d c count found t
@@ -60,7 +61,7 @@ pub record ReportsPipe (s : State) (d p count : ℕ) (found : List ℕ) (t : Sta
   pub most : text ≡ admitted (may_read s d) (take count (pipe_at s p).queue)
   pub pipe : pipe_at t p ≡ record (pipe_at s p) { queue = rest }
   pub readable : SameReadable s d t
-  pub ended : 0 < count → text ≡ [] → ((pipe_at s p).queue ≡ []) × ((pipe_at s p).writing ≡ false)
+  pub ended : 0 < count → text ≡ [] → ((pipe_at s p).queue ≡ []) × IsFalse (pipe_at s p).writing
 
 abbrev pub CopiesPipe : State → (d p count : ℕ) → Reply → State → Type 0
 CopiesPipe s d p count (reply.Bytes found) t = ReportsPipe s d p count found t
@@ -70,7 +71,7 @@ CopiesPipe s d p count r t = ⊥
 -- Each of the two calls, on a file, a connection and a pipe.
 pub record CopyingCallsServeTheirDomain : Type 0 where
   pub write_file : (s t : State) (d fd f at : ℕ) (mode : Mode) (bytes : List ℕ) (r : Reply) → ArePlaced s
-      → is_live s d ≡ true → writes mode ≡ true → descriptor s d fd ≡ Some (on.File f at mode)
+      → IsTrue (is_live s d) → IsTrue (writes mode) → descriptor s d fd ≡ Some (on.File f at mode)
       → StepsTo s (event.Call d (call.Write fd bytes)) r t → WritesFile s d fd f at mode bytes r t
   pub write_conn : (s t : State) (d fd c : ℕ) (bytes : List ℕ) (r : Reply) → IsOrderly s
       → descriptor s d fd ≡ Some (on.Connection c) → StepsTo s (event.Call d (call.Write fd bytes)) r t
@@ -78,8 +79,8 @@ pub record CopyingCallsServeTheirDomain : Type 0 where
   pub write_pipe : (s t : State) (d fd p : ℕ) (bytes : List ℕ) (r : Reply) → IsOrderly s
       → descriptor s d fd ≡ Some (on.WriteEnd p) → StepsTo s (event.Call d (call.Write fd bytes)) r t
       → WritesPipe s p bytes r t
-  pub read_file : (s t : State) (d fd f at n : ℕ) (mode : Mode) (r : Reply) → is_live s d ≡ true
-      → may_read s d (file s f).pool ≡ true → reads mode ≡ true → descriptor s d fd ≡ Some (on.File f at mode)
+  pub read_file : (s t : State) (d fd f at n : ℕ) (mode : Mode) (r : Reply) → IsTrue (is_live s d)
+      → IsTrue (may_read s d (file s f).pool) → IsTrue (reads mode) → descriptor s d fd ≡ Some (on.File f at mode)
       → StepsTo s (event.Call d (call.Read fd n)) r t → CopiesFile s d fd f at mode (take n (drop at (content s f))) r t
   pub read_conn : (s t : State) (d fd c n : ℕ) (r : Reply) → IsOrderly s → descriptor s d fd ≡ Some (on.Connection c)
       → StepsTo s (event.Call d (call.Read fd n)) r t → CopiesConn s d c n r t

@@ -1,5 +1,5 @@
 -- The effect of calls that create and end domains, and of calls on pools, for their caller.
-use Rattle.std.specs.Prelude.{◌≡◌, ◌≢◌, ℕ, ◌==◌, ◌||◌, true, false, List, [], Some}
+use Rattle.std.specs.Prelude.{◌≡◌, ◌≢◌, ℕ, ◌==◌, ◌||◌, true, List, [], Some, IsTrue, IsFalse}
 use Rattle.std.specs.List.{list_any}
 use Rattle.iol_core.specs.State.{State, domain, new_domain, no_domain, is_live, pool, is_pool, may_read, descriptor}
 use Rattle.iol_core.specs.State.{pipe_at, conn_at}
@@ -16,13 +16,13 @@ use Rattle.iol_laws.specs.Others.{HasNotEnd}
 
 -- a new domain is live and has nothing, and all other domains are unchanged
 pub record StartsDomain (s : State) (n : ℕ) (t : State) : Type 0 where
-  pub new : is_live s n ≡ false
+  pub new : IsFalse (is_live s n)
   pub empty : domain t n ≡ new_domain
   pub others : (e : ℕ) → n ≢ e → domain t e ≡ domain s e
 
 abbrev pub MakesDomain : State → Reply → State → Type 0
 MakesDomain s (reply.Domain n) t = StartsDomain s n t
-MakesDomain s (reply.Refused x) t = (is_resource_failure (reply.Refused x) ≡ true) × (t ≡ s)
+MakesDomain s (reply.Refused x) t = IsTrue (is_resource_failure (reply.Refused x)) × (t ≡ s)
 MakesDomain s r t = ⊥
 
 -- The domain has nothing any more, and each of its descriptors is closed as by `close`. Queued output of a connection
@@ -31,12 +31,12 @@ pub record EndsDomain (s : State) (d : ℕ) (t : State) : Type 0 where
   pub nothing : domain t d ≡ no_domain
   pub others : (e : ℕ) → d ≢ e → domain t e ≡ domain s e
   pub conns : (fd c : ℕ) → descriptor s d fd ≡ Some (on.Connection c)
-      → ((conn_at t c).closed ≡ true) × ((conn_at t c).outgoing ≡ (conn_at s c).outgoing)
+      → IsTrue (conn_at t c).closed × ((conn_at t c).outgoing ≡ (conn_at s c).outgoing)
   pub read_ends : (fd p : ℕ) → descriptor s d fd ≡ Some (on.ReadEnd p)
-      → ((pipe_at t p).reading ≡ false) × ((pipe_at t p).queue ≡ [])
-  pub write_ends : (fd p : ℕ) → descriptor s d fd ≡ Some (on.WriteEnd p) → (pipe_at t p).writing ≡ false
-  pub unread : (p : ℕ) → ((fd : ℕ) → descriptor s d fd ≡ Some (on.ReadEnd p) → ⊥) → (pipe_at s p).reading ≡ true
-      → ((pipe_at t p).reading ≡ true) × ((pipe_at t p).queue ≡ (pipe_at s p).queue)
+      → IsFalse (pipe_at t p).reading × ((pipe_at t p).queue ≡ [])
+  pub write_ends : (fd p : ℕ) → descriptor s d fd ≡ Some (on.WriteEnd p) → IsFalse (pipe_at t p).writing
+  pub unread : (p : ℕ) → ((fd : ℕ) → descriptor s d fd ≢ Some (on.ReadEnd p)) → IsTrue (pipe_at s p).reading
+      → IsTrue (pipe_at t p).reading × ((pipe_at t p).queue ≡ (pipe_at s p).queue)
   pub conns_remain : (fd c : ℕ) → descriptor s d fd ≡ Some (on.Connection c)
       → conn_at t c ≡ remains (record (conn_at s c) { incoming = []; closed = true })
   -- for a pipe of which it had one end
@@ -52,9 +52,9 @@ Exits s d r t = ⊥
 
 -- a new pool is open, exactly these domains may read it, and all other pools are unchanged
 pub record OpensPool (s : State) (list : List ℕ) (p : ℕ) (t : State) : Type 0 where
-  pub new : is_pool s p ≡ false
-  pub there : is_pool t p ≡ true
-  pub open_yet : (pool t p).closed ≡ false
+  pub new : IsFalse (is_pool s p)
+  pub there : IsTrue (is_pool t p)
+  pub open_yet : IsFalse (pool t p).closed
   pub may : (e : ℕ) → may_read t e p ≡ list_any (λ d. d == e) list
   pub others : (q : ℕ) → p ≢ q → pool t q ≡ pool s q
 
@@ -65,8 +65,8 @@ MakesPool s list r t = ⊥
 
 -- an open pool is closed, its readers and all other pools are unchanged
 pub record ShutsPool (s : State) (d p : ℕ) (t : State) : Type 0 where
-  pub was_open : (pool s p).closed ≡ false
-  pub may : may_read s d p ≡ true
+  pub was_open : IsFalse (pool s p).closed
+  pub may : IsTrue (may_read s d p)
   pub closed : pool t p ≡ record (pool s p) { closed = true }
   pub others : (q : ℕ) → p ≢ q → pool t q ≡ pool s q
 
@@ -78,14 +78,14 @@ ClosesPool s d p r t = ⊥
 -- One more domain may read an open pool that the caller may read, and nothing else changes. If the domain could read it
 -- before, nothing changes.
 pub record AdmitsDomain (s : State) (d p e : ℕ) (t : State) : Type 0 where
-  pub may_admit : may_read s d p ≡ true
-  pub open_yet : (pool s p).closed ≡ false
-  pub lives : is_live s e ≡ true
+  pub may_admit : IsTrue (may_read s d p)
+  pub open_yet : IsFalse (pool s p).closed
+  pub lives : IsTrue (is_live s e)
   pub may : (f : ℕ) → may_read t f p ≡ (may_read s f p || (e == f))
-  pub closed : (pool t p).closed ≡ false
+  pub closed : IsFalse (pool t p).closed
   pub others : (q : ℕ) → p ≢ q → pool t q ≡ pool s q
   pub rest : t ≡ record s { pools = t.pools }
-  pub again : may_read s e p ≡ true → t ≡ s
+  pub again : IsTrue (may_read s e p) → t ≡ s
 
 -- it needs no memory
 abbrev pub Admits : State → (d p e : ℕ) → Reply → State → Type 0
@@ -96,8 +96,8 @@ Admits s d p e r t = ⊥
 -- the bytes that the domain creates from now on are placed in this pool, which is open and which the domain may read
 pub record TakesPool (s : State) (d p : ℕ) (t : State) : Type 0 where
   pub default_is : (domain t d).default ≡ Some p
-  pub may : may_read s d p ≡ true
-  pub open_yet : (pool s p).closed ≡ false
+  pub may : IsTrue (may_read s d p)
+  pub open_yet : IsFalse (pool s p).closed
 
 abbrev pub SetsPool : State → (d p : ℕ) → Reply → State → Type 0
 SetsPool s d p reply.Done t = TakesPool s d p t
@@ -106,9 +106,9 @@ SetsPool s d p r t = ⊥
 
 -- Each call on domains and pools.
 pub record DomainsAndPoolsComeAndGo : Type 0 where
-  pub starts : (s t : State) (d : ℕ) (r : Reply) → is_live s d ≡ true → StepsTo s (event.Call d call.DomainNew) r t
+  pub starts : (s t : State) (d : ℕ) (r : Reply) → IsTrue (is_live s d) → StepsTo s (event.Call d call.DomainNew) r t
       → MakesDomain s r t
-  pub exits : (s t : State) (d : ℕ) (r : Reply) → IsOrderly s → is_live s d ≡ true
+  pub exits : (s t : State) (d : ℕ) (r : Reply) → IsOrderly s → IsTrue (is_live s d)
       → StepsTo s (event.Call d call.Exit) r t
       → Exits s d r t
   pub makes_pool : (s t : State) (d chunks : ℕ) (list : List ℕ) (r : Reply)

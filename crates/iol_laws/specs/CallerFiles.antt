@@ -1,6 +1,7 @@
 -- The effect of file calls for their caller, a live domain with a known file and position of its descriptor. So each
 -- definition also lists the possible refusals.
-use Rattle.std.specs.Prelude.{◌≡◌, ℕ, ◌+◌, ◌<◌, ◌≤◌, true, false, List, ◌++◌, length, take, drop, Some, None}
+use Rattle.std.specs.Prelude.{◌≡◌, ℕ, ◌+◌, ◌<◌, ◌≤◌, List, ◌++◌, length, take, drop, Some, None, IsTrue}
+use Rattle.std.specs.Prelude.{IsFalse}
 use Rattle.iol_core.specs.NumberedLists.{is_numbered}
 use Rattle.iol_core.specs.State.{State, descriptor, content, file, may_read, is_live}
 use Rattle.iol_core.specs.Positions.{ArePlaced}
@@ -21,12 +22,12 @@ use Rattle.iol_laws.specs.Caller.{readable_at, is_resource_failure}
 
 -- the next file has this name and pool, and the bytes of its slot
 pub record NamesFile (s : State) (d : ℕ) (name : List ℕ) (p f : ℕ) (t : State) : Type 0 where
-  pub new : is_numbered s.files f ≡ false
+  pub new : IsFalse (is_numbered s.files f)
   pub unknown : file_called s name ≡ None
   pub found : file_called t name ≡ Some f
   pub pool_is : (file t f).pool ≡ p
   pub bytes_are : content t f ≡ content s f
-  pub may : may_read s d p ≡ true
+  pub may : IsTrue (may_read s d p)
 
 abbrev pub MakesFile : State → (d : ℕ) → (name : List ℕ) → (p : ℕ) → Reply → State → Type 0
 MakesFile s d name p (reply.File f) t = NamesFile s d name p f t
@@ -37,7 +38,7 @@ MakesFile s d name p r t = ⊥
 pub record OpensFile (s : State) (d : ℕ) (name : List ℕ) (mode : Mode) (fd : ℕ) (t : State) : Type 0 where
   pub file_is : ℕ
   pub found : file_called s name ≡ Some file_is
-  pub may : may_read s d (file s file_is).pool ≡ true
+  pub may : IsTrue (may_read s d (file s file_is).pool)
   pub open_on : descriptor t d fd ≡ Some (on.File file_is 0 mode)
   pub new : descriptor s d fd ≡ None
 
@@ -46,13 +47,13 @@ pub record IsBarred (s : State) (d : ℕ) (name : List ℕ) (p : ℕ) : Type 0 w
   pub file_is : ℕ
   pub found : file_called s name ≡ Some file_is
   pub pool_is : (file s file_is).pool ≡ p
-  pub may_not : may_read s d p ≡ false
+  pub may_not : IsFalse (may_read s d p)
 
 abbrev pub Opening : State → (d : ℕ) → (name : List ℕ) → Mode → Reply → State → Type 0
 Opening s d name mode (reply.Fd fd) t = OpensFile s d name mode fd t
 Opening s d name mode (reply.Refused NoFile) t = (file_called s name ≡ None) × (t ≡ s)
 Opening s d name mode (reply.Refused (Denied p)) t = IsBarred s d name p × (t ≡ s)
-Opening s d name mode (reply.Refused x) t = (is_resource_failure (reply.Refused x) ≡ true) × (t ≡ s)
+Opening s d name mode (reply.Refused x) t = IsTrue (is_resource_failure (reply.Refused x)) × (t ≡ s)
 Opening s d name mode r t = ⊥
 
 -- the position is the requested one, which is at most the file's length
@@ -80,7 +81,7 @@ pub record FileIsReadable (s : State) (d fd f at : ℕ) (mode : Mode) (bytes : L
 
 abbrev pub ReadsFile : State → (d fd f at : ℕ) → Mode → List ℕ → Reply → State → Type 0
 ReadsFile s d fd f at mode bytes (reply.Agg n) t = FileIsReadable s d fd f at mode bytes n t
-ReadsFile s d fd f at mode bytes (reply.Refused x) t = (is_resource_failure (reply.Refused x) ≡ true) × (t ≡ s)
+ReadsFile s d fd f at mode bytes (reply.Refused x) t = IsTrue (is_resource_failure (reply.Refused x)) × (t ≡ s)
 ReadsFile s d fd f at mode bytes r t = ⊥
 
 -- bytes that replace those of a list from a position on, or extend it
@@ -96,7 +97,7 @@ pub record PutsInFile (s : State) (d fd f at : ℕ) (mode : Mode) (bytes : List 
 abbrev pub WritesFile : State → (d fd f at : ℕ) → Mode → List ℕ → Reply → State → Type 0
 WritesFile s d fd f at mode bytes (reply.Count k) t = PutsInFile s d fd f at mode bytes k t
 WritesFile s d fd f at mode bytes (reply.Refused TooLong) t = (MAX_FILE_BYTES < at + length bytes) × (t ≡ s)
-WritesFile s d fd f at mode bytes (reply.Refused x) t = (is_resource_failure (reply.Refused x) ≡ true) × (t ≡ s)
+WritesFile s d fd f at mode bytes (reply.Refused x) t = IsTrue (is_resource_failure (reply.Refused x)) × (t ≡ s)
 WritesFile s d fd f at mode bytes r t = ⊥
 
 -- Each call on a file. The invariant of positions is a premise only if bytes are written.
@@ -104,21 +105,21 @@ pub record FileCallsServeTheirDomain : Type 0 where
   pub makes : (s t : State) (d : ℕ) (name : List ℕ) (p : ℕ) (r : Reply)
       → StepsTo s (event.Call d (call.FileNew name p)) r t
       → MakesFile s d name p r t
-  pub opens : (s t : State) (d : ℕ) (name : List ℕ) (mode : Mode) (r : Reply) → is_live s d ≡ true
+  pub opens : (s t : State) (d : ℕ) (name : List ℕ) (mode : Mode) (r : Reply) → IsTrue (is_live s d)
       → StepsTo s (event.Call d (call.OpenFile name mode)) r t → Opening s d name mode r t
-  pub seeks : (s t : State) (d fd f was at : ℕ) (mode : Mode) (r : Reply) → is_live s d ≡ true
+  pub seeks : (s t : State) (d fd f was at : ℕ) (mode : Mode) (r : Reply) → IsTrue (is_live s d)
       → descriptor s d fd ≡ Some (on.File f was mode) → StepsTo s (event.Call d (call.Seek fd at)) r t
       → Seeks s d fd f at mode r t
-  pub measures : (s t : State) (d fd f at : ℕ) (mode : Mode) (r : Reply) → is_live s d ≡ true
+  pub measures : (s t : State) (d fd f at : ℕ) (mode : Mode) (r : Reply) → IsTrue (is_live s d)
       → descriptor s d fd ≡ Some (on.File f at mode) → StepsTo s (event.Call d (call.Length fd)) r t
       → Reports s (length (content s f)) r t
-  pub syncs : (s t : State) (d fd f at : ℕ) (mode : Mode) (r : Reply) → is_live s d ≡ true
+  pub syncs : (s t : State) (d fd f at : ℕ) (mode : Mode) (r : Reply) → IsTrue (is_live s d)
       → descriptor s d fd ≡ Some (on.File f at mode) → StepsTo s (event.Call d (call.Fsync fd)) r t → Syncs s f r t
-  pub reads_file : (s t : State) (d fd f at n : ℕ) (mode : Mode) (r : Reply) → IsOrderly s → is_live s d ≡ true
-      → may_read s d (file s f).pool ≡ true → reads mode ≡ true → descriptor s d fd ≡ Some (on.File f at mode)
+  pub reads_file : (s t : State) (d fd f at n : ℕ) (mode : Mode) (r : Reply) → IsOrderly s → IsTrue (is_live s d)
+      → IsTrue (may_read s d (file s f).pool) → IsTrue (reads mode) → descriptor s d fd ≡ Some (on.File f at mode)
       → StepsTo s (event.Call d (call.IolRead fd n)) r t
       → ReadsFile s d fd f at mode (take n (drop at (content s f))) r t
   pub writes_file : (s t : State) (d fd f at a : ℕ) (mode : Mode) (bytes : List ℕ) (r : Reply) → ArePlaced s
-      → is_live s d ≡ true → writes mode ≡ true → descriptor s d fd ≡ Some (on.File f at mode)
+      → IsTrue (is_live s d) → IsTrue (writes mode) → descriptor s d fd ≡ Some (on.File f at mode)
       → readable_at s d a ≡ Some bytes
       → StepsTo s (event.Call d (call.IolWrite fd a)) r t → WritesFile s d fd f at mode bytes r t

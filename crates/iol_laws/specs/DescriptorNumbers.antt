@@ -1,5 +1,5 @@
 -- Descriptors are opened only under numbers in replies, and these numbers are below the limit.
-use Rattle.std.specs.Prelude.{◌≡◌, ℕ, ◌<◌, ◌==◌, ◌&&◌, ◌||◌, Bool, true, false, List, Some, None}
+use Rattle.std.specs.Prelude.{◌≡◌, ℕ, ◌<◌, ◌==◌, ◌&&◌, ◌||◌, Bool, false, List, Some, None, IsTrue, IsFalse}
 use Rattle.iol_core.specs.State.{State, descriptor, new_state}
 use Rattle.iol_core.specs.Run.{StepsTo, Run}
 use Rattle.iol_core.specs.declared.limits.TheConstants.{MAX_OPEN}
@@ -31,12 +31,12 @@ AreLow s = (d fd : ℕ) (x : Descriptor) → descriptor s d fd ≡ Some x → fd
 pub record DescriptorsComeByReplies : Type 0 where
   -- a descriptor that is not open is not open after a step that does not give the domain its number
   pub none : (s t : State) (e : Event) (r : Reply) (d fd : ℕ) → StepsTo s e r t → descriptor s d fd ≡ None
-      → opens e r d fd ≡ false → descriptor t d fd ≡ None
+      → IsFalse (opens e r d fd) → descriptor t d fd ≡ None
   -- numbers are below the limit: in a new state, after each step, and so in each reachable state
   pub new : (slots : List (List ℕ)) → AreLow (new_state slots)
   pub step : (s t : State) (e : Event) (r : Reply) → AreLow s → StepsTo s e r t → AreLow t
   pub reached : (slots : List (List ℕ)) (t : State) (es : List Event) (rs : List Reply) → Run (new_state slots) es rs t
       → AreLow t
   -- the same for the numbers that replies give
-  pub given : (s t : State) (e : Event) (r : Reply) (fd : ℕ) → AreLow s → StepsTo s e r t → gives_number r fd ≡ true
+  pub given : (s t : State) (e : Event) (r : Reply) (fd : ℕ) → AreLow s → StepsTo s e r t → IsTrue (gives_number r fd)
       → fd < MAX_OPEN

@@ -1,7 +1,7 @@
 -- The parts of the state that a step leaves unchanged: connections, pipes, descriptors, files, pools and domains that
 -- its event does not touch.
 use Rattle.std.specs.Prelude.{◌≡◌, ℕ, ◌≤◌, ◌==◌, ◌&&◌, ◌||◌, Bool, true, false, List, [], ◌∷◌, ◌++◌, length, Option}
-use Rattle.std.specs.Prelude.{Some, unwrap_or}
+use Rattle.std.specs.Prelude.{Some, unwrap_or, IsTrue, IsFalse}
 use Rattle.std.specs.List.{list_any}
 use Rattle.iol_core.specs.NumberedLists.{lowest, is_numbered}
 use Rattle.iol_core.specs.State.{State, domain, is_live, pool, is_pool, may_read, descriptor, file, content, pipe_at}
@@ -114,25 +114,26 @@ sets_default e d = false
 
 -- the unchanged parts, for this event from old to new
 pub record Leaves (old : State) (e : Event) (new : State) : Type 0 where
-  pub conns : (c : ℕ) → touches_conn old e c ≡ false → conn_at new c ≡ conn_at old c
-  pub pipes : (p : ℕ) → touches_pipe old e p ≡ false → pipe_at new p ≡ pipe_at old p
-  pub fds : (d fd : ℕ) (x : Descriptor) → descriptor old d fd ≡ Some x → touches_fd old e d fd ≡ false
+  pub conns : (c : ℕ) → IsFalse (touches_conn old e c) → conn_at new c ≡ conn_at old c
+  pub pipes : (p : ℕ) → IsFalse (touches_pipe old e p) → pipe_at new p ≡ pipe_at old p
+  pub fds : (d fd : ℕ) (x : Descriptor) → descriptor old d fd ≡ Some x → IsFalse (touches_fd old e d fd)
       → descriptor new d fd ≡ Some x
-  pub files : changes_files old e ≡ false → (new.files ≡ old.files) × (new.slots ≡ old.slots)
-  pub contents : (f : ℕ) → writes_file old e f ≡ false → content new f ≡ content old f
+  pub files : IsFalse (changes_files old e) → (new.files ≡ old.files) × (new.slots ≡ old.slots)
+  pub contents : (f : ℕ) → IsFalse (writes_file old e f) → content new f ≡ content old f
   -- a file keeps its name, its number and its pool
-  pub known : (f : ℕ) → is_numbered old.files f ≡ true → file new f ≡ file old f
+  pub known : (f : ℕ) → IsTrue (is_numbered old.files f) → file new f ≡ file old f
   pub called : (name : List ℕ) (f : ℕ) → file_called old name ≡ Some f → file_called new name ≡ Some f
   -- an existing pool remains
-  pub numbered : (p : ℕ) → is_pool old p ≡ true → is_pool new p ≡ true
-  pub lists : (p : ℕ) → is_pool old p ≡ true → Grows (pool old p).domains (pool new p).domains
+  pub numbered : (p : ℕ) → IsTrue (is_pool old p) → IsTrue (is_pool new p)
+  pub lists : (p : ℕ) → IsTrue (is_pool old p) → Grows (pool old p).domains (pool new p).domains
   -- a domain that may read a pool keeps this right
-  pub readers : (d p : ℕ) → may_read old d p ≡ true → may_read new d p ≡ true
-  pub pools : (p : ℕ) → is_pool old p ≡ true → closes_pool e p ≡ false → admits_to e p ≡ false → pool new p ≡ pool old p
+  pub readers : (d p : ℕ) → IsTrue (may_read old d p) → IsTrue (may_read new d p)
+  pub pools : (p : ℕ) → IsTrue (is_pool old p) → IsFalse (closes_pool e p) → IsFalse (admits_to e p)
+      → pool new p ≡ pool old p
   -- a pool, closed or not, keeps its list, unless a domain is admitted to it
-  pub listed : (p : ℕ) → is_pool old p ≡ true → admits_to e p ≡ false → (pool new p).domains ≡ (pool old p).domains
-  pub lives : (d : ℕ) → is_live old d ≡ true → ends e d ≡ false → is_live new d ≡ true
-  pub defaults : (d : ℕ) → is_live old d ≡ true → sets_default e d ≡ false
+  pub listed : (p : ℕ) → IsTrue (is_pool old p) → IsFalse (admits_to e p) → (pool new p).domains ≡ (pool old p).domains
+  pub lives : (d : ℕ) → IsTrue (is_live old d) → IsFalse (ends e d) → IsTrue (is_live new d)
+  pub defaults : (d : ℕ) → IsTrue (is_live old d) → IsFalse (sets_default e d)
       → (domain new d).default ≡ (domain old d).default
 
 -- every step leaves unchanged what its event does not touch, and the values of aggregates

@@ -1,5 +1,5 @@
 -- The bytes received and sent on each connection, by number, over events and their replies.
-use Rattle.std.specs.Prelude.{◌≡◌, ℕ, ◌==◌, Bool, false, List, [], ◌∷◌, ◌++◌, take, if◌then◌else◌}
+use Rattle.std.specs.Prelude.{◌≡◌, ℕ, ◌==◌, Bool, false, List, [], ◌∷◌, ◌++◌, take, if◌then◌else◌, IsFalse}
 use Rattle.std.specs.List.{list_any}
 use Rattle.iol_core.specs.Text.{bytes_of}
 use Rattle.iol_core.specs.State.{State, conn_at}
@@ -62,9 +62,9 @@ pub record HistoriesAddUp : Type 0 where
       → IsEndOf (bytes_of (conn_at old c).incoming) (stream_of c es rs) (bytes_of (conn_at new c).incoming)
   -- the output is sent in order, over a run during which the peer receives
   pub unsent : (old new : State) (es : List Event) (rs : List Reply) (c : ℕ) → IsOrderly old → Run old es rs new
-      → list_any (λ e. drops_unsent e c) es ≡ false
+      → IsFalse (list_any (λ e. drops_unsent e c) es)
       → GoesFirst (bytes_of (conn_at old c).outgoing) (sent_of c es rs) (bytes_of (conn_at new c).outgoing)
   -- over a run at whose end the connection is not yet accepted
   pub waiting : (old new : State) (es : List Event) (rs : List Reply) (c : ℕ) → IsOrderly old → Run old es rs new
-      → (conn_at old c).accepted ≡ false → (conn_at new c).accepted ≡ false
+      → IsFalse (conn_at old c).accepted → IsFalse (conn_at new c).accepted
       → IsAllUnread old c (stream_of c es rs) (sent_of c es rs) new

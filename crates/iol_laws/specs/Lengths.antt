@@ -1,5 +1,5 @@
 -- Length limits of files, aggregates and queues.
-use Rattle.std.specs.Prelude.{◌≡◌, ℕ, ◌≤◌, ◌&&◌, Bool, true, List, length, Some, nat_le}
+use Rattle.std.specs.Prelude.{◌≡◌, ℕ, ◌≤◌, ◌&&◌, Bool, List, length, Some, nat_le, IsTrue}
 use Rattle.std.specs.List.{list_all}
 use Rattle.iol_core.specs.Text.{Text}
 use Rattle.iol_core.specs.NumberedLists.{is_numbered}
@@ -24,12 +24,12 @@ both_fit k = fits_queue k.incoming && fits_queue k.outgoing
 
 pub record AreShort (s : State) : Type 0 where
   -- each file is within its limit; a slot without a file may exceed it
-  pub files : (f : ℕ) → is_numbered s.files f ≡ true → length (content s f) ≤ MAX_FILE_BYTES
+  pub files : (f : ℕ) → IsTrue (is_numbered s.files f) → length (content s f) ≤ MAX_FILE_BYTES
   -- each aggregate of a domain is within its limit
-  pub aggs : (d : ℕ) → list_all (λ e. fits_aggregate e.1) (domain s d).aggs ≡ true
+  pub aggs : (d : ℕ) → IsTrue (list_all (λ e. fits_aggregate e.1) (domain s d).aggs)
   -- the queue of a pipe, and both queues of a connection, are within theirs
-  pub pipes : (p : ℕ) → fits_queue (pipe_at s p).queue ≡ true
-  pub conns : list_all (λ e. both_fit e.1) s.conns ≡ true
+  pub pipes : (p : ℕ) → IsTrue (fits_queue (pipe_at s p).queue)
+  pub conns : IsTrue (list_all (λ e. both_fit e.1) s.conns)
 
 pub record LengthsStayBounded : Type 0 where
   pub new : (slots : List (List ℕ)) → AreShort (new_state slots)

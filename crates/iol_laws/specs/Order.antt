@@ -1,7 +1,8 @@
 -- Invariants between events: each pipe end and each connection is open in at most one descriptor; the object of each
 -- open descriptor exists, and each existing one is open; numbers from the next one on are not used; an ended domain has
 -- nothing; the lists of pools are short.
-use Rattle.std.specs.Prelude.{◌≡◌, ℕ, ◌≤◌, ◌&&◌, ◌||◌, Bool, true, false, not, List, [], ◌∷◌, length, Some, None}
+use Rattle.std.specs.Prelude.{◌≡◌, ℕ, ◌≤◌, ◌&&◌, ◌||◌, Bool, true, not, List, [], ◌∷◌, length, Some, None}
+use Rattle.std.specs.Prelude.{IsTrue, IsFalse, ⊤}
 use Rattle.iol_core.specs.NumberedLists.{lookup, in_place}
 use Rattle.iol_core.specs.State.{State, Pipe, domain, is_live, pool, aggregate, descriptor, conn_at, pipe_at, new_state}
 use Rattle.iol_core.specs.State.{no_domain}
@@ -27,31 +28,31 @@ stands s (on.Connection c) = (conn_at s c).accepted && not (conn_at s c).closed
 pub record IsOpen (s : State) (x : Descriptor) : Type 0 where
   pub by : ℕ
   pub fd : ℕ
-  pub live : is_live s by ≡ true
+  pub live : IsTrue (is_live s by)
   pub there : descriptor s by fd ≡ Some x
 
 -- each number occurs at most once
 abbrev pub Once : {A : Type 0} → List (ℕ × A) → Type 0
-Once [] = Unit {0}
+Once [] = ⊤
 Once (e ∷ es) = (lookup es e.0 ≡ None) × Once es
 
 pub record IsOrderly (s : State) : Type 0 where
   -- two open descriptors of the same pipe end or connection are the same
-  pub one : (d e f g : ℕ) (x : Descriptor) → is_file (Some x) ≡ false → descriptor s d f ≡ Some x
+  pub one : (d e f g : ℕ) (x : Descriptor) → IsFalse (is_file (Some x)) → descriptor s d f ≡ Some x
       → descriptor s e g ≡ Some x → (d ≡ e) × (f ≡ g)
   -- the object of each open descriptor exists
-  pub all_stand : (d f : ℕ) (x : Descriptor) → descriptor s d f ≡ Some x → stands s x ≡ true
+  pub all_stand : (d f : ℕ) (x : Descriptor) → descriptor s d f ≡ Some x → IsTrue (stands s x)
   -- each open end of a pipe, and each connection that was accepted and is not closed, has a descriptor
-  pub held : (x : Descriptor) → is_file (Some x) ≡ false → stands s x ≡ true → IsOpen s x
+  pub held : (x : Descriptor) → IsFalse (is_file (Some x)) → IsTrue (stands s x) → IsOpen s x
   -- an existing pipe has an open end
-  pub ends : (p : ℕ) (x : Pipe) → in_place s.pipes p ≡ Some x → (x.reading || x.writing) ≡ true
+  pub ends : (p : ℕ) (x : Pipe) → in_place s.pipes p ≡ Some x → IsTrue (x.reading || x.writing)
   -- the list of a pool has at most sixteen domains
   pub listed : (p : ℕ) → length (pool s p).domains ≤ MAX_LISTED
   -- an ended domain has nothing
-  pub gone : (d : ℕ) → is_live s d ≡ false → domain s d ≡ no_domain
+  pub gone : (d : ℕ) → IsFalse (is_live s d) → domain s d ≡ no_domain
   -- a connection that is not yet accepted is not closed, and has no queued output
-  pub waits : (c : ℕ) → (conn_at s c).accepted ≡ false → (conn_at s c).closed ≡ false
-  pub silent : (c : ℕ) → (conn_at s c).accepted ≡ false → (conn_at s c).outgoing ≡ []
+  pub waits : (c : ℕ) → IsFalse (conn_at s c).accepted → IsFalse (conn_at s c).closed
+  pub silent : (c : ℕ) → IsFalse (conn_at s c).accepted → (conn_at s c).outgoing ≡ []
   -- each connection has a unique number, below the next one
   pub once : Once s.conns
   pub conns : (c : ℕ) → s.next_conn ≤ c → lookup s.conns c ≡ None

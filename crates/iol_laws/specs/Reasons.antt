@@ -1,6 +1,7 @@
 -- The condition that a refusal reports to its caller: why nothing can be read, written or accepted now. Also the calls
 -- that are never refused.
-use Rattle.std.specs.Prelude.{◌≡◌, ℕ, ◌≤◌, ◌⊎◌, true, false, List, [], ◌∷◌, length, Some, None, is_some}
+use Rattle.std.specs.Prelude.{◌≡◌, ℕ, ◌≤◌, ◌⊎◌, List, [], ◌∷◌, length, Some, None, IsTrue}
+use Rattle.std.specs.Prelude.{IsFalse, IsSome}
 use Rattle.iol_core.specs.Text.{Text}
 use Rattle.iol_core.specs.State.{State, descriptor, may_read, conn_at, pipe_at, is_gone, is_live}
 use Rattle.iol_core.specs.Run.{StepsTo}
@@ -19,7 +20,7 @@ pub record IsHidden (s : State) (d p : ℕ) (text : Text) : Type 0 where
   pub byte : ℕ
   pub rest : Text
   pub text_is : text ≡ (byte, p) ∷ rest
-  pub may_not : may_read s d p ≡ false
+  pub may_not : IsFalse (may_read s d p)
 
 pub record RefusalsTellWhy : Type 0 where
   -- nothing can be read, but bytes may still arrive
@@ -28,7 +29,7 @@ pub record RefusalsTellWhy : Type 0 where
       → ((conn_at s c).incoming ≡ []) × ((conn_at s c).peer ≡ None)
   pub pipe_is_empty : (s t : State) (d fd p n : ℕ) → descriptor s d fd ≡ Some (on.ReadEnd p)
       → StepsTo s (event.Call d (call.IolRead fd n)) (reply.Refused WouldBlock) t
-      → ((pipe_at s p).queue ≡ []) × ((pipe_at s p).writing ≡ true)
+      → ((pipe_at s p).queue ≡ []) × IsTrue (pipe_at s p).writing
   -- the domain may not read the first byte
   pub conn_is_hidden : (s t : State) (d fd c n q : ℕ) → descriptor s d fd ≡ Some (on.Connection c)
       → StepsTo s (event.Call d (call.IolRead fd n)) (reply.Refused (Denied q)) t
@@ -44,9 +45,9 @@ pub record RefusalsTellWhy : Type 0 where
       → MAX_QUEUE_BYTES ≤ length (pipe_at s p).queue
   -- the peer receives no more
   pub peer_is_gone : (s t : State) (d fd c a : ℕ) → descriptor s d fd ≡ Some (on.Connection c)
-      → StepsTo s (event.Call d (call.IolWrite fd a)) (reply.Refused BrokenPipe) t → is_gone (conn_at s c).peer ≡ true
+      → StepsTo s (event.Call d (call.IolWrite fd a)) (reply.Refused BrokenPipe) t → IsTrue (is_gone (conn_at s c).peer)
   pub nobody_reads : (s t : State) (d fd p a : ℕ) → descriptor s d fd ≡ Some (on.WriteEnd p)
-      → StepsTo s (event.Call d (call.IolWrite fd a)) (reply.Refused BrokenPipe) t → (pipe_at s p).reading ≡ false
+      → StepsTo s (event.Call d (call.IolWrite fd a)) (reply.Refused BrokenPipe) t → IsFalse (pipe_at s p).reading
   -- the input queue is full, or there is nothing to send
   pub arrival_is_full : (s t : State) (c : ℕ) (bytes : List ℕ)
       → StepsTo s (event.Arrive c bytes) (reply.Refused WouldBlock) t → MAX_QUEUE_BYTES ≤ length (conn_at s c).incoming
@@ -55,13 +56,13 @@ pub record RefusalsTellWhy : Type 0 where
   -- the peer closed the connection, or its domain did
   pub arrival_is_broken : (s t : State) (c : ℕ) (bytes : List ℕ)
       → StepsTo s (event.Arrive c bytes) (reply.Refused BrokenPipe) t
-      → (is_some (conn_at s c).peer ≡ true) ⊎ ((conn_at s c).closed ≡ true)
+      → IsSome (conn_at s c).peer ⊎ IsTrue (conn_at s c).closed
   -- the domain may accept none of the waiting connections
   pub nobody_waits : (s t : State) (d c : ℕ) → StepsTo s (event.Call d call.Accept) (reply.Refused WouldBlock) t
-      → (conn_at s c).accepted ≡ false → may_read s d (conn_at s c).pool ≡ false
+      → IsFalse (conn_at s c).accepted → IsFalse (may_read s d (conn_at s c).pool)
   -- an existing object is closed or dropped without refusal
-  pub close_is_done : (s t : State) (d fd : ℕ) (x : Descriptor) (r : Reply) → is_live s d ≡ true
+  pub close_is_done : (s t : State) (d fd : ℕ) (x : Descriptor) (r : Reply) → IsTrue (is_live s d)
       → descriptor s d fd ≡ Some x → StepsTo s (event.Call d (call.Close fd)) r t → r ≡ reply.Done
-  pub drop_is_done : (s t : State) (d a : ℕ) (bytes : List ℕ) (r : Reply) → is_live s d ≡ true
+  pub drop_is_done : (s t : State) (d a : ℕ) (bytes : List ℕ) (r : Reply) → IsTrue (is_live s d)
       → readable_at s d a ≡ Some bytes
       → StepsTo s (event.Call d (call.AggDrop a)) r t → r ≡ reply.Done

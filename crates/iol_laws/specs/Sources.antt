@@ -1,5 +1,5 @@
 -- The pools of the bytes that calls make and write: those of their source.
-use Rattle.std.specs.Prelude.{◌≡◌, ℕ, ◌==◌, Bool, true, false, List, [], ◌++◌, take, Option, Some}
+use Rattle.std.specs.Prelude.{◌≡◌, ℕ, ◌==◌, Bool, false, List, [], ◌++◌, take, Option, Some, IsTrue, IsFalse}
 use Rattle.std.specs.List.{list_all}
 use Rattle.iol_core.specs.Text.{Text, labelled, admitted}
 use Rattle.iol_core.specs.State.{State, text, descriptor, file, content, may_read, pipe_at}
@@ -52,29 +52,30 @@ writes_pipe s e p = false
 
 -- whether the domain may read each of these pools
 abbrev pub MayReadAll : State → (d : ℕ) → (pools : ℕ → Bool) → Type 0
-MayReadAll s d pools = (q : ℕ) → pools q ≡ true → may_read s d q ≡ true
+MayReadAll s d pools = (q : ℕ) → IsTrue (pools q) → IsTrue (may_read s d q)
 
 -- Bytes keep the pool in which they were created when they are cut, joined, passed on or read.
 pub record LabelsFollow : Type 0 where
   -- an aggregate is in these pools after an event if its source is, or, if it is not new, if it was before
   pub aggs : (pools : ℕ → Bool) (s t : State) (e : Event) (r : Reply) (d a : ℕ) → IsOrderly s → StepsTo s e r t
-      → (brings e r d a ≡ true → lie_in pools (taken_from s e) ≡ true)
-      → (brings e r d a ≡ false → lie_in pools (text s d a) ≡ true) → lie_in pools (text t d a) ≡ true
+      → (IsTrue (brings e r d a) → IsTrue (lie_in pools (taken_from s e)))
+      → (IsFalse (brings e r d a) → IsTrue (lie_in pools (text s d a))) → IsTrue (lie_in pools (text t d a))
   -- the same for the bytes of a pipe
   pub pipes : (pools : ℕ → Bool) (s t : State) (e : Event) (r : Reply) (p : ℕ) → StepsTo s e r t
-      → (writes_pipe s e p ≡ true → lie_in pools (taken_from s e) ≡ true) → lie_in pools (pipe_at s p).queue ≡ true
-      → lie_in pools (pipe_at t p).queue ≡ true
+      → (IsTrue (writes_pipe s e p) → IsTrue (lie_in pools (taken_from s e)))
+      → IsTrue (lie_in pools (pipe_at s p).queue)
+      → IsTrue (lie_in pools (pipe_at t p).queue)
   -- new bytes are in the pool in which they are created, and two joined texts are in these pools if each is
-  pub fresh : (pools : ℕ → Bool) (p : ℕ) (bytes : List ℕ) → pools p ≡ true → lie_in pools (labelled p bytes) ≡ true
-  pub both : (pools : ℕ → Bool) (x y : Text) → lie_in pools x ≡ true → lie_in pools y ≡ true
-      → lie_in pools (x ++ y) ≡ true
+  pub fresh : (pools : ℕ → Bool) (p : ℕ) (bytes : List ℕ) → IsTrue (pools p) → IsTrue (lie_in pools (labelled p bytes))
+  pub both : (pools : ℕ → Bool) (x y : Text) → IsTrue (lie_in pools x) → IsTrue (lie_in pools y)
+      → IsTrue (lie_in pools (x ++ y))
   -- a domain that may read all these pools is never denied bytes in them, and gets all bytes that it asks for
   pub reads : (pools : ℕ → Bool) (s t : State) (d fd p n q : ℕ) → MayReadAll s d pools
-      → lie_in pools (pipe_at s p).queue ≡ true → descriptor s d fd ≡ Some (on.ReadEnd p)
-      → StepsTo s (event.Call d (call.IolRead fd n)) (reply.Refused (Denied q)) t → ⊥
+      → IsTrue (lie_in pools (pipe_at s p).queue) → descriptor s d fd ≡ Some (on.ReadEnd p)
+      → ¬ StepsTo s (event.Call d (call.IolRead fd n)) (reply.Refused (Denied q)) t
   pub copies : (pools : ℕ → Bool) (s t : State) (d fd p n q : ℕ) → MayReadAll s d pools
-      → lie_in pools (pipe_at s p).queue ≡ true → descriptor s d fd ≡ Some (on.ReadEnd p)
-      → StepsTo s (event.Call d (call.Read fd n)) (reply.Refused (Denied q)) t → ⊥
+      → IsTrue (lie_in pools (pipe_at s p).queue) → descriptor s d fd ≡ Some (on.ReadEnd p)
+      → ¬ StepsTo s (event.Call d (call.Read fd n)) (reply.Refused (Denied q)) t
   pub whole : (pools : ℕ → Bool) (s : State) (d p n : ℕ) → MayReadAll s d pools
-      → lie_in pools (pipe_at s p).queue ≡ true
+      → IsTrue (lie_in pools (pipe_at s p).queue)
       → admitted (may_read s d) (take n (pipe_at s p).queue) ≡ take n (pipe_at s p).queue

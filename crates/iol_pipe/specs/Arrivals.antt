@@ -1,6 +1,6 @@
 -- The bytes of one read.
-use Rattle.std.specs.Prelude.{◌≡◌, ◌<◌, ◌≤◌, ℕ, true, false, List, [], length, take, Option, Some, None, Result, IfOk}
-use Rattle.std.specs.Prelude.{IfErr, OnErr}
+use Rattle.std.specs.Prelude.{◌≡◌, ◌<◌, ◌≤◌, ℕ, List, [], length, take, Option, Some, None, Result, IfOk}
+use Rattle.std.specs.Prelude.{IfErr, OnErr, IsTrue, IsFalse}
 use Rattle.std.specs.List.{All}
 use Rattle.std.specs.Io.KnownBytes.{Consumes, IsAtEnd, Keeps}
 use Rattle.iol_core.specs.Prelude.{WantOfRoom}
@@ -53,14 +53,14 @@ pub record MakesRead (left after : Option (List ℕ)) (s t : Stored) (holds : Li
 -- the reader nothing: the contract of `Read` does not say when a read fails.
 pub record IsOneRead (bound : ℕ) (after : Option (List ℕ)) (a : Arrived) : Type 0 where
   pub most : a.taken ≤ bound
-  pub some : a.end ≡ false → a.failed ≡ false → 0 < a.taken
-  pub either : a.end ≡ true → a.failed ≡ false
-  pub ended : a.end ≡ true → (a.taken ≡ 0) × IsAtEnd after
-  pub failed : a.failed ≡ true → a.taken ≡ 0
+  pub some : IsFalse a.end → IsFalse a.failed → 0 < a.taken
+  pub either : IsTrue a.end → IsFalse a.failed
+  pub ended : IsTrue a.end → (a.taken ≡ 0) × IsAtEnd after
+  pub failed : IsTrue a.failed → a.taken ≡ 0
 
 -- at most n bytes may be read into a page of an open pool
 pub record MayRead (s : Stored) (pool n : ℕ) : Type 0 where
-  pub opened : (pool_in s.pools pool).closed ≡ false
+  pub opened : IsFalse (pool_in s.pools pool).closed
   pub some : 0 < n
   pub page : n ≤ PAGE_BYTES
 

@@ -1,5 +1,5 @@
 -- The result and the effect of a read into a memory.
-use Rattle.std.specs.Prelude.{◌≡◌, ◌≤◌, ℕ, false, List, [], length, drop, Result, Err, IfOk, OnErr}
+use Rattle.std.specs.Prelude.{◌≡◌, ◌≤◌, ℕ, List, [], length, drop, Result, Err, IfOk, OnErr, IsFalse, ◌≢◌}
 use Rattle.iol_core.specs.Calls.Reads.{read}
 use Rattle.iol_core.specs.Calls.Writes.{is_file}
 use Rattle.iol_core.specs.declared.refusals.Refusal.{Refusal}
@@ -18,7 +18,7 @@ pub record ReadsInto {B : Type 0} (by fd most : ℕ) (memory filled : List ℕ) 
     (r : Result ℕ Refusal) (new : Kernel) : Type 0 where
   pub serves : Serves (λ s. read s by fd most) (disk backing) old (first_of filled r) (disk after) new
   pub copies : Copies by fd most (disk backing) (state_of old) (first_of filled r) (disk after) (state_of new)
-  pub not_memory : is_file (held_by (machine_of [] (state_of old)) by fd) ≡ false → r ≡ Err Memory → ⊥
+  pub not_memory : IsFalse (is_file (held_by (machine_of [] (state_of old)) by fd)) → r ≢ Err Memory
   pub count : IfOk r (λ n. n ≤ most)
   pub len : length filled ≡ length memory
   pub rest : IfOk r (λ n. drop n filled ≡ drop n memory)
@@ -30,7 +30,7 @@ pub record ReadsInto {B : Type 0} (by fd most : ℕ) (memory filled : List ℕ) 
 pub record TakesOut (by fd : ℕ) (memory filled : List ℕ) (old : Kernel) (r : Result ℕ Refusal) (new : Kernel) :
     Type 0 where
   pub reads : ReadsOut by fd (length memory) (state_of old) (first_of filled r) (state_of new)
-  pub not_memory : r ≡ Err Memory → ⊥
+  pub not_memory : r ≢ Err Memory
   pub count : IfOk r (λ n. n ≤ length memory)
   pub len : length filled ≡ length memory
   pub rest : IfOk r (λ n. drop n filled ≡ drop n memory)

@@ -1,5 +1,5 @@
 -- Runs in which no turn got a resource refusal.
-use Rattle.std.specs.Prelude.{◌≡◌, false, List, ◌∷◌}
+use Rattle.std.specs.Prelude.{List, ◌∷◌, IsFalse, ⊤}
 use Rattle.iol_core.specs.declared.events.Reply.{Reply}
 use Rattle.iol_laws.specs.Caller.{is_resource_failure}
 use Rattle.iol_proc.specs.Turns.{TransitionRelation, Machine}
@@ -9,20 +9,20 @@ use Rattle.iol_proc.specs.declared.choice.Choice.TheVariants as choice
 
 -- No turn of these choices has a resource refusal as its reply. External events do not count.
 abbrev pub AreFailureFree : List Choice → List Reply → Type 0
-AreFailureFree (choice.Turn by ∷ xs) (r ∷ rs) = (is_resource_failure r ≡ false) × AreFailureFree xs rs
+AreFailureFree (choice.Turn by ∷ xs) (r ∷ rs) = IsFalse (is_resource_failure r) × AreFailureFree xs rs
 AreFailureFree (choice.Outside e ∷ xs) (r ∷ rs) = AreFailureFree xs rs
-AreFailureFree xs rs = Unit {0}
+AreFailureFree xs rs = ⊤
 
 -- A world has its failure flag set after a run if and only if it was set before, or a turn of the run got a resource
 -- refusal.
 pub record ResourceFailureAsItRuns {M P : Type 0} (machine : Machine M) (turns : TransitionRelation P) : Type 0 where
   -- if the flag is clear at the end, it was clear at the start, and no turn got such a refusal
   pub never_was : (w after : Stage M P) (xs : List Choice) (rs : List Reply) → WorldRun machine turns w xs rs after
-      → after.resource_failure ≡ false → (w.resource_failure ≡ false) × AreFailureFree xs rs
+      → IsFalse after.resource_failure → IsFalse w.resource_failure × AreFailureFree xs rs
   -- if the flag is clear at the start and no turn gets such a refusal, it is clear at the end
   pub stays_failure_free : (w after : Stage M P) (xs : List Choice) (rs : List Reply)
       → WorldRun machine turns w xs rs after
-      → w.resource_failure ≡ false → AreFailureFree xs rs → after.resource_failure ≡ false
+      → IsFalse w.resource_failure → AreFailureFree xs rs → IsFalse after.resource_failure
 
 pub record FailureFreeRuns {P : Type 0} (turns : TransitionRelation P) : Type 0 where
   -- for the copying machine, and for a system over any store

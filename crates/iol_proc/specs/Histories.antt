@@ -2,7 +2,7 @@
 --
 -- For a single event it is the `History` of `iol_laws`. A turn neither receives nor sends: a process reads and writes
 -- the queues, and external events fill and drain them.
-use Rattle.std.specs.Prelude.{◌≡◌, ◌⊎◌, ℕ, Bool, true, false, List, [], ◌∷◌, ◌++◌, length}
+use Rattle.std.specs.Prelude.{◌≡◌, ◌⊎◌, ℕ, Bool, true, false, List, [], ◌∷◌, ◌++◌, length, IsTrue, IsFalse}
 use Rattle.std.specs.List.{list_any}
 use Rattle.iol_core.specs.Text.{bytes_of}
 use Rattle.iol_core.specs.State.{State, conn_at}
@@ -64,7 +64,7 @@ abbrev pub BringAbout : List Choice → List Reply → List Event → List Reply
 BringAbout [] [] es qs = (es ≡ []) × (qs ≡ [])
 BringAbout (choice.Outside e ∷ xs) (r ∷ rs) es qs = Begin e r (BringAbout xs rs) es qs
 BringAbout (choice.Turn by ∷ xs) (r ∷ rs) es qs =
-    ((may_be_no_call r ≡ true) × BringAbout xs rs es qs)
+    (IsTrue (may_be_no_call r) × BringAbout xs rs es qs)
     ⊎ ((c : Call) × Begin (event.Call by c) r (BringAbout xs rs) es qs)
 BringAbout xs rs es qs = ⊥
 
@@ -122,11 +122,11 @@ pub record HistoriesOfChoices {P : Type 0} (turns : TransitionRelation P) : Type
       (bytes_of (conn_at after.machine c).incoming)
   -- the output is sent in order, over a run during which the peer receives
   pub unsent : (w after : Stage State P) (xs : List Choice) (rs : List Reply) (c : ℕ) → IsOrderly w.machine
-      → WorldRun copying turns w xs rs after → list_any (λ x. drops_with x c) xs ≡ false
+      → WorldRun copying turns w xs rs after → IsFalse (list_any (λ x. drops_with x c) xs)
       → GoesFirst (bytes_of (conn_at w.machine c).outgoing) (sent_over c xs rs)
       (bytes_of (conn_at after.machine c).outgoing)
   -- over a run at whose end the connection is not yet accepted
   pub waiting : (w after : Stage State P) (xs : List Choice) (rs : List Reply) (c : ℕ) → IsOrderly w.machine
-      → WorldRun copying turns w xs rs after → (conn_at w.machine c).accepted ≡ false
-      → (conn_at after.machine c).accepted ≡ false
+      → WorldRun copying turns w xs rs after → IsFalse (conn_at w.machine c).accepted
+      → IsFalse (conn_at after.machine c).accepted
       → IsAllUnread w.machine c (stream_over c xs rs) (sent_over c xs rs) after.machine

@@ -1,6 +1,6 @@
 -- Turns in rounds, and the condition on which they stop.
 use Rattle.std.specs.Prelude.{◌≡◌, ◌<◌, ◌≤◌, ◌+◌, ◌%◌, ℕ, zero, suc, List, [], ◌∷◌, length, map, take, replicate, Bool}
-use Rattle.std.specs.Prelude.{false, if◌then◌else◌, nat_lt, nat_le, slice_index, slice_set}
+use Rattle.std.specs.Prelude.{if◌then◌else◌, nat_lt, nat_le, slice_index, slice_set, IsFalse}
 use Rattle.std.specs.List.{list_all}
 use Rattle.iol_core.specs.declared.events.Reply.{Reply}
 use Rattle.iol_proc.specs.Turns.{Machine, TransitionRelation, is_would_block}
@@ -62,8 +62,8 @@ module _ {M P : Type 0} (machine : Machine M) (turns : TransitionRelation P) whe
     pub run : WorldRun machine turns w (rounds (domains_of w.process_slots) 0 (length went)) (map (λ t. t.1) went) after
     pub within : length went ≤ most
     pub reported : idle ≡ is_idle (yields_of (length w.process_slots) went)
-    pub first : (j : ℕ) → j < length went → is_idle (yields_of (length w.process_slots) (take j went)) ≡ false
-    pub all_taken : idle ≡ false → length went ≡ most
+    pub first : (j : ℕ) → j < length went → IsFalse (is_idle (yields_of (length w.process_slots) (take j went)))
+    pub all_taken : IsFalse idle → length went ≡ most
 
 module _ {P : Type 0} (turns : TransitionRelation P) where
   -- a turn of the process at this index of a world, with this outcome

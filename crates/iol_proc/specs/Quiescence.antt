@@ -4,7 +4,7 @@
 -- WouldBlock: a property of the process, its last reply, and the machine's state. So S 1 may say that every call that
 -- the process polled since its last yield was refused in this state, and S 2 that these are all the calls that it
 -- polls.
-use Rattle.std.specs.Prelude.{◌≡◌, ◌≤◌, ℕ, true, List, [], ◌∷◌, Some, slice_get}
+use Rattle.std.specs.Prelude.{◌≡◌, ◌≤◌, ℕ, true, List, [], ◌∷◌, Some, slice_get, ⊤}
 use Rattle.std.specs.List.{AllByRecursion}
 use Rattle.iol_core.specs.State.{State}
 use Rattle.iol_core.specs.Run.{StepsTo}
@@ -27,7 +27,7 @@ Claim P = (n by : ℕ) → P → Reply → State → Type 0
 module _ {P : Type 0} (S : Claim P) where
   -- the property holds for each process, by its number of yields
   abbrev pub AreQuiescent : List ℕ → List (ProcessSlot P) → State → Type 0
-  AreQuiescent [] [] m = Unit {0}
+  AreQuiescent [] [] m = ⊤
   AreQuiescent (n ∷ ns) (s ∷ ss) m = (n ≤ 2) × S n s.by s.process s.last m × AreQuiescent ns ss m
   AreQuiescent [] (s ∷ ss) m = ⊥
   AreQuiescent (n ∷ ns) [] m = ⊥

@@ -3,7 +3,7 @@
 -- The definitions are used for two machines: the copying machine, and a system over any store, with all that it
 -- guarantees.
 use Rattle.std.specs.Prelude.{◌≡◌, ◌≢◌, ◌⊎◌, ◌<◌, ◌≤◌, ◌||◌, ℕ, List, [], ◌∷◌, length, map, Option, Some, None, IfSome}
-use Rattle.std.specs.Prelude.{Bool, All, if◌then◌else◌, slice_get, slice_set}
+use Rattle.std.specs.Prelude.{Bool, All, if◌then◌else◌, slice_get, slice_set, ⊤}
 use Rattle.iol_core.specs.State.{State}
 use Rattle.iol_core.specs.Run.{StepsTo}
 use Rattle.iol_core.specs.declared.events.Event.{Event}
@@ -59,8 +59,8 @@ process_slot_of p = record { by = p.0; process = p.1; last = reply.Done }
 
 -- each number is above the one before
 abbrev pub IsRising : List ℕ → Type 0
-IsRising [] = Unit {0}
-IsRising (x ∷ []) = Unit {0}
+IsRising [] = ⊤
+IsRising (x ∷ []) = ⊤
 IsRising (x ∷ y ∷ ys) = (x < y) × IsRising (y ∷ ys)
 
 -- no process is in this domain

@@ -1,6 +1,6 @@
 -- A client: its connections, one after another, and the bytes between them and its socket.
 use Rattle.std.specs.Prelude.{◌≡◌, ◌≤◌, ℕ, Bool, true, false, List, [], ◌++◌, length, take, drop, map, Some}
-use Rattle.std.specs.Prelude.{if◌then◌else◌}
+use Rattle.std.specs.Prelude.{if◌then◌else◌, IsTrue}
 use Rattle.std.specs.List.{AllByRecursion, concat}
 use Rattle.iol_core.specs.Calls.Outside.{lacks_conn}
 use Rattle.iol_system.specs.Machine.{SystemState}
@@ -82,7 +82,7 @@ module _ {P : Type 0} (turns : TransitionRelation P) (starts : Stage SystemState
   -- A connection is over, and its peer was not reported as gone.
   pub record IsDone (v : Visit P) : Type 0 where
     pub visited : HasVisited turns starts pool v.conn v.came v.sent false v.world
-    pub over : lacks_conn (copied v.world).machine v.conn ≡ true
+    pub over : IsTrue (lacks_conn (copied v.world).machine v.conn)
 
   -- It was left: it received whole requests that keep it.
   pub record IsLeft (v : Visit P) : Type 0 where

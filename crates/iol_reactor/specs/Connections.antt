@@ -1,5 +1,6 @@
 -- The connections of clients.
-use Rattle.std.specs.Prelude.{◌≡◌, ◌==◌, ◌||◌, ◌&&◌, ℕ, Bool, true, nat_lt, nat_le, List, Option, None, Some, get_or}
+use Rattle.std.specs.Prelude.{◌≡◌, ◌==◌, ◌||◌, ◌&&◌, ℕ, Bool, nat_lt, nat_le, List, Option, None, Some, get_or}
+use Rattle.std.specs.Prelude.{IsTrue}
 use Rattle.iol_reactor.specs.declared.links.Link.{Link}
 
 -- the connection of the client at an index
@@ -16,4 +17,4 @@ has_come generation last l = nat_lt l.generation generation || ((l.generation ==
 
 -- The same for all connections of clients.
 abbrev pub HaveCome : (generation last : ℕ) → List (Option Link) → Type 0
-HaveCome generation last table = (i : ℕ) (l : Link) → link_at table i ≡ Some l → has_come generation last l ≡ true
+HaveCome generation last table = (i : ℕ) (l : Link) → link_at table i ≡ Some l → IsTrue (has_come generation last l)

@@ -1,6 +1,6 @@
 -- The histories of clients' connections in the worlds that serve them.
-use Rattle.std.specs.Prelude.{◌≡◌, ◌≢◌, ◌≤◌, ◌+◌, ◌==◌, ◌||◌, ℕ, Bool, true, List, ◌++◌, Option, None, Some}
-use Rattle.std.specs.Prelude.{if◌then◌else◌, option_map}
+use Rattle.std.specs.Prelude.{◌≢◌, ◌≤◌, ◌+◌, ◌==◌, ◌||◌, ℕ, Bool, List, ◌++◌, Option, None, Some}
+use Rattle.std.specs.Prelude.{if◌then◌else◌, option_map, IsTrue}
 use Rattle.iol_core.specs.Calls.Outside.{lacks_conn}
 use Rattle.iol_system.specs.Machine.{SystemState}
 use Rattle.iol_proc.specs.Turns.{TransitionRelation}
@@ -56,7 +56,7 @@ module _ {P : Type 0} (turns : TransitionRelation P) (starts : Stage SystemState
 -- A connection of one of the worlds was removed.
 abbrev pub IsOverIn : {P : Type 0} → Option (Stage SystemState P) → (c : ℕ) → Type 0
 IsOverIn None c = ⊥
-IsOverIn (Some w) c = lacks_conn (copied w).machine c ≡ true
+IsOverIn (Some w) c = IsTrue (lacks_conn (copied w).machine c)
 
 abbrev pub IsOver : {P : Type 0} → Option Link → Serving P → Type 0
 IsOver None s = ⊥

@@ -1,6 +1,6 @@
 -- The history of a client: its connections, one after another, and the bytes that its socket supplied and accepted.
 use Rattle.std.specs.Prelude.{◌≡◌, ◌≤◌, ◌⊎◌, ℕ, Bool, true, false, List, [], drop, get_or, Option, None, Some, IsSome}
-use Rattle.std.specs.Prelude.{⊤}
+use Rattle.std.specs.Prelude.{⊤, IsTrue, IsFalse}
 use Rattle.iol_system.specs.Machine.{SystemState}
 use Rattle.iol_proc.specs.Turns.{TransitionRelation}
 use Rattle.iol_proc.specs.World.{Stage}
@@ -88,7 +88,7 @@ module _ {P : Type 0} (turns : TransitionRelation P) (starts : Stage SystemState
     pub were : WereLeft turns starts frames pool past_came past_sent
     pub waiting : List ℕ
     pub none : frames waiting frame.Incomplete
-    pub ended : is_ended ≡ true
+    pub ended : IsTrue is_ended
     pub holds : Holds past_came past_sent [] [] waiting unsent supplied accepted
 
   -- The requests were answered to the end, except for what is unsent.
@@ -134,11 +134,11 @@ module _ {P : Type 0} (turns : TransitionRelation P) (starts : Stage SystemState
   pub record IsInPhase (s : Serving P) (o : Option Link) (at : Phase) (is_last is_whole : Bool) (input : Input)
       (unsent supplied accepted : List ℕ)
       : Type 0 where
-    pub between : is_free at ≡ true → IsBetween s o input unsent supplied accepted
+    pub between : IsTrue (is_free at) → IsBetween s o input unsent supplied accepted
     pub within : at ≡ phase.Answering → IsWithin s o is_last input unsent supplied accepted
-    pub served : is_ending at ≡ true → IsServed unsent supplied accepted
+    pub served : IsTrue (is_ending at) → IsServed unsent supplied accepted
     pub over : at ≡ phase.Over → (lost : List ℕ) × IsServed lost supplied accepted
-    pub whole : is_ending at ≡ true → is_whole ≡ true → IsServedWhole input.ended unsent supplied accepted
+    pub whole : IsTrue (is_ending at) → IsTrue is_whole → IsServedWhole input.ended unsent supplied accepted
     pub all : at ≡ phase.Closing → unsent ≡ []
 
   -- The history of a client with known bytes, which may have a connection of the worlds that serve.
@@ -159,7 +159,7 @@ module _ {P : Type 0} (turns : TransitionRelation P) (starts : Stage SystemState
     pub accepts : accepted c.socket ≡ Some to
     pub unsent : List ℕ
     pub served : IsServed unsent from to
-    pub whole : c.phase ≡ phase.Closing → c.is_whole ≡ true → IsServedWhole c.input.ended [] from to
+    pub whole : c.phase ≡ phase.Closing → IsTrue c.is_whole → IsServedWhole c.input.ended [] from to
 
   -- The same, if the bytes of sockets are known.
   abbrev pub HasKnownHistory : {S : Type 0} → (supplied accepted : S → Option (List ℕ)) → Client S → Type 0
@@ -174,7 +174,7 @@ module _ {P : Type 0} (turns : TransitionRelation P) (starts : Stage SystemState
 -- A response was sent whole, and the client keeps its connection.
 pub record IsCompleted {S : Type 0} (c next : Client S) : Type 0 where
   pub asking : c.phase ≡ phase.Answering
-  pub keeps : c.is_last ≡ false
+  pub keeps : IsFalse c.is_last
   pub all : c.input.asked ≤ c.input.given
   pub finished : IsFinished c.input next.input
   pub quiet : next.phase ≡ phase.Quiet

@@ -1,5 +1,6 @@
 -- The events of a world that serves clients.
-use Rattle.std.specs.Prelude.{◌≡◌, ℕ, List, [], ◌∷◌, ◌++◌, false}
+use Rattle.std.specs.Prelude.{◌≡◌, ℕ, List, [], ◌++◌, false, ⊤}
+use Rattle.std.specs.List.{AllByRecursion}
 use Rattle.iol_back.specs.Disk.{IfHonest}
 use Rattle.iol_core.specs.State.{State}
 use Rattle.iol_core.specs.declared.descriptors.How.{How}
@@ -16,16 +17,15 @@ use Rattle.iol_proc.specs.declared.choice.Choice.TheVariants as choice
 -- A turn of a process, or an event of a connection: a connection of this pool is created, bytes arrive, the peer closes
 -- it, or bytes are sent. It is never an external call.
 abbrev pub IsServing : (pool : ℕ) → Choice → Type 0
-IsServing pool (choice.Turn by) = Unit {0}
+IsServing pool (choice.Turn by) = ⊤
 IsServing pool (choice.Outside (event.ConnNew p)) = p ≡ pool
-IsServing pool (choice.Outside (event.Arrive c bytes)) = Unit {0}
-IsServing pool (choice.Outside (event.PeerClosed c how)) = Unit {0}
-IsServing pool (choice.Outside (event.Transmit c max)) = Unit {0}
+IsServing pool (choice.Outside (event.Arrive c bytes)) = ⊤
+IsServing pool (choice.Outside (event.PeerClosed c how)) = ⊤
+IsServing pool (choice.Outside (event.Transmit c max)) = ⊤
 IsServing pool (choice.Outside e) = ⊥
 
 abbrev pub AreServing : (pool : ℕ) → List Choice → Type 0
-AreServing pool [] = Unit {0}
-AreServing pool (x ∷ xs) = IsServing pool x × AreServing pool xs
+AreServing pool choices = AllByRecursion (IsServing pool) choices
 
 module _ {P : Type 0} (turns : TransitionRelation P) where
   -- From w, the choices are process turns and events of connections.

@@ -1,5 +1,5 @@
 -- A consequence for a served connection.
-use Rattle.std.specs.Prelude.{◌≡◌, ℕ, true, false, List, [], Option}
+use Rattle.std.specs.Prelude.{ℕ, false, List, [], Option, IsTrue}
 use Rattle.iol_core.specs.Calls.Outside.{lacks_conn}
 use Rattle.iol_core.specs.State.{State, conn_at}
 use Rattle.iol_core.specs.Text.{bytes_of}
@@ -13,5 +13,5 @@ use Rattle.iol_serve.specs.Service.{Serves}
 -- before, then those written since. Nothing of it is left.
 abbrev pub OverIsWhole : {P : Type 0} → TransitionRelation P → Type 0
 OverIsWhole {P} turns = (c : ℕ) (left rest held now : Option (List ℕ)) (w after : Stage State P) → IsOrderly w.machine
-    → (served : Serves turns c false left rest held now w after) → lacks_conn after.machine c ≡ true
+    → (served : Serves turns c false left rest held now w after) → IsTrue (lacks_conn after.machine c)
     → GoesFirst (bytes_of (conn_at w.machine c).outgoing) served.sent []

@@ -1,6 +1,6 @@
 -- Serving a connection of a world.
-use Rattle.std.specs.Prelude.{◌≡◌, ◌⊎◌, ℕ, Bool, true, false, List, [], ◌∷◌, Option}
-use Rattle.std.specs.List.{list_any}
+use Rattle.std.specs.Prelude.{◌≡◌, ◌⊎◌, ℕ, Bool, true, false, List, [], Option, IsTrue, ⊤}
+use Rattle.std.specs.List.{list_any, AllByRecursion}
 use Rattle.std.specs.Io.KnownBytes.{Appends, Consumes}
 use Rattle.iol_back.specs.Disk.{IfHonest}
 use Rattle.iol_core.specs.State.{State, conn_at, is_gone}
@@ -18,7 +18,7 @@ use Rattle.iol_serve.specs.declared.ending.Ending.TheVariants.{Over, Failed, Sil
 
 -- a connection has ended: it was removed, or its peer is gone
 abbrev pub HasEnded : State → (c : ℕ) → Type 0
-HasEnded s c = (lacks_conn s c ≡ true) ⊎ (is_gone (conn_at s c).peer ≡ true)
+HasEnded s c = IsTrue (lacks_conn s c) ⊎ IsTrue (is_gone (conn_at s c).peer)
 
 -- whether the peer was reported as gone
 abbrev pub hung_up : Ending → Bool
@@ -29,15 +29,14 @@ hung_up Long = true
 
 -- A process turn, or an event of this connection: bytes arrive, the peer closes it, or bytes are sent.
 abbrev pub IsOn : (c : ℕ) → Choice → Type 0
-IsOn c (choice.Turn by) = Unit {0}
+IsOn c (choice.Turn by) = ⊤
 IsOn c (choice.Outside (event.Arrive d bytes)) = d ≡ c
 IsOn c (choice.Outside (event.PeerClosed d how)) = d ≡ c
 IsOn c (choice.Outside (event.Transmit d max)) = d ≡ c
 IsOn c (choice.Outside e) = ⊥
 
 abbrev pub AreOn : (c : ℕ) → List Choice → Type 0
-AreOn c [] = Unit {0}
-AreOn c (x ∷ xs) = IsOn c x × AreOn c xs
+AreOn c choices = AllByRecursion (IsOn c) choices
 
 module _ {P : Type 0} (turns : TransitionRelation P) where
   -- From w, the choices are only process turns and events of this connection. These bytes are received and these are

@@ -1,6 +1,6 @@
 -- The first bytes of a queue, which are sent.
-use Rattle.std.specs.Prelude.{◌≡◌, ◌<◌, ◌≤◌, ℕ, true, false, List, Option, Result, IfOk, OnErr, length, map, take, drop}
-use Rattle.std.specs.Prelude.{min}
+use Rattle.std.specs.Prelude.{◌≡◌, ◌<◌, ◌≤◌, ℕ, List, Option, Result, IfOk, OnErr, length, map, take, drop}
+use Rattle.std.specs.Prelude.{min, IsTrue, IsFalse}
 use Rattle.std.specs.Io.KnownBytes.{Appends}
 use Rattle.iol_core.specs.Prelude.{checksum as checksum_of}
 use Rattle.iol_core.specs.Text.{bytes_of}
@@ -56,6 +56,6 @@ pub record Writes {W : Type 0} (contents : W → Option (List ℕ)) (writer afte
     (max : ℕ)
     (d : Drained) : Type 0 where
   pub most : d.taken ≤ min max (byte_len queue)
-  pub all : d.failed ≡ false → d.taken ≡ min max (byte_len queue)
-  pub fewer : d.failed ≡ true → d.taken < min max (byte_len queue)
+  pub all : IsFalse d.failed → d.taken ≡ min max (byte_len queue)
+  pub fewer : IsTrue d.failed → d.taken < min max (byte_len queue)
   pub written : Appends (contents writer) (contents after) (take d.taken (bytes_of (text_of s queue)))

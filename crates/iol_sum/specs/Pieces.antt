@@ -1,5 +1,5 @@
 -- Sums of concatenated pieces (RFC 1071, section 2 (A) and (B)).
-use Rattle.std.specs.Prelude.{◌≡◌, ℕ, ◌+◌, ◌*◌, ◌/◌, ◌%◌, Bool, nat_eq, if◌then◌else◌, List, ◌++◌, length}
+use Rattle.std.specs.Prelude.{◌≡◌, ℕ, ◌+◌, ◌*◌, ◌/◌, ◌%◌, Bool, if◌then◌else◌, List, ◌++◌, length, ◌==◌}
 use Rattle.iol_core.specs.Checksum.{word_sum, folded}
 
 -- a number of 16 bits with its two bytes swapped
@@ -7,7 +7,7 @@ abbrev pub swapped : ℕ → ℕ
 swapped n = n % 256 * 256 + n / 256
 
 abbrev pub is_odd : ℕ → Bool
-is_odd n = nat_eq (n % 2) 1
+is_odd n = n % 2 == 1
 
 -- the sum of a piece with sum `sum`, followed by a rest with sum `rest`; `at_odd`: the rest begins at an odd offset
 abbrev pub joined : (sum : ℕ) (at_odd : Bool) (rest : ℕ) → ℕ

@@ -1,6 +1,6 @@
 -- Remembered sums, the most recently used first.
-use Rattle.std.specs.Prelude.{◌≡◌, ℕ, ◌+◌, ◌-◌, ◌<◌, ◌≤◌, ◌⊎◌, Bool, nat_eq, ◌&&◌, if◌then◌else◌, Option, None, is_some}
-use Rattle.std.specs.Prelude.{List, [], ◌∷◌, length, take, slice_range}
+use Rattle.std.specs.Prelude.{◌≡◌, ℕ, ◌+◌, ◌-◌, ◌<◌, ◌≤◌, ◌⊎◌, Bool, ◌&&◌, if◌then◌else◌, Option, None, is_some}
+use Rattle.std.specs.Prelude.{List, [], ◌∷◌, length, take, slice_range, ◌==◌}
 use Rattle.std.specs.List.{All, IsDistinct}
 use Rattle.std.specs.Map.{keys_of, lookup, remove_entry}
 use Rattle.iol_core.specs.Checksum.{word_sum, folded}
@@ -26,7 +26,7 @@ abbrev pub buf_of : Key → BufId
 buf_of k = record { page = k.page; generation = k.generation }
 
 abbrev pub same : (a b : Key) → Bool
-same a b = nat_eq a.page b.page && (nat_eq a.generation b.generation && (nat_eq a.from b.from && nat_eq a.len b.len))
+same a b = a.page == b.page && (a.generation == b.generation && (a.from == b.from && a.len == b.len))
 
 -- the sum that is remembered under a key, if there is one
 abbrev pub sum_kept : Sums → Key → Option ℕ

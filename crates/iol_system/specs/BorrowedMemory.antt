@@ -1,5 +1,6 @@
 -- Reads into borrowed memory, and aggregates that are shown in it.
-use Rattle.std.specs.Prelude.{◌≡◌, ◌≤◌, ◌-◌, ◌^◌, ℕ, false, min, List, length, drop, Result, Ok, Err, IfOk, OnErr}
+use Rattle.std.specs.Prelude.{◌≡◌, ◌≤◌, ◌-◌, ◌^◌, ℕ, min, List, length, drop, Result, Ok, Err, IfOk, OnErr}
+use Rattle.std.specs.Prelude.{IsFalse, ◌≢◌}
 use Rattle.iol_core.specs.declared.events.Call.TheVariants as call
 use Rattle.iol_core.specs.declared.events.Event.{Event}
 use Rattle.iol_core.specs.declared.events.Event.TheVariants as event
@@ -27,7 +28,7 @@ pub record ReadsTo (by fd : ℕ) (memory filled : List ℕ) (old : SystemState) 
   pub len : length filled ≡ length memory
   pub rest : IfOk r (λ n. drop n filled ≡ drop n memory)
   pub err : OnErr r (filled ≡ memory)
-  pub not_memory : asks_store (tables_of old.kernel) (read_of_most by fd (length memory)) ≡ false → r ≡ Err Memory → ⊥
+  pub not_memory : IsFalse (asks_store (tables_of old.kernel) (read_of_most by fd (length memory))) → r ≢ Err Memory
 
 -- the bytes shown, or the refusal of a call that returns their number
 abbrev pub shown : List ℕ → Result ℕ Refusal → Result (List ℕ) Refusal
@@ -39,4 +40,4 @@ shown bytes (Err x) = Err x
 pub record ShowsTo (by agg : ℕ) (memory filled : List ℕ) (s : SystemState) (r : Result ℕ Refusal) : Type 0 where
   pub shows : ShowsInto by agg memory filled s.kernel r
   pub step : Promises s (event.Call by (call.Show agg)) (reported reply.Bytes (shown shows.bytes r)) s
-  pub not_memory : r ≡ Err Memory → ⊥
+  pub not_memory : r ≢ Err Memory

@@ -1,5 +1,5 @@
 -- The effect of an event on the state that the calls of a system work on, over a store: the source of all its promises.
-use Rattle.std.specs.Prelude.{◌≡◌, ℕ, true, false}
+use Rattle.std.specs.Prelude.{◌≡◌, ℕ, IsTrue, IsFalse}
 use Rattle.iol_back.specs.Disk.{Disk, IfHonest}
 use Rattle.iol_cache.specs.ReadResults.{FaultCounts}
 use Rattle.iol_core.specs.Positions.{ArePlaced}
@@ -37,25 +37,25 @@ pub record Does (disk : Disk) (old : KernelState) (e : Event) (r : Reply) (after
   pub backed : IsBackedBy disk old → IsBackedBy after new
   pub beside : StepsBeside (λ s. meaning s e) old (outcome r) new
   pub honest : after.honest ≡ disk.honest
-  pub unasked : asks_store (tables_of old) e ≡ false → after ≡ disk
-  pub faults : asks_store (tables_of old) e ≡ true → FaultCounts disk after (outcome r)
-  pub slots : IfHonest disk (writes_store e ≡ false → after.slots ≡ disk.slots)
-  pub asked : asks_store (tables_of old) e ≡ true → IsFault r → HasRoomFor (system_of old disk) e
+  pub unasked : IsFalse (asks_store (tables_of old) e) → after ≡ disk
+  pub faults : IsTrue (asks_store (tables_of old) e) → FaultCounts disk after (outcome r)
+  pub slots : IfHonest disk (IsFalse (writes_store e) → after.slots ≡ disk.slots)
+  pub asked : IsTrue (asks_store (tables_of old) e) → IsFault r → HasRoomFor (system_of old disk) e
   pub room : IsDone r → HasRoomFor (system_of old disk) e
   pub no_room : IsNoRoom r → LacksRoomFor (system_of old disk) e
   pub memory : IsMemory r → BytesFit (system_of old disk) e
   pub early : IsEarly r → (new ≡ old) × (after ≡ disk)
-  pub refused : uses_cache (tables_of old) e ≡ false → IsRefused r → new ≡ old
-  pub uncached : uses_cache (tables_of old) e ≡ false → makes_file e ≡ false → new.cache ≡ old.cache
+  pub refused : IsFalse (uses_cache (tables_of old) e) → IsRefused r → new ≡ old
+  pub uncached : IsFalse (uses_cache (tables_of old) e) → IsFalse (makes_file e) → new.cache ≡ old.cache
   pub late : LeavesLate (system_of old disk) e r (system_of new after)
-  pub looks : only_looks e ≡ true → (new ≡ old) × (after ≡ disk)
-  pub shares : is_sharing (tables_of old) e ≡ true → LaysOut (layout_of old) e r (layout_of new)
-  pub pages : is_sharing (tables_of old) e ≡ true → SamePages old.store new.store
-  pub still : is_still e ≡ true → LaysOut (layout_of old) e r (layout_of new)
+  pub looks : IsTrue (only_looks e) → (new ≡ old) × (after ≡ disk)
+  pub shares : IsTrue (is_sharing (tables_of old) e) → LaysOut (layout_of old) e r (layout_of new)
+  pub pages : IsTrue (is_sharing (tables_of old) e) → SamePages old.store new.store
+  pub still : IsTrue (is_still e) → LaysOut (layout_of old) e r (layout_of new)
   pub in_place : KeepsInPlace (system_of old disk) e new
   pub held : ValuesStay (layout_of old) e (layout_of new)
-  pub places : takes_out (tables_of old) e ≡ true → IsDone r → layout_of new ≡ (meaning (layout_of old) e).after
-  pub store : keeps_store e ≡ true → new.store ≡ old.store
+  pub places : IsTrue (takes_out (tables_of old) e) → IsDone r → layout_of new ≡ (meaning (layout_of old) e).after
+  pub store : IsTrue (keeps_store e) → new.store ≡ old.store
   pub shares_file : IsDone r → SharesFile (system_of old disk) e r new
   pub slices : IsDone r → Divides old e new
   pub publishes : IsDone r → Publishes old e new

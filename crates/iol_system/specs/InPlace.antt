@@ -1,5 +1,5 @@
 -- The bytes of files that keep their places in an event, and the bytes that calls on files share.
-use Rattle.std.specs.Prelude.{◌≡◌, ◌⊎◌, ℕ, ◌+◌, ◌<◌, ◌≤◌, false, List, length, Option, Some, ⊤}
+use Rattle.std.specs.Prelude.{◌≡◌, ◌⊎◌, ℕ, ◌+◌, ◌<◌, ◌≤◌, false, List, length, Option, Some, ⊤, IsFalse}
 use Rattle.iol_core.specs.State.{descriptor}
 use Rattle.iol_core.specs.declared.descriptors.Mode.{Mode}
 use Rattle.iol_core.specs.declared.descriptors.Descriptor.{Descriptor}
@@ -65,7 +65,7 @@ MayLetGo s (event.Call by (call.IolWrite fd a)) p =
 MayLetGo s (event.Call by (call.Read fd n)) p = ReadWantsMore s (held_by (tables_of s.kernel) by fd) n p
 MayLetGo s (event.Call by (call.Write fd bytes)) p = WantsMore s.kernel (for_written s.kernel by fd bytes) p
 MayLetGo s (event.Arrive c bytes) p = WantsMore s.kernel (for_arrived s.kernel c bytes) p
-MayLetGo s event.DropClean p = Unit {0}
+MayLetGo s event.DropClean p = ⊤
 MayLetGo s e p = ⊥
 
 -- the cell over a byte is unchanged, or it is clean now
@@ -83,7 +83,7 @@ LiesStill e c o = o ≡ Some c
 pub record KeepsInPlace (old : SystemState) (e : Event) (new : KernelState) : Type 0 where
   pub each : (f i : ℕ) (c : Cell) → cover (extents_in old.kernel.cache.files f) i ≡ Some c
       → LiesStill e c (cover (extents_in new.cache.files f) i)
-      ⊎ (IsWritten old.kernel e f i ⊎ ((c.dirty ≡ false) × MayLetGo old e (file_in old.kernel.cache.files f).pool))
+      ⊎ (IsWritten old.kernel e f i ⊎ (IsFalse c.dirty × MayLetGo old e (file_in old.kernel.cache.files f).pool))
 
 -- Only pages, extents of files in memory and the domains' tables changed: pipes, connections, remembered sums and the
 -- list of files are unchanged.

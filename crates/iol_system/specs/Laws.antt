@@ -1,6 +1,7 @@
 -- Laws of runs: consequences of a chain of steps that keep their promises. Each is the contract of a function of
 -- `laws`.
-use Rattle.std.specs.Prelude.{◌≡◌, ◌⊎◌, ◌+◌, ◌<◌, ℕ, true, false, List, [], ◌∷◌, ◌++◌, Option, Some, option_map}
+use Rattle.std.specs.Prelude.{◌≡◌, ◌⊎◌, ◌+◌, ◌<◌, ℕ, List, [], ◌∷◌, ◌++◌, Option, Some, option_map, IsTrue}
+use Rattle.std.specs.Prelude.{IsFalse, ⊤}
 use Rattle.std.specs.List.{list_any}
 use Rattle.iol_core.specs.State.{State, aggregate}
 use Rattle.iol_core.specs.Text.{Text}
@@ -107,7 +108,7 @@ pub record EvictsNothing (Read : (f i : ℕ) → Type 0) (old new : Cached) : Ty
   pub low : (p : ℕ) → (order_in new.orders p).low ≡ (order_in old.orders p).low
   pub order : (p f at : ℕ) → IsSameOrHit (order_in old.orders p).low
       (entry_at (order_in old.orders p).entries f at) (entry_at (order_in new.orders p).entries f at)
-  pub unread : (p f at : ℕ) → (IsMet Read old f at → ⊥)
+  pub unread : (p f at : ℕ) → ¬ IsMet Read old f at
       → entry_at (order_in new.orders p).entries f at ≡ entry_at (order_in old.orders p).entries f at
 
 -- an event that is refused for lack of room evicts nothing
@@ -133,9 +134,9 @@ NoRoomKeepsPools = (old new : SystemState) (e : Event) (p : ℕ) → IsSafe old 
 
 -- A pool that is open before and after has the same chunks. One that is closed afterwards has all its chunks, or none.
 pub record KeepsChunks (old new : Stored) : Type 0 where
-  pub opens : (p : ℕ) → (pool_in old.pools p).closed ≡ false → (pool_in new.pools p).closed ≡ false
+  pub opens : (p : ℕ) → IsFalse (pool_in old.pools p).closed → IsFalse (pool_in new.pools p).closed
       → (pool_in new.pools p).chunks ≡ (pool_in old.pools p).chunks
-  pub closes : (p : ℕ) → (pool_in new.pools p).closed ≡ true → HasAllOrNone old new p
+  pub closes : (p : ℕ) → IsTrue (pool_in new.pools p).closed → HasAllOrNone old new p
 
 -- each event leaves an open pool its chunks, and a closed one all of them or none, whatever the reply
 abbrev pub EachStepKeepsChunks : Type 0
@@ -172,7 +173,7 @@ RunsKeepPlaces = (old new : SystemState) (es : List Event) (rs : List Reply) →
 -- each byte of an aggregate that no event of a run gives up is at the same address after the run as before
 abbrev pub RunsKeepAddresses : Type 0
 RunsKeepAddresses = (old new : SystemState) (es : List Event) (rs : List Reply) → Chain old es rs new
-    → (d a : ℕ) (t : Text) → aggregate (machine_of old) d a ≡ Some t → list_any (λ e. gives_up e d a) es ≡ false
+    → (d a : ℕ) (t : Text) → aggregate (machine_of old) d a ≡ Some t → IsFalse (list_any (λ e. gives_up e d a) es)
     → addresses_of new.kernel d a ≡ addresses_of old.kernel d a
 
 -- an aggregate that no event of a run gives up keeps its value
@@ -190,10 +191,10 @@ pub record SharesOver (old : SystemState) (es : List Event) (rs : List Reply) (n
 -- each event of a run is a sharing call at its moment
 abbrev pub AllShare : (old : SystemState) (es : List Event) (rs : List Reply) (new : SystemState) → Chain old es rs new
     → Type 0
-AllShare old [] rs new chain = Unit {0}
-AllShare old (e ∷ es) (r ∷ rs) new chain = (is_sharing (tables_of old.kernel) e ≡ true)
+AllShare old [] rs new chain = ⊤
+AllShare old (e ∷ es) (r ∷ rs) new chain = IsTrue (is_sharing (tables_of old.kernel) e)
     × AllShare chain.0 es rs new chain.2
-AllShare old (e ∷ es) [] new chain = Unit {0}
+AllShare old (e ∷ es) [] new chain = ⊤
 
 -- a run of sharing calls copies nothing
 abbrev pub RunsShare : Type 0
@@ -207,7 +208,7 @@ EachPageHasOneUse = (s : SystemState) → IsSafe s → (q : ℕ) → HasOneUse s
 -- Between any two events each chunk that is taken is of exactly one pool.
 abbrev pub EachChunkHasOnePool : Type 0
 EachChunkHasOnePool = (s : SystemState) → IsSafe s → (c : ℕ) → c < chunk_count s.kernel.store.arena
-    → is_taken s.kernel.store.arena c ≡ true → HasOnePool s.kernel.store c
+    → IsTrue (is_taken s.kernel.store.arena c) → HasOnePool s.kernel.store c
 
 -- The pool has returned its chunks, or a buffer in them is still held.
 abbrev pub HasGivenBack : Stored → (p : ℕ) → Type 0
@@ -215,7 +216,7 @@ HasGivenBack s p = ((pool_in s.pools p).chunks ≡ []) ⊎ ((b : BufId) × IsLiv
 
 -- Between any two events a closed pool has returned its chunks, as soon as no buffer in them is held.
 abbrev pub ClosedPoolsGiveBack : Type 0
-ClosedPoolsGiveBack = (s : SystemState) → IsSafe s → (p : ℕ) → (pool_in s.kernel.store.pools p).closed ≡ true
+ClosedPoolsGiveBack = (s : SystemState) → IsSafe s → (p : ℕ) → IsTrue (pool_in s.kernel.store.pools p).closed
     → HasGivenBack s.kernel.store p
 
 -- If no domain and no connection is live and no extent is left, every page that is not retired is free.

@@ -14,7 +14,7 @@ use Rattle.iol_system.specs.Safe.{IsSafe}
 -- A system of these sizes is made over a store; or one of the sizes is out of its range, or there is no memory.
 pub record MakesSystem (config : Config) (under : Disk) (r : Result SystemState Refusal) : Type 0 where
   -- it is refused by `BadRange` exactly when a size is out of its range
-  pub range : (r ≡ Err BadRange) ↔ (IsInRange config → ⊥)
+  pub range : (r ≡ Err BadRange) ↔ (¬ IsInRange config)
   -- and otherwise only for lack of memory
   pub errors : IfErr r (λ e. (e ≡ BadRange) ⊎ (e ≡ Memory))
   -- it represents the copying machine's first state, with the store's slots

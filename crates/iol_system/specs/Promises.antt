@@ -3,7 +3,7 @@
 -- The copying machine's own run (`iol_core`, `Run`) says which replies are returned, and leaves open when there is room
 -- and at which places bytes are. A chain has all promises of `System::step` at each link, so every property of a step
 -- holds in a run.
-use Rattle.std.specs.Prelude.{◌≡◌, ◌⊎◌, true, false, List, [], ◌∷◌}
+use Rattle.std.specs.Prelude.{◌≡◌, ◌⊎◌, List, [], ◌∷◌, IsTrue, IsFalse}
 use Rattle.iol_back.specs.Disk.{IfHonest}
 use Rattle.iol_cache.specs.KeptCover.{SameExtents}
 use Rattle.iol_cache.specs.ReadResults.{FaultCounts}
@@ -38,13 +38,13 @@ pub record Promises (old : SystemState) (e : Event) (r : Reply) (new : SystemSta
   -- the store is honest afterwards exactly if it was before
   pub honest : new.disk.honest ≡ old.disk.honest
   -- only calls on files ask the store
-  pub unasked : asks_store (tables_of old.kernel) e ≡ false → new.disk ≡ old.disk
+  pub unasked : IsFalse (asks_store (tables_of old.kernel) e) → new.disk ≡ old.disk
   -- Fault is returned exactly when the store failed once more
-  pub faults : asks_store (tables_of old.kernel) e ≡ true → FaultCounts old.disk new.disk (outcome r)
+  pub faults : IsTrue (asks_store (tables_of old.kernel) e) → FaultCounts old.disk new.disk (outcome r)
   -- the content of an honest store changes only if something is written back
-  pub slots : IfHonest old.disk (writes_store e ≡ false → new.disk.slots ≡ old.disk.slots)
+  pub slots : IfHonest old.disk (IsFalse (writes_store e) → new.disk.slots ≡ old.disk.slots)
   -- Fault is returned only if there is room
-  pub asked : asks_store (tables_of old.kernel) e ≡ true → IsFault r → HasRoomFor old e
+  pub asked : IsTrue (asks_store (tables_of old.kernel) e) → IsFault r → HasRoomFor old e
   -- success is returned only if there is room
   pub room : IsDone r → HasRoomFor old e
   -- NoRoom is returned only if there is no room
@@ -58,31 +58,31 @@ pub record Promises (old : SystemState) (e : Event) (r : Reply) (new : SystemSta
   pub early : IsEarly r → new ≡ old
   -- a refusal of an event that needs no pages and does not work on the extents of files in memory changes nothing
   -- either
-  pub refused : uses_cache (tables_of old.kernel) e ≡ false → IsRefused r → new ≡ old
+  pub refused : IsFalse (uses_cache (tables_of old.kernel) e) → IsRefused r → new ≡ old
   -- an event that does not work on the extents of files in memory leaves them unchanged, except that a new file has
   -- none
-  pub uncached : uses_cache (tables_of old.kernel) e ≡ false → makes_file e ≡ false
+  pub uncached : IsFalse (uses_cache (tables_of old.kernel) e) → IsFalse (makes_file e)
       → new.kernel.cache ≡ old.kernel.cache
   -- what a late refusal may leave: clean parts of files evicted, in the order of eviction, hits counted, and pages with
   -- an incremented generation that were filled and are free again
   pub late : LeavesLate old e r new
   -- `show` and `length` change nothing
-  pub looks : only_looks e ≡ true → new ≡ old
+  pub looks : IsTrue (only_looks e) → new ≡ old
   -- the bytes that a sharing call hands on keep their places
-  pub shares : is_sharing (tables_of old.kernel) e ≡ true → LaysOut (layout_of old.kernel) e r (layout_of new.kernel)
+  pub shares : IsTrue (is_sharing (tables_of old.kernel) e) → LaysOut (layout_of old.kernel) e r (layout_of new.kernel)
   -- a sharing call changes no page and no pool
-  pub pages : is_sharing (tables_of old.kernel) e ≡ true → SamePages old.kernel.store new.kernel.store
+  pub pages : IsTrue (is_sharing (tables_of old.kernel) e) → SamePages old.kernel.store new.kernel.store
   -- the bytes that an event leaves keep their places, if the event is not about bytes
-  pub still : is_still e ≡ true → LaysOut (layout_of old.kernel) e r (layout_of new.kernel)
+  pub still : IsTrue (is_still e) → LaysOut (layout_of old.kernel) e r (layout_of new.kernel)
   -- bytes of files in memory keep their places, except for those that are written and clean ones that are evicted
   pub in_place : KeepsInPlace old e new.kernel
   -- the remaining bytes keep their places when bytes are sent or copied off a queue, or a position moves
-  pub places : takes_out (tables_of old.kernel) e ≡ true → IsDone r → layout_of new.kernel
+  pub places : IsTrue (takes_out (tables_of old.kernel) e) → IsDone r → layout_of new.kernel
       ≡ (meaning (layout_of old.kernel) e).after
   -- each byte of an aggregate keeps its place until a call gives the aggregate up
   pub held : ValuesStay (layout_of old.kernel) e (layout_of new.kernel)
   -- looking, moving a position and writing back change no page, no count and no pool
-  pub store : keeps_store e ≡ true → new.kernel.store ≡ old.kernel.store
+  pub store : IsTrue (keeps_store e) → new.kernel.store ≡ old.kernel.store
   -- calls on files share the bytes in memory, and the bytes read or written by copying are in memory afterwards, too
   pub shares_file : IsDone r → SharesFile old e r new.kernel
   -- New bytes of an aggregate or a queue are in at most one slice per page. Reads of queues and writes of aggregates to

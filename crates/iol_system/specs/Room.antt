@@ -93,26 +93,26 @@ BytesFit s e = ⊤
 -- a reply that is no refusal
 abbrev pub IsDone : Reply → Type 0
 IsDone (reply.Refused x) = ⊥
-IsDone r = Unit {0}
+IsDone r = ⊤
 
 -- a refusal
 abbrev pub IsRefused : Reply → Type 0
-IsRefused (reply.Refused x) = Unit {0}
+IsRefused (reply.Refused x) = ⊤
 IsRefused r = ⊥
 
 -- a refusal for lack of room
 abbrev pub IsNoRoom : Reply → Type 0
-IsNoRoom (reply.Refused (NoRoom p)) = Unit {0}
+IsNoRoom (reply.Refused (NoRoom p)) = ⊤
 IsNoRoom r = ⊥
 
 -- a refusal for lack of memory
 abbrev pub IsMemory : Reply → Type 0
-IsMemory (reply.Refused Memory) = Unit {0}
+IsMemory (reply.Refused Memory) = ⊤
 IsMemory r = ⊥
 
 -- a refusal after a failure of the store
 abbrev pub IsFault : Reply → Type 0
-IsFault (reply.Refused (Fault f)) = Unit {0}
+IsFault (reply.Refused (Fault f)) = ⊤
 IsFault r = ⊥
 
 -- a refusal other than NoRoom, Memory and Fault
@@ -120,5 +120,5 @@ abbrev pub IsEarly : Reply → Type 0
 IsEarly (reply.Refused (NoRoom p)) = ⊥
 IsEarly (reply.Refused (Fault f)) = ⊥
 IsEarly (reply.Refused Memory) = ⊥
-IsEarly (reply.Refused x) = Unit {0}
+IsEarly (reply.Refused x) = ⊤
 IsEarly r = ⊥

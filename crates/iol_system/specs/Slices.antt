@@ -1,5 +1,5 @@
 -- Into how many slices an event divides its bytes.
-use Rattle.std.specs.Prelude.{◌≡◌, ℕ, false, length, ⊤}
+use Rattle.std.specs.Prelude.{ℕ, length, ⊤, IsFalse}
 use Rattle.iol_core.specs.State.{descriptor}
 use Rattle.iol_core.specs.Calls.Writes.{is_file}
 use Rattle.iol_core.specs.declared.events.Call.{Call}
@@ -18,11 +18,11 @@ use Rattle.iol_system.specs.Machine.{tables_of}
 abbrev pub CallDivides : KernelState → (by : ℕ) → Call → KernelState → Type 0
 CallDivides old by (call.AggMake bytes) new = AddsFew by (length bytes) old new
 CallDivides old by (call.IolRead fd n) new =
-    is_file (descriptor (tables_of old) by fd) ≡ false → TakesSlices by (descriptor (tables_of old) by fd) old new
+    IsFalse (is_file (descriptor (tables_of old) by fd)) → TakesSlices by (descriptor (tables_of old) by fd) old new
 CallDivides old by (call.IolWrite fd a) new =
-    is_file (descriptor (tables_of old) by fd) ≡ false → QueuesAgg by a (descriptor (tables_of old) by fd) old new
+    IsFalse (is_file (descriptor (tables_of old) by fd)) → QueuesAgg by a (descriptor (tables_of old) by fd) old new
 CallDivides old by (call.Write fd bytes) new =
-    is_file (descriptor (tables_of old) by fd) ≡ false
+    IsFalse (is_file (descriptor (tables_of old) by fd))
     → QueuesFew (length bytes) (descriptor (tables_of old) by fd) old new
 CallDivides old by c new = ⊤
 

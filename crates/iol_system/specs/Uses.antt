@@ -11,7 +11,7 @@ use Rattle.iol_hold.specs.StoreState.{Stored}
 -- page q is unused: no live buffer has it
 pub record IsUnused (s : State) (q : ℕ) : Type 0 where
   pub free : (entry_at s q).kind ≡ Free
-  pub none : (b : BufId) → IsLive s b → LiesOn s b q → ⊥
+  pub none : (b : BufId) → IsLive s b → ¬ LiesOn s b q
 
 -- page q is part of one live buffer, and of no other
 pub record IsInOneBuffer (s : State) (q : ℕ) : Type 0 where

@@ -1,5 +1,5 @@
 -- Values of aggregates over a run of events.
-use Rattle.std.specs.Prelude.{◌≡◌, ℕ, List, false, Some}
+use Rattle.std.specs.Prelude.{◌≡◌, ℕ, List, Some, IsFalse}
 use Rattle.std.specs.List.{list_any}
 use Rattle.iol_core.specs.State.{State, aggregate}
 use Rattle.iol_core.specs.Text.{Text}
@@ -9,7 +9,7 @@ use Rattle.iol_system.specs.Machine.{SystemState, machine_of}
 
 -- an aggregate that no event gives up has the same text after the run as before
 pub record ValuesStayOver (old : State) (es : List Event) (new : State) : Type 0 where
-  pub each : (d a : ℕ) (t : Text) → aggregate old d a ≡ Some t → list_any (λ e. gives_up e d a) es ≡ false
+  pub each : (d a : ℕ) (t : Text) → aggregate old d a ≡ Some t → IsFalse (list_any (λ e. gives_up e d a) es)
       → aggregate new d a ≡ Some t
 
 -- an aggregate that no event gives up keeps its text, in the machine that a system represents

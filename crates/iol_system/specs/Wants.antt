@@ -1,5 +1,5 @@
 -- The new bytes that an event places, and their pool.
-use Rattle.std.specs.Prelude.{◌≡◌, ℕ, true, false, List, length}
+use Rattle.std.specs.Prelude.{ℕ, List, length, IsTrue, IsFalse}
 use Rattle.iol_core.specs.State.{conn_at, descriptor}
 use Rattle.iol_core.specs.Calls.Outside.{arrive}
 use Rattle.iol_core.specs.Calls.Writes.{pool_for, write}
@@ -30,8 +30,8 @@ for_arrived h c bytes = record { pool = (conn_at (tables_of h) c).pool; count = 
 
 -- the bytes fit their pool, together with the pages that something other than clean extents holds
 abbrev pub Fits : KernelState → Wants → Type 0
-Fits h w = can_fit h w.pool w.count ≡ true
+Fits h w = IsTrue (can_fit h w.pool w.count)
 
 -- the bytes do not fit their pool
 abbrev pub FitsNot : KernelState → Wants → Type 0
-FitsNot h w = can_fit h w.pool w.count ≡ false
+FitsNot h w = IsFalse (can_fit h w.pool w.count)

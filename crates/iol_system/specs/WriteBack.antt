@@ -1,5 +1,5 @@
 -- The content of the store, and the extents in memory, after events that write back or drop.
-use Rattle.std.specs.Prelude.{◌≡◌, ◌⊎◌, ℕ, ◌+◌, ◌-◌, length, Option, None, Some, Result, ⊤}
+use Rattle.std.specs.Prelude.{◌≡◌, ◌⊎◌, ℕ, ◌+◌, ◌-◌, length, Option, None, Some, Result, ⊤, ◌≢◌}
 use Rattle.iol_back.specs.Disk.{Disk, content}
 use Rattle.iol_core.specs.State as machine
 use Rattle.iol_core.specs.State.{descriptor}
@@ -50,7 +50,7 @@ pub record CleansFirst (old new : Cached) : Type 0 where
   pub least : AllClean (file - 1) old
   pub first : dirty_in (extents_in old.files file) ≡ Some extent
   pub cleaned : extents_in new.files file ≡ cleaned_at (extents_in old.files file) extent.at
-  pub others : (f : ℕ) → (f ≡ file → ⊥) → extents_in new.files f ≡ extents_in old.files f
+  pub others : (f : ℕ) → f ≢ file → extents_in new.files f ≡ extents_in old.files f
   pub fewer : dirty_in_all new.files + 1 ≡ dirty_in_all old.files
 
 -- a `flush` cleans the dirty extent of least file and offset; or nothing was dirty, and it changes nothing

@@ -1,6 +1,7 @@
 -- Keys in blocks.
-use Rattle.std.specs.Prelude.{◌≡◌, ℕ, ◌+◌, ◌-◌, ◌*◌, ◌<◌, ◌≤◌, ◌^◌, ◌==◌, min, max, cond, Bool, false, IsTrue, List, []}
-use Rattle.std.specs.Prelude.{◌∷◌, ◌++◌, length, slice_index_or, insert, remove}
+use Rattle.std.specs.Prelude.{◌≡◌, ℕ, ◌+◌, ◌-◌, ◌*◌, ◌<◌, ◌≤◌, ◌^◌, ◌==◌, min, max, Bool, IsTrue, List, []}
+use Rattle.std.specs.List.{flat_map}
+use Rattle.std.specs.Prelude.{length, slice_index_or, insert, remove, IsFalse, if◌then◌else◌}
 
 -- a block: its keys, and how many it can hold
 pub record Block : Type 0 where
@@ -9,8 +10,7 @@ pub record Block : Type 0 where
 
 -- the keys of blocks, one block after another
 abbrev pub joined : List Block → List ℕ
-joined [] = []
-joined (b ∷ bs) = b.keys ++ joined bs
+joined bs = flat_map (λ b. b.keys) bs
 
 abbrev pub no_block : Block
 no_block = record { keys = []; capacity = 0 }
@@ -27,7 +27,7 @@ abbrev pub width_at : List Block → (k : ℕ) → ℕ
 width_at bs k = (block_at bs k).capacity
 
 abbrev pub one_if : (k at : ℕ) → ℕ
-one_if k at = cond (k == at) 1 0
+one_if k at = if k == at then 1 else 0
 
 -- of so many keys, from the place `skip` on, how many lie before block k, where each block has 128 places
 abbrev pub before_block : (skip len k : ℕ) → ℕ
@@ -138,7 +138,7 @@ pub record OpensEnd (len : ℕ) (old new : List Block) (skip : ℕ) (is_left : B
   pub becomes : Becomes (joined old) skip old new
   pub places : skip + len ≤ length old * 128
   pub left : IsTrue is_left → 0 < skip
-  pub right : is_left ≡ false → skip + len < length old * 128
+  pub right : IsFalse is_left → skip + len < length old * 128
 
 -- Empty blocks came behind, up to so many in all. None is narrower than both `width` and the narrowest that there was.
 pub record AddsBlocks (most width : ℕ) (old new : List Block) : Type 0 where

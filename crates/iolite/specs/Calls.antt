@@ -1,6 +1,6 @@
 -- The calls in a script's lines: their names and arguments.
-use Rattle.std.specs.Prelude.{◌≡◌, ◌≤◌, ◌*◌, ℕ, List, [], ◌∷◌, ◌⊎◌, All, Option, Some, None, length, map, cond, codes}
-use Rattle.std.specs.Prelude.{bytes_eq, ◌==◌, ⊤}
+use Rattle.std.specs.Prelude.{◌≡◌, ◌≤◌, ◌*◌, ℕ, List, [], ◌∷◌, ◌⊎◌, All, Option, Some, None, length, map, codes}
+use Rattle.std.specs.Prelude.{bytes_eq, ◌==◌, ⊤, if◌then◌else◌}
 use Rattle.std.specs.List.{repeat, slice_split}
 use Rattle.iol_core.specs.declared.descriptors.Mode.{Mode}
 use Rattle.iol_core.specs.declared.descriptors.Mode.TheVariants as mode
@@ -95,7 +95,7 @@ names =
 -- the call name of a word: the first whose text equals it
 abbrev pub named_in : List (List ℕ × CallName) → List ℕ → Option CallName
 named_in [] w = None
-named_in (x ∷ xs) w = cond (bytes_eq w x.0) (Some x.1) (named_in xs w)
+named_in (x ∷ xs) w = if bytes_eq w x.0 then Some x.1 else named_in xs w
 
 abbrev pub named : List ℕ → Option CallName
 named w = named_in names w

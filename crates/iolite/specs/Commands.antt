@@ -1,5 +1,5 @@
 -- The words of a command, those after the program's name.
-use Rattle.std.specs.Prelude.{◌≡◌, ◌⊎◌, ◌<◌, ◌≤◌, ◌^◌, ℕ, List, [], ◌∷◌, codes, length}
+use Rattle.std.specs.Prelude.{◌≡◌, ◌⊎◌, ◌<◌, ◌≤◌, ◌^◌, ℕ, List, [], ◌∷◌, codes, length, ⊤}
 use Rattle.std.specs.Str.Parse.{IsNumeral}
 use Rattle.iolite.specs.Words.{IsShort, value}
 use Rattle.iolite.specs.declared.commands.Command.{Command}
@@ -19,7 +19,7 @@ pub record IsCount (w : List ℕ) : Type 0 where
 
 -- the arguments of a command
 abbrev pub IsGivenNothing : Command → Type 0
-IsGivenNothing Replay = Unit {0}
+IsGivenNothing Replay = ⊤
 IsGivenNothing c = ⊥
 
 abbrev pub ServesWith : (port : ℕ) → (root : List ℕ) → (count : ℕ) → Command → Type 0

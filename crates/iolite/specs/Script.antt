@@ -1,6 +1,6 @@
 -- Scripts: valid scripts, the actions of their lines, and invalid ones.
-use Rattle.std.specs.Prelude.{◌≡◌, ◌≢◌, ◌⊎◌, ◌<◌, ◌≤◌, ◌==◌, ℕ, Bool, true, false, not, ◌&&◌, List, [], ◌∷◌, ◌++◌, All}
-use Rattle.std.specs.Prelude.{length, codes, IsUtf8, ⊤}
+use Rattle.std.specs.Prelude.{◌≡◌, ◌≢◌, ◌⊎◌, ◌<◌, ◌≤◌, ◌==◌, ℕ, Bool, true, not, ◌&&◌, List, [], ◌∷◌, ◌++◌, All}
+use Rattle.std.specs.Prelude.{length, codes, IsUtf8, ⊤, IsTrue, IsFalse}
 use Rattle.std.specs.List.{filter, slice_split}
 use Rattle.iol_core.specs.declared.events.Event.{Event}
 use Rattle.iol_core.specs.declared.events.Event.TheVariants as event
@@ -102,14 +102,14 @@ pub record IsJudged (ls : List (List ℕ)) (setup : Setup) : Type 0 where
 -- action, or an invalid header.
 abbrev pub IsBadAfter : Setup → (late : Type 0) → List ℕ → Type 0
 IsBadAfter setup late l =
-    ((is_header (word l) ≡ false) × ((x : Line) → ¬ (Asks l x)))
-    ⊎ ((is_header (word l) ≡ true) × (late ⊎ ((new : Setup) → ¬ (SetsUp (word l) (rest_of l) setup new))))
+    (IsFalse (is_header (word l)) × ((x : Line) → ¬ (Asks l x)))
+    ⊎ (IsTrue (is_header (word l)) × (late ⊎ ((new : Setup) → ¬ (SetsUp (word l) (rest_of l) setup new))))
 
 -- the check of one line: it has an action, or is a header before any action
 abbrev pub Judges : (old : Setup) (has_asked : Bool) → List ℕ → (new : Setup) (more : Bool) → Type 0
 Judges old has_asked l new more =
-    ((is_header (word l) ≡ false) × AsksSomething l × (new ≡ old) × (more ≡ true))
-    ⊎ ((is_header (word l) ≡ true) × SetsUp (word l) (rest_of l) old new × (has_asked ≡ false) × (more ≡ false))
+    (IsFalse (is_header (word l)) × AsksSomething l × (new ≡ old) × IsTrue more)
+    ⊎ (IsTrue (is_header (word l)) × SetsUp (word l) (rest_of l) old new × IsFalse has_asked × IsFalse more)
 
 -- The lines include one that is no command, after lines that are.
 pub record HasBadLine (ls : List (List ℕ)) : Type 0 where

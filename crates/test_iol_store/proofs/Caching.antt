@@ -1,5 +1,6 @@
 -- Stores and caches of the tests: what one call leaves is what the next one needs.
 use Rattle.std.proofs.Common.{◌≡◌, ◌∙◌, ℕ, zero, suc, ◌+◌, List, [], ◌∷◌, ◌++◌, length, replicate, get_or, refl, ap}
+use Rattle.std.specs.List.{AllByRecursion}
 use Rattle.std.proofs.Common.{subst, arith, false, Result, Ok}
 use Rattle.std.proofs.lemmas.List.{length-replicate}
 use Rattle.iol_core.specs.NumberedLists.{is_numbered}
@@ -26,7 +27,7 @@ use Rattle.iol_cache.specs.declared.cache.Cache.{Cache}
 use Rattle.iol_cache.specs.declared.files.CachedFile.{CachedFile}
 use Rattle.iol_cache.proofs.Evictions.Ready.{at_index}
 use Rattle.iol_cache.proofs.Extents.FileEntries.{numbered_bounds, numbered_yes}
-use Rattle.iol_kernel.specs.KernelState.{Each, IsFile}
+use Rattle.iol_kernel.specs.KernelState.{IsFile}
 use Rattle.iol_kernel.proofs.FileCalls.FileWrites.{written_pools}
 use Rattle.iol_kernel.proofs.State.Slots.{files_few}
 use Rattle.test_iol_store.specs.Caching.{HasNewFile, IsReady}
@@ -101,11 +102,11 @@ may_write s c xs file there two = record {
   few = record { each = λ b. omega (arith, there.held.each b, tally-few b xs, two) };
 }
 
-each_file : (fs : List CachedFile) → ((i : ℕ) → IsFile (get_or fs i no_file)) → Each IsFile fs
+each_file : (fs : List CachedFile) → ((i : ℕ) → IsFile (get_or fs i no_file)) → AllByRecursion IsFile fs
 each_file [] h = tt
 each_file (x ∷ fs) h = (h 0, each_file fs (λ i. h (suc i)))
 
-all_short : (s : Stored) (fs : List CachedFile) → ((f : ℕ) → cache.IsFiled s (file_in fs f)) → Each IsFile fs
+all_short : (s : Stored) (fs : List CachedFile) → ((f : ℕ) → cache.IsFiled s (file_in fs f)) → AllByRecursion IsFile fs
 all_short s fs filed =
     each_file fs (λ i. (let x = subst (cache.IsFiled s) (at_index fs i) (filed (i + 1)) in
     record { apart = x.apart; short = x.short }))

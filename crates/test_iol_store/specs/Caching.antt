@@ -1,5 +1,5 @@
 -- Stores and caches of the tests.
-use Rattle.std.specs.Prelude.{◌≡◌, true, []}
+use Rattle.std.specs.Prelude.{◌≡◌, [], IsTrue}
 use Rattle.iol_core.specs.NumberedLists.{is_numbered}
 use Rattle.iol_arena.specs.State.{page_count}
 use Rattle.iol_hold.specs.StoreState.{Stored, IsTidy, IsStill}
@@ -15,5 +15,5 @@ pub record IsReady (s : Stored) : Type 0 where
 -- a sound cache with a file of which no byte is in memory
 pub record HasNewFile (s : Stored) (c : Cached) : Type 0 where
   pub sound : IsSound s c
-  pub file : is_numbered c.files 1 ≡ true
+  pub file : IsTrue (is_numbered c.files 1)
   pub none : held c.files ≡ []

@@ -1,5 +1,5 @@
 -- The turns of a watcher, and its condition when idle.
-use Rattle.std.specs.Prelude.{◌≡◌, ℕ, zero, suc, Bool, true, false}
+use Rattle.std.specs.Prelude.{◌≡◌, ℕ, zero, suc, Bool, IsTrue, IsFalse, ⊤}
 use Rattle.iol_core.specs.State.{State}
 use Rattle.iol_core.specs.Run.{StepsTo}
 use Rattle.iol_core.specs.declared.events.Call.TheVariants as call
@@ -16,8 +16,8 @@ use Rattle.iol_proc.specs.declared.process.Turn.TheVariants as turn
 -- a watcher calls `accept`, and yields each time after it: asked is whether it had called before a turn, next whether
 -- it has after it
 abbrev pub Watches : (asked : Bool) → Turn → (next : Bool) → Type 0
-Watches asked turn.Yield next = (asked ≡ true) × (next ≡ false)
-Watches asked (turn.Make c) next = (asked ≡ false) × (c ≡ call.Accept) × (next ≡ true)
+Watches asked turn.Yield next = IsTrue asked × IsFalse next
+Watches asked (turn.Make c) next = IsFalse asked × (c ≡ call.Accept) × IsTrue next
 
 -- no connection is waiting that the domain may accept
 abbrev pub NoneWaits : State → (by : ℕ) → Type 0
@@ -25,8 +25,8 @@ NoneWaits m by = StepsTo m (event.Call by call.Accept) (reply.Refused WouldBlock
 
 -- the condition after n yields of a watcher in this domain, which has called or not
 abbrev pub HasWatched : (n by : ℕ) → (asked : Bool) → State → Type 0
-HasWatched zero by asked m = Unit {0}
-HasWatched (suc zero) by asked m = asked ≡ true → NoneWaits m by
+HasWatched zero by asked m = ⊤
+HasWatched (suc zero) by asked m = IsTrue asked → NoneWaits m by
 HasWatched (suc (suc n)) by asked m = NoneWaits m by
 
 -- Over an honest store: if a world of watchers is idle after turns, each of them has watched for two yields, and so no
@@ -34,5 +34,5 @@ HasWatched (suc (suc n)) by asked m = NoneWaits m by
 abbrev pub AllHaveWatched : {P : Type 0} → (world after : Stage SystemState P) → (asked : P → Bool) → (idle : Bool)
     → Type 0
 AllHaveWatched world after asked idle = IfHonest world.machine.disk
-    (idle ≡ true
+    (IsTrue idle
     → AllQuiescent (λ n by p last m. HasWatched n by (asked p) m) after.process_slots (machine_of after.machine))

@@ -1,6 +1,6 @@
 -- The invariant of one client, by the input and output of its connection: without a script, or with the run of one.
 use Rattle.std.specs.Prelude.{◌≡◌, ◌≤◌, ℕ, ◌+◌, ◌⊎◌, Bool, true, false, List, [], ◌∷◌, ◌++◌, length, take, Option, Some}
-use Rattle.std.specs.Prelude.{None, is_none, if◌then◌else◌}
+use Rattle.std.specs.Prelude.{None, is_none, if◌then◌else◌, IsTrue, IsFalse, ⊤}
 use Rattle.std.specs.List.{list_all}
 use Rattle.iol_core.specs.Text.{bytes_of}
 use Rattle.iol_core.specs.State.{State, Connection, descriptor, content, file, may_read, conn_at, is_gone}
@@ -40,8 +40,8 @@ use Rattle.flash_laws.specs.declared.script_run.Running.{Running}
 -- a request whose query is no longer than a head, and that closes the connection if its response has no chunks, or a
 -- request that is refused with a status of this server: all requests in a stream are such
 abbrev pub IsProper : Answer → Type 0
-IsProper (serve w) = (length w.query ≤ most_kept) × (w.chunked ≡ false → w.keep ≡ false)
-IsProper (refuse status head_only close) = is_error_status status ≡ true
+IsProper (serve w) = (length w.query ≤ most_kept) × (IsFalse w.chunked → IsFalse w.keep)
+IsProper (refuse status head_only close) = IsTrue (is_error_status status)
 
 -- whether there is no request
 abbrev pub is_at_rest : Phase → Bool
@@ -54,16 +54,16 @@ pub record Finished (site_contents : SiteContents) (k : Connection) (took out : 
   pub qs : List Answer
   pub rest : List ℕ
   pub reads : Reads took qs rest
-  pub order : last_may_close qs ≡ true
+  pub order : IsTrue (last_may_close qs)
   pub responds : Responds site_contents qs out
-  pub no_more : (last_closes qs ≡ true) ⊎ ((window_in rest ≡ Wait) × (k.incoming ≡ []) × (is_none k.peer ≡ false))
+  pub no_more : IsTrue (last_closes qs) ⊎ ((window_in rest ≡ Wait) × (k.incoming ≡ []) × IsFalse (is_none k.peer))
 
 -- The requests before the one in progress have their whole responses, that one has these bytes, and the rest of the
 -- stream is buffered.
 pub record Answers (site_contents : SiteContents) (took out kept : List ℕ) (now : List Answer) (given : List ℕ) :
     Type 0 where
   pub done : List Answer
-  pub open_yet : list_all (λ p. keeps p) done ≡ true
+  pub open_yet : IsTrue (list_all (λ p. keeps p) done)
   pub reads : Reads took (done ++ now) kept
   pub before : List ℕ
   pub responds : Responds site_contents done before
@@ -71,7 +71,7 @@ pub record Answers (site_contents : SiteContents) (took out kept : List ℕ) (no
 
 -- The peer is gone, which drops the queued output; the bytes sent begin the answer.
 pub record IsLeftAlone (site_contents : SiteContents) (k : Connection) (took out : List ℕ) : Type 0 where
-  pub gone : is_gone k.peer ≡ true
+  pub gone : IsTrue (is_gone k.peer)
   pub begins : Begins site_contents took out
 
 -- ---- without a script
@@ -87,17 +87,17 @@ expected_in expected q d = if is_read d then text_of q Script else expected
 module _ (site_contents : SiteContents) where
   -- the text of a script that can run was read, and is kept unless the request is HEAD
   pub record HasText (q : Answer) (script : List ℕ) : Type 0 where
-    pub asks : is_for_script site_contents.scripts q ≡ true
+    pub asks : IsTrue (is_for_script site_contents.scripts q)
     pub text : List ℕ
     pub found : site_contents.finds (name_of q) ≡ Found text
-    pub runs : can_run text ≡ true
-    pub kept : is_head_only q ≡ false → script ≡ text
+    pub runs : IsTrue (can_run text)
+    pub kept : IsFalse (is_head_only q) → script ≡ text
 
   -- the file that is being read is the requested one
   pub record FindsFile (m : State) (q : Answer) (fd : ℕ) : Type 0 where
     pub number : ℕ
     pub open_on : descriptor m server fd ≡ Some (on.File number 0 modes.Read)
-    pub may : may_read m server (file m number).pool ≡ true
+    pub may : IsTrue (may_read m server (file m number).pool)
     pub short : length (content m number) ≤ most_read
     pub found : site_contents.finds (name_of q) ≡ Found (content m number)
 
@@ -109,17 +109,17 @@ module _ (site_contents : SiteContents) where
   Finds m q script (phase.Spares a Script) = HasText q script
   Finds m q script (phase.Spares a k) = ContentIsShort k
   Finds m q script (phase.Heads k) = ContentIsShort k
-  Finds m q script d = Unit {0}
+  Finds m q script d = ⊤
 
   -- all is answered, and the connection will only be closed
   pub record IsFinished (k : Connection) (took out : List ℕ) (d : Phase) : Type 0 where
-    pub quits : quits d ≡ true
+    pub quits : IsTrue (quits d)
     pub finished : Finished site_contents k took out
     pub begins : Begins site_contents took out
 
   abbrev pub ConsistencyAlone : (expected : List ℕ) → Connection → (took sent : List ℕ) → Client → Type 0
   ConsistencyAlone expected k took sent x =
-      ((quits x.conn.phase ≡ false) × Answers site_contents took (sent ++ bytes_of k.outgoing) x.conn.kept
+      (IsFalse (quits x.conn.phase) × Answers site_contents took (sent ++ bytes_of k.outgoing) x.conn.kept
       (asked x.conn.q x.conn.phase)
       (given_of expected (is_at_rest x.conn.phase) (taken_of x.conn.phase)))
       ⊎ (IsFinished k took (sent ++ bytes_of k.outgoing) x.conn.phase
@@ -154,8 +154,8 @@ module _ (site_contents : SiteContents) where
   pub record IsScript (x : Client) (w : Wanted) : Type 0 where
     pub asks : x.conn.q ≡ serve w
     pub stands : x.conn.phase ≡ phase.Heads Script
-    pub get : w.head_only ≡ false
-    pub is_for : is_for_script site_contents.scripts (serve w) ≡ true
+    pub get : IsFalse w.head_only
+    pub is_for : IsTrue (is_for_script site_contents.scripts (serve w))
     pub text : List ℕ
     pub found : site_contents.finds w.name ≡ Found text
     pub lines : List Line
@@ -167,7 +167,7 @@ module _ (site_contents : SiteContents) where
       Type 0 where
     pub answers : Answers site_contents took out kept (serve w ∷ []) (take (past_of o + taken_by y) expected)
     pub may : run.MayAnswer w o expected
-    pub whole : breaks_off y ≡ false
+    pub whole : IsFalse (breaks_off y)
 
   abbrev pub ConsistencyRun : (expected : List ℕ) → Connection → (took sent kept : List ℕ) → Wanted → Progress → Running
       → Type 0
@@ -186,11 +186,11 @@ module _ (site_contents : SiteContents) (worker_set : WorkerSet) where
     -- the outcomes of its files, past or to come: those of the current files until the worker has the job
     pub shown : List Outcome
     pub may_show : AllMayShow site_contents (outcomes_by site_contents.shows script.lines) shown
-    pub fresh : is_starting y ≡ true → shown ≡ outcomes_by site_contents.shows script.lines
-    pub kept : keeps_text y ≡ true → x.script ≡ script.text
+    pub fresh : IsTrue (is_starting y) → shown ≡ outcomes_by site_contents.shows script.lines
+    pub kept : IsTrue (keeps_text y) → x.script ≡ script.text
     pub so_far : Progress
     pub has : HasRun (job_of wanted script.text) m wanted so_far y
-    pub ongoing : is_over y ≡ false
+    pub ongoing : IsFalse (is_over y)
     pub consistency : ConsistencyRun site_contents (response_to wanted (made_of wanted script.lines shown))
         (conn_at m c) took sent x.conn.kept wanted so_far y
     pub job_queue : HasWorkerAt worker_set m process_slots (made_of wanted script.lines shown) so_far y

@@ -2,7 +2,8 @@
 -- client for which they are made, and are given up when that client no longer uses them.
 --
 -- As in `Client/OfferedBytes`, the laws are about each call of the server, undisturbed or not.
-use Rattle.std.specs.Prelude.{◌≡◌, ℕ, ◌==◌, ◌||◌, ◌&&◌, Bool, true, false, not, List, [], Option, Some, None}
+use Rattle.std.specs.Prelude.{◌≡◌, ℕ, ◌==◌, ◌||◌, ◌&&◌, Bool, not, List, [], Option, Some, None, IsTrue}
+use Rattle.std.specs.Prelude.{IsFalse}
 use Rattle.iol_core.specs.Access.{HasAccess}
 use Rattle.iol_core.specs.State.{State, descriptor, is_live}
 use Rattle.iol_core.specs.Run.{StepsTo}
@@ -40,34 +41,35 @@ is_to_run scripts x = by x.run
 
 -- no text is held except that of a script that will run
 abbrev pub HoldsNoOther : (scripts : Bool) → Client → Type 0
-HoldsNoOther scripts x = is_to_run scripts x ≡ false → x.script ≡ []
+HoldsNoOther scripts x = IsFalse (is_to_run scripts x) → x.script ≡ []
 
 pub record ClientKeepsNothing (scripts : Bool) : Type 0 where
   -- an aggregate returned by a call for a client is used by it
   pub brought : (m n : State) (fd c worker : ℕ) (x : Client) (known : Known) (r : Reply) (received bytes : List ℕ)
       (a : ℕ)
-      → IsOrderly m → HasAccess m → is_live m server ≡ true → descriptor m server fd ≡ Some (on.Connection c)
-      → is_ending x ≡ false → HasKnown scripts m x known → StepsTo m (event.Call server (wants scripts fd x)) r n
+      → IsOrderly m → HasAccess m → IsTrue (is_live m server) → descriptor m server fd ≡ Some (on.Connection c)
+      → IsFalse (is_ending x) → HasKnown scripts m x known → StepsTo m (event.Call server (wants scripts fd x)) r n
       → readable_at m server a ≡ None → readable_at n server a ≡ Some bytes
-      → uses_agg (after_reply scripts worker x r received) a ≡ true
+      → IsTrue (uses_agg (after_reply scripts worker x r received) a)
   -- the same for the descriptor of a file, and for both ends of a pipe
   pub opened : (m n : State) (fd worker f : ℕ) (x : Client) (received : List ℕ) → x.run ≡ None
       → StepsTo m (event.Call server (wants scripts fd x)) (reply.Fd f) n
-      → has_fd (after_reply scripts worker x (reply.Fd f) received) f ≡ true
+      → IsTrue (has_fd (after_reply scripts worker x (reply.Fd f) received) f)
   pub piped : (m : State) (worker from write : ℕ) (x : Client) (known : Known) (received : List ℕ) (g : ℕ)
-      → awaits x ≡ true
-      → HasKnown scripts m x known → ((from == g) || (write == g)) ≡ true
-      → has_fd (after_reply scripts worker x (reply.Fds from write) received) g ≡ true
+      → IsTrue (awaits x)
+      → HasKnown scripts m x known → IsTrue ((from == g) || (write == g))
+      → IsTrue (has_fd (after_reply scripts worker x (reply.Fds from write) received) g)
   -- an aggregate that it no longer uses is gone
   pub left : (m n : State) (fd worker : ℕ) (x : Client) (known : Known) (r : Reply) (received : List ℕ) (a : ℕ)
       → IsOrderly m
       → HasKnown scripts m x known → StepsTo m (event.Call server (wants scripts fd x)) r n
-      → uses_agg x a ≡ true → uses_agg (after_reply scripts worker x r received) a ≡ false
+      → IsTrue (uses_agg x a) → IsFalse (uses_agg (after_reply scripts worker x r received) a)
       → readable_at n server a ≡ None
   -- the same for the descriptor of a file, and for each end of a pipe, which is closed, or given to the worker
   pub shut : (m n : State) (fd worker : ℕ) (x : Client) (known : Known) (r : Reply) (received : List ℕ) (g : ℕ)
       → HasKnown scripts m x known → StepsTo m (event.Call server (wants scripts fd x)) r n
-      → has_fd x g ≡ true → has_fd (after_reply scripts worker x r received) g ≡ false → descriptor n server g ≡ None
+      → IsTrue (has_fd x g) → IsFalse (has_fd (after_reply scripts worker x r received) g)
+      → descriptor n server g ≡ None
   -- no text is held except that of a script that will run: a new client has none, and replies preserve this
   pub fresh : HoldsNoOther scripts new_client
   pub held : (worker : ℕ) (x : Client) (r : Reply) (received : List ℕ) → HoldsNoOther scripts x

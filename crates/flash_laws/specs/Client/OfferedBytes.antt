@@ -3,7 +3,8 @@
 --
 -- The laws are about single steps, undisturbed or not: what the machine has of a response remains, unless a call
 -- consumes or moves what the client uses. That this holds over a whole run is not stated here.
-use Rattle.std.specs.Prelude.{◌≡◌, ◌⊎◌, ℕ, ◌+◌, Bool, true, false, not, List, [], ◌++◌, Option, Some, None}
+use Rattle.std.specs.Prelude.{◌≡◌, ◌⊎◌, ℕ, ◌+◌, Bool, true, not, List, [], ◌++◌, Option, Some, None, IsTrue}
+use Rattle.std.specs.Prelude.{IsFalse}
 use Rattle.iol_core.specs.Access.{HasAccess}
 use Rattle.iol_core.specs.State.{State, descriptor, is_live}
 use Rattle.iol_core.specs.Run.{StepsTo}
@@ -120,8 +121,8 @@ kept_by x r received = by x.run x.conn.phase r
 -- The client advances as its run does, with its connection unchanged; once the run is over, the connection continues
 -- its phase.
 pub record ProceedsAs (x : Client) (z : Running) (after : Client) : Type 0 where
-  pub going : is_over z ≡ false → (after.run ≡ Some z) × (after.conn ≡ x.conn)
-  pub ended : is_over z ≡ true
+  pub going : IsFalse (is_over z) → (after.run ≡ Some z) × (after.conn ≡ x.conn)
+  pub ended : IsTrue (is_over z)
       → after ≡ record { conn = record x.conn { phase = after_run z }; run = None; script = [] }
 
 -- A client with a run makes the calls of the run, uses and has the same, and advances with it; so the laws of runs
@@ -154,16 +155,16 @@ pub record ClientOffersTheResponse (scripts : Bool) : Type 0 where
   -- free worker is one with a job pipe
   pub replied : (m n : State) (fd c worker : ℕ) (x : Client) (r : Reply) (received : List ℕ) (before : Known)
       → IsOrderly m → HasAccess m
-      → is_live m server ≡ true → descriptor m server fd ≡ Some (on.Connection c)
-      → (awaits x ≡ true → HasJobPipe m worker)
-      → is_ending x ≡ false
+      → IsTrue (is_live m server) → descriptor m server fd ≡ Some (on.Connection c)
+      → (IsTrue (awaits x) → HasJobPipe m worker)
+      → IsFalse (is_ending x)
       → HasKnown scripts m x before → StepsTo m (event.Call server (wants scripts fd x)) r n → Names n r received
       → (after : Known) × Learns scripts m x r received before after
       × HasKnown scripts n (after_reply scripts worker x r received) after
   -- the same for any other event that neither consumes nor moves what the client uses
   pub stays : (m n : State) (x : Client) (e : Event) (r : Reply) (known : Known) → StepsTo m e r n
-      → ((a : ℕ) → uses_agg x a ≡ true → gives_up e server a ≡ false)
-      → ((g : ℕ) → uses_fd x g ≡ true → touches_fd m e server g ≡ false) → HasKnown scripts m x known
+      → ((a : ℕ) → IsTrue (uses_agg x a) → IsFalse (gives_up e server a))
+      → ((g : ℕ) → IsTrue (uses_fd x g) → IsFalse (touches_fd m e server g)) → HasKnown scripts m x known
       → HasKnown scripts n x known
   -- it writes the next bytes of the response to its connection, or a job to a worker
   pub offers : (m : State) (fd g a : ℕ) (x : Client) (known : Known) → HasKnown scripts m x known
@@ -172,22 +173,22 @@ pub record ClientOffersTheResponse (scripts : Bool) : Type 0 where
   -- the bytes that the connection took count as taken, while the response is neither over nor aborted
   pub takes : (m n : State) (fd c worker : ℕ) (x : Client) (r : Reply) (received : List ℕ) (before after : Known)
       → IsOrderly m
-      → descriptor m server fd ≡ Some (on.Connection c) → is_ending x ≡ false → HasKnown scripts m x before
+      → descriptor m server fd ≡ Some (on.Connection c) → IsFalse (is_ending x) → HasKnown scripts m x before
       → StepsTo m (event.Call server (wants scripts fd x)) r n → Learns scripts m x r received before after
-      → drops_rest x ≡ false → drops_rest (after_reply scripts worker x r received) ≡ false
-      → is_working (after_reply scripts worker x r received) ≡ true
+      → IsFalse (drops_rest x) → IsFalse (drops_rest (after_reply scripts worker x r received))
+      → IsTrue (is_working (after_reply scripts worker x r received))
       → taken_before after + taken_by (after_reply scripts worker x r received)
       ≡ taken_before before + taken_by x + newly_taken fd (wants scripts fd x) r
   -- for a request that is not for a script the client behaves as its connection
-  pub files : (m : State) (x : Client) (o : Outcome) → is_for_script scripts x.conn.q ≡ false
+  pub files : (m : State) (x : Client) (o : Outcome) → IsFalse (is_for_script scripts x.conn.q)
       → HasKnown scripts m x (OfFile o)
       → IsAsItsConn scripts m x o
   -- while a script runs it behaves as its run
   pub runs : (m : State) (x : Client) (w : Wanted) (y : Running) (text : List ℕ) (o : Progress) → x.run ≡ Some y
-      → x.conn.q ≡ serve w → is_over y ≡ false → HasKnown scripts m x (OfScript text o)
+      → x.conn.q ≡ serve w → IsFalse (is_over y) → HasKnown scripts m x (OfScript text o)
       → IsAsItsRun scripts m x w y text o
   -- the text of a script is read whole, also for HEAD
-  pub whole : (fd f : ℕ) (x : Client) → x.run ≡ None → is_for_script scripts x.conn.q ≡ true
+  pub whole : (fd f : ℕ) (x : Client) → x.run ≡ None → IsTrue (is_for_script scripts x.conn.q)
       → x.conn.phase ≡ phase.Reads f
       → wants scripts fd x ≡ call.IolRead f most_read
   -- replies leave its request unchanged, and append the bytes read to its buffered stream
@@ -198,15 +199,15 @@ pub record ClientOffersTheResponse (scripts : Bool) : Type 0 where
   -- later
   pub rank : Client → Rank
   pub nears : (m n : State) (fd c worker : ℕ) (x : Client) (r : Reply) (received : List ℕ) (known : Known) → IsOrderly m
-      → is_live m server ≡ true → descriptor m server fd ≡ Some (on.Connection c) → is_working x ≡ true
+      → IsTrue (is_live m server) → descriptor m server fd ≡ Some (on.Connection c) → IsTrue (is_working x)
       → HasKnown scripts m x known → CanMake m (wants scripts fd x)
       → StepsTo m (event.Call server (wants scripts fd x)) r n → Names n r received
       → Nears rank x r (after_reply scripts worker x r received) ⊎ ReceivesMore x r received
   -- a successful call is not repeated
   pub moves : (m n : State) (fd worker : ℕ) (x : Client) (r : Reply) (received : List ℕ) (known : Known)
-      → is_ending x ≡ false
+      → IsFalse (is_ending x)
       → HasKnown scripts m x known → StepsTo m (event.Call server (wants scripts fd x)) r n
-      → after_reply scripts worker x r received ≡ x → may_repeat (wants scripts fd x) r ≡ true
+      → after_reply scripts worker x r received ≡ x → IsTrue (may_repeat (wants scripts fd x) r)
 
 abbrev pub ClientsAreOfferedTheResponse : Type 0
 ClientsAreOfferedTheResponse = (scripts : Bool) → ClientOffersTheResponse scripts

@@ -1,5 +1,6 @@
 -- The known part of the response to a request, of a file or of a script, and what the machine has of it.
 use Rattle.std.specs.Prelude.{◌≡◌, ℕ, ◌+◌, Bool, true, false, List, [], ◌++◌, drop, Option, Some, None, if◌then◌else◌}
+use Rattle.std.specs.Prelude.{IsTrue, IsFalse, ⊤}
 use Rattle.iol_core.specs.State.{State}
 use Rattle.iol_laws.specs.Caller.{readable_at}
 use Rattle.flash_http.specs.Request.{Answer, serve, refuse, Wanted}
@@ -83,13 +84,13 @@ pub record IsToRun (x : Client) (text : List ℕ) (o : Progress) : Type 0 where
 
 -- all of the response was taken, or it was aborted
 abbrev pub IsTaken : Wanted → Progress → Type 0
-IsTaken w Broken = Unit {0}
+IsTaken w Broken = ⊤
 IsTaken w o = IsLeft w o []
 
 -- After the run the connection is idle if all of the response was taken and permits it; otherwise it is to be closed.
 abbrev pub IsAfter : Wanted → Progress → Phase → Type 0
-IsAfter w o phase.Rests = IsLeft w o [] × (w.keep ≡ true)
-IsAfter w o (phase.Got a) = IsLeft w o [] × (w.keep ≡ true)
+IsAfter w o phase.Rests = IsLeft w o [] × IsTrue w.keep
+IsAfter w o (phase.Got a) = IsLeft w o [] × IsTrue w.keep
 IsAfter w o d = IsTaken w o
 
 abbrev pub ReadsOn : (read : Bool) → Wanted → Client → (text : List ℕ) → Progress → Type 0
@@ -99,20 +100,20 @@ ReadsOn false w x text o = IsAfter w o x.conn.phase
 -- HEAD is answered as for a file; for GET nothing is sent before the run begins, or after it
 abbrev pub Sends : (head_only : Bool) → Wanted → Client → (text : List ℕ) → Progress → Type 0
 Sends true w x text o = o ≡ nothing_yet
-Sends false w x text o = (is_silent x.conn.phase ≡ true) × ReadsOn (is_read x.conn.phase) w x text o
+Sends false w x text o = IsTrue (is_silent x.conn.phase) × ReadsOn (is_read x.conn.phase) w x text o
 
 -- no run has begun, or it is over
 pub record HasNoRun (scripts : Bool) (m : State) (w : Wanted) (x : Client) (text : List ℕ) (o : Progress) : Type 0 where
-  pub script : is_read x.conn.phase ≡ true → is_for_script scripts (serve w) ≡ true
-  pub read : is_opening x.conn.phase ≡ false
+  pub script : IsTrue (is_read x.conn.phase) → IsTrue (is_for_script scripts (serve w))
+  pub read : IsFalse (is_opening x.conn.phase)
   pub has : Has m (serve w) (script_text w) x.conn.phase
   pub sends : Sends w.head_only w x text o
 
 -- a run has the connection
 pub record IsRun (m : State) (w : Wanted) (y : Running) (script text : List ℕ) (o : Progress) : Type 0 where
-  pub answers : w.head_only ≡ false
+  pub answers : IsFalse w.head_only
   pub has : HasRun (job_of w text) m w o y
-  pub kept : keeps_text y ≡ true → script ≡ text
+  pub kept : IsTrue (keeps_text y) → script ≡ text
 
 abbrev pub RunsIn : (scripts : Bool) → State → Wanted → Client → (text : List ℕ) → Progress → Option Running → Type 0
 RunsIn scripts m w x text o None = HasNoRun scripts m w x text o
@@ -125,7 +126,7 @@ HasScript scripts m x (refuse status head_only close) text o = ⊥
 -- for a file
 pub record HasFile (m : State) (x : Client) (o : Outcome) : Type 0 where
   pub none : x.run ≡ None
-  pub unread : is_read x.conn.phase ≡ false
+  pub unread : IsFalse (is_read x.conn.phase)
   pub has : Has m x.conn.q (response x.conn.q o) x.conn.phase
 
 -- The machine has what the response needs, with the known results.

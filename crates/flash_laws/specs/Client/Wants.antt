@@ -1,5 +1,5 @@
 -- The uses of memory by a client: to buffer bytes that it reads, to begin a request, and for the bytes of a call.
-use Rattle.std.specs.Prelude.{◌≡◌, ◌⊎◌, ◌<◌, ℕ, Bool, true, false, List, length, Option, Some, None}
+use Rattle.std.specs.Prelude.{◌⊎◌, ◌<◌, ℕ, Bool, true, List, length, Option, Some, None, IsTrue, IsFalse}
 use Rattle.iol_core.specs.declared.events.Reply.{Reply}
 use Rattle.iol_core.specs.declared.events.Reply.TheVariants as reply
 use Rattle.flash_laws.specs.Client.{Client, is_for_script, left_over}
@@ -41,4 +41,4 @@ needs_memory x = by x.run
 -- to buffer bytes, or to continue at once
 abbrev pub WantsOn : (scripts : Bool) → (t x : Client) → Reply → (received : List ℕ) → Type 0
 WantsOn scripts t x r received = ClientReceives scripts x r received
-    ⊎ ((leaves_off (left_over t) r ≡ false) × (needs_memory t ≡ true))
+    ⊎ (IsFalse (leaves_off (left_over t) r) × IsTrue (needs_memory t))

@@ -1,6 +1,6 @@
 -- The invariant of one connection, by its input and output.
 use Rattle.std.specs.Prelude.{◌≡◌, ◌≤◌, ◌<◌, ℕ, ◌+◌, ◌-◌, ◌||◌, ◌==◌, Bool, true, false, List, [], ◌∷◌, ◌++◌, length}
-use Rattle.std.specs.Prelude.{drop, slice_range, Some, None}
+use Rattle.std.specs.Prelude.{drop, slice_range, Some, None, IsFalse, ⊤}
 use Rattle.iol_core.specs.State.{State, descriptor}
 use Rattle.iol_laws.specs.Caller.{readable_at}
 use Rattle.iol_core.specs.declared.limits.TheConstants.{MAX_AGGREGATE_BYTES}
@@ -40,14 +40,14 @@ pub record HoldsRestFrom (m : State) (expected : List ℕ) (s : Sending) : Type 
   pub size : s.len ≡ length bytes
   pub follows : MoreIsReadable m s.more after
   pub next : drop s.from bytes ++ after ≡ drop s.taken expected
-  pub apart : has_followed s.more s.agg ≡ false
+  pub apart : IsFalse (has_followed s.more s.agg)
 
 -- the same, with some bytes left, and a piece of them as another aggregate
 pub record HoldsPiece (m : State) (expected : List ℕ) (s : Sending) (piece : ℕ) : Type 0 where
   pub whole : HoldsRestFrom m expected s
   pub some : s.from < s.len
   pub is_readable : readable_at m server piece ≡ Some (slice_range whole.bytes s.from (piece_end s))
-  pub other : ((s.agg == piece) || has_followed s.more piece) ≡ false
+  pub other : IsFalse ((s.agg == piece) || has_followed s.more piece)
 
 -- all its bytes are taken
 pub record HoldsMore (m : State) (expected : List ℕ) (a taken : ℕ) (more : Following) : Type 0 where
@@ -56,14 +56,14 @@ pub record HoldsMore (m : State) (expected : List ℕ) (a taken : ℕ) (more : F
   pub is_readable : readable_at m server a ≡ Some bytes
   pub follows : MoreIsReadable m more after
   pub next : after ≡ drop taken expected
-  pub apart : has_followed more a ≡ false
+  pub apart : IsFalse (has_followed more a)
 
 -- an aggregate, and one that follows it, are to be dropped
 pub record HoldsUnsent (m : State) (a : ℕ) (more : Following) : Type 0 where
   pub after : List ℕ
   pub readable : IsReadable m a
   pub follows : MoreIsReadable m more after
-  pub apart : has_followed more a ≡ false
+  pub apart : IsFalse (has_followed more a)
 
 -- the expected response is the text followed by the bytes of an aggregate
 pub record HasBody (m : State) (expected text : List ℕ) (a size : ℕ) : Type 0 where
@@ -85,7 +85,7 @@ pub record HasFile (m : State) (w : Wanted) (expected : List ℕ) (a len : ℕ) 
   pub bytes : List ℕ
   pub is_readable : readable_at m server a ≡ Some bytes
   pub count : len ≡ length bytes
-  pub whole : w.head_only ≡ false
+  pub whole : IsFalse w.head_only
   pub expected_is : expected ≡ response (serve w) (Found bytes)
 
 abbrev pub HasWhole : State → Answer → (expected : List ℕ) → (a len : ℕ) → Type 0
@@ -109,18 +109,18 @@ abbrev pub IsFile : State → (fd : ℕ) → Type 0
 IsFile m fd = (f at : ℕ) × (descriptor m server fd ≡ Some (on.File f at modes.Read))
 
 abbrev pub IsServed : Answer → Type 0
-IsServed (serve w) = Unit {0}
+IsServed (serve w) = ⊤
 IsServed (refuse status head_only close) = ⊥
 
 -- The machine has what a phase needs; `expected` is the response to the request in progress.
 abbrev pub Has : State → Answer → (expected : List ℕ) → Phase → Type 0
-Has m q expected Rests = Unit {0}
+Has m q expected Rests = ⊤
 Has m q expected (Got a) = IsReadable m a
 Has m q expected Opens = IsServed q
 Has m q expected (Reading f) = IsServed q × IsFile m f
 Has m q expected (Shuts f k) = IsFile m f × HasFileResult m q expected k
 Has m q expected (Picks a from to len) = HasPart m expected (text_of q (Body a 0 len)) a from to
-Has m q expected (Spares a k) = IsReadable m a × (content_agg k a ≡ false) × HasContent m q expected k
+Has m q expected (Spares a k) = IsReadable m a × IsFalse (content_agg k a) × HasContent m q expected k
 Has m q expected (Heads k) = HasContent m q expected k
 Has m q expected (Joins a size body len) = HoldsRestFrom m expected (whole a size 0 (Some (body, len)))
     × (size + len ≤ MAX_AGGREGATE_BYTES)
@@ -128,12 +128,12 @@ Has m q expected (Sends s) = HoldsRestFrom m expected s × (s.from ≡ 0)
 Has m q expected (Cuts s) = HoldsRestFrom m expected s × (s.from < s.len)
 Has m q expected (Offers s piece) = HoldsPiece m expected s piece
 Has m q expected (Swaps s piece) = IsReadable m piece
-    × (((s.agg == piece) || has_followed s.more piece) ≡ false) × HoldsRestFrom m expected s
+    × IsFalse ((s.agg == piece) || has_followed s.more piece) × HoldsRestFrom m expected s
 Has m q expected (Sent a taken more) = HoldsMore m expected a taken more
 Has m q expected (Breaks piece a more) = IsReadable m piece
-    × (((a == piece) || has_followed more piece) ≡ false) × HoldsUnsent m a more
+    × IsFalse ((a == piece) || has_followed more piece) × HoldsUnsent m a more
 Has m q expected (Drops a more) = HoldsUnsent m a more
-Has m q expected Closes = Unit {0}
+Has m q expected Closes = ⊤
 Has m q expected Over = ⊥
 
 -- ---- the answered requests

@@ -2,7 +2,7 @@
 -- made, and are given up when that connection no longer uses them.
 --
 -- As in `Conn/OfferedBytes`, the laws are about each call of the server, undisturbed or not.
-use Rattle.std.specs.Prelude.{◌≡◌, ◌⊎◌, ℕ, true, false, List, Some, None}
+use Rattle.std.specs.Prelude.{◌≡◌, ◌⊎◌, ℕ, List, Some, None, IsTrue, IsFalse}
 use Rattle.iol_core.specs.Access.{HasAccess}
 use Rattle.iol_core.specs.State.{State, descriptor, is_live}
 use Rattle.iol_core.specs.Run.{StepsTo}
@@ -24,33 +24,34 @@ use Rattle.flash_laws.specs.Site.{server}
 -- A call that touches only what a connection has: `fd` is its descriptor, on connection c.
 pub record TouchesItsOwn (m : State) (fd c : ℕ) (d : Phase) (k : Call) : Type 0 where
   -- it consumes only an aggregate that it uses
-  pub aggs : (a : ℕ) → gives_up (event.Call server k) server a ≡ true → uses_agg d a ≡ true
+  pub aggs : (a : ℕ) → IsTrue (gives_up (event.Call server k) server a) → IsTrue (uses_agg d a)
   -- it moves or closes only its file's descriptor, or the connection's own
-  pub fds : (g : ℕ) → touches_fd m (event.Call server k) server g ≡ true → (uses_fd d g ≡ true) ⊎ (fd ≡ g)
-  pub conns : (e : ℕ) → touches_conn m (event.Call server k) e ≡ true → c ≡ e
-  pub pipes : (p : ℕ) → touches_pipe m (event.Call server k) p ≡ false
-  pub files : changes_files m (event.Call server k) ≡ false
-  pub pools : (p : ℕ) → admits_to (event.Call server k) p ≡ false
+  pub fds : (g : ℕ) → IsTrue (touches_fd m (event.Call server k) server g) → IsTrue (uses_fd d g) ⊎ (fd ≡ g)
+  pub conns : (e : ℕ) → IsTrue (touches_conn m (event.Call server k) e) → c ≡ e
+  pub pipes : (p : ℕ) → IsFalse (touches_pipe m (event.Call server k) p)
+  pub files : IsFalse (changes_files m (event.Call server k))
+  pub pools : (p : ℕ) → IsFalse (admits_to (event.Call server k) p)
 
 pub record KeepsNothing : Type 0 where
   -- an aggregate returned by a call for a connection is used by it
   pub brought : (m n : State) (fd c : ℕ) (x : Conn) (o : Outcome) (r : Reply) (received bytes : List ℕ) (a : ℕ)
-      → IsOrderly m → HasAccess m → is_live m server ≡ true → descriptor m server fd ≡ Some (on.Connection c)
+      → IsOrderly m → HasAccess m → IsTrue (is_live m server) → descriptor m server fd ≡ Some (on.Connection c)
       → HasAnswer m x o → StepsTo m (event.Call server (wants fd x)) r n
       → readable_at m server a ≡ None → readable_at n server a ≡ Some bytes
-      → uses_agg (after_reply x r received).phase a ≡ true
+      → IsTrue (uses_agg (after_reply x r received).phase a)
   -- the same for a descriptor
   pub opened : (m n : State) (fd f : ℕ) (x : Conn) (received : List ℕ)
       → StepsTo m (event.Call server (wants fd x)) (reply.Fd f) n
-      → uses_fd (after_reply x (reply.Fd f) received).phase f ≡ true
+      → IsTrue (uses_fd (after_reply x (reply.Fd f) received).phase f)
   -- an aggregate that it no longer uses is gone
   pub left : (m n : State) (fd : ℕ) (x : Conn) (r : Reply) (received : List ℕ) (a : ℕ) → IsOrderly m
       → StepsTo m (event.Call server (wants fd x)) r n
-      → uses_agg x.phase a ≡ true → uses_agg (after_reply x r received).phase a ≡ false → readable_at n server a ≡ None
+      → IsTrue (uses_agg x.phase a) → IsFalse (uses_agg (after_reply x r received).phase a)
+      → readable_at n server a ≡ None
   -- the same for the descriptor of a file
   pub shut : (m n : State) (fd : ℕ) (x : Conn) (r : Reply) (received : List ℕ) (g : ℕ)
       → StepsTo m (event.Call server (wants fd x)) r n
-      → uses_fd x.phase g ≡ true → uses_fd (after_reply x r received).phase g ≡ false → descriptor n server g ≡ None
+      → IsTrue (uses_fd x.phase g) → IsFalse (uses_fd (after_reply x r received).phase g) → descriptor n server g ≡ None
   -- its calls touch only what it has, including the last, which closes it
   pub alone : (m : State) (fd c : ℕ) (x : Conn) (o : Outcome) → descriptor m server fd ≡ Some (on.Connection c)
       → HasAnswer m x o

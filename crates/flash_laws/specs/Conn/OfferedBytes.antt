@@ -4,7 +4,7 @@
 -- The laws are about single steps, undisturbed or not: what the machine has of a response remains, unless a call
 -- consumes or moves what the connection uses. That this holds over a whole run is not stated here.
 use Rattle.std.specs.Prelude.{◌≡◌, ◌⊎◌, ℕ, ◌+◌, ◌==◌, Bool, true, false, if◌then◌else◌, List, [], ◌++◌, length, drop}
-use Rattle.std.specs.Prelude.{Some, None}
+use Rattle.std.specs.Prelude.{Some, None, IsTrue, IsFalse}
 use Rattle.iol_core.specs.Access.{HasAccess}
 use Rattle.iol_core.specs.State.{State, descriptor, is_live, is_gone, conn_at}
 use Rattle.iol_core.specs.Run.{StepsTo}
@@ -94,14 +94,14 @@ pub record OffersTheResponse : Type 0 where
   -- the next step
   pub replied : (m n : State) (fd c : ℕ) (x : Conn) (r : Reply) (received : List ℕ) (before : Outcome)
       → IsOrderly m → HasAccess m
-      → is_live m server ≡ true → descriptor m server fd ≡ Some (on.Connection c)
-      → is_closing x.phase ≡ false
+      → IsTrue (is_live m server) → descriptor m server fd ≡ Some (on.Connection c)
+      → IsFalse (is_closing x.phase)
       → HasAnswer m x before → StepsTo m (event.Call server (wants fd x)) r n → Names n r received
       → (after : Outcome) × Learns x.phase r received before after × HasAnswer n (after_reply x r received) after
   -- the same for any other event that neither consumes nor moves what the connection uses
   pub stays : (m n : State) (x : Conn) (e : Event) (r : Reply) (o : Outcome) → StepsTo m e r n
-      → ((a : ℕ) → uses_agg x.phase a ≡ true → gives_up e server a ≡ false)
-      → ((g : ℕ) → uses_fd x.phase g ≡ true → touches_fd m e server g ≡ false) → HasAnswer m x o
+      → ((a : ℕ) → IsTrue (uses_agg x.phase a) → IsFalse (gives_up e server a))
+      → ((g : ℕ) → IsTrue (uses_fd x.phase g) → IsFalse (touches_fd m e server g)) → HasAnswer m x o
       → HasAnswer n x o
   -- the bytes offered to the connection are the next ones
   pub offers : (m : State) (fd a : ℕ) (x : Conn) (o : Outcome) → HasAnswer m x o
@@ -111,34 +111,35 @@ pub record OffersTheResponse : Type 0 where
   pub takes : (m n : State) (fd c : ℕ) (x : Conn) (r : Reply) (received : List ℕ) (o : Outcome) → IsOrderly m
       → descriptor m server fd ≡ Some (on.Connection c) → HasAnswer m x o
       → StepsTo m (event.Call server (wants fd x)) r n
-      → is_dropping x.phase ≡ false → is_dropping (after_reply x r received).phase ≡ false
-      → is_busy (after_reply x r received).phase ≡ true
+      → IsFalse (is_dropping x.phase) → IsFalse (is_dropping (after_reply x r received).phase)
+      → IsTrue (is_busy (after_reply x r received).phase)
       → taken_of (after_reply x r received).phase ≡ taken_of x.phase + newly_taken fd (wants fd x) r
   -- after it is sent all of it is taken
   pub whole : (m : State) (x : Conn) (o : Outcome) (a taken : ℕ) → x.phase ≡ Sent a taken None → HasAnswer m x o
       → drop taken (response x.q o) ≡ []
   -- it is aborted only if its peer is gone
   pub breaks : (m n : State) (fd c : ℕ) (x : Conn) (r : Reply) (received : List ℕ) (o : Outcome)
-      → descriptor m server fd ≡ Some (on.Connection c) → is_busy x.phase ≡ true → HasAnswer m x o
-      → StepsTo m (event.Call server (wants fd x)) r n → is_dropping x.phase ≡ false
-      → is_dropping (after_reply x r received).phase ≡ true → is_gone (conn_at m c).peer ≡ true
+      → descriptor m server fd ≡ Some (on.Connection c) → IsTrue (is_busy x.phase) → HasAnswer m x o
+      → StepsTo m (event.Call server (wants fd x)) r n → IsFalse (is_dropping x.phase)
+      → IsTrue (is_dropping (after_reply x r received).phase) → IsTrue (is_gone (conn_at m c).peer)
   -- a connection that is to be closed is closed by its next call, and then over
   pub closes : (m n : State) (fd c : ℕ) (x : Conn) (r : Reply) (received : List ℕ) → IsOrderly m
-      → is_live m server ≡ true
+      → IsTrue (is_live m server)
       → descriptor m server fd ≡ Some (on.Connection c) → x.phase ≡ Closes
       → StepsTo m (event.Call server (wants fd x)) r n
-      → (r ≡ reply.Done) × ((after_reply x r received).phase ≡ Over) × ((conn_at n c).closed ≡ true)
+      → (r ≡ reply.Done) × ((after_reply x r received).phase ≡ Over) × IsTrue (conn_at n c).closed
   -- each reply reduces the rank of a request, unless its call is retried later
   pub rank : Conn → Rank
   pub nears : (m n : State) (fd c : ℕ) (x : Conn) (r : Reply) (received : List ℕ) (o : Outcome) → IsOrderly m
-      → is_live m server ≡ true → descriptor m server fd ≡ Some (on.Connection c) → is_busy x.phase ≡ true
+      → IsTrue (is_live m server) → descriptor m server fd ≡ Some (on.Connection c) → IsTrue (is_busy x.phase)
       → HasAnswer m x o → CanMake m (wants fd x) → StepsTo m (event.Call server (wants fd x)) r n → Names n r received
       → Nears rank x r (after_reply x r received)
   -- a connection that reads the stream retries only later, or if the bytes are not for the server
-  pub reads : (m n : State) (fd c : ℕ) (x : Conn) (r : Reply) (received : List ℕ) → is_live m server ≡ true
+  pub reads : (m n : State) (fd c : ℕ) (x : Conn) (r : Reply) (received : List ℕ) → IsTrue (is_live m server)
       → descriptor m server fd ≡ Some (on.Connection c) → x.phase ≡ Rests
       → StepsTo m (event.Call server (wants fd x)) r n → after_reply x r received ≡ x
-      → (is_later r ≡ true) ⊎ ((p : ℕ) × IsHidden m server p (conn_at m c).incoming)
+      → IsTrue (is_later r) ⊎ ((p : ℕ) × IsHidden m server p (conn_at m c).incoming)
   -- a successful call is not repeated
-  pub moves : (m n : State) (fd : ℕ) (x : Conn) (r : Reply) (received : List ℕ) → is_closing x.phase ≡ false
-      → StepsTo m (event.Call server (wants fd x)) r n → after_reply x r received ≡ x → may_repeat (wants fd x) r ≡ true
+  pub moves : (m n : State) (fd : ℕ) (x : Conn) (r : Reply) (received : List ℕ) → IsFalse (is_closing x.phase)
+      → StepsTo m (event.Call server (wants fd x)) r n → after_reply x r received ≡ x
+      → IsTrue (may_repeat (wants fd x) r)

@@ -1,6 +1,6 @@
 -- The contents of the head of a response, before it is made: a file within the limit of one read of the server, and an
 -- error status of this server. So each head is short.
-use Rattle.std.specs.Prelude.{◌≡◌, ◌≤◌, ◌==◌, ℕ, Bool, true, [], ◌∷◌}
+use Rattle.std.specs.Prelude.{◌≤◌, ◌==◌, ℕ, Bool, [], ◌∷◌, IsTrue, ⊤}
 use Rattle.std.specs.List.{list_any}
 use Rattle.flash_laws.specs.Conn.{most_read}
 use Rattle.flash_laws.specs.declared.phase.FileResult.{FileResult}
@@ -15,11 +15,11 @@ is_error_status status = list_any (λ s. s == status) (400 ∷ 403 ∷ 404 ∷ 4
 abbrev pub FileResultIsShort : FileResult → Type 0
 FileResultIsShort (File a len) = len ≤ most_read
 FileResultIsShort (Length len) = len ≤ most_read
-FileResultIsShort (Fails status) = is_error_status status ≡ true
-FileResultIsShort (Text a runs) = Unit {0}
+FileResultIsShort (Fails status) = IsTrue (is_error_status status)
+FileResultIsShort (Text a runs) = ⊤
 
 abbrev pub ContentIsShort : Payload → Type 0
 ContentIsShort (Body a size len) = len ≤ most_read
 ContentIsShort (Bare len) = len ≤ most_read
-ContentIsShort (Error status) = is_error_status status ≡ true
-ContentIsShort Script = Unit {0}
+ContentIsShort (Error status) = IsTrue (is_error_status status)
+ContentIsShort Script = ⊤

@@ -1,5 +1,5 @@
 -- The uses of memory by a connection: to buffer bytes that it reads, to begin a request, and for the bytes of a call.
-use Rattle.std.specs.Prelude.{◌≡◌, ◌⊎◌, ◌<◌, ℕ, Bool, true, false, List, length}
+use Rattle.std.specs.Prelude.{◌⊎◌, ◌<◌, ℕ, Bool, true, false, List, length, IsTrue, IsFalse}
 use Rattle.iol_core.specs.declared.events.Reply.{Reply}
 use Rattle.iol_core.specs.declared.events.Reply.TheVariants as reply
 use Rattle.flash_http.specs.Window.{window_in}
@@ -39,5 +39,5 @@ Receives d r received = ⊥
 abbrev pub WantsOn : Conn → Reply → (received : List ℕ) → Type 0
 WantsOn x r received =
     Receives x.phase r received
-    ⊎ ((leaves_off (left_over (after_reply x r received)) r ≡ false)
-    × (needs_memory (after_reply x r received) ≡ true))
+    ⊎ (IsFalse (leaves_off (left_over (after_reply x r received)) r)
+    × IsTrue (needs_memory (after_reply x r received)))

@@ -1,6 +1,6 @@
 -- The invariant of the run of a script, by the machine and the output that was read: what it has of the response.
 use Rattle.std.specs.Prelude.{◌≡◌, ◌≤◌, ◌<◌, ℕ, ◌+◌, ◌==◌, ◌⊎◌, not, Bool, true, false, List, [], ◌++◌, length, Option}
-use Rattle.std.specs.Prelude.{Some, None}
+use Rattle.std.specs.Prelude.{Some, None, IsTrue, IsFalse, ⊤}
 use Rattle.iol_core.specs.State.{State, descriptor}
 use Rattle.iol_core.specs.declared.descriptors.Descriptor.TheVariants as on
 use Rattle.iol_laws.specs.Caller.{readable_at}
@@ -44,7 +44,7 @@ nothing_yet = Ran [] false []
 -- the possible rest of an output
 abbrev pub Follows : (ended : Bool) → List ℕ → Type 0
 Follows true more = more ≡ []
-Follows false more = Unit {0}
+Follows false more = ⊤
 
 -- The possible responses, for every further output; once its end was read, the response to the output.
 abbrev pub MayAnswer : Wanted → Progress → List ℕ → Type 0
@@ -68,7 +68,7 @@ Continues w o part held = ⊥
 -- all of the response is known, since the end of the output was read, or it is an error; and these bytes of it are not
 -- yet taken
 abbrev pub IsLeft : Wanted → Progress → (rest : List ℕ) → Type 0
-IsLeft w (Ran received ended past) rest = (ended ≡ true) × (script_response w received ≡ past ++ rest)
+IsLeft w (Ran received ended past) rest = IsTrue ended × (script_response w received ≡ past ++ rest)
 IsLeft w Broken rest = ⊥
 IsLeft w (NotRun status past) rest = error_text status w.head_only (not w.keep) ≡ past ++ rest
 
@@ -94,11 +94,11 @@ pub record HasPipe (m : State) (run : Run) (write : ℕ) : Type 0 where
   pub pipe : ℕ
   pub read_end : descriptor m server run.from ≡ Some (on.ReadEnd pipe)
   pub write_end : descriptor m server write ≡ Some (on.WriteEnd pipe)
-  pub apart : (write == job_pipe run.worker) ≡ false
+  pub apart : IsFalse (write == job_pipe run.worker)
 
 -- nothing was read yet
 abbrev pub IsFresh : Run → Progress → Type 0
-IsFresh run o = (run.broken ≡ false) × (o ≡ nothing_yet)
+IsFresh run o = IsFalse run.broken × (o ≡ nothing_yet)
 
 -- An aggregate of these bytes, at least one and fewer than a chunk has; a body that is not in chunks buffers none.
 pub record HoldsOutput (m : State) (w : Wanted) (a size : ℕ) (bytes : List ℕ) : Type 0 where
@@ -106,14 +106,14 @@ pub record HoldsOutput (m : State) (w : Wanted) (a size : ℕ) (bytes : List ℕ
   pub count : size ≡ length bytes
   pub some : 0 < size
   pub few : size < CHUNK_BYTES
-  pub chunked : w.chunked ≡ true
+  pub chunked : IsTrue w.chunked
 
 abbrev pub IsHeld : State → Wanted → Following → (bytes : List ℕ) → Type 0
 IsHeld m w None bytes = bytes ≡ []
 IsHeld m w (Some x) bytes = HoldsOutput m w x.0 x.1 bytes
 
 abbrev pub HasFrame : State → Option ℕ → Type 0
-HasFrame m None = Unit {0}
+HasFrame m None = ⊤
 HasFrame m (Some f) = readable_at m server f ≡ Some (frame_of CHUNK_BYTES)
 
 -- the buffered output is not the frame
@@ -124,7 +124,7 @@ meets (Some x) frame = has_frame frame x.0
 pub record HasOutput (m : State) (w : Wanted) (held : Following) (frame : Option ℕ) (bytes : List ℕ) : Type 0 where
   pub holds : IsHeld m w held bytes
   pub frames : HasFrame m frame
-  pub apart : meets held frame ≡ false
+  pub apart : IsFalse (meets held frame)
 
 -- output is read
 pub record HasReceived (m : State) (w : Wanted) (o : Progress) (run : Run) (held : Following) (frame : Option ℕ) :
@@ -174,8 +174,8 @@ pub record HasPart (m : State) (w : Wanted) (o : Progress) (run : Run) (d : Phas
   pub is_part : IsPart m (sent_agg d) part
   pub has : Has m (serve w) part d
   pub within : taken_of d ≤ length part
-  pub apart : sends_frame d frame ≡ false
-  pub whole : run.broken ≡ false
+  pub apart : IsFalse (sends_frame d frame)
+  pub whole : IsFalse run.broken
   pub continues : Continues w o part []
 
 -- the buffered output, and a piece that follows it
@@ -188,9 +188,9 @@ pub record HasPiece (m : State) (w : Wanted) (o : Progress) (run : Run) (held si
   pub is_readable : readable_at m server piece ≡ Some more
   pub count : len ≡ length more
   pub within : size + len ≤ CHUNK_BYTES
-  pub other : (held == piece) ≡ false
-  pub apart : has_frame frame piece ≡ false
-  pub whole : run.broken ≡ false
+  pub other : IsFalse (held == piece)
+  pub apart : IsFalse (has_frame frame piece)
+  pub whole : IsFalse run.broken
   pub goes : HoldsBack w o (bytes ++ more)
 
 -- the bytes of a whole chunk
@@ -199,8 +199,8 @@ pub record HasChunk (m : State) (w : Wanted) (o : Progress) (run : Run) (held : 
   pub bytes : List ℕ
   pub is_readable : readable_at m server held ≡ Some bytes
   pub count : length bytes ≡ CHUNK_BYTES
-  pub chunked : w.chunked ≡ true
-  pub whole : run.broken ≡ false
+  pub chunked : IsTrue w.chunked
+  pub whole : IsFalse run.broken
   pub goes : HoldsBack w o bytes
 
 -- the last bytes of a body in chunks, with the end of the body around them
@@ -208,7 +208,7 @@ pub record HasLast (m : State) (w : Wanted) (o : Progress) (held size frame : �
   pub bytes : List ℕ
   pub holds : HoldsOutput m w held size bytes
   pub frames : readable_at m server frame ≡ Some (end_around (Some (held, size)))
-  pub apart : (frame == held) ≡ false
+  pub apart : IsFalse (frame == held)
   pub left : IsLeft w o (script_body true bytes)
 
 -- these bytes of the response are in an aggregate, and no more follow
@@ -220,11 +220,11 @@ pub record HasEnd (m : State) (w : Wanted) (o : Progress) (a len : ℕ) : Type 0
 
 -- an aggregate is to be dropped, and is not used afterwards
 abbrev pub IsSpare : State → (a : ℕ) → (next : Step) → Type 0
-IsSpare m a next = IsReadable m a × (step_agg next a ≡ false)
+IsSpare m a next = IsReadable m a × IsFalse (step_agg next a)
 
 -- an error is to be made, or the whole expected response is being sent, with nothing after it
 abbrev pub IsSending : State → (expected : List ℕ) → Phase → Type 0
-IsSending m expected (phase.Heads (Error status)) = Unit {0}
+IsSending m expected (phase.Heads (Error status)) = ⊤
 IsSending m expected d = IsPart m (sent_agg d) expected × (taken_of d ≤ length expected)
 
 -- The rest of the response is sent: for the phases of any response it is the whole expected response.
@@ -236,13 +236,13 @@ pub record HasRest (m : State) (w : Wanted) (o : Progress) (d : Phase) : Type 0 
 
 -- nothing of it is left, and it ends with the connection; or it is aborted
 abbrev pub HasNone : Wanted → Progress → Type 0
-HasNone w Broken = Unit {0}
-HasNone w o = IsLeft w o [] × ((w.keep ≡ false) ⊎ (w.chunked ≡ false))
+HasNone w Broken = ⊤
+HasNone w o = IsLeft w o [] × (IsFalse w.keep ⊎ IsFalse w.chunked)
 
 -- the rest is sent; or nothing is left, and the connection continues if the response permits it, and is closed
 -- otherwise
 abbrev pub HasLeft : State → Wanted → Progress → Phase → Type 0
-HasLeft m w o phase.Rests = IsLeft w o [] × (w.keep ≡ true)
+HasLeft m w o phase.Rests = IsLeft w o [] × IsTrue w.keep
 HasLeft m w o phase.Closes = HasNone w o
 HasLeft m w o d = HasRest m w o d
 
@@ -259,7 +259,7 @@ module _ (job : (fd : ℕ) → List ℕ) where
   HasStep m w o run (Spills a frame) = IsSpare m a (Receives None frame) × HasReceived m w o run None frame
   HasStep m w o run (Gathers held size piece len frame) = HasPiece m w o run held size piece len frame
   HasStep m w o run (Frames held) = HasChunk m w o run held
-  HasStep m w o run (Wraps held frame) = HasChunk m w o run held × HasFrame m (Some frame) × ((frame == held) ≡ false)
+  HasStep m w o run (Wraps held frame) = HasChunk m w o run held × HasFrame m (Some frame) × IsFalse (frame == held)
   HasStep m w o run (Trims held chunk len frame) = IsSpare m held (Sending (sends_part chunk len) (Some frame))
       × HasPart m w o run (sends_part chunk len) (Some frame)
   HasStep m w o run (Ended a held frame) = IsSpare m a (Stops held frame) × IsReading m run
@@ -268,7 +268,7 @@ module _ (job : (fd : ℕ) → List ℕ) where
       × HasAll m w o run None frame
   HasStep m w o run (Stops held frame) = IsReading m run × HasAll m w o run held frame
   HasStep m w o run (Unframes f held) = HasAll m w o run held (Some f)
-  HasStep m w o run (Lasts held) = (w.chunked ≡ true) × (run.broken ≡ false) × HasAll m w o run held None
+  HasStep m w o run (Lasts held) = IsTrue w.chunked × IsFalse run.broken × HasAll m w o run held None
   HasStep m w o run (WrapsLast held size frame) = HasLast m w o held size frame
   HasStep m w o run (TrimsLast held chunk len frame) = IsSpare m held (Unwraps frame chunk len)
       × IsSpare m frame (Lapses chunk)

@@ -2,7 +2,7 @@
 -- Its calls touch only what it has.
 --
 -- As in `Run/OfferedBytes`, the laws are about each call of the server, undisturbed or not.
-use Rattle.std.specs.Prelude.{◌≡◌, ℕ, ◌==◌, ◌||◌, Bool, true, false, List, Some, None}
+use Rattle.std.specs.Prelude.{◌≡◌, ℕ, ◌==◌, ◌||◌, Bool, true, false, List, Some, None, IsTrue, IsFalse}
 use Rattle.iol_core.specs.NumberedLists.{lowest}
 use Rattle.iol_core.specs.State.{State, descriptor}
 use Rattle.iol_core.specs.Run.{StepsTo}
@@ -53,44 +53,45 @@ MayTouch m x p = ⊥
 
 -- a call that touches only what a run has
 pub record KeepsToItself (m : State) (fd c : ℕ) (x : Running) (k : Call) : Type 0 where
-  pub kind : may_make k ≡ true
+  pub kind : IsTrue (may_make k)
   -- it consumes only an aggregate that it uses
-  pub aggs : (a : ℕ) → gives_up (event.Call server k) server a ≡ true → uses_agg x a ≡ true
+  pub aggs : (a : ℕ) → IsTrue (gives_up (event.Call server k) server a) → IsTrue (uses_agg x a)
   -- it closes or gives away only an end of its pipe
-  pub fds : (g : ℕ) → touches_fd m (event.Call server k) server g ≡ true → has_end x g ≡ true
+  pub fds : (g : ℕ) → IsTrue (touches_fd m (event.Call server k) server g) → IsTrue (has_end x g)
   -- it writes to its connection, and touches no other
-  pub conns : (d : ℕ) → touches_conn m (event.Call server k) d ≡ true → (c ≡ d) × ((a : ℕ) × (k ≡ call.IolWrite fd a))
-  pub pipes : (p : ℕ) → touches_pipe m (event.Call server k) p ≡ true → MayTouch m x p
-  pub files : changes_files m (event.Call server k) ≡ false
+  pub conns : (d : ℕ) → IsTrue (touches_conn m (event.Call server k) d) → (c ≡ d) × ((a : ℕ) × (k ≡ call.IolWrite fd a))
+  pub pipes : (p : ℕ) → IsTrue (touches_pipe m (event.Call server k) p) → MayTouch m x p
+  pub files : IsFalse (changes_files m (event.Call server k))
 
 pub record RunKeepsNothing (job : ℕ → List ℕ) : Type 0 where
   -- an aggregate returned by a call for it is used by it
   pub brought : (m n : State) (fd c worker : ℕ) (w : Wanted) (x : Running) (o : Progress) (r : Reply)
       (received bytes : List ℕ) (a : ℕ)
-      → IsOrderly m → descriptor m server fd ≡ Some (on.Connection c) → is_over x ≡ false → HasRun job m w o x
+      → IsOrderly m → descriptor m server fd ≡ Some (on.Connection c) → IsFalse (is_over x) → HasRun job m w o x
       → StepsTo m (event.Call server (wants job fd w x)) r n
       → readable_at m server a ≡ None → readable_at n server a ≡ Some bytes
-      → uses_agg (after_reply worker w x r received) a ≡ true
+      → IsTrue (uses_agg (after_reply worker w x r received) a)
   -- both ends of a pipe returned by a call for it belong to it
   pub opened : (m n : State) (fd worker : ℕ) (w : Wanted) (x : Running) (o : Progress) (from write : ℕ)
       (received : List ℕ) (g : ℕ)
-      → is_over x ≡ false → HasRun job m w o x
+      → IsFalse (is_over x) → HasRun job m w o x
       → StepsTo m (event.Call server (wants job fd w x)) (reply.Fds from write) n
-      → ((from == g) || (write == g)) ≡ true → has_end (after_reply worker w x (reply.Fds from write) received) g ≡ true
+      → IsTrue ((from == g) || (write == g))
+      → IsTrue (has_end (after_reply worker w x (reply.Fds from write) received) g)
   -- an aggregate that it no longer uses is gone
   pub left : (m n : State) (fd worker : ℕ) (w : Wanted) (x : Running) (o : Progress) (r : Reply) (received : List ℕ)
       (a : ℕ)
       → IsOrderly m → HasRun job m w o x → StepsTo m (event.Call server (wants job fd w x)) r n
-      → uses_agg x a ≡ true → uses_agg (after_reply worker w x r received) a ≡ false → readable_at n server a ≡ None
+      → IsTrue (uses_agg x a) → IsFalse (uses_agg (after_reply worker w x r received) a) → readable_at n server a ≡ None
   -- the same for an end of its pipe, which is closed, or given to the worker
   pub shut : (m n : State) (fd worker : ℕ) (w : Wanted) (x : Running) (o : Progress) (r : Reply) (received : List ℕ)
       (g : ℕ)
       → HasRun job m w o x → StepsTo m (event.Call server (wants job fd w x)) r n
-      → has_end x g ≡ true → has_end (after_reply worker w x r received) g ≡ false → descriptor n server g ≡ None
+      → IsTrue (has_end x g) → IsFalse (has_end (after_reply worker w x r received) g) → descriptor n server g ≡ None
   -- its calls touch only what it has
   pub alone : (m : State) (fd c : ℕ) (w : Wanted) (x : Running) (o : Progress)
       → descriptor m server fd ≡ Some (on.Connection c)
-      → is_over x ≡ false → HasRun job m w o x → KeepsToItself m fd c x (wants job fd w x)
+      → IsFalse (is_over x) → HasRun job m w o x → KeepsToItself m fd c x (wants job fd w x)
 
 abbrev pub RunsKeepNothing : Type 0
 RunsKeepNothing = (job : ℕ → List ℕ) → RunKeepsNothing job

@@ -4,7 +4,7 @@
 -- The laws are about single steps, undisturbed or not: what a run has remains, unless a call consumes or moves what it
 -- uses. That this holds over a whole run is not stated here, and neither is what a worker writes.
 use Rattle.std.specs.Prelude.{◌≡◌, ◌<◌, ℕ, ◌+◌, ◌-◌, ◌⊎◌, Bool, true, false, List, [], ◌∷◌, ◌++◌, length, drop, Option}
-use Rattle.std.specs.Prelude.{Some, None}
+use Rattle.std.specs.Prelude.{Some, None, IsTrue, IsFalse, ◌≢◌, ⊤}
 use Rattle.iol_core.specs.State.{State, descriptor, is_live, pipe_at, conn_at, new_pipe, is_gone}
 use Rattle.iol_core.specs.Run.{StepsTo}
 use Rattle.iol_core.specs.Values.{gives_up}
@@ -91,7 +91,7 @@ pub record IsNextOf (m : State) (w : Wanted) (o : Progress) (a taken : ℕ) : Ty
 abbrev pub HasWorker : (worker : ℕ) → Running → Type 0
 HasWorker worker Awaits = ⊥
 HasWorker worker (Runs run step) = run.worker ≡ worker
-HasWorker worker x = Unit {0}
+HasWorker worker x = ⊤
 
 -- ---- the reasons for which a response is aborted, or a script not run
 
@@ -104,10 +104,10 @@ breaks_off x = false
 
 -- the peer is gone, or the server may not read the output
 abbrev pub IsCutOff : State → (c : ℕ) → Running → Type 0
-IsCutOff m c (Runs run step) = (is_gone (conn_at m c).peer ≡ true)
+IsCutOff m c (Runs run step) = IsTrue (is_gone (conn_at m c).peer)
     ⊎ ((p : ℕ) × (q : ℕ) × (descriptor m server run.from ≡ Some (on.ReadEnd p))
     × IsHidden m server q (pipe_at m p).queue)
-IsCutOff m c x = is_gone (conn_at m c).peer ≡ true
+IsCutOff m c x = IsTrue (is_gone (conn_at m c).peer)
 
 -- whether the script is given up before it runs
 abbrev pub is_failing : Running → Bool
@@ -118,8 +118,8 @@ is_failing x = false
 
 -- the domain of its worker has ended, or its job pipe has no reader
 abbrev pub IsLost : State → Running → Type 0
-IsLost m (Runs run step) = (is_live m (worker_domain run.worker) ≡ false)
-    ⊎ ((p : ℕ) × (descriptor m server (job_pipe run.worker) ≡ Some (on.WriteEnd p)) × ((pipe_at m p).reading ≡ false))
+IsLost m (Runs run step) = IsFalse (is_live m (worker_domain run.worker))
+    ⊎ ((p : ℕ) × (descriptor m server (job_pipe run.worker) ≡ Some (on.WriteEnd p)) × IsFalse (pipe_at m p).reading)
 IsLost m x = ⊥
 
 -- ---- the end of reading
@@ -139,14 +139,14 @@ is_stopping x = false
 -- the end of the output was read, or the server may not read it
 abbrev pub StopsBy : Running → Reply → (received : List ℕ) → Type 0
 StopsBy (Runs run (Receives held frame)) (reply.Agg n) received = received ≡ []
-StopsBy (Runs run (Receives held frame)) (reply.Refused (no.Denied p)) received = Unit {0}
+StopsBy (Runs run (Receives held frame)) (reply.Refused (no.Denied p)) received = ⊤
 StopsBy x r received = ⊥
 
 -- ---- its rank
 
 -- more of the output was read
 abbrev pub ReceivesMore : Running → Reply → (received : List ℕ) → Type 0
-ReceivesMore (Runs run (Receives held frame)) (reply.Agg n) (b ∷ received) = Unit {0}
+ReceivesMore (Runs run (Receives held frame)) (reply.Agg n) (b ∷ received) = ⊤
 ReceivesMore x r received = ⊥
 
 -- ---- the order of handing over the job
@@ -167,8 +167,8 @@ ComesAfter x r (Runs run (Makes f)) = (write : ℕ) × (x ≡ Runs run (Gives wr
 ComesAfter x r (Runs run (Hands j f)) = (x ≡ Runs run (Makes f)) × (r ≡ reply.Agg j)
 ComesAfter x r (Runs run (Lets j)) = (f : ℕ) × (k : ℕ) × (x ≡ Runs run (Hands j f)) × (r ≡ reply.Count k)
 ComesAfter x r (Runs run Heads) = (j : ℕ) × (x ≡ Runs run (Lets j)) × (r ≡ reply.Done)
-ComesAfter x r (Runs run (Sending d frame)) = is_handing x ≡ false
-ComesAfter x r y = Unit {0}
+ComesAfter x r (Runs run (Sending d frame)) = IsFalse (is_handing x)
+ComesAfter x r y = ⊤
 
 -- `job` is the text of the job, by the descriptor that it names.
 pub record RunOffersTheResponse (job : ℕ → List ℕ) : Type 0 where
@@ -178,14 +178,14 @@ pub record RunOffersTheResponse (job : ℕ → List ℕ) : Type 0 where
   pub replied : (m n : State) (fd c worker : ℕ) (w : Wanted) (x : Running) (r : Reply) (received : List ℕ)
       (before : Progress)
       → IsOrderly m → descriptor m server fd ≡ Some (on.Connection c) → (x ≡ Awaits → HasJobPipe m worker)
-      → is_over x ≡ false → HasRun job m w before x
+      → IsFalse (is_over x) → HasRun job m w before x
       → StepsTo m (event.Call server (wants job fd w x)) r n → Names n r received
       → (after : Progress) × Learns m x r received before after
       × HasRun job n w after (after_reply worker w x r received)
   -- the same for any other event that neither consumes nor moves what the run uses
   pub stays : (m n : State) (w : Wanted) (x : Running) (e : Event) (r : Reply) (o : Progress) → StepsTo m e r n
-      → ((a : ℕ) → uses_agg x a ≡ true → gives_up e server a ≡ false)
-      → ((g : ℕ) → uses_fd x g ≡ true → touches_fd m e server g ≡ false) → HasRun job m w o x
+      → ((a : ℕ) → IsTrue (uses_agg x a) → IsFalse (gives_up e server a))
+      → ((g : ℕ) → IsTrue (uses_fd x g) → IsFalse (touches_fd m e server g)) → HasRun job m w o x
       → HasRun job n w o x
   -- the bytes offered to the connection are the next ones
   pub offers : (m : State) (fd c a : ℕ) (w : Wanted) (x : Running) (o : Progress)
@@ -193,34 +193,34 @@ pub record RunOffersTheResponse (job : ℕ → List ℕ) : Type 0 where
       → wants job fd w x ≡ call.IolWrite fd a → IsNextOf m w o a (taken_by x)
   -- after it is aborted no bytes are offered
   pub silent : (m : State) (fd a : ℕ) (w : Wanted) (x : Running) → HasRun job m w Broken x
-      → wants job fd w x ≡ call.IolWrite fd a → ⊥
+      → wants job fd w x ≢ call.IolWrite fd a
   -- the bytes that the connection took count as taken, while the response is not aborted
   pub takes : (m n : State) (fd c worker : ℕ) (w : Wanted) (x : Running) (r : Reply) (received : List ℕ)
       (before after : Progress)
-      → IsOrderly m → descriptor m server fd ≡ Some (on.Connection c) → is_over x ≡ false → HasRun job m w before x
+      → IsOrderly m → descriptor m server fd ≡ Some (on.Connection c) → IsFalse (is_over x) → HasRun job m w before x
       → StepsTo m (event.Call server (wants job fd w x)) r n → Learns m x r received before after
-      → breaks_off x ≡ false → breaks_off (after_reply worker w x r received) ≡ false
+      → IsFalse (breaks_off x) → IsFalse (breaks_off (after_reply worker w x r received))
       → past_of after + taken_by (after_reply worker w x r received) ≡ past_of before + taken_by x + newly_taken fd
       (wants job fd w x) r
   -- it is aborted only if the peer is gone, or the server may not read the output
   pub breaks : (m n : State) (fd c worker : ℕ) (w : Wanted) (x : Running) (r : Reply) (received : List ℕ) (o : Progress)
-      → descriptor m server fd ≡ Some (on.Connection c) → is_over x ≡ false → HasRun job m w o x
+      → descriptor m server fd ≡ Some (on.Connection c) → IsFalse (is_over x) → HasRun job m w o x
       → StepsTo m (event.Call server (wants job fd w x)) r n
-      → breaks_off x ≡ false → breaks_off (after_reply worker w x r received) ≡ true → IsCutOff m c x
+      → IsFalse (breaks_off x) → IsTrue (breaks_off (after_reply worker w x r received)) → IsCutOff m c x
   -- a script is given up only if its worker's domain has ended, or its job pipe has no reader
   pub fails : (m n : State) (fd worker : ℕ) (w : Wanted) (x : Running) (r : Reply) (received : List ℕ) (o : Progress)
-      → is_live m server ≡ true → HasRun job m w o x → StepsTo m (event.Call server (wants job fd w x)) r n
-      → is_failing x ≡ false → is_failing (after_reply worker w x r received) ≡ true → IsLost m x
+      → IsTrue (is_live m server) → HasRun job m w o x → StepsTo m (event.Call server (wants job fd w x)) r n
+      → IsFalse (is_failing x) → IsTrue (is_failing (after_reply worker w x r received)) → IsLost m x
   -- each reply reduces the rank, unless more of the output was read, or the call is retried later
   pub rank : Wanted → Running → Rank
   pub nears : (m n : State) (fd c worker : ℕ) (w : Wanted) (x : Running) (r : Reply) (received : List ℕ) (o : Progress)
-      → IsOrderly m → is_live m server ≡ true → descriptor m server fd ≡ Some (on.Connection c) → is_over x ≡ false
+      → IsOrderly m → IsTrue (is_live m server) → descriptor m server fd ≡ Some (on.Connection c) → IsFalse (is_over x)
       → HasRun job m w o x → CanMake m (wants job fd w x) → StepsTo m (event.Call server (wants job fd w x)) r n
       → Names n r received → Nears (rank w) x r (after_reply worker w x r received) ⊎ ReceivesMore x r received
   -- a successful call is not repeated
   pub moves : (m n : State) (fd worker : ℕ) (w : Wanted) (x : Running) (r : Reply) (received : List ℕ) (o : Progress)
-      → is_over x ≡ false → HasRun job m w o x → StepsTo m (event.Call server (wants job fd w x)) r n
-      → after_reply worker w x r received ≡ x → may_repeat (wants job fd w x) r ≡ true
+      → IsFalse (is_over x) → HasRun job m w o x → StepsTo m (event.Call server (wants job fd w x)) r n
+      → after_reply worker w x r received ≡ x → IsTrue (may_repeat (wants job fd w x) r)
   -- no output is read while the bytes of a whole chunk are buffered
   pub reads : (m : State) (w : Wanted) (o : Progress) (run : Run) (held : Option (ℕ × ℕ)) (frame : Option ℕ)
       → HasRun job m w o (Runs run (Receives held frame)) → held_size held < CHUNK_BYTES
@@ -233,8 +233,8 @@ pub record RunOffersTheResponse (job : ℕ → List ℕ) : Type 0 where
       → (p : ℕ) × (descriptor m server run.from ≡ Some (on.ReadEnd p))
       × ReadsPipe m server p (CHUNK_BYTES - held_size held) r n
   -- it reads until the end of the output, or until it may not read, also after the response is aborted
-  pub reads_on : (worker : ℕ) (w : Wanted) (x : Running) (r : Reply) (received : List ℕ) → is_stopping x ≡ false
-      → is_stopping (after_reply worker w x r received) ≡ true → StopsBy x r received
+  pub reads_on : (worker : ℕ) (w : Wanted) (x : Running) (r : Reply) (received : List ℕ) → IsFalse (is_stopping x)
+      → IsTrue (is_stopping (after_reply worker w x r received)) → StopsBy x r received
   -- a run begins with a new pipe, which is empty, and with its worker
   pub opens : (m n : State) (fd worker : ℕ) (w : Wanted) (from write : ℕ) (received : List ℕ)
       → StepsTo m (event.Call server (wants job fd w Awaits)) (reply.Fds from write) n

@@ -1,5 +1,5 @@
 -- The progress of a client's script: what its worker has of it, and how much of its output was read.
-use Rattle.std.specs.Prelude.{◌≡◌, ◌≢◌, ◌<◌, ℕ, Bool, true, false, List, ◌++◌, Some, slice_get}
+use Rattle.std.specs.Prelude.{◌≡◌, ◌≢◌, ◌<◌, ℕ, Bool, true, false, List, ◌++◌, Some, slice_get, IsTrue, IsFalse, ⊤}
 use Rattle.iol_core.specs.State.{State, descriptor, text, pipe_at, new_pipe}
 use Rattle.iol_core.specs.declared.descriptors.Descriptor.TheVariants as on
 use Rattle.iol_laws.specs.Sources.{lie_in}
@@ -18,14 +18,14 @@ use Rattle.flash_laws.specs.declared.script_run.Running.TheVariants.{Awaits, Run
 
 -- the rest of this output after the bytes read; arbitrary once the response is aborted
 abbrev pub IsToCome : Progress → (output more : List ℕ) → Type 0
-IsToCome (Ran received ended past) output more = (ended ≡ false) × (output ≡ received ++ more)
-IsToCome Broken output more = Unit {0}
+IsToCome (Ran received ended past) output more = IsFalse ended × (output ≡ received ++ more)
+IsToCome Broken output more = ⊤
 IsToCome (NotRun status past) output more = ⊥
 
 -- all of it was read, and its end
 abbrev pub IsReceivedWhole : Progress → (output : List ℕ) → Type 0
-IsReceivedWhole (Ran received ended past) output = (ended ≡ true) × (output ≡ received)
-IsReceivedWhole Broken output = Unit {0}
+IsReceivedWhole (Ran received ended past) output = IsTrue ended × (output ≡ received)
+IsReceivedWhole Broken output = ⊤
 IsReceivedWhole (NotRun status past) output = ⊥
 
 -- whether the worker does not yet have the job
@@ -80,7 +80,7 @@ module _ (worker_set : WorkerSet) where
   Stage m process_slot run made o (Gives write) = IsReadyFor m process_slot run
   Stage m process_slot run made o (Makes f) = IsGiven m process_slot run f
   Stage m process_slot run made o (Hands j f) =
-      IsGiven m process_slot run f × (lie_in worker_set.jobs (text m server j) ≡ true)
+      IsGiven m process_slot run f × IsTrue (lie_in worker_set.jobs (text m server j))
   Stage m process_slot run made o (Returns write) = ⊥
   Stage m process_slot run made o (Lapses j) = ⊥
   Stage m process_slot run made o Fails = ⊥
@@ -98,4 +98,4 @@ module _ (worker_set : WorkerSet) where
   abbrev pub HasWorkerAt : State → (process_slots : List (ProcessSlot worker_set.Worker)) → (made : Made) → Progress
       → Running → Type 0
   HasWorkerAt m process_slots made o (Runs run step) = AtJobQueue m process_slots run made o step
-  HasWorkerAt m process_slots made o y = Unit {0}
+  HasWorkerAt m process_slots made o y = ⊤

@@ -1,5 +1,5 @@
 -- Fairness of turns: between two responses to one client each other client that may take a turn takes one.
-use Rattle.std.specs.Prelude.{◌≡◌, ◌≢◌, ◌⊎◌, ℕ, Bool, true, false, List, [], ◌∷◌, ◌++◌, Option, Some, None}
+use Rattle.std.specs.Prelude.{◌≡◌, ◌≢◌, ◌⊎◌, ℕ, Bool, true, false, List, [], ◌∷◌, ◌++◌, Option, Some, None, IsTrue, ⊤}
 use Rattle.iol_core.specs.NumberedLists.{in_place}
 use Rattle.iol_core.specs.declared.events.Reply.{Reply}
 use Rattle.iol_proc.specs.declared.process.Turn.{Turn}
@@ -27,13 +27,13 @@ clients_in s x = filed_in s x.last x.readable
 
 -- consecutive turns
 abbrev pub Follow : Server → List OneTurn → Type 0
-Follow s [] = Unit {0}
+Follow s [] = ⊤
 Follow s (x ∷ xs) = server_turns in_rounds s x.last x.readable x.made x.after × Follow x.after xs
 
 -- at each of them there is a client at this index that may take a turn
 abbrev pub GoesThroughout : (gd : ℕ) → Server → List OneTurn → Type 0
-GoesThroughout gd s [] = Unit {0}
-GoesThroughout gd s (x ∷ xs) = (goes_in (has_free s.workers (clients_in s x)) (in_place (clients_in s x) gd) ≡ true)
+GoesThroughout gd s [] = ⊤
+GoesThroughout gd s (x ∷ xs) = IsTrue (goes_in (has_free s.workers (clients_in s x)) (in_place (clients_in s x) gd))
     × GoesThroughout gd x.after xs
 
 -- one of them is of the client at this index
@@ -59,7 +59,7 @@ pub record Answers (fd : ℕ) (s : Server) (x : OneTurn) : Type 0 where
   pub client : Client
   pub turn : s.pending_call ≡ At fd
   pub there : in_place (clients_in s x) fd ≡ Some client
-  pub answered : is_answered client ≡ true
+  pub answered : IsTrue (is_answered client)
 
 -- the client at an index makes the first call for a request
 pub record BeginsAt (fd : ℕ) (s : Server) : Type 0 where

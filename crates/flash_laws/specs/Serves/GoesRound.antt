@@ -1,5 +1,5 @@
 -- Turns in rounds: the next client, by index.
-use Rattle.std.specs.Prelude.{◌≡◌, ◌≤◌, ◌<◌, ◌⊎◌, ℕ, false, nat_lt, List, Option, Some}
+use Rattle.std.specs.Prelude.{◌≡◌, ◌≤◌, ◌<◌, ◌⊎◌, ℕ, nat_lt, List, Option, Some, IsFalse, ◌≢◌, ⊤}
 use Rattle.iol_core.specs.NumberedLists.{in_place, taken}
 use Rattle.iol_core.specs.declared.events.Reply.{Reply}
 use Rattle.iol_core.specs.declared.events.Reply.TheVariants as reply
@@ -12,22 +12,22 @@ use Rattle.flash_laws.specs.declared.phase.PendingCall.TheVariants.{Nothing, Acc
 
 -- an index after that of the last turn: after a yield, every index
 abbrev pub IsAfter : (was : PendingCall) → (fd : ℕ) → Type 0
-IsAfter Nothing fd = Unit {0}
+IsAfter Nothing fd = ⊤
 IsAfter Accepting fd = ⊥
 IsAfter (At gd) fd = gd < fd
 
 -- an index before that of the next turn: if a connection is accepted, or the server yields, every index
 abbrev pub IsBefore : (next : PendingCall) → (fd : ℕ) → Type 0
 IsBefore (At gd) fd = fd < gd
-IsBefore w fd = Unit {0}
+IsBefore w fd = ⊤
 
 pub record TurnsGoRound : Type 0 where
   -- a client takes the next turn, too, only if its call succeeded, it does not wait for a worker, it does more than
   -- read, and it has no response that is taken whole while more input is buffered
   pub passes : (workers : ℕ) (clients : List (Option Client)) (fd : ℕ) (last : Reply)
       → in_rounds workers clients (At fd) last (At fd)
-      → (x : Client) × (in_place clients fd ≡ Some x) × (is_later last ≡ false) × (awaits x ≡ false)
-      × (is_bare x ≡ false) × (has_answered x ≡ false)
+      → (x : Client) × (in_place clients fd ≡ Some x) × IsFalse (is_later last) × IsFalse (awaits x)
+      × IsFalse (is_bare x) × IsFalse (has_answered x)
   -- otherwise the next one has a higher index
   pub rises : (workers : ℕ) (clients : List (Option Client)) (fd gd : ℕ) (last : Reply)
       → in_rounds workers clients (At fd) last (At gd) → fd ≤ gd
@@ -35,7 +35,7 @@ pub record TurnsGoRound : Type 0 where
   pub skips_nobody : (workers : ℕ) (clients : List (Option Client)) (was next : PendingCall) (last : Reply) (fd : ℕ)
       (x : Client)
       → in_rounds workers clients was last next → IsAfter was fd → IsBefore next fd → in_place clients fd ≡ Some x
-      → may_go (has_free workers clients) x ≡ false
+      → IsFalse (may_go (has_free workers clients) x)
   -- after an accept the server yields, or accepts again if this one returned a connection
   pub ends : (workers : ℕ) (clients : List (Option Client)) (last : Reply) (next : PendingCall)
       → in_rounds workers clients Accepting last next
@@ -44,4 +44,4 @@ pub record TurnsGoRound : Type 0 where
   -- returned none
   pub yields : (workers : ℕ) (clients : List (Option Client)) (was : PendingCall) (last : Reply)
       → in_rounds workers clients was last Nothing
-      → (nat_lt (taken clients) most_conns ≡ false) ⊎ ((was ≡ Accepting) × ((fd : ℕ) → last ≡ reply.Fd fd → ⊥))
+      → IsFalse (nat_lt (taken clients) most_conns) ⊎ ((was ≡ Accepting) × ((fd : ℕ) → last ≢ reply.Fd fd))

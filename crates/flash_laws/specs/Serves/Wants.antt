@@ -1,6 +1,6 @@
 -- The uses of memory by the server in a turn: to buffer bytes that it reads, for a new index, to begin a request, and
 -- for the bytes of a call.
-use Rattle.std.specs.Prelude.{◌≡◌, ◌⊎◌, ◌≤◌, ℕ, ◌+◌, Bool, true, false, List, length, Option, Some, None}
+use Rattle.std.specs.Prelude.{◌⊎◌, ◌≤◌, ℕ, ◌+◌, Bool, false, List, length, Option, Some, None, IsTrue}
 use Rattle.iol_core.specs.NumberedLists.{in_place}
 use Rattle.iol_core.specs.declared.events.Reply.{Reply}
 use Rattle.iol_core.specs.declared.events.Reply.TheVariants as reply
@@ -28,7 +28,7 @@ wants_in clients (Some place) = wants_there (in_place clients place)
 
 -- the first from an index on is picked; free is whether a worker is free
 abbrev pub WantsFrom : (free : Bool) → List (Option Client) → (from : ℕ) → Type 0
-WantsFrom free clients from = wants_in clients (next_in free clients from) ≡ true
+WantsFrom free clients from = IsTrue (wants_in clients (next_in free clients from))
 
 -- a connection was accepted at a new index
 abbrev pub WantsPlace : List (Option Client) → Reply → Type 0
@@ -37,7 +37,7 @@ WantsPlace clients r = ⊥
 
 -- after a reply is processed, the turn of the client at an index passes on, and the next is picked
 abbrev pub WantsPast : (workers : ℕ) → (filed : List (Option Client)) → (fd : ℕ) → Reply → Type 0
-WantsPast workers filed fd r = (leaves_off (in_place filed fd) r ≡ true)
+WantsPast workers filed fd r = IsTrue (leaves_off (in_place filed fd) r)
     × WantsFrom (has_free workers filed) filed (fd + 1)
 
 -- after the reply to the pending call

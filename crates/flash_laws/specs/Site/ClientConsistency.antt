@@ -1,5 +1,6 @@
 -- The invariant of all clients of the server, and of its workers, by input and output.
-use Rattle.std.specs.Prelude.{◌≡◌, ◌<◌, ◌≤◌, ◌⊎◌, ℕ, true, false, List, [], ◌++◌, Option, Some, slice_get}
+use Rattle.std.specs.Prelude.{◌≡◌, ◌<◌, ◌≤◌, ◌⊎◌, ℕ, List, [], ◌++◌, Option, Some, slice_get, IsTrue}
+use Rattle.std.specs.Prelude.{IsFalse}
 use Rattle.iol_core.specs.NumberedLists.{in_place}
 use Rattle.iol_core.specs.Text.{bytes_of}
 use Rattle.iol_core.specs.State.{State, Connection, descriptor, conn_at, is_gone}
@@ -26,10 +27,10 @@ pub record Held (m : State) (clients : List (Option Client)) (c : ℕ) : Type 0 
 
 -- a connection that the server closed, or whose peer is gone
 pub record Ended (site_contents : SiteContents) (p : Past) (c : ℕ) (k : Connection) : Type 0 where
-  pub closed : k.closed ≡ true
+  pub closed : IsTrue k.closed
   pub begins : Begins site_contents (p.came c) (p.sent c ++ bytes_of k.outgoing)
   -- all is answered, unless the peer left
-  pub whole : (p.gone c ≡ true) ⊎ IsAnswer site_contents (p.came c) (p.sent c ++ bytes_of k.outgoing)
+  pub whole : IsTrue (p.gone c) ⊎ IsAnswer site_contents (p.came c) (p.sent c ++ bytes_of k.outgoing)
 
 abbrev pub Aside : SiteContents → Past → (c : ℕ) → Connection → Type 0
 Aside site_contents p c k = Waits p c k ⊎ (Ended site_contents p c k ⊎ Foreign p c k)
@@ -39,11 +40,11 @@ pub record IsUsed (clients : List (Option Client)) (a : ℕ) : Type 0 where
   pub fd : ℕ
   pub client : Client
   pub at : in_place clients fd ≡ Some client
-  pub uses : uses_agg client a ≡ true
+  pub uses : IsTrue (uses_agg client a)
 
 -- each aggregate of the server is used by a client, or an external call gave it
 abbrev pub AreOwned : State → Past → List (Option Client) → Type 0
-AreOwned m p clients = (a : ℕ) → IsReadable m a → IsUsed clients a ⊎ (p.given a ≡ true)
+AreOwned m p clients = (a : ℕ) → IsReadable m a → IsUsed clients a ⊎ IsTrue (p.given a)
 
 -- each worker is in its own domain, and the server writes its jobs to its job pipe
 pub record AreAtJobQueues (worker_set : WorkerSet) (m : State) (process_slots : List (ProcessSlot worker_set.Worker)) :
@@ -69,22 +70,22 @@ module _ (site_contents : SiteContents) (worker_set : WorkerSet) where
     pub others : (c : ℕ) → Held m clients c ⊎ Aside site_contents p c (conn_at m c)
     -- two clients share nothing
     pub aggs_apart : (fd gd a : ℕ) (x y : Client) → in_place clients fd ≡ Some x → in_place clients gd ≡ Some y
-        → uses_agg x a ≡ true → uses_agg y a ≡ true → fd ≡ gd
+        → IsTrue (uses_agg x a) → IsTrue (uses_agg y a) → fd ≡ gd
     pub fds_apart : (fd gd g : ℕ) (x y : Client) → in_place clients fd ≡ Some x → in_place clients gd ≡ Some y
-        → has_fd x g ≡ true → has_fd y g ≡ true → fd ≡ gd
+        → IsTrue (has_fd x g) → IsTrue (has_fd y g) → fd ≡ gd
     -- if the peer of an open connection is gone, it was reported as gone
-    pub left : (c : ℕ) → (conn_at m c).closed ≡ false → is_gone (conn_at m c).peer ≡ true → p.gone c ≡ true
+    pub left : (c : ℕ) → IsFalse (conn_at m c).closed → IsTrue (is_gone (conn_at m c).peer) → IsTrue (p.gone c)
     -- a number that is still to come has no history, and no peer that left
-    pub fresh : (c : ℕ) → m.next_conn ≤ c → (p.came c ≡ []) × (p.sent c ≡ []) × (p.net c ≡ false)
-    pub unreported : (c : ℕ) → m.next_conn ≤ c → p.gone c ≡ false
+    pub fresh : (c : ℕ) → m.next_conn ≤ c → (p.came c ≡ []) × (p.sent c ≡ []) × IsFalse (p.net c)
+    pub unreported : (c : ℕ) → m.next_conn ≤ c → IsFalse (p.gone c)
     -- no worker runs two scripts, and each other worker is free
     pub own : EachHasItsOwn worker_set.count clients
     pub free : (k : ℕ) (process_slot : ProcessSlot worker_set.Worker) → slice_get process_slots k ≡ Some process_slot
-        → is_free clients k ≡ true
+        → IsTrue (is_free clients k)
         → worker_set.Free m (worker_set.job_queue k) process_slot
     pub job_queues : AreAtJobQueues worker_set m process_slots
 
   -- The claim: on each connection of the net, the bytes sent and those queued begin the answer to its input.
   abbrev pub AreAnswered : State → Past → Type 0
-  AreAnswered m p = (c : ℕ) → p.net c ≡ true
+  AreAnswered m p = (c : ℕ) → IsTrue (p.net c)
       → Begins site_contents (p.came c) (p.sent c ++ bytes_of (conn_at m c).outgoing)

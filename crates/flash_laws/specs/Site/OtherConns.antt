@@ -1,7 +1,7 @@
 -- A slot for each descriptor of the server, and the connections that it does not have: those that wait for it, and
 -- those of others.
-use Rattle.std.specs.Prelude.{◌≡◌, ℕ, ◌+◌, ◌-◌, true, false, List, [], ◌++◌, length, replicate, slice_set, Option, Some}
-use Rattle.std.specs.Prelude.{None}
+use Rattle.std.specs.Prelude.{◌≡◌, ℕ, ◌+◌, ◌-◌, List, [], ◌++◌, length, replicate, slice_set, Option, Some}
+use Rattle.std.specs.Prelude.{None, IsTrue, IsFalse}
 use Rattle.iol_core.specs.Text.{bytes_of}
 use Rattle.iol_core.specs.State.{Connection}
 use Rattle.flash_laws.specs.Conn.{Conn}
@@ -27,12 +27,12 @@ left_over x = left_by x.phase x
 
 -- a connection that waits for the server
 pub record Waits (p : Past) (c : ℕ) (k : Connection) : Type 0 where
-  pub waits : k.accepted ≡ false
-  pub pool_is : p.net c ≡ true → k.pool ≡ net_pool
+  pub waits : IsFalse k.accepted
+  pub pool_is : IsTrue (p.net c) → k.pool ≡ net_pool
   pub came_is : p.came c ≡ bytes_of k.incoming
   pub none_sent : p.sent c ++ bytes_of k.outgoing ≡ []
 
 -- a connection that another domain accepted, or that was never made; nothing is stated about it
 pub record Foreign (p : Past) (c : ℕ) (k : Connection) : Type 0 where
-  pub other_pool : p.net c ≡ false
-  pub taken : k.accepted ≡ true
+  pub other_pool : IsFalse (p.net c)
+  pub taken : IsTrue k.accepted

@@ -1,5 +1,5 @@
 -- The clients of a server, by the index of their descriptors, and the workers that run scripts for them.
-use Rattle.std.specs.Prelude.{◌≡◌, ◌<◌, ℕ, ◌==◌, ◌||◌, not, Bool, true, false, List, Option, Some, None, nat_lt}
+use Rattle.std.specs.Prelude.{◌≡◌, ◌<◌, ℕ, ◌==◌, ◌||◌, not, Bool, false, List, Option, Some, None, nat_lt, IsTrue}
 use Rattle.std.specs.List.{list_any, position_or_len, range_with_len}
 use Rattle.iol_core.specs.NumberedLists.{in_place}
 use Rattle.iol_core.specs.declared.events.Reply.{Reply}
@@ -51,8 +51,8 @@ may_go free x = free || not (awaits x)
 -- no worker runs the scripts of two clients, and each that runs one is below the number of workers
 pub record EachHasItsOwn (workers : ℕ) (clients : List (Option Client)) : Type 0 where
   pub apart : (fd gd k : ℕ) (x y : Client) → in_place clients fd ≡ Some x → in_place clients gd ≡ Some y
-      → is_run_by x k ≡ true → is_run_by y k ≡ true → fd ≡ gd
-  pub among : (fd k : ℕ) (x : Client) → in_place clients fd ≡ Some x → is_run_by x k ≡ true → k < workers
+      → IsTrue (is_run_by x k) → IsTrue (is_run_by y k) → fd ≡ gd
+  pub among : (fd k : ℕ) (x : Client) → in_place clients fd ≡ Some x → IsTrue (is_run_by x k) → k < workers
 
 -- ---- processing of replies
 

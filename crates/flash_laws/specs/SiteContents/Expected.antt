@@ -1,6 +1,6 @@
 -- The response that is expected to a request, with the current files: for a script that runs, the response to its
 -- output.
-use Rattle.std.specs.Prelude.{◌≡◌, ℕ, Bool, true, false, List, [], ◌∷◌, ◌++◌, Option, Some, None}
+use Rattle.std.specs.Prelude.{◌≡◌, ℕ, Bool, true, false, List, [], ◌∷◌, ◌++◌, Option, Some, None, IsTrue, IsFalse}
 use Rattle.iol_core.specs.State.{State}
 use Rattle.flash_http.specs.Request.{Answer, serve, refuse, Wanted}
 use Rattle.flash_cgi.specs.Outcomes.{outcome_in, outcomes_in}
@@ -56,23 +56,23 @@ expected scripts site_contents seen q = expected_if (is_for_script scripts q) si
 pub record ExpectedMayCome : Type 0 where
   -- for a request of no script it is the only response
   pub file : (scripts : Bool) (site_contents : SiteContents) (seen : Seen) (q : Answer)
-      → is_for_script scripts q ≡ false
+      → IsFalse (is_for_script scripts q)
       → expected scripts site_contents seen q ≡ expected_to site_contents q
   -- for a request of a script, once that was read, or could not be
   pub read : (scripts : Bool) (site_contents : SiteContents) (seen : Seen) (w : Wanted) (text : List ℕ)
-      → is_for_script scripts (serve w) ≡ true
+      → IsTrue (is_for_script scripts (serve w))
       → site_contents w.name ≡ Found text
       → MayAnswer (serve w) (of_text text) (expected scripts site_contents seen (serve w))
   pub unread : (scripts : Bool) (site_contents : SiteContents) (seen : Seen) (w : Wanted) (status : ℕ)
-      → is_for_script scripts (serve w) ≡ true
+      → IsTrue (is_for_script scripts (serve w))
       → site_contents w.name ≡ Failed status
       → MayAnswer (serve w) (OfFile (Failed status)) (expected scripts site_contents seen (serve w))
   -- while its output is read: the output so far begins it, and at its end is all of it
   pub received : (scripts : Bool) (site_contents : SiteContents) (seen : Seen) (w : Wanted)
       (text received past more : List ℕ) (lines : List Line)
-      (ended : Bool) → is_for_script scripts (serve w) ≡ true → site_contents w.name ≡ Found text
+      (ended : Bool) → IsTrue (is_for_script scripts (serve w)) → site_contents w.name ≡ Found text
       → script_of text ≡ Some lines
-      → w.head_only ≡ false → output w.query lines (outcomes_by seen lines) ≡ received ++ more → Follows ended more
+      → IsFalse w.head_only → output w.query lines (outcomes_by seen lines) ≡ received ++ more → Follows ended more
       → MayAnswer (serve w) (OfScript text (Ran received ended past)) (expected scripts site_contents seen (serve w))
   -- the output of a worker by the files as it sees them
   pub outcomes : (m : State) (d : ℕ) (seen : Seen) (lines : List Line)

@@ -1,13 +1,13 @@
 -- Without refusals, a request has one response, and a stream has one answer.
-use Rattle.std.specs.Prelude.{◌≡◌, ℕ, false, List, ◌++◌}
+use Rattle.std.specs.Prelude.{◌≡◌, ℕ, List, ◌++◌, IsFalse}
 use Rattle.iol_core.specs.declared.refusals.Refusal.{Refusal}
 use Rattle.flash_http.specs.Request.{Answer}
 use Rattle.flash_laws.specs.SiteContents.{SiteContents, expected_to, MayBeExpected, Begins, IsAnswer}
 
 -- nothing is refused
 abbrev pub RefusesNothing : SiteContents → Type 0
-RefusesNothing site_contents = (x : Refusal) → (site_contents.refuses.of_server x ≡ false)
-    × (site_contents.refuses.of_workers x ≡ false)
+RefusesNothing site_contents = (x : Refusal) → IsFalse (site_contents.refuses.of_server x)
+    × IsFalse (site_contents.refuses.of_workers x)
 
 pub record StreamsHaveOneAnswer : Type 0 where
   -- The response by the current files is possible, whatever is refused.

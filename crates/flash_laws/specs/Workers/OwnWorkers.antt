@@ -1,5 +1,5 @@
 -- Each running script has a worker of its own, whatever the server's policy.
-use Rattle.std.specs.Prelude.{◌≡◌, ◌≢◌, ◌<◌, ℕ, Bool, true, false, List, Option, Some}
+use Rattle.std.specs.Prelude.{◌≡◌, ◌≢◌, ◌<◌, ℕ, Bool, List, Option, Some, IsTrue, IsFalse, ⊤}
 use Rattle.iol_core.specs.NumberedLists.{in_place}
 use Rattle.iol_core.specs.declared.events.Reply.{Reply}
 use Rattle.iol_proc.specs.declared.process.Turn.{Turn}
@@ -12,8 +12,8 @@ use Rattle.flash_laws.specs.declared.phase.PendingCall.TheVariants.{At}
 -- the client of the pending call does not wait for a worker, or one is free
 abbrev pub PendingCallGoes : (workers : ℕ) → List (Option Client) → PendingCall → Type 0
 PendingCallGoes workers clients (At fd) = (x : Client) → in_place clients fd ≡ Some x
-    → may_go (has_free workers clients) x ≡ true
-PendingCallGoes workers clients w = Unit {0}
+    → IsTrue (may_go (has_free workers clients) x)
+PendingCallGoes workers clients w = ⊤
 
 pub record IsShared (s : Server) : Type 0 where
   pub own : EachHasItsOwn s.workers s.clients
@@ -24,7 +24,7 @@ pub record RunsForAnother (clients : List (Option Client)) (fd k : ℕ) : Type 0
   pub place : ℕ
   pub client : Client
   pub there : in_place clients place ≡ Some client
-  pub runs : is_run_by client k ≡ true
+  pub runs : IsTrue (is_run_by client k)
   pub other : fd ≢ place
 
 pub record WorkersAreShared : Type 0 where
@@ -40,12 +40,13 @@ pub record WorkersAreShared : Type 0 where
       → server_turns any s last readable made t → IsShared t
   -- a waiting client is passed over only while each worker runs the script of another client
   pub waits : (workers : ℕ) (clients : List (Option Client)) (fd : ℕ) (x : Client) → in_place clients fd ≡ Some x
-      → may_go (has_free workers clients) x ≡ false
-      → (awaits x ≡ true) × ((k : ℕ) → k < workers → RunsForAnother clients fd k)
+      → IsFalse (may_go (has_free workers clients) x)
+      → IsTrue (awaits x) × ((k : ℕ) → k < workers → RunsForAnother clients fd k)
   -- no client with a running script is passed over
-  pub going : (free : Bool) (k : ℕ) (x : Client) → is_run_by x k ≡ true → may_go free x ≡ true
+  pub going : (free : Bool) (k : ℕ) (x : Client) → IsTrue (is_run_by x k) → IsTrue (may_go free x)
   -- a waiting client has no aggregate, descriptor or pipe end
-  pub waiting : (x : Client) → awaits x ≡ true → ((a : ℕ) → uses_agg x a ≡ false) × ((g : ℕ) → uses_fd x g ≡ false)
+  pub waiting : (x : Client) → IsTrue (awaits x) → ((a : ℕ) → IsFalse (uses_agg x a))
+      × ((g : ℕ) → IsFalse (uses_fd x g))
   -- for a server without workers no script runs
   pub none : (s t : Server) (last : Reply) (readable : ℕ → Option (List ℕ)) (made : Turn) → s.workers ≡ 0
       → NoneRuns s.clients

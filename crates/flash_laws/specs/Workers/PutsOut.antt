@@ -1,6 +1,6 @@
 -- A script's text on its way to the reader of its pipe: it is expected from its worker, or in the pipe once all is
 -- written.
-use Rattle.std.specs.Prelude.{◌≡◌, ◌⊎◌, ◌<◌, ℕ, Bool, true, false, List, [], ◌++◌, Some}
+use Rattle.std.specs.Prelude.{◌≡◌, ◌⊎◌, ◌<◌, ℕ, Bool, List, [], ◌++◌, Some, IsTrue, IsFalse}
 use Rattle.iol_core.specs.Text.{bytes_of}
 use Rattle.iol_core.specs.State.{State, descriptor, pipe_at}
 use Rattle.iol_core.specs.Positions.{ArePlaced}
@@ -30,9 +30,9 @@ module _ {W : Type 0} (works : TransitionRelation W) (pools : ℕ → Bool) (Fre
   -- all of the text is in the pipe, which has no writer any more, and its worker is free
   pub record IsAllThere (m : State) (j p : ℕ) (process_slot : ProcessSlot W) (text : List ℕ) : Type 0 where
     pub all : text ≡ bytes_of (pipe_at m p).queue
-    pub closed : (pipe_at m p).writing ≡ false
+    pub closed : IsFalse (pipe_at m p).writing
     pub free : Free m j process_slot
-    pub lies : lie_in pools (pipe_at m p).queue ≡ true
+    pub lies : IsTrue (lie_in pools (pipe_at m p).queue)
 
   -- of the output of the script, this text is expected from pipe p, followed by its end
   abbrev pub PutsOut : State → (j p : ℕ) → ProcessSlot W → Made → (text : List ℕ) → Type 0
@@ -58,20 +58,20 @@ module _ {W : Type 0} (works : TransitionRelation W) (pools : ℕ → Bool) (Fre
     pub turns : (m n : State) (j p : ℕ) (process_slot next : ProcessSlot W) (yields : Bool) (r : Reply) (made : Made)
         (text : List ℕ) → IsOrderly m
         → ArePlaced m → AreFiles m → HoldFiles pools m process_slot.by → PutsOut m j p process_slot made text
-        → ProcessSlotTurn copying works m process_slot yields r n next → (pipe_at m p).reading ≡ true
-        → (pipe_at n p).reading ≡ true
+        → ProcessSlotTurn copying works m process_slot yields r n next → IsTrue (pipe_at m p).reading
+        → IsTrue (pipe_at n p).reading
         → PutsOutStill n j p next made text r
     -- the same for events of others that do not change the files and both pipes
     pub left : (m n : State) (j p : ℕ) (process_slot : ProcessSlot W) (e : Event) (r : Reply) (made : Made)
         (text : List ℕ) → IsOrderly m
-        → ArePlaced m → StepsTo m e r n → is_call_of e process_slot.by ≡ false → LeavesFiles m process_slot.by n
+        → ArePlaced m → StepsTo m e r n → IsFalse (is_call_of e process_slot.by) → LeavesFiles m process_slot.by n
         → pipe_at n j ≡ pipe_at m j
         → pipe_at n p ≡ pipe_at m p → PutsOut m j p process_slot made text → PutsOut n j p process_slot made text
     -- a read of the pipe gives its front
     pub reads : (m n : State) (j p by fd count a : ℕ) (process_slot : ProcessSlot W) (made : Made) (text bytes : List ℕ)
         → IsOrderly m → ArePlaced m
         → StepsTo m (event.Call by (call.IolRead fd count)) (reply.Agg a) n
-        → is_call_of (event.Call by (call.IolRead fd count)) process_slot.by ≡ false
+        → IsFalse (is_call_of (event.Call by (call.IolRead fd count)) process_slot.by)
         → descriptor m by fd ≡ Some (on.ReadEnd p) → LeavesFiles m process_slot.by n → pipe_at n j ≡ pipe_at m j
         → readable_at n by a ≡ Some bytes → PutsOut m j p process_slot made text
         → HasRead n j p process_slot made text bytes
@@ -80,11 +80,11 @@ module _ {W : Type 0} (works : TransitionRelation W) (pools : ℕ → Bool) (Fre
         → IsOrderly m → ArePlaced m
         → 0 < count
         → StepsTo m (event.Call by (call.IolRead fd count)) (reply.Agg a) n
-        → is_call_of (event.Call by (call.IolRead fd count)) process_slot.by ≡ false
+        → IsFalse (is_call_of (event.Call by (call.IolRead fd count)) process_slot.by)
         → descriptor m by fd ≡ Some (on.ReadEnd p) → LeavesFiles m process_slot.by n → pipe_at n j ≡ pipe_at m j
         → readable_at n by a ≡ Some [] → PutsOut m j p process_slot made text → (text ≡ []) × Free n j process_slot
     -- and a domain that may read these pools is never denied a read
     pub undenied : (m n : State) (j p by fd count q : ℕ) (process_slot : ProcessSlot W) (made : Made) (text : List ℕ)
         → MayReadAll m by pools
         → descriptor m by fd ≡ Some (on.ReadEnd p) → PutsOut m j p process_slot made text
-        → StepsTo m (event.Call by (call.IolRead fd count)) (reply.Refused (Denied q)) n → ⊥
+        → ¬ StepsTo m (event.Call by (call.IolRead fd count)) (reply.Refused (Denied q)) n

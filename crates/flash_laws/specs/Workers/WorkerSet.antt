@@ -1,5 +1,5 @@
 -- The workers of a site, in the terms of the law over a world, and the conditions that remain while a world runs.
-use Rattle.std.specs.Prelude.{◌≡◌, ◌<◌, ℕ, Bool, true, List}
+use Rattle.std.specs.Prelude.{◌≡◌, ◌<◌, ℕ, Bool, List, IsTrue}
 use Rattle.iol_core.specs.Access.{HasAccess}
 use Rattle.iol_core.specs.Positions.{ArePlaced}
 use Rattle.iol_core.specs.Prelude.{default_pool}
@@ -48,5 +48,5 @@ pub record IsFixedFor (site_contents : SiteContents) (worker_set : WorkerSet) (m
       → outcome_in m (worker_domain k) name ≡ site_contents.shows name
   pub wide : MayReadAll m server worker_set.pools
   pub read_jobs : (k : ℕ) → k < worker_set.count → MayReadAll m (worker_domain k) worker_set.jobs
-  pub default : worker_set.jobs (default_pool m server) ≡ true
+  pub default : IsTrue (worker_set.jobs (default_pool m server))
   pub scripts : site_contents.scripts ≡ runs_scripts worker_set.count

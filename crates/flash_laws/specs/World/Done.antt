@@ -1,5 +1,6 @@
 -- The state when all are idle: nothing is left to do, except for peers that do not read.
-use Rattle.std.specs.Prelude.{◌≡◌, ◌<◌, ◌≤◌, ◌⊎◌, ℕ, true, false, List, [], ◌++◌, length, Option, Some, None}
+use Rattle.std.specs.Prelude.{◌≡◌, ◌<◌, ◌≤◌, ◌⊎◌, ℕ, true, List, [], ◌++◌, length, Option, Some, None, IsTrue}
+use Rattle.std.specs.Prelude.{IsFalse}
 use Rattle.iol_core.specs.NumberedLists.{in_place}
 use Rattle.iol_core.specs.Text.{bytes_of}
 use Rattle.iol_core.specs.State.{State, descriptor, conn_at}
@@ -33,7 +34,7 @@ IsHeldUpAt m fd = (c : ℕ) × (descriptor m server fd ≡ Some (on.Connection c
 
 -- The request in progress on this connection is for a script, and this part of the response is made; or its peer left.
 abbrev pub AsksForScript : SiteContents → State → Past → (c : ℕ) → (part : List ℕ) → Type 0
-AsksForScript site_contents m p c part = (p.gone c ≡ true)
+AsksForScript site_contents m p c part = IsTrue (p.gone c)
     ⊎ AnswersScript site_contents (p.came c) (p.sent c ++ bytes_of (conn_at m c).outgoing) part
 
 -- this worker runs the script that was requested on a connection with a full output queue
@@ -42,7 +43,7 @@ pub record RunsForHeldUp (site_contents : SiteContents) (m : State) (p : Past) (
   pub place : ℕ
   pub client : Client
   pub there : in_place clients place ≡ Some client
-  pub runs : is_run_by client k ≡ true
+  pub runs : IsTrue (is_run_by client k)
   pub conn : ℕ
   pub open_on : descriptor m server place ≡ Some (on.Connection conn)
   pub held : IsHeldUp m conn
@@ -58,7 +59,7 @@ pub record AwaitsWorker (site_contents : SiteContents) (workers : ℕ) (m : Stat
   pub client : Client
   pub there : in_place clients place ≡ Some client
   pub open_on : descriptor m server place ≡ Some (on.Connection c)
-  pub waits : awaits client ≡ true
+  pub waits : IsTrue (awaits client)
   pub asks : AsksForScript site_contents m p c []
   pub some : 0 < workers
   pub busy : (k : ℕ) → k < workers → RunsForHeldUp site_contents m p clients k
@@ -66,21 +67,21 @@ pub record AwaitsWorker (site_contents : SiteContents) (workers : ℕ) (m : Stat
 pub record IsDone (site_contents : SiteContents) (workers : ℕ) (m : State) (p : Past) (clients : List (Option Client)) :
     Type 0 where
   -- each connection of the net is accepted, unless the server has the maximum number open
-  pub accepted : (c : ℕ) → p.net c ≡ true → ((conn_at m c).accepted ≡ true) ⊎ IsFull m clients
+  pub accepted : (c : ℕ) → IsTrue (p.net c) → IsTrue (conn_at m c).accepted ⊎ IsFull m clients
   -- each accepted connection whose peer did not leave, closed or not, has its whole answer, or its output queue is
   -- full, or it waits for a worker
-  pub answered : (c : ℕ) → p.net c ≡ true → (conn_at m c).accepted ≡ true → p.gone c ≡ false
+  pub answered : (c : ℕ) → IsTrue (p.net c) → IsTrue (conn_at m c).accepted → IsFalse (p.gone c)
       → IsAnswer site_contents (p.came c) (p.sent c ++ bytes_of (conn_at m c).outgoing)
       ⊎ IsHeldUp m c ⊎ AwaitsWorker site_contents workers m p clients c
   -- each accepted connection is closed, or has a full output queue, or waits for a worker, or its peer exists and may
   -- send more requests
-  pub closes : (c : ℕ) → p.net c ≡ true → (conn_at m c).accepted ≡ true
-      → ((conn_at m c).closed ≡ true) ⊎ IsHeldUp m c ⊎ AwaitsWorker site_contents workers m p clients c
+  pub closes : (c : ℕ) → IsTrue (p.net c) → IsTrue (conn_at m c).accepted
+      → IsTrue (conn_at m c).closed ⊎ IsHeldUp m c ⊎ AwaitsWorker site_contents workers m p clients c
       ⊎ (((conn_at m c).peer ≡ None) × StaysOpen (p.came c))
   -- a client that uses an aggregate is blocked by a full output queue
-  pub is_readable : (fd a : ℕ) (x : Client) → in_place clients fd ≡ Some x → uses_agg x a ≡ true → IsHeldUpAt m fd
+  pub is_readable : (fd a : ℕ) (x : Client) → in_place clients fd ≡ Some x → IsTrue (uses_agg x a) → IsHeldUpAt m fd
   -- and each aggregate of the server is used by such a client, or an external call gave it
-  pub owned : (a : ℕ) → IsReadable m a → ((used : IsUsed clients a) × IsHeldUpAt m used.fd) ⊎ (p.given a ≡ true)
+  pub owned : (a : ℕ) → IsReadable m a → ((used : IsUsed clients a) × IsHeldUpAt m used.fd) ⊎ IsTrue (p.given a)
 
 -- When all are idle in a world with the invariant, nothing is left to do.
 abbrev pub IdleIsDone : WorkerSet → Type 0

@@ -1,6 +1,6 @@
 -- Sufficient conditions for fair runs: no refusal occurred; any refusal is allowed; or the refusals that the turns got
 -- are allowed, which are the least set with which a run is fair.
-use Rattle.std.specs.Prelude.{◌≡◌, ◌==◌, ◌&&◌, ◌||◌, not, Bool, true, false, List, ◌∷◌, ◌++◌, length}
+use Rattle.std.specs.Prelude.{◌≡◌, ◌==◌, ◌&&◌, ◌||◌, not, Bool, true, false, List, ◌∷◌, ◌++◌, length, IsTrue}
 use Rattle.iol_core.specs.declared.events.Reply.{Reply}
 use Rattle.iol_core.specs.declared.events.Reply.TheVariants as reply
 use Rattle.iol_core.specs.declared.refusals.Refusal.{Refusal}
@@ -52,8 +52,8 @@ refusals_in xs rs = record { of_server = λ x. refused_in true xs rs x; of_worke
 
 -- each refusal of one set is in the other
 pub record IsWithin (these those : Refusals) : Type 0 where
-  pub of_server : (x : Refusal) → these.of_server x ≡ true → those.of_server x ≡ true
-  pub of_workers : (x : Refusal) → these.of_workers x ≡ true → those.of_workers x ≡ true
+  pub of_server : (x : Refusal) → IsTrue (these.of_server x) → IsTrue (those.of_server x)
+  pub of_workers : (x : Refusal) → IsTrue (these.of_workers x) → IsTrue (those.of_workers x)
 
 -- Choices without a resource refusal are fair if no refusal is allowed.
 abbrev pub FailureFreeIsFair : Type 0

@@ -1,5 +1,5 @@
 -- A whole run of a world with workers: choices, followed by turns in rounds until all are idle.
-use Rattle.std.specs.Prelude.{◌≡◌, ℕ, Bool, true, List, ◌++◌, length, map}
+use Rattle.std.specs.Prelude.{ℕ, Bool, List, ◌++◌, length, map, IsTrue}
 use Rattle.iol_core.specs.State.{State}
 use Rattle.iol_core.specs.declared.events.Reply.{Reply}
 use Rattle.iol_proc.specs.Idle.{Idles, rounds}
@@ -21,7 +21,7 @@ module _ (worker_set : WorkerSet) where
     pub answered : AllAnswered site_contents xs rs after.machine
     pub whole : ClosedAreWhole site_contents xs rs after.machine
     pub consistent : Consistent site_contents worker_set xs rs after
-    pub done : idle ≡ true
+    pub done : IsTrue idle
         → IsDone site_contents worker_set.count after.machine (past_of xs rs) consistent.in_slots.state.clients
 
   -- A new world executes choices with site-preserving external calls, and then turns until it is idle; each turn is

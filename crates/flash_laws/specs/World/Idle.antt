@@ -1,5 +1,5 @@
 -- The condition of the server when all are idle.
-use Rattle.std.specs.Prelude.{◌≡◌, ◌≤◌, ℕ, zero, suc, ◌⊎◌, false, nat_lt, List, Option, Some}
+use Rattle.std.specs.Prelude.{◌≡◌, ◌≤◌, ℕ, zero, suc, ◌⊎◌, nat_lt, List, Option, Some, IsFalse, ⊤}
 use Rattle.iol_core.specs.NumberedLists.{in_place, taken}
 use Rattle.iol_core.specs.State.{State}
 use Rattle.iol_core.specs.Run.{StepsTo}
@@ -25,7 +25,7 @@ WouldWait m by k = StepsTo m (event.Call by k) (reply.Refused no.WouldBlock) m
 -- a client has no request that could begin, and waits for a worker while all are busy, or its call would block
 abbrev pub Blocks : State → (by workers : ℕ) → List (Option Client) → (place : ℕ) → Client → Type 0
 Blocks m by workers clients place x = IsAwaiting x
-    × ((may_go (has_free workers clients) x ≡ false) ⊎ WouldWait m by (wants (runs_scripts workers) place x))
+    × (IsFalse (may_go (has_free workers clients) x) ⊎ WouldWait m by (wants (runs_scripts workers) place x))
 
 -- the same for the client at an index, if there is one
 abbrev pub BlocksAt : State → (by workers : ℕ) → List (Option Client) → (place : ℕ) → Type 0
@@ -35,7 +35,7 @@ BlocksAt m by workers clients place = (x : Client) → in_place clients place �
 -- the same for a whole round: the clients, and an accept, unless the server has the maximum number
 pub record AllBlock (m : State) (by workers : ℕ) (clients : List (Option Client)) : Type 0 where
   pub places : (place : ℕ) → BlocksAt m by workers clients place
-  pub accept_step : (nat_lt (taken clients) most_conns ≡ false) ⊎ WouldWait m by call.Accept
+  pub accept_step : IsFalse (nat_lt (taken clients) most_conns) ⊎ WouldWait m by call.Accept
 
 -- the same for a round up to this client
 abbrev pub BlockUpTo : State → (by workers : ℕ) → List (Option Client) → PendingCall → Type 0
@@ -55,7 +55,7 @@ IsPolling m by s l = HasYielded s l ⊎ HasBlocked m by s l
 
 -- since n yields, up to two: after one, the calls polled since then would block; after two, all calls would
 abbrev pub server_quiescent : Claim Server
-server_quiescent zero by s l m = Unit {0}
+server_quiescent zero by s l m = ⊤
 server_quiescent (suc zero) by s l m = IsPolling m by s l
 server_quiescent (suc (suc n)) by s l m = IsPolling m by s l × AllBlock m by s.workers s.clients
 

@@ -1,5 +1,5 @@
 -- Definitions for the state when all are idle.
-use Rattle.std.specs.Prelude.{◌≡◌, ℕ, true, false, nat_lt, List, [], ◌∷◌, ◌++◌, Option, Some}
+use Rattle.std.specs.Prelude.{◌≡◌, ℕ, nat_lt, List, [], ◌∷◌, ◌++◌, Option, Some, IsTrue, IsFalse}
 use Rattle.std.specs.List.{list_all}
 use Rattle.iol_core.specs.NumberedLists.{in_place, taken}
 use Rattle.iol_core.specs.State.{State, descriptor}
@@ -15,7 +15,7 @@ use Rattle.flash_laws.specs.Site.{server}
 
 -- The server has the maximum number of connections: that many are kept, and each of these is open.
 pub record IsFull {A : Type 0} (m : State) (kept : List (Option A)) : Type 0 where
-  pub most : nat_lt (taken kept) most_conns ≡ false
+  pub most : IsFalse (nat_lt (taken kept) most_conns)
   pub each : (fd : ℕ) (x : A) → in_place kept fd ≡ Some x → (c : ℕ) × (descriptor m server fd ≡ Some (on.Connection c))
 
 -- No input of the stream asks for the connection to be closed: after each of its requests it stays open, and there is
@@ -24,7 +24,7 @@ pub record StaysOpen (s : List ℕ) : Type 0 where
   pub qs : List Answer
   pub rest : List ℕ
   pub reads : Reads s qs rest
-  pub open_yet : list_all (λ q. keeps q) qs ≡ true
+  pub open_yet : IsTrue (list_all (λ q. keeps q) qs)
   pub no_more : window_in rest ≡ Wait
 
 -- The first request of the stream without whole response is for a script: these bytes answer the requests before it,
@@ -34,8 +34,8 @@ pub record AnswersScript (site_contents : SiteContents) (s bytes part : List ℕ
   pub q : Answer
   pub rest : List ℕ
   pub reads : Reads s (qs ++ q ∷ []) rest
-  pub open_yet : list_all (λ p. keeps p) qs ≡ true
-  pub script : is_for_script site_contents.scripts q ≡ true
+  pub open_yet : IsTrue (list_all (λ p. keeps p) qs)
+  pub script : IsTrue (is_for_script site_contents.scripts q)
   pub before : List ℕ
   pub responds : Responds site_contents qs before
   pub so_far : bytes ≡ before ++ part

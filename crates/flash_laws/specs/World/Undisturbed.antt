@@ -1,5 +1,5 @@
 -- Undisturbed lists of choices: external events do not affect the site and its processes.
-use Rattle.std.specs.Prelude.{◌≡◌, ◌≢◌, ℕ, List, [], ◌∷◌, Some, slice_get}
+use Rattle.std.specs.Prelude.{◌≡◌, ◌≢◌, ℕ, List, [], ◌∷◌, Some, slice_get, ⊤}
 use Rattle.iol_core.specs.State.{State}
 use Rattle.iol_core.specs.declared.events.Event.TheVariants as event
 use Rattle.iol_core.specs.declared.events.Reply.{Reply}
@@ -19,7 +19,7 @@ IsNobody {P} process_slots d = (i : ℕ) (s : ProcessSlot P) → slice_get proce
 abbrev pub IsSitePreserving : {P : Type 0} → Stage State P → Choice → (after : Stage State P) → Type 0
 IsSitePreserving w (choice.Outside (event.Call d k)) after = IsNobody w.process_slots d
     × KeepsSite w.machine after.machine
-IsSitePreserving w x after = Unit {0}
+IsSitePreserving w x after = ⊤
 
 -- the same for each call over a run
 abbrev pub AreSitePreserving : {P : Type 0} → (turns : TransitionRelation P) → (w : Stage State P)
@@ -27,5 +27,5 @@ abbrev pub AreSitePreserving : {P : Type 0} → (turns : TransitionRelation P) �
     → (after : Stage State P) → WorldRun copying turns w xs rs after → Type 0
 AreSitePreserving turns w (x ∷ xs) (r ∷ rs) after run = IsSitePreserving w x run.0
     × AreSitePreserving turns run.0 xs rs after run.2
-AreSitePreserving turns w [] rs after run = Unit {0}
-AreSitePreserving turns w (x ∷ xs) [] after run = Unit {0}
+AreSitePreserving turns w [] rs after run = ⊤
+AreSitePreserving turns w (x ∷ xs) [] after run = ⊤

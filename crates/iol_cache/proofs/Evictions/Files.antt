@@ -2,7 +2,7 @@
 use Rattle.std.proofs.Common.{inl, inr, ◌≡◌, ℕ, ◌-◌, ◌<◌, ◌≤◌, Bool, true, false, cond, List, [], length, map, Option}
 use Rattle.std.proofs.Common.{Some, None, refl, sym, ap, ◌∙◌, arith, subst}
 use Rattle.std.specs.Prelude.{slice_index}
-use Rattle.std.specs.List.{range_with_len}
+use Rattle.std.specs.List.{range_with_len, AllByRecursion}
 use Rattle.std.proofs.lemmas.Bool.{cases_eq}
 use Rattle.iol_core.specs.declared.numbers.BufId.{BufId}
 use Rattle.iol_back.specs.Disk.{content}
@@ -23,7 +23,7 @@ use Rattle.iol_cache.specs.declared.files.CachedFile.{CachedFile}
 use Rattle.iol_cache.specs.CacheState.{Cached, file_in, with_file, order_in, with_order, extents_in, parts_in, parts_at}
 use Rattle.iol_cache.specs.CacheState.{all_parts, held, clean_held, lacking, without_extent}
 use Rattle.iol_cache.specs.Contents.{file_byte, file_bytes, file_len, byte_in, read_or, IsStored, AreStored, Mirrors}
-use Rattle.iol_cache.specs.Sound.{Each, IsLaid, IsSound}
+use Rattle.iol_cache.specs.Sound.{IsLaid, IsSound}
 use Rattle.iol_cache.specs.Evictions.{Holding, IsCleanAt, Evicts, KeepsPlaces, GivesUp}
 use Rattle.iol_cache.proofs.Extents.FileEntries.{file_same, file_other, order_same, order_other, length-with_file}
 use Rattle.iol_cache.proofs.Extents.FileEntries.{numbered_bounds, numbered_yes, additive_tally, each-without_at}
@@ -46,14 +46,14 @@ bytes_same g h stored es fs each len = (λ i. map (λ (k : ℕ). each k i) (rang
 -- The store goes on: what the extents have stays.
 
 pub read_stays : {s t : Stored} (p : ℕ) (es : List Extent) (n i : ℕ) → Stays s t → Covers t (bufs_of (all_parts es))
-    → Each (IsLaid s p) es → read_or (byte_in t) n (cover es i) ≡ read_or (byte_in s) n (cover es i)
+    → AllByRecursion (IsLaid s p) es → read_or (byte_in t) n (cover es i) ≡ read_or (byte_in s) n (cover es i)
 read_stays {s = s} {t = t} p es n i stays covers laid = pick (cover es i) refl where
   pick : (o : Option Cell) → cover es i ≡ o → read_or (byte_in t) n o ≡ read_or (byte_in s) n o
   pick None is = refl
   pick (Some c) is = byte_stays p es i c stays covers laid is
 
 pub stored_stays : {s t : Stored} (p : ℕ) (es : List Extent) (stored : List ℕ) (i : ℕ) → Stays s t
-    → Covers t (bufs_of (all_parts es)) → Each (IsLaid s p) es → IsStored s stored i (cover es i)
+    → Covers t (bufs_of (all_parts es)) → AllByRecursion (IsLaid s p) es → IsStored s stored i (cover es i)
     → IsStored t stored i (cover es i)
 stored_stays {s = s} {t = t} p es stored i stays covers laid h = pick (cover es i) refl h where
   pick : (o : Option Cell) → cover es i ≡ o → IsStored s stored i o → IsStored t stored i o
@@ -111,7 +111,8 @@ pub record StaysFile (s t : Stored) (stored : List ℕ) (es fs : List Extent) : 
   pub bytes : file_bytes (byte_in t) stored fs ≡ file_bytes (byte_in s) stored es
 
 pub file_stays : {s t : Stored} (p : ℕ) (stored : List ℕ) (es : List Extent) → Stays s t
-    → Covers t (bufs_of (all_parts es)) → Each (IsLaid s p) es → AreStored s stored es → StaysFile s t stored es es
+    → Covers t (bufs_of (all_parts es)) → AllByRecursion (IsLaid s p) es → AreStored s stored es
+    → StaysFile s t stored es es
 file_stays {s = s} {t = t} p stored es stays covers laid all = record {
   mirrors = record { each = λ i. stored_stays p es stored i stays covers laid (all.each i) };
   bytes =
@@ -120,7 +121,8 @@ file_stays {s = s} {t = t} p stored es stays covers laid all = record {
 }
 
 pub file_evicted : {s t : Stored} (p : ℕ) (stored : List ℕ) (es : List Extent) (at : ℕ) (e : Extent) → Stays s t
-    → Covers t (bufs_of (all_parts (without_at es at))) → IsApart 0 es → Each (IsLaid s p) es → AreStored s stored es
+    → Covers t (bufs_of (all_parts (without_at es at))) → IsApart 0 es → AllByRecursion (IsLaid s p) es
+    → AreStored s stored es
     → begins_at es at ≡ Some e → e.dirty ≡ false → StaysFile s t stored es (without_at es at)
 file_evicted {s = s} {t = t} p stored es at e stays covers apart laid all begins clean =
     let rest = without_at es at in

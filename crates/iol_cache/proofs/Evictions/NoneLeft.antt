@@ -2,7 +2,7 @@
 use Rattle.std.proofs.Common.{inl, inr, ◌≡◌, ℕ, suc, ◌+◌, ◌-◌, ◌/◌, ◌<◌, Bool, true, false, cond, eqb, List, [], ◌∷◌}
 use Rattle.std.proofs.Common.{◌++◌, length, get_or, refl, sym, ap, ◌∙◌, arith, subst}
 use Rattle.std.specs.Prelude.{sum_by, ◌&&◌, not}
-use Rattle.std.specs.List.{All, Contains}
+use Rattle.std.specs.List.{All, Contains, AllByRecursion}
 use Rattle.std.proofs.lemmas.Bool.{cases_eq}
 use Rattle.std.proofs.lemmas.Bool.Decides.{nat_tests}
 use Rattle.std.proofs.lemmas.List.Elements.{All-head, All-tail}
@@ -25,7 +25,7 @@ use Rattle.iol_extent.specs.Extents.{Extent}
 use Rattle.iol_cache.specs.declared.files.CachedFile.{CachedFile}
 use Rattle.iol_cache.specs.CacheState.{Cached, file_in, no_file, order_in, clean_in, clean_parts, clean_held, clean_at}
 use Rattle.iol_cache.specs.CacheState.{begins_clean, entries_at}
-use Rattle.iol_cache.specs.Sound.{Each, IsLaid, IsSound}
+use Rattle.iol_cache.specs.Sound.{IsLaid, IsSound}
 use Rattle.iol_cache.proofs.Extents.FileEntries.{additive_tally, sum-flat}
 use Rattle.iol_cache.proofs.Evictions.FreePages.{IsBeside}
 
@@ -58,7 +58,7 @@ joined : (b : BufId) (xs ys : List Slice) → tally b (bufs_of xs) ≡ 0 → tal
 joined b xs ys h k = ap (tally b) (bufs-append xs ys) ∙ tally-append b (bufs_of xs) (bufs_of ys) ∙ omega (arith, h, k)
 
 other_file : (s : Stored) (p q : ℕ) (b : BufId) (es : List Extent) → AreOwned s.arena s.pools → IsInPool s p b
-    → (q ≡ p → ⊥) → Each (IsLaid s q) es → tally b (bufs_of (clean_in es)) ≡ 0
+    → (q ≡ p → ⊥) → AllByRecursion (IsLaid s q) es → tally b (bufs_of (clean_in es)) ≡ 0
 other_file s p q b [] owned home ne laid = tally_none b
 other_file s p q b (x ∷ xs) owned home ne laid =
     joined b (clean_parts x) (clean_in xs) (pick x.dirty) (other_file s p q b xs owned home ne laid.1)

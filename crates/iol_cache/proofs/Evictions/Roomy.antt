@@ -1,5 +1,6 @@
 -- Room that is made, hits that are counted: what a cache stands for stays.
 use Rattle.std.proofs.Common.{inl, inr, ◌≡◌, ℕ, zero, suc, ◌+◌, ◌-◌, ◌<◌, ◌≤◌, Bool, true, false, cond, eqb, List, []}
+use Rattle.std.specs.List.{AllByRecursion}
 use Rattle.std.proofs.Common.{◌∷◌, ◌++◌, length, get_or, set, Option, Some, None, refl, sym, ap, ◌∙◌, arith, subst}
 use Rattle.std.specs.Prelude.{flat_map}
 use Rattle.std.proofs.lemmas.Bool.{cases_eq}
@@ -23,7 +24,7 @@ use Rattle.iol_cache.specs.Gaps.{gap_pages}
 use Rattle.iol_cache.specs.ReadSteps.{CountsHits}
 use Rattle.iol_cache.specs.Marks.{Counted}
 use Rattle.iol_cache.specs.RangeReads.{SameButRoom, RanksFile, hit_counted, hits_counted}
-use Rattle.iol_cache.specs.Sound.{Each, IsLaid, IsFiled, IsSound}
+use Rattle.iol_cache.specs.Sound.{IsLaid, IsFiled, IsSound}
 use Rattle.iol_cache.proofs.Extents.FileEntries.{file_same, file_other, order_same, order_other, length-with_file}
 use Rattle.iol_cache.proofs.Extents.FileEntries.{length-with_order, numbered_bounds, numbered_yes}
 use Rattle.iol_cache.proofs.Evictions.Entries.{hit_entries}
@@ -132,8 +133,8 @@ pub filed_same : (s : Stored) (x y : CachedFile) → y.pool ≡ x.pool → y.ext
 filed_same s x y pool es filed = record {
   apart = subst (IsApart 0) (sym es) filed.apart;
   laid =
-      subst (λ (zs : List Extent). Each (IsLaid s y.pool) zs) (sym es)
-      (subst (λ p. Each (IsLaid s p) x.extents.extents) (sym pool) filed.laid);
+      subst (λ (zs : List Extent). AllByRecursion (IsLaid s y.pool) zs) (sym es)
+      (subst (λ p. AllByRecursion (IsLaid s p) x.extents.extents) (sym pool) filed.laid);
   short = omega (arith, filed.short, ap last_end es);
 }
 

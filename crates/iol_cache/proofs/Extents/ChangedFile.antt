@@ -1,5 +1,6 @@
 -- A cache of which the extents of a file changed.
 use Rattle.std.proofs.Common.{inl, inr, ◌≡◌, ◌∙◌, ℕ, ◌+◌, ◌<◌, ◌≤◌, true, cond, eqb, List, ◌++◌, length, refl, sym, ap}
+use Rattle.std.specs.List.{AllByRecursion}
 use Rattle.std.proofs.Common.{arith, subst}
 use Rattle.std.proofs.lemmas.Bool.{cases_eq}
 use Rattle.std.proofs.lemmas.Bool.Decides.{nat_tests}
@@ -18,7 +19,7 @@ use Rattle.iol_cache.specs.Marks.{at_page}
 use Rattle.iol_cache.specs.CacheState.{AreReady, file_in, with_file, order_in, with_order, extents_in, all_parts}
 use Rattle.iol_cache.specs.CacheState.{clean_in, held, clean_held, clean_of, clean_at, entries_at}
 use Rattle.iol_cache.specs.Evictions.{Holding}
-use Rattle.iol_cache.specs.Sound.{Each, IsLaid, IsFiled, IsSound}
+use Rattle.iol_cache.specs.Sound.{IsLaid, IsFiled, IsSound}
 use Rattle.iol_cache.specs.Writes.{Changes}
 use Rattle.iol_cache.proofs.Extents.FewerExtents.{laid_stays}
 use Rattle.iol_cache.proofs.Extents.FileEntries.{file_same, file_other, order_same, order_other, length-with_file}
@@ -107,7 +108,8 @@ module _ (old new : Holding) (f : ℕ) (own : List Slice) (sound : IsSound old.s
   covers_here = subst (λ (y : CachedFile). Covers new.store (bufs_of (all_parts y.extents.extents))) file_is
       (covers_of f)
 
-  filed : Each (IsLaid new.store pool) puts.extents.extents → last_end puts.extents.extents ≤ MAX_FILE_BYTES → (g : ℕ)
+  filed : AllByRecursion (IsLaid new.store pool) puts.extents.extents → last_end puts.extents.extents ≤ MAX_FILE_BYTES
+      → (g : ℕ)
       → IsFiled new.store (file_in new.cache.files g)
   filed laid short g = elim (cases_eq g f) [
     | inl same ↦
@@ -186,7 +188,8 @@ module _ (old new : Holding) (f : ℕ) (own : List Slice) (sound : IsSound old.s
         ]
   ]
 
-  pub sound_laid : Each (IsLaid new.store pool) puts.extents.extents → last_end puts.extents.extents ≤ MAX_FILE_BYTES
+  pub sound_laid : AllByRecursion (IsLaid new.store pool) puts.extents.extents
+      → last_end puts.extents.extents ≤ MAX_FILE_BYTES
       → IsSound new.store new.cache
   sound_laid laid short =
       record {
@@ -227,6 +230,7 @@ module _ (old new : Holding) (f : ℕ) (own : List Slice) (sound : IsSound old.s
       }
 
   -- they lay there already
-  pub sound_changed : Each (IsLaid old.store pool) puts.extents.extents → last_end puts.extents.extents ≤ MAX_FILE_BYTES
+  pub sound_changed : AllByRecursion (IsLaid old.store pool) puts.extents.extents
+      → last_end puts.extents.extents ≤ MAX_FILE_BYTES
       → IsSound new.store new.cache
   sound_changed laid short = sound_laid (laid_stays pool puts.extents.extents puts.moves.stays covers_here laid) short

@@ -1,5 +1,6 @@
 -- Extents of a file, with one fewer.
 use Rattle.std.proofs.Common.{inl, inr, ◌≡◌, ◌⊎◌, ℕ, ◌-◌, ◌<◌, ◌≤◌, ◌==◌, Bool, true, false, cond, eqb, List, [], ◌∷◌}
+use Rattle.std.specs.List.{AllByRecursion}
 use Rattle.std.proofs.Common.{length, get_or, max, Some, None, refl, sym, ap, ◌∙◌, arith, subst}
 use Rattle.std.specs.Prelude.{not, ◌&&◌}
 use Rattle.std.proofs.lemmas.Bool.Decides.{nat_tests}
@@ -17,7 +18,7 @@ use Rattle.iol_extent.specs.Extents.{begins_at, without_at}
 use Rattle.iol_extent.proofs.Cover.{cover_low, cover_no, cover_yes}
 use Rattle.iol_cache.specs.CacheState.{all_parts, begins_clean, clean_at}
 use Rattle.iol_cache.specs.Contents.{byte_in}
-use Rattle.iol_cache.specs.Sound.{Each, IsLaid}
+use Rattle.iol_cache.specs.Sound.{IsLaid}
 
 pub eq_of : (m n : ℕ) → (m == n) ≡ true → m ≡ n
 eq_of m n h = grind (arith, nat_tests)
@@ -156,7 +157,7 @@ covers_parts {t = t} x xs c =
     (record { each = λ b. omega (arith, c.each b, each b) }, record { each = λ b. omega (arith, c.each b, each b) })
 
 pub laid_stays : {s t : Stored} (p : ℕ) (es : List Extent) → Stays s t → Covers t (bufs_of (all_parts es))
-    → Each (IsLaid s p) es → Each (IsLaid t p) es
+    → AllByRecursion (IsLaid s p) es → AllByRecursion (IsLaid t p) es
 laid_stays p [] stays c all = tt
 laid_stays p (x ∷ xs) stays c all =
     let both = covers_parts x xs c in (
@@ -166,7 +167,7 @@ laid_stays p (x ∷ xs) stays c all =
 
 -- what lies over a byte has the byte that it had
 pub byte_stays : {s t : Stored} (p : ℕ) (es : List Extent) (i : ℕ) (c : Cell) → Stays s t
-    → Covers t (bufs_of (all_parts es)) → Each (IsLaid s p) es → cover es i ≡ Some c
+    → Covers t (bufs_of (all_parts es)) → AllByRecursion (IsLaid s p) es → cover es i ≡ Some c
     → byte_in t c.place ≡ byte_in s c.place
 byte_stays p [] i c stays cov all h = absurd cc
 byte_stays {s = s} {t = t} p (x ∷ xs) i c stays cov all h =

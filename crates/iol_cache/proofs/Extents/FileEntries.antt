@@ -1,5 +1,6 @@
 -- Files, extents and entries by number and place, and sums over them.
 use Rattle.std.proofs.Common.{inl, inr, ◌≡◌, ℕ, ◌+◌, ◌-◌, ◌<◌, ◌≤◌, ◌==◌, Bool, true, false, cond, List, [], ◌∷◌, ◌++◌, length, get_or, set, Some, refl, sym, ap, ◌∙◌, arith, subst}
+use Rattle.std.specs.List.{AllByRecursion}
 use Rattle.std.specs.Prelude.{nat_lt, flat_map, sum_by, map}
 use Rattle.std.proofs.lemmas.Bool.{cases_eq, cases_lt}
 use Rattle.std.proofs.lemmas.Bool.Decides.{nat_tests}
@@ -19,7 +20,6 @@ use Rattle.iol_evict.specs.declared.entry.Entry.{Entry}
 use Rattle.iol_cache.specs.declared.files.CachedFile.{CachedFile}
 use Rattle.iol_cache.specs.Marks.{at_page}
 use Rattle.iol_cache.specs.CacheState.{file_in, with_file, no_file, order_in, with_order, no_order}
-use Rattle.iol_cache.specs.Sound.{Each}
 use Rattle.iol_cache.proofs.Evictions.Marks.{at_page-append, at_page-none}
 
 -- By number.
@@ -171,24 +171,27 @@ sum-put_in w (x ∷ xs) e = here (nat_lt e.at x.at) (sum-put_in w xs e) where
   here true ih = sum_by-cons w e (x ∷ xs)
   here false ih = omega (arith, sum_by-cons w x xs, sum_by-cons w x (put_in xs e), ih)
 
-pub each-begins : (P : Extent → Type 0) (es : List Extent) (at : ℕ) (e : Extent) → Each P es → begins_at es at ≡ Some e → P e
+pub each-begins : (P : Extent → Type 0) (es : List Extent) (at : ℕ) (e : Extent) → AllByRecursion P es
+    → begins_at es at ≡ Some e → P e
 each-begins P [] at e all h = absurd cc
 each-begins P (x ∷ xs) at e all h = here (x.at == at) h (each-begins P xs at e all.1) where
   here : (c : Bool) → cond c (Some x) (begins_at xs at) ≡ Some e → (begins_at xs at ≡ Some e → P e) → P e
   here true h ih = let same : x ≡ e = cc in subst P same all.0
   here false h ih = ih h
 
-pub each-without_at : (P : Extent → Type 0) (es : List Extent) (at : ℕ) → Each P es → Each P (without_at es at)
+pub each-without_at : (P : Extent → Type 0) (es : List Extent) (at : ℕ) → AllByRecursion P es
+    → AllByRecursion P (without_at es at)
 each-without_at P [] at all = tt
 each-without_at P (x ∷ xs) at all = here (x.at == at) (each-without_at P xs at all.1) where
-  here : (c : Bool) → Each P (without_at xs at) → Each P (cond c xs (x ∷ without_at xs at))
+  here : (c : Bool) → AllByRecursion P (without_at xs at) → AllByRecursion P (cond c xs (x ∷ without_at xs at))
   here true ih = all.1
   here false ih = (all.0, ih)
 
-pub each-put_in : (P : Extent → Type 0) (es : List Extent) (e : Extent) → Each P es → P e → Each P (put_in es e)
+pub each-put_in : (P : Extent → Type 0) (es : List Extent) (e : Extent) → AllByRecursion P es → P e
+    → AllByRecursion P (put_in es e)
 each-put_in P [] e all one = (one, tt)
 each-put_in P (x ∷ xs) e all one = here (nat_lt e.at x.at) (each-put_in P xs e all.1 one) where
-  here : (c : Bool) → Each P (put_in xs e) → Each P (cond c (e ∷ x ∷ xs) (x ∷ put_in xs e))
+  here : (c : Bool) → AllByRecursion P (put_in xs e) → AllByRecursion P (cond c (e ∷ x ∷ xs) (x ∷ put_in xs e))
   here true ih = (one, all)
   here false ih = (all.0, ih)
 

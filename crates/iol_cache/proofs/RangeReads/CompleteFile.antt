@@ -2,7 +2,7 @@
 use Rattle.std.proofs.Common.{inl, inr, ◌≡◌, ℕ, ◌+◌, ◌≤◌, Bool, true, cond, List, [], ◌∷◌, ◌++◌, get_or, map, refl, sym}
 use Rattle.std.proofs.Common.{ap, ◌∙◌, arith, subst}
 use Rattle.std.specs.Prelude.{sum_by}
-use Rattle.std.specs.List.{All, AllZip}
+use Rattle.std.specs.List.{All, AllZip, AllByRecursion}
 use Rattle.std.proofs.lemmas.Bool.{cases_eq}
 use Rattle.std.proofs.lemmas.List.{append-nil}
 use Rattle.std.proofs.lemmas.List.Elements.{All-nil, All-cons}
@@ -34,7 +34,7 @@ use Rattle.iol_cache.specs.Gaps.{all_put, IsMade}
 use Rattle.iol_cache.specs.ReadSteps.{FillsFile, Goes}
 use Rattle.iol_cache.specs.RangeReads.{all_entered, parts_of_spans}
 use Rattle.iol_cache.specs.Replacement.{Reindexes}
-use Rattle.iol_cache.specs.Sound.{Each, IsLaid, IsSound}
+use Rattle.iol_cache.specs.Sound.{IsLaid, IsSound}
 use Rattle.iol_cache.specs.Writes.{Changes}
 use Rattle.iol_cache.proofs.Extents.ChangedFile as changed
 use Rattle.iol_cache.proofs.Extents.FileEntries.{IsAdditive, additive_page, additive_bufs, sum-flat}
@@ -232,7 +232,7 @@ module _ (old new : Holding) (f from to : ℕ) (beside : List Place) (gs : List 
   covers_old : Covers mid (bufs_of (all_parts es))
   covers_old = record { each = λ b. omega (arith, covers_put.each b, tally-all_put b es made) }
 
-  laid_put : Each (IsLaid mid pool) (all_put es made)
+  laid_put : AllByRecursion (IsLaid mid pool) (all_put es made)
   laid_put = each-all_put (IsLaid mid pool) es made (laid_stays pool es stays_mid covers_old (sound.files f).laid)
       (made_laid old.store mid pool gs made zip)
 
@@ -241,7 +241,8 @@ module _ (old new : Holding) (f from to : ℕ) (beside : List Place) (gs : List 
 
   pub sound_filled : to ≤ MAX_FILE_BYTES → IsSound new.store new.cache
   sound_filled small =
-      let laid = subst (λ (l : List Extent). Each (IsLaid mid pool) l) (sym filled.range.fills.extents) laid_put in
+      let laid = subst (λ (l : List Extent). AllByRecursion (IsLaid mid pool) l) (sym filled.range.fills.extents)
+      laid_put in
       let short : last_end filled.extents.extents ≤ MAX_FILE_BYTES =
       omega (
         arith,

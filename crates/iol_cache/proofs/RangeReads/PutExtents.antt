@@ -2,7 +2,7 @@
 use Rattle.std.proofs.Common.{inl, inr, ◌≡◌, ℕ, ◌+◌, ◌-◌, ◌<◌, ◌≤◌, Bool, true, false, cond, eqb, List, [], ◌∷◌, ◌++◌}
 use Rattle.std.proofs.Common.{length, get_or, max, Option, Some, None, IsSome, refl, sym, ap, ◌∙◌, arith, subst}
 use Rattle.std.specs.Prelude.{sum_by, nat_lt, not, ◌&&◌, slice_index, slice_range, drop}
-use Rattle.std.specs.List.{All, AllZip}
+use Rattle.std.specs.List.{All, AllZip, AllByRecursion}
 use Rattle.std.proofs.lemmas.Bool.Decides.{nat_tests}
 use Rattle.std.proofs.lemmas.List.{get_or-map, get_or-take, get_or-drop, length-take-le, length-drop}
 use Rattle.std.proofs.lemmas.List.Elements.{All-head, All-tail}
@@ -21,7 +21,6 @@ use Rattle.iol_cache.specs.Contents.{file_byte, file_len, byte_in, read_or, IsSt
 use Rattle.iol_cache.specs.Gaps as gaps
 use Rattle.iol_cache.specs.Gaps.{all_put, IsMade}
 use Rattle.iol_cache.specs.RangeReads.{parts_from, parts_of_spans, all_entered, AllBeginAt, AreAbsent}
-use Rattle.iol_cache.specs.Sound.{Each}
 use Rattle.iol_cache.proofs.Extents.FileEntries.{sum-put_in, each-put_in}
 use Rattle.iol_cache.proofs.Extents.FewerExtents.{over_of, over_yes}
 use Rattle.iol_cache.proofs.Evictions.Entries.{entered_entries}
@@ -229,7 +228,8 @@ unfolding all_put
 sum-all_put w es [] = omega arith
 sum-all_put w es (e ∷ made) = omega (arith, sum-all_put w (put_in es e) made, sum-put_in w es e, sum_by-cons w e made)
 
-pub each-all_put : (P : Extent → Type 0) (es made : List Extent) → Each P es → Each P made → Each P (all_put es made)
+pub each-all_put : (P : Extent → Type 0) (es made : List Extent) → AllByRecursion P es → AllByRecursion P made
+    → AllByRecursion P (all_put es made)
 unfolding all_put
 each-all_put P es [] all more = all
 each-all_put P es (e ∷ made) all more = each-all_put P (put_in es e) made (each-put_in P es e all more.0) more.1

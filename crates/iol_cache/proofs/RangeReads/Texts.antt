@@ -3,7 +3,7 @@ use Rattle.std.proofs.Common.{inl, inr, ◌≡◌, ℕ, zero, suc, ◌+◌, ◌-
 use Rattle.std.proofs.Common.{◌++◌, length, map, get_or, min, Option, Some, None, IsSome, refl, sym, ap, ◌∙◌, arith}
 use Rattle.std.proofs.Common.{subst, length-append}
 use Rattle.std.specs.Prelude.{slice_index, take, drop}
-use Rattle.std.specs.List.{All, range_with_len}
+use Rattle.std.specs.List.{All, range_with_len, AllByRecursion}
 use Rattle.std.proofs.lemmas.Bool.{cases_lt}
 use Rattle.std.proofs.lemmas.List.{drop_at, map-append, take_at}
 use Rattle.std.proofs.lemmas.List.Elements.{All-append, All-drop, All-head, All-nil, All-same, All-tail, All-take}
@@ -32,7 +32,7 @@ use Rattle.iol_cache.specs.Ranges.{IsCleanSpan, CompletesRange}
 use Rattle.iol_cache.specs.ReadResults.{IsBacked, ReadsFile, bytes_read}
 use Rattle.iol_cache.specs.SharedBytes.{IsCovered, IsCoveredSpan, place_over, places_over}
 use Rattle.iol_cache.specs.SharedBytes as sharing
-use Rattle.iol_cache.specs.Sound.{Each, IsLaid, IsSound}
+use Rattle.iol_cache.specs.Sound.{IsLaid, IsSound}
 use Rattle.iol_cache.specs.Weave.{IsCoveredBeside, places_read}
 use Rattle.iol_cache.proofs.Extents.FewerExtents.{over_of}
 use Rattle.iol_cache.proofs.RangeReads.OnePool.{pooled_places}
@@ -59,7 +59,8 @@ places_of p (x ∷ xs) all =
     All-append (IsOf p) (slice_places x) (places xs) (slice_of p x (All-head Q x xs all))
     (places_of p xs (All-tail Q x xs all))
 
-cover_of : (s : Stored) (p : ℕ) (es : List Extent) (i : ℕ) (c : Cell) → Each (IsLaid s p) es → cover es i ≡ Some c
+cover_of : (s : Stored) (p : ℕ) (es : List Extent) (i : ℕ) (c : Cell) → AllByRecursion (IsLaid s p) es
+    → cover es i ≡ Some c
     → c.place.pool ≡ p
 cover_of s p [] i c all h = absurd cc
 cover_of s p (x ∷ xs) i c all h = here (is_over x i) refl h (cover_of s p xs i c all.1) where
@@ -73,7 +74,7 @@ cover_of s p (x ∷ xs) i c all h = here (is_over x i) refl h (cover_of s p xs i
   here false is h ih = ih h
 
 -- what lies over a byte of a file is the byte, labelled by the file's pool
-cover_value : (s : Stored) (p : ℕ) (es : List Extent) (stored : List ℕ) (i : ℕ) → Each (IsLaid s p) es
+cover_value : (s : Stored) (p : ℕ) (es : List Extent) (stored : List ℕ) (i : ℕ) → AllByRecursion (IsLaid s p) es
     → IsSome (cover es i) → byte_at s (place_over es i) ≡ (file_byte (byte_in s) stored es i, p)
 cover_value s p es stored i all some = pick (cover es i) refl some where
   pick : (o : Option Cell) → cover es i ≡ o → IsSome o
@@ -121,7 +122,8 @@ there_at {s = s} es from to i all low high =
 -- The bytes of a range.
 
 module _ (s t : Stored) (p : ℕ) (old new : List Extent) (stored : List ℕ) (stays : Stays s t)
-    (laid : Each (IsLaid s p) old) (laid_new : Each (IsLaid t p) new) (covered : (g : Span) (i : ℕ) → IsCleanSpan new g
+    (laid : AllByRecursion (IsLaid s p) old) (laid_new : AllByRecursion (IsLaid t p) new) (covered : (g : Span) (i : ℕ)
+    → IsCleanSpan new g
     → g.from ≤ i → i < g.to → IsSome (cover new i)) (same : (i : ℕ) → i < file_len stored old
     → file_byte (byte_in t) stored new i ≡ file_byte (byte_in s) stored old i) where
   abbrev W : ℕ → ℕ × ℕ
@@ -167,14 +169,15 @@ module _ (s t : Stored) (p : ℕ) (old new : List Extent) (stored : List ℕ) (s
 
 -- Pools and lengths, over every store.
 
-place_pool : (s : Stored) (p : ℕ) (es : List Extent) (i : ℕ) → Each (IsLaid s p) es → IsSome (cover es i)
+place_pool : (s : Stored) (p : ℕ) (es : List Extent) (i : ℕ) → AllByRecursion (IsLaid s p) es → IsSome (cover es i)
     → (place_over es i).pool ≡ p
 place_pool s p es i all some = pick (cover es i) refl some where
   pick : (o : Option Cell) → cover es i ≡ o → IsSome o → (sharing.place_in o).pool ≡ p
   pick None is h = cc
   pick (Some c) is h = cover_of s p es i c all is
 
-over_pool : (s : Stored) (p : ℕ) (es : List Extent) (from to : ℕ) → Each (IsLaid s p) es → IsCovered es from to
+over_pool : (s : Stored) (p : ℕ) (es : List Extent) (from to : ℕ) → AllByRecursion (IsLaid s p) es
+    → IsCovered es from to
     → All (IsOf p) (places_over es from to)
 over_pool s p es from to all c = λ k d h.
     let n = length-places_over es from to in
@@ -182,8 +185,9 @@ over_pool s p es from to all c = λ k d h.
     (sym (get_or-map-range_with_len (place_over es) from (to - from) k (from + k) d (omega (arith, h, n)) refl))
     (place_pool s p es (from + k) all (c.each (from + k) (omega arith) (omega (arith, h, n))))
 
-read_pool : (s t : Stored) (p : ℕ) (old new : List Extent) (at to : ℕ) (gs : List Span) → Each (IsLaid s p) old
-    → Each (IsLaid t p) new → IsCoveredBeside old at to gs → All (IsCoveredSpan new) gs
+read_pool : (s t : Stored) (p : ℕ) (old new : List Extent) (at to : ℕ) (gs : List Span)
+    → AllByRecursion (IsLaid s p) old
+    → AllByRecursion (IsLaid t p) new → IsCoveredBeside old at to gs → All (IsCoveredSpan new) gs
     → All (IsOf p) (places_read old new at to gs)
 read_pool s t p old new at to [] laid laid_new c stand = over_pool s p old at to laid c
 read_pool s t p old new at to (g ∷ gs) laid laid_new c stand =
@@ -228,7 +232,7 @@ pooled_read f at n disk a c xs sound after goes reads =
     let old = extents_in a.cache.files f in
     let new = extents_in c.cache.files f in
     let r = reads.reads in
-    let laid_new = subst (λ q. Each (IsLaid c.store q) new) (goes.pools f) (after.files f).laid in
+    let laid_new = subst (λ q. AllByRecursion (IsLaid c.store q) new) (goes.pools f) (after.files f).laid in
     let beside = tile_beside old reads.range.from reads.range.to r.pinned.hits r.gaps r.pinned.tile in
     let stand = All-weaker (IsCleanSpan new) (IsCoveredSpan new) (λ g h. covered_span new g (after.files f).apart h)
     r.gaps (gaps_stand r.completed) in
@@ -315,7 +319,7 @@ text_read f at n disk a c xs sound after there goes readable reads backed =
     let end : reads.range.end ≡ file_len stored old =
     omega (arith, reads.range.ends.stored backed.honest, backed.short f there) in
     let laid = (sound.files f).laid in
-    let laid_new = subst (λ q. Each (IsLaid c.store q) new) (goes.pools f) (after.files f).laid in
+    let laid_new = subst (λ q. AllByRecursion (IsLaid c.store q) new) (goes.pools f) (after.files f).laid in
     let tile = reads.reads.pinned.tile in
     let same =
     byte_same (byte_in c.store) (byte_in a.store) stored new old

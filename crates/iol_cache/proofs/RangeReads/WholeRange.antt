@@ -2,7 +2,7 @@
 use Rattle.std.proofs.Common.{inl, inr, ◌≡◌, ℕ, ◌+◌, ◌<◌, ◌≤◌, ◌^◌, ◌++◌, List, [], ◌∷◌, length, IsSome, refl, sym, ap}
 use Rattle.std.proofs.Common.{◌∙◌, arith, subst, length-append}
 use Rattle.std.specs.Prelude.{take, drop}
-use Rattle.std.specs.List.{All, AllZip}
+use Rattle.std.specs.List.{All, AllZip, AllByRecursion}
 use Rattle.iol_core.specs.declared.numbers.BufId.{BufId}
 use Rattle.iol_back.specs.Disk.{Disk}
 use Rattle.iol_hold.specs.Moves.{tally, Covers}
@@ -21,7 +21,7 @@ use Rattle.iol_extent.specs.declared.spans.Span.{Span}
 use Rattle.iol_cache.specs.Gaps.{all_put, IsMade, FillsGaps}
 use Rattle.iol_cache.specs.Evictions.{Holding}
 use Rattle.iol_cache.specs.RangeReads.{MayFill, MayFillRange}
-use Rattle.iol_cache.specs.Sound.{Each, IsLaid, IsSound}
+use Rattle.iol_cache.specs.Sound.{IsLaid, IsSound}
 use Rattle.iol_cache.specs.SharedBytes.{AreHeld, CountsBelow, IsCoveredSpan}
 use Rattle.iol_cache.proofs.Extents.FileEntries.{additive_tally, additive_bufs, sum-flat}
 use Rattle.iol_cache.proofs.RangeReads.PutExtents.{made_fits, covered-made, sum-all_put, each-all_put}
@@ -128,27 +128,28 @@ parts_split xs ys h =
 abbrev pub CanBeRead : Stored → Extent → Type 0
 CanBeRead s e = AllReadable s e.parts
 
-pub each_readable : {s : Stored} (es : List Extent) → AllReadable s (all_parts es) → Each (CanBeRead s) es
+pub each_readable : {s : Stored} (es : List Extent) → AllReadable s (all_parts es) → AllByRecursion (CanBeRead s) es
 each_readable [] h = tt
 each_readable (x ∷ xs) h = (let b = parts_split x.parts (all_parts xs) h in (b.0, each_readable xs b.1))
 
-pub readable_each : {s : Stored} (es : List Extent) → Each (CanBeRead s) es → AllReadable s (all_parts es)
+pub readable_each : {s : Stored} (es : List Extent) → AllByRecursion (CanBeRead s) es → AllReadable s (all_parts es)
 readable_each {s = s} [] h = readable_none s
 readable_each (x ∷ xs) h = readable_joined h.0 (readable_each xs h.1)
 
-pub laid_readable : {s : Stored} (p : ℕ) (es : List Extent) → Each (IsLaid s p) es → AllReadable s (all_parts es)
+pub laid_readable : {s : Stored} (p : ℕ) (es : List Extent) → AllByRecursion (IsLaid s p) es
+    → AllReadable s (all_parts es)
 laid_readable {s = s} p [] h = readable_none s
 laid_readable p (x ∷ xs) h = readable_joined h.0.readable (laid_readable p xs h.1)
 
 made_readable : (s t : Stored) (p : ℕ) (gs : List Span) (made : List Extent) → AllZip (IsMade s t p) gs made
-    → Each (CanBeRead t) made
+    → AllByRecursion (CanBeRead t) made
 made_readable s t p [] [] zip = tt
 made_readable s t p [] (e ∷ made) zip = absurd zip
 made_readable s t p (g ∷ gs) [] zip = absurd zip
 made_readable s t p (g ∷ gs) (e ∷ made) zip = (zip.0.readable, made_readable s t p gs made zip.1)
 
 pub made_laid : (s t : Stored) (p : ℕ) (gs : List Span) (made : List Extent) → AllZip (IsMade s t p) gs made
-    → Each (IsLaid t p) made
+    → AllByRecursion (IsLaid t p) made
 made_laid s t p [] [] zip = tt
 made_laid s t p [] (e ∷ made) zip = absurd zip
 made_laid s t p (g ∷ gs) [] zip = absurd zip

@@ -3,7 +3,7 @@ use Rattle.std.proofs.Common.{inl, inr, ◌≡◌, ◌∙◌, ℕ, zero, suc, �
 use Rattle.std.proofs.Common.{cond, List, [], ◌∷◌, length, map, max, ◌++◌, Option, Some, None, refl, sym, ap, arith}
 use Rattle.std.proofs.Common.{subst}
 use Rattle.std.specs.Prelude.{slice_index}
-use Rattle.std.specs.List.{range_with_len}
+use Rattle.std.specs.List.{range_with_len, AllByRecursion}
 use Rattle.std.proofs.lemmas.Bool.{cases_lt}
 use Rattle.std.proofs.lemmas.Bool.Decides.{nat_tests}
 use Rattle.iol_back.specs.Disk.{Tears}
@@ -13,7 +13,7 @@ use Rattle.iol_extent.specs.Extents.{Cell, Extent, IsApart, begins_at, cell_at, 
 use Rattle.iol_extent.specs.Extents.{last_end, put_in, without_at, dirty_count, one_dirty}
 use Rattle.iol_cache.specs.CacheState.{all_parts}
 use Rattle.iol_cache.specs.Contents.{IsStored, byte_in, file_byte, file_bytes, file_len, read_or}
-use Rattle.iol_cache.specs.Sound.{Each, IsLaid}
+use Rattle.iol_cache.specs.Sound.{IsLaid}
 use Rattle.iol_cache.specs.WriteBack.{first_cleaned}
 use Rattle.iol_extent.specs.Extents.{as_clean, cleaned_at}
 use Rattle.iol_extent.proofs.CleanExtents.{first_begins}
@@ -106,13 +106,13 @@ parts-cleaned = cleaned-same all_parts (λ x xs ys same. ap (λ l. x.parts ++ l)
 pub end-cleaned : (es : List Extent) (at : ℕ) → last_end (cleaned_at es at) ≡ last_end es
 end-cleaned = cleaned-same last_end (λ x xs ys same. ap (max (end_of x)) same) (λ x xs. refl)
 
-pub laid-cleaned : (s : Stored) (p : ℕ) (es : List Extent) (at : ℕ) → Each (IsLaid s p) es
-    → Each (IsLaid s p) (cleaned_at es at)
+pub laid-cleaned : (s : Stored) (p : ℕ) (es : List Extent) (at : ℕ) → AllByRecursion (IsLaid s p) es
+    → AllByRecursion (IsLaid s p) (cleaned_at es at)
 laid-cleaned s p [] at all = tt
 laid-cleaned s p (x ∷ xs) at all = here (x.at == at) (laid-cleaned s p xs at all.1)
   where
-    here : (b : Bool) → Each (IsLaid s p) (cleaned_at xs at)
-        → Each (IsLaid s p) (cond b (as_clean x ∷ xs) (x ∷ cleaned_at xs at))
+    here : (b : Bool) → AllByRecursion (IsLaid s p) (cleaned_at xs at)
+        → AllByRecursion (IsLaid s p) (cond b (as_clean x ∷ xs) (x ∷ cleaned_at xs at))
     here true ih = (record { readable = all.0.readable; home = all.0.home }, all.1)
     here false ih = (all.0, ih)
 

@@ -1,5 +1,6 @@
 -- A file in which a range was overwritten, and the others.
 use Rattle.std.proofs.Common.{inl, inr, ◌≡◌, ◌∙◌, ℕ, ◌+◌, ◌-◌, ◌<◌, ◌≤◌, ◌⊎◌, true, false, List, ◌++◌, length, map}
+use Rattle.std.specs.List.{AllByRecursion}
 use Rattle.std.proofs.Common.{get_or, max, Some, refl, sym, ap, arith, subst}
 use Rattle.std.specs.Prelude.{slice_index}
 use Rattle.std.proofs.lemmas.Bool.{cases_eq, cases_lt}
@@ -25,7 +26,7 @@ use Rattle.iol_cache.specs.Evictions.{Holding}
 use Rattle.iol_cache.specs.Overwrites.{IsWritten, KeepsMirrors, KeepsOthers, LiesDirty, Overwrites, is_dirty}
 use Rattle.iol_cache.specs.Replacement.{put_some}
 use Rattle.iol_cache.specs.SharedBytes.{place_in, place_over, places_over}
-use Rattle.iol_cache.specs.Sound.{Each, IsLaid, IsSound}
+use Rattle.iol_cache.specs.Sound.{IsLaid, IsSound}
 use Rattle.iol_cache.specs.Writes.{Changes, parts_put}
 use Rattle.iol_cache.specs.declared.write.cut.Replacement.{Replacement}
 use Rattle.iol_cache.proofs.Extents.ChangedFile as changed
@@ -103,7 +104,7 @@ module _ (old new : Holding) (f at : ℕ) (source : List Slice) (sound : IsSound
       subst (λ (l : List Extent). Covers new.store (bufs_of (all_parts l))) extents_is
       (covers_file new.cache.files f sound'.covered)
 
-  laid_new : Each (IsLaid w.ready p) w.puts.extents.extents
+  laid_new : AllByRecursion (IsLaid w.ready p) w.puts.extents.extents
   laid_new = put.laid_put ready new f range whole ready_sound there w.puts ready_held (omega (arith, some))
       w.prepares.before w.prepares.after (prepared_laid w.prepares)
 

@@ -2,7 +2,7 @@
 use Rattle.std.proofs.Common.{inl, inr, ◌≡◌, ℕ, ◌+◌, ◌-◌, ◌<◌, ◌≤◌, ◌^◌, ◌==◌, Bool, true, false, cond, List, [], ◌∷◌}
 use Rattle.std.proofs.Common.{◌++◌, length, Some, refl, sym, ap, arith, subst}
 use Rattle.std.specs.Prelude.{take, drop}
-use Rattle.std.specs.List.{All}
+use Rattle.std.specs.List.{All, AllByRecursion}
 use Rattle.std.proofs.lemmas.Bool.{cases_lt}
 use Rattle.std.proofs.lemmas.Bool.Decides.{nat_tests}
 use Rattle.std.proofs.lemmas.List.Elements.{All-nil, All-cons, All-same, All-take, All-drop}
@@ -28,7 +28,7 @@ use Rattle.iol_cache.specs.Cuts.{CutsLeft, CutsRight}
 use Rattle.iol_cache.specs.Evictions.{Holding}
 use Rattle.iol_cache.specs.Gaps.{all_put}
 use Rattle.iol_cache.specs.Replacement.{HaveClean, indexing_in, put_some}
-use Rattle.iol_cache.specs.Sound.{Each, IsLaid, IsSound}
+use Rattle.iol_cache.specs.Sound.{IsLaid, IsSound}
 use Rattle.iol_cache.specs.Writes.{Changes, MayPutOver, MayReplace, PutsOver, parts_put}
 use Rattle.iol_cache.specs.declared.write.cut.Replacement.{Replacement}
 use Rattle.iol_cache.proofs.Evictions.Ready.{is_ready}
@@ -45,26 +45,29 @@ use Rattle.iol_cache.proofs.Extents.ChangedFile.{sound_changed}
 
 -- The extents after: those that were not met, the parts on both sides, the new one.
 
-each_unmet : (P : Extent → Type 0) (es : List Extent) (from to : ℕ) → Each P es → Each P (unmet es from to)
+each_unmet : (P : Extent → Type 0) (es : List Extent) (from to : ℕ) → AllByRecursion P es
+    → AllByRecursion P (unmet es from to)
 each_unmet P [] from to all = tt
 each_unmet P (x ∷ xs) from to all = here (meets from to x) (each_unmet P xs from to all.1)
   where
-    here : (b : Bool) → Each P (unmet xs from to) → Each P (cond b (unmet xs from to) (x ∷ unmet xs from to))
+    here : (b : Bool) → AllByRecursion P (unmet xs from to)
+        → AllByRecursion P (cond b (unmet xs from to) (x ∷ unmet xs from to))
     here true rest = rest
     here false rest = (all.0, rest)
 
-each_some : (P : Extent → Type 0) (es : List Extent) (e : Extent) → Each P es → (0 < byte_len e.parts → P e)
-    → Each P (put_some es e)
+each_some : (P : Extent → Type 0) (es : List Extent) (e : Extent) → AllByRecursion P es → (0 < byte_len e.parts → P e)
+    → AllByRecursion P (put_some es e)
 each_some P es e all more = here (byte_len e.parts == 0) (some_of (byte_len e.parts))
   where
     some_of : (n : ℕ) → (n == 0) ≡ false → 0 < n
     some_of n h = grind (arith, nat_tests)
 
-    here : (b : Bool) → (b ≡ false → 0 < byte_len e.parts) → Each P (cond b es (put_in es e))
+    here : (b : Bool) → (b ≡ false → 0 < byte_len e.parts) → AllByRecursion P (cond b es (put_in es e))
     here true some = all
     here false some = each-put_in P es e all (more (some refl))
 
-each_over : (P : Extent → Type 0) (es : List Extent) (i : ℕ) (e : Extent) → Each P es → extent_over es i ≡ Some e → P e
+each_over : (P : Extent → Type 0) (es : List Extent) (i : ℕ) (e : Extent) → AllByRecursion P es
+    → extent_over es i ≡ Some e → P e
 each_over P [] i e all h = cc
 each_over P (x ∷ xs) i e all h = here (is_over x i) h (each_over P xs i e all.1)
   where
@@ -121,7 +124,8 @@ slices_in_pool p (x ∷ xs) h =
     All-cons (λ (y : Slice). y.hold.pool ≡ p) x xs first
     (slices_in_pool p xs (All-same home _ _ (sym rest) (All-drop home n (places (x ∷ xs)) h)))
 
-left_laid : (s : Stored) (p : ℕ) (es : List Extent) (from : ℕ) (x : Extent) → Each (IsLaid s p) es → CutsLeft es from x
+left_laid : (s : Stored) (p : ℕ) (es : List Extent) (from : ℕ) (x : Extent) → AllByRecursion (IsLaid s p) es
+    → CutsLeft es from x
     → 0 < byte_len x.parts → IsLaid s p x
 left_laid s p es from x all cut some =
     let l = left_of es from x cut some in
@@ -141,7 +145,7 @@ left_laid s p es from x all cut some =
           (All-take home (from - e.at) (places e.parts) (pools_of (λ n. n ≡ p) e.parts laid.home)));
     }
 
-right_laid : (s : Stored) (p : ℕ) (es : List Extent) (to : ℕ) (x : Extent) → Each (IsLaid s p) es → 0 < to
+right_laid : (s : Stored) (p : ℕ) (es : List Extent) (to : ℕ) (x : Extent) → AllByRecursion (IsLaid s p) es → 0 < to
     → CutsRight es to x → 0 < byte_len x.parts → IsLaid s p x
 right_laid s p es to x all pos cut some =
     let l = right_of es to x pos cut some in
@@ -288,7 +292,7 @@ module _ (old new : Holding) (f : ℕ) (range : Span) (put : Replacement) (sound
   }
 
   pub laid_put : 0 < to → CutsLeft es from left → CutsRight es to right → IsLaid old.store pool e
-      → Each (IsLaid old.store pool) puts.extents.extents
+      → AllByRecursion (IsLaid old.store pool) puts.extents.extents
   laid_put pos cut_left cut_right own =
       let all = (sound.files f).laid in
       let laid = IsLaid old.store pool in
@@ -298,7 +302,7 @@ module _ (old new : Holding) (f : ℕ) (range : Span) (put : Replacement) (sound
       let two =
       each_some laid (put_some (unmet es from to) left) right one
       (right_laid old.store pool es to right all pos cut_right) in
-      subst (λ (l : List Extent). Each laid l) (sym puts.is) (each_some laid _ e two (λ some. own))
+      subst (λ (l : List Extent). AllByRecursion laid l) (sym puts.is) (each_some laid _ e two (λ some. own))
 
   short_put : 0 < to → to ≤ MAX_FILE_BYTES → end_of e ≡ to → from < to → CutsLeft es from left → CutsRight es to right
       → last_end puts.extents.extents ≤ MAX_FILE_BYTES

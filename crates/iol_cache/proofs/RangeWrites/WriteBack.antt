@@ -1,5 +1,6 @@
 -- A file of which dirty extents were written back.
 use Rattle.std.proofs.Common.{inl, inr, ◌≡◌, ◌∙◌, ℕ, suc, ◌+◌, ◌-◌, ◌<◌, ◌≤◌, true, List, [], length, map, max, get_or}
+use Rattle.std.specs.List.{AllByRecursion}
 use Rattle.std.proofs.Common.{Some, refl, sym, ap, arith, subst}
 use Rattle.std.specs.Prelude.{slice_index}
 use Rattle.std.proofs.lemmas.Bool.{cases_eq}
@@ -20,7 +21,7 @@ use Rattle.iol_cache.specs.declared.files.CachedFile.{CachedFile}
 use Rattle.iol_cache.specs.CacheState.{Cached, extents_in, file_in, held, all_parts}
 use Rattle.iol_cache.specs.Contents.{AreStored, Mirrors, byte_in, bytes_in_slot, file_bytes}
 use Rattle.iol_cache.specs.Evictions.{Holding}
-use Rattle.iol_cache.specs.Sound.{Each, IsLaid, IsSound}
+use Rattle.iol_cache.specs.Sound.{IsLaid, IsSound}
 use Rattle.iol_cache.specs.WriteBack.{Cleans, Fails, KeepsBytes, KeepsStored, Syncs, first_cleaned}
 use Rattle.iol_extent.specs.Extents.{cleaned_at}
 use Rattle.iol_cache.specs.Writes.{Changes}
@@ -140,7 +141,8 @@ module _ (s : Stored) (f : ℕ) (old new : Cached) (d e : Disk) (sound : IsSound
         each =
             λ b. omega (arith, sound.covered.each b, tally-append b (held old.files) (bufs_of []), tally_none b);
       })
-      (subst (λ (l : List Extent). Each (IsLaid s p) l) (sym w.is) (laid-cleaned s p xs x.at (sound.files f).laid))
+      (subst (λ (l : List Extent). AllByRecursion (IsLaid s p) l) (sym w.is)
+      (laid-cleaned s p xs x.at (sound.files f).laid))
       (omega (arith, ap last_end w.is, end-cleaned xs x.at, (sound.files f).short))
 
   -- What is written.

@@ -1,5 +1,6 @@
 -- All that a domain has is given up.
 use Rattle.std.proofs.Common.{◌≡◌, ℕ, ◌+◌, ◌≤◌, List, [], ◌∷◌, ◌++◌, length, ap, ◌∙◌, refl, sym, subst, arith, true}
+use Rattle.std.specs.List.{AllByRecursion}
 use Rattle.std.specs.Prelude.{sum_by}
 use Rattle.std.proofs.lemmas.List.Concat.{flat_map-cons}
 use Rattle.std.proofs.lemmas.List.Sums.{sum_by-cons, sum_by_push}
@@ -19,7 +20,7 @@ use Rattle.iol_hold.proofs.ReadSlices.{readable_stays}
 use Rattle.iol_desc.specs.Tables.{domain_in, with_domain_in, with_aggs_in}
 use Rattle.iol_kernel.specs.Views.{state_view}
 use Rattle.iol_kernel.specs.HoldCounts.{uses, domain_uses, bufs_in, IsCounted}
-use Rattle.iol_kernel.specs.KernelState.{KernelState, objects_of, Each, IsDomainReadable, IsLimited, IsSound, read_of}
+use Rattle.iol_kernel.specs.KernelState.{KernelState, objects_of, IsDomainReadable, IsLimited, IsSound, read_of}
 use Rattle.iol_kernel.specs.Readings.{Reading}
 use Rattle.iol_kernel.specs.AggregateCalls.{ReleasesAll}
 use Rattle.iol_kernel.proofs.State.Views.{domain-view, with_domain-view, pools-view}
@@ -67,17 +68,17 @@ last_released s t u all es rest n x is m k = record {
   tidy = λ h. k.tidy (m.tidy h);
 }
 
-each-front : {A : Type 0} (P : A → Type 0) (xs : List A) (x : A) → Each P (xs ++ x ∷ []) → Each P xs
+each-front : {A : Type 0} (P : A → Type 0) (xs : List A) (x : A) → AllByRecursion P (xs ++ x ∷ []) → AllByRecursion P xs
 each-front P [] x e = tt
 each-front P (y ∷ xs) x e = (e.0, each-front P xs x e.1)
 
-each-last : {A : Type 0} (P : A → Type 0) (xs : List A) (x : A) → Each P (xs ++ x ∷ []) → P x
+each-last : {A : Type 0} (P : A → Type 0) (xs : List A) (x : A) → AllByRecursion P (xs ++ x ∷ []) → P x
 each-last P [] x e = e.0
 each-last P (y ∷ xs) x e = each-last P xs x e.1
 
 -- what can be read of each aggregate
 abbrev pub AreReadable : Stored → List (ℕ × List Slice) → Type 0
-AreReadable s es = Each (λ e. AllReadable s e.1) es
+AreReadable s es = AllByRecursion (λ e. AllReadable s e.1) es
 
 pub front_readable : (s : Stored) (es rest : List (ℕ × List Slice)) (n : ℕ) (x : List Slice) → es ≡ rest ++ (n, x) ∷ []
     → AreReadable s es → AreReadable s rest
@@ -123,12 +124,14 @@ module _ (h : KernelState) (t : Stored) (ds : Domains) (d : ℕ) (es : List (ℕ
     );
   }
 
-  emptied_good : Each (IsDomainReadable h.store) (with_domain_in h.domains d emptied)
+  emptied_good : AllByRecursion (IsDomainReadable h.store) (with_domain_in h.domains d emptied)
   emptied_good = each-with_domain_in (IsDomainReadable h.store) h.domains d emptied sound.domains tt
 
   emptied_limits : IsLimited (with_domain_in h.domains d emptied) (objects_of h)
   emptied_limits = record {
-    aggs = each-with_domain_in (λ (y : Domain (List Slice)). Each (λ e. byte_len e.1 ≤ MAX_AGGREGATE_BYTES) y.aggs)
+    aggs =
+        each-with_domain_in (λ (y : Domain (List Slice)). AllByRecursion (λ e. byte_len e.1 ≤ MAX_AGGREGATE_BYTES)
+        y.aggs)
         h.domains d emptied sound.limits.aggs tt;
     few =
         omega (
@@ -154,7 +157,8 @@ module _ (h : KernelState) (t : Stored) (ds : Domains) (d : ℕ) (es : List (ℕ
   emptied-sound = subst (λ (ys : Domains). IsSound (record h { store = t; domains = ys })) (sym rest)
       (moved-sound h.store (record h { store = t; domains = with_domain_in h.domains d emptied }) released.moves.stays
       emptied_counted (released.moves.tidy sound.tidy) (released.moves.still sound.still)
-      (released.reclaims (subst (λ (l : List (ℕ × List Slice)). Each (λ e. AllReadable h.store e.1) l) (sym all)
+      (released.reclaims (subst (λ (l : List (ℕ × List Slice)). AllByRecursion (λ e. AllReadable h.store e.1) l)
+      (sym all)
       (aggs_readable h d sound)) sound.reclaimed) emptied_good sound.objects
       (fds_stay (objects_of h) h.domains d emptied sound.fds refl) (once_same h.domains d emptied live refl sound.once)
       emptied_limits (same_pooled h.store t h.conns h.cache.files released.lists sound.pooled) sound.sums
@@ -165,7 +169,8 @@ module _ (h : KernelState) (t : Stored) (ds : Domains) (d : ℕ) (es : List (ℕ
   aggs_dropped =
       leaves (λ s. machine.with_domain s d (record (machine.domain s d) { aggs = [] })) h
       (record h { store = t; domains = ds }) emptied-read refl refl released.moves.stays
-      (keeps_pages_frees released.frees) (subst (λ (ys : Domains). Each (IsDomainReadable h.store) ys) (sym rest)
+      (keeps_pages_frees released.frees) (subst (λ (ys : Domains). AllByRecursion (IsDomainReadable h.store) ys)
+      (sym rest)
       emptied_good) sound.objects emptied-sound
 
 -- and the domain itself

@@ -1,5 +1,6 @@
 -- Effects that regroup a domain's aggregates: its slices move, and the store counts those that were divided.
 use Rattle.std.proofs.Common.{◌≡◌, ℕ, ◌+◌, ◌<◌, ◌≤◌, List, [], ◌∷◌, ◌++◌, length, take, drop, ap, ◌∙◌, refl, sym, subst}
+use Rattle.std.specs.List.{AllByRecursion}
 use Rattle.std.proofs.Common.{arith, Some, true, length-append}
 use Rattle.std.proofs.lemmas.List.{map-append, length-take, length-drop}
 use Rattle.std.proofs.lemmas.List.Sums.{sum_by-append, sum_by_push}
@@ -26,7 +27,7 @@ use Rattle.iol_hold.proofs.SlicePlaces.{byte_len-append}
 use Rattle.iol_desc.specs.Tables.{domain_in, with_domain_in, live_aggs_in}
 use Rattle.iol_kernel.specs.Views.{Objects, domain_view, state_view}
 use Rattle.iol_kernel.specs.HoldCounts.{uses, domain_uses}
-use Rattle.iol_kernel.specs.KernelState.{KernelState, objects_of, Each, IsDomainReadable, IsSound, slices_in, read_of}
+use Rattle.iol_kernel.specs.KernelState.{KernelState, objects_of, IsDomainReadable, IsSound, slices_in, read_of}
 use Rattle.iol_kernel.specs.DomainAggregates.{MayJoin, MaySplit}
 use Rattle.iol_kernel.specs.Readings.{Reading, bytes_over, read}
 use Rattle.iol_kernel.specs.AggregateCalls.{with_two, with_one, joined_in, MayJoinIn, MaySplitIn, SplitsAgg}
@@ -49,7 +50,7 @@ regrouped-sound : (h : KernelState) (t : Stored) (d : ℕ) (x : Domain (List Sli
     → Shares h.store t taken given
     → IsDomainReadable h.store x
     → ((b : BufId) → domain_uses b x + tally b taken ≡ domain_uses b (domain_in h.domains d) + tally b given)
-    → Each (λ (e : ℕ × List Slice). byte_len e.1 ≤ MAX_AGGREGATE_BYTES) x.aggs
+    → AllByRecursion (λ (e : ℕ × List Slice). byte_len e.1 ≤ MAX_AGGREGATE_BYTES) x.aggs
     → length x.aggs + live_aggs_in h.domains ≤ 65536 + length (domain_in h.domains d).aggs
     → IsSound (record h { store = t; domains = with_domain_in h.domains d x })
 regrouped-sound h t d x given taken sound live same shares readable counts small few =
@@ -64,7 +65,9 @@ regrouped-sound h t d x given taken sound live same shares readable counts small
     (each-with_domain_in (IsDomainReadable h.store) h.domains d x sound.domains readable) sound.objects
     (fds_stay (objects_of h) h.domains d x sound.fds same) (once_same h.domains d x live same sound.once)
     (record {
-      aggs = each-with_domain_in (λ (y : Domain (List Slice)). Each (λ e. byte_len e.1 ≤ MAX_AGGREGATE_BYTES) y.aggs)
+      aggs =
+          each-with_domain_in (λ (y : Domain (List Slice)). AllByRecursion (λ e. byte_len e.1 ≤ MAX_AGGREGATE_BYTES)
+          y.aggs)
           h.domains d x sound.limits.aggs small;
       few = (let s = sum-with_domain (λ (y : Domain (List Slice)). length y.aggs) h.domains d x live in
           omega (arith, few, s));
@@ -167,8 +170,9 @@ module _ (h : KernelState) (t : Stored) (ds : List (Domain (List Slice))) (d a a
       (omega (arith, short, ap length splits.after, length-drop at (places xs))))
       (omega (arith, few, length-without x.aggs a xs found, length-append (without x.aggs a) two)))
     where
-      each-two : (P : ℕ × List Slice → Type 0) (es : List (ℕ × List Slice)) (e f : ℕ × List Slice) → Each P es → P e
-          → P f → Each P (es ++ e ∷ f ∷ [])
+      each-two : (P : ℕ × List Slice → Type 0) (es : List (ℕ × List Slice)) (e f : ℕ × List Slice) → AllByRecursion P es
+          → P e
+          → P f → AllByRecursion P (es ++ e ∷ f ∷ [])
       each-two P [] e f h p q = (p, (q, tt))
       each-two P (g ∷ es) e f h p q = (h.0, each-two P es e f h.1 p q)
 

@@ -1,5 +1,6 @@
 -- A domain closes a connection: what came in is dropped, and it is forgotten where nothing is left to send.
 use Rattle.std.proofs.Common.{◌≡◌, ◌≢◌, ℕ, ◌+◌, Bool, true, false, List, [], ◌∙◌, ap, refl, sym, subst, arith, None}
+use Rattle.std.specs.List.{AllByRecursion}
 use Rattle.std.proofs.Common.{Some}
 use Rattle.iol_core.specs.NumberedLists.{lookup, changed}
 use Rattle.iol_core.specs.State as machine
@@ -20,7 +21,7 @@ use Rattle.iol_kernel.specs.Views.{Objects}
 use Rattle.iol_kernel.specs.HoldCounts.{conn_uses}
 use Rattle.iol_kernel.specs.EndCounts.{same_end}
 use Rattle.iol_kernel.specs.KernelState as held
-use Rattle.iol_kernel.specs.KernelState.{KernelState, objects_of, Each, IsOpenEnd, IsConnReadable, IsSound}
+use Rattle.iol_kernel.specs.KernelState.{KernelState, objects_of, IsOpenEnd, IsConnReadable, IsSound}
 use Rattle.iol_kernel.specs.ClosedEnds.{Closes, IsLetGo, KeepsEnds}
 use Rattle.iol_kernel.specs.Calls.{Leaves}
 use Rattle.iol_kernel.proofs.Queues.ClosedEnds.{not_same, all_ends_kept}
@@ -77,7 +78,7 @@ module _ (h k : KernelState) (c : ℕ) (free : IsLetGo h (on.Connection c))
   abbrev now : KernelState
   now = turned h k.store c x (hung x) free.sound found
 
-  fds : Each (λ (d : Domain (List Slice)). Each (IsOpenEnd (objects_of now)) d.fds) h.domains
+  fds : AllByRecursion (λ (d : Domain (List Slice)). AllByRecursion (IsOpenEnd (objects_of now)) d.fds) h.domains
   fds = all_ends_kept (on.Connection c) (objects_of h) (objects_of now) (hung_keeps (objects_of h) c (hung x)) h.domains
       free.sound.fds free.free
 

@@ -1,5 +1,6 @@
 -- One connection changes or goes, as the machine sees it, and all stays sound.
 use Rattle.std.proofs.Common.{◌≡◌, ◌≢◌, ℕ, ◌+◌, ◌<◌, ◌≤◌, ◌==◌, ◌&&◌, ◌||◌, Bool, not, List, [], ◌∷◌, ◌++◌, length, map}
+use Rattle.std.specs.List.{AllByRecursion}
 use Rattle.std.proofs.Common.{ap, ◌∙◌, refl, sym, subst, arith, Option, Some, None, true, false, inl, inr}
 use Rattle.std.proofs.Common.{length-append}
 use Rattle.std.specs.Prelude.{if◌then◌else◌, unwrap_or, option_map, is_none}
@@ -38,7 +39,7 @@ use Rattle.iol_sock.proofs.MachineConns.{conn_at-is, over_meant}
 use Rattle.iol_kernel.specs.Views.{Objects, state_view}
 use Rattle.iol_kernel.specs.HoldCounts.{conn_uses, IsCounted}
 use Rattle.iol_kernel.specs.KernelState as held
-use Rattle.iol_kernel.specs.KernelState.{KernelState, objects_of, Each, IsConnReadable, AreReadable, IsOpenEnd}
+use Rattle.iol_kernel.specs.KernelState.{KernelState, objects_of, IsConnReadable, AreReadable, IsOpenEnd}
 use Rattle.iol_kernel.specs.KernelState.{IsLimited, ArePooled, IsSound, machine_of, read_of}
 use Rattle.iol_kernel.specs.Readings.{Reading, bytes_over, read}
 use Rattle.iol_kernel.specs.ClosedEnds.{KeepsEnds}
@@ -219,13 +220,13 @@ module _ (h : KernelState) (cs : Conns) (next : ℕ) where
   others_end keeps (Some (on.Connection n)) open' = keeps n open'
 
   others_fds : ((n : ℕ) → IsOpenConn (conn_in h.conns n) → IsOpenConn (conn_in cs n)) → IsSound h
-      → Each (λ (d : Domain (List Slice)). Each (IsOpenEnd others) d.fds) h.domains
+      → AllByRecursion (λ (d : Domain (List Slice)). AllByRecursion (IsOpenEnd others) d.fds) h.domains
   others_fds keeps sound =
-      each-weaker (λ (d : Domain (List Slice)). Each (IsOpenEnd (objects_of h)) d.fds)
-      (λ (d : Domain (List Slice)). Each (IsOpenEnd others) d.fds) h.domains
+      each-weaker (λ (d : Domain (List Slice)). AllByRecursion (IsOpenEnd (objects_of h)) d.fds)
+      (λ (d : Domain (List Slice)). AllByRecursion (IsOpenEnd others) d.fds) h.domains
       (λ d e. each-weaker (IsOpenEnd (objects_of h)) (IsOpenEnd others) d.fds (others_end keeps) e) sound.fds
 
-  others_limits : IsSound h → Each held.IsConn cs → length cs ≤ MAX_CONNECTIONS → Rises 0 cs next
+  others_limits : IsSound h → AllByRecursion held.IsConn cs → length cs ≤ MAX_CONNECTIONS → Rises 0 cs next
       → next ≤ LAST_CONNECTION + 1 → IsLimited h.domains others
   others_limits sound each few rising last =
       let l = sound.limits.objects in
@@ -290,7 +291,7 @@ module _ (h : KernelState) (t : Stored) (c : ℕ) (x y : Conn (List Slice)) (sou
 
   -- where it is open still, if it was
   pub turned_fds : (IsOpenConn x → IsOpenConn y)
-      → Each (λ (d : Domain (List Slice)). Each (IsOpenEnd (objects_of turned)) d.fds) h.domains
+      → AllByRecursion (λ (d : Domain (List Slice)). AllByRecursion (IsOpenEnd (objects_of turned)) d.fds) h.domains
   turned_fds keeps =
       others_fds h (changed h.conns c y) h.next_conn (λ n open'. open-changed h.conns c n x y found keeps open') sound
 
@@ -316,7 +317,8 @@ module _ (h : KernelState) (t : Stored) (c : ℕ) (x y : Conn (List Slice)) (sou
       (stays : Stays h.store t) (tidy : IsTidy t) (still : IsStill t.arena) (reclaimed : AllReclaimed t)
       (lists : SameLists h.store t) (count : page_count t.arena ≡ page_count h.store.arena)
       (readable : IsConnReadable h.store (c, y)) (limit : held.IsConn (c, y)) (pool' : y.pool ≡ x.pool)
-      (fds : Each (λ (d : Domain (List Slice)). Each (IsOpenEnd (objects_of turned)) d.fds) h.domains) where
+      (fds : AllByRecursion (λ (d : Domain (List Slice)). AllByRecursion (IsOpenEnd (objects_of turned)) d.fds)
+      h.domains) where
     pub turned-sound : IsSound turned
     turned-sound = moved-sound h.store turned stays (turned_counted counts) tidy still reclaimed sound.domains
         (turned_good readable) fds sound.once (turned_limits limit)

@@ -1,5 +1,6 @@
 -- The peer of a connection closes.
 use Rattle.std.proofs.Common.{◌≢◌, None, ◌≡◌, ℕ, ◌+◌, List, ap, ◌∙◌, refl, sym, subst, arith, Some}
+use Rattle.std.specs.List.{AllByRecursion}
 use Rattle.iol_core.specs.NumberedLists.{lookup, changed}
 use Rattle.iol_core.specs.State as machine
 use Rattle.iol_core.specs.State.{State, Domain}
@@ -19,7 +20,7 @@ use Rattle.iol_sock.specs.Table.{conn_in}
 use Rattle.iol_sock.proofs.MachineConns.{closes_meant}
 use Rattle.iol_kernel.specs.HoldCounts.{conn_uses}
 use Rattle.iol_kernel.specs.KernelState as held
-use Rattle.iol_kernel.specs.KernelState.{KernelState, objects_of, Each, IsOpenEnd, IsConnReadable, IsSound}
+use Rattle.iol_kernel.specs.KernelState.{KernelState, objects_of, IsOpenEnd, IsConnReadable, IsSound}
 use Rattle.iol_kernel.specs.Calls.{Leaves}
 use Rattle.iol_kernel.proofs.Connections.OneConnection.{IsChanged, conn_in-found, conn_in-changed, there-changed}
 use Rattle.iol_kernel.proofs.Connections.OneConnection.{conn_left, turned, turned_fds, turned-sound, turned_leaves}
@@ -46,7 +47,9 @@ module _ (h : KernelState) (t : Stored) (c : ℕ) (x : Conn (List Slice)) (sound
   left_open Gone open' = open'
 
   left_fds : (how : How)
-      → Each (λ (d : Domain (List Slice)). Each (IsOpenEnd (objects_of (turned h t c x (closed_by x how) sound found)))
+      → AllByRecursion
+      (λ (d : Domain (List Slice)). AllByRecursion
+      (IsOpenEnd (objects_of (turned h t c x (closed_by x how) sound found)))
       d.fds) h.domains
   left_fds how = turned_fds h t c x (closed_by x how) sound found (left_open how)
 

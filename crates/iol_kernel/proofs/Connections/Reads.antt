@@ -1,7 +1,7 @@
 -- Reading from a connection: a domain gets the front of what came in, whatever is read at the places.
 use Rattle.std.proofs.Common.{◌≡◌, ℕ, ◌+◌, ◌<◌, ◌≤◌, List, [], ◌∷◌, ◌++◌, length, take, drop, map, ap, ◌∙◌, refl, sym}
 use Rattle.std.proofs.Common.{subst, arith, Option, Some}
-use Rattle.std.specs.List.{prefix_len, take_while}
+use Rattle.std.specs.List.{prefix_len, take_while, AllByRecursion}
 use Rattle.std.proofs.lemmas.List.{length-take, length-drop}
 use Rattle.iol_core.specs.Text.{Text, admitted}
 use Rattle.iol_core.specs.NumberedLists.{lookup, changed}
@@ -33,7 +33,7 @@ use Rattle.iol_kernel.specs.QueueEnds.{GivesFront}
 use Rattle.iol_kernel.specs.QueueSlices.{DividesFront}
 use Rattle.iol_kernel.specs.Calls.{Answers}
 use Rattle.iol_kernel.specs.HoldCounts.{IsCounted, conn_uses}
-use Rattle.iol_kernel.specs.KernelState.{IsConn, KernelState, objects_of, Each, AreReadable, IsConnReadable, IsOpenEnd}
+use Rattle.iol_kernel.specs.KernelState.{IsConn, KernelState, objects_of, AreReadable, IsConnReadable, IsOpenEnd}
 use Rattle.iol_kernel.specs.KernelState.{IsSound, read_of}
 use Rattle.iol_kernel.specs.OpenDescriptors.{IsOpenOn}
 use Rattle.iol_kernel.specs.Readings.{Reading, read, KeepsPools}
@@ -123,7 +123,7 @@ module _ (h k : KernelState) (d fd c n : ℕ) (held : IsOpenOn h d fd (on.Connec
   rest_limit = let was = conn_limit h c (conn_in h.conns c) held.sound there in
       record { incoming = parts_short.1; outgoing = was.outgoing; waits = was.waits }
 
-  less_fds : Each (λ (x : Domain (List Slice)). Each (IsOpenEnd (objects_of less)) x.fds) h.domains
+  less_fds : AllByRecursion (λ (x : Domain (List Slice)). AllByRecursion (IsOpenEnd (objects_of less)) x.fds) h.domains
   less_fds = turned_fds h k.store c (conn_in h.conns c) rest held.sound there (λ open'. open')
 
   -- what is read

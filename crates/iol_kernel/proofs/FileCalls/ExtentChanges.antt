@@ -1,5 +1,6 @@
 -- The extents of files change as the cache goes on: a system stays sound, and all but the bytes of its files stays.
 use Rattle.std.proofs.Common.{◌≡◌, ℕ, suc, ◌+◌, List, [], ◌∷◌, length, get_or, map, refl, sym, ap, ◌∙◌, subst, arith}
+use Rattle.std.specs.List.{AllByRecursion}
 use Rattle.std.proofs.Common.{Option, Some, None}
 use Rattle.iol_core.specs.State.{State}
 use Rattle.iol_core.specs.declared.descriptors.Descriptor.{Descriptor}
@@ -15,7 +16,7 @@ use Rattle.iol_cache.specs.declared.files.CachedFile.{CachedFile}
 use Rattle.iol_cache.proofs.Evictions.Ready.{at_index}
 use Rattle.iol_kernel.specs.FileCalls.{with_slots}
 use Rattle.iol_kernel.specs.HoldCounts.{IsCounted}
-use Rattle.iol_kernel.specs.KernelState.{KernelState, objects_of, machine_of, read_of, Each, ArePooled, AreReadable}
+use Rattle.iol_kernel.specs.KernelState.{KernelState, objects_of, machine_of, read_of, ArePooled, AreReadable}
 use Rattle.iol_kernel.specs.KernelState.{IsCached, IsFile, IsOpenEnd, IsSound}
 use Rattle.iol_kernel.specs.Readings.{bytes_over, slots_read}
 use Rattle.iol_kernel.specs.Views.{Objects, state_view}
@@ -37,11 +38,12 @@ pub record Recaches (s t : Stored) (c d : Cached) : Type 0 where
 
 -- Lists of files, told by number.
 
-each_indexed : (P : CachedFile → Type 0) (fs : List CachedFile) → ((i : ℕ) → P (get_or fs i no_file)) → Each P fs
+each_indexed : (P : CachedFile → Type 0) (fs : List CachedFile) → ((i : ℕ) → P (get_or fs i no_file))
+    → AllByRecursion P fs
 each_indexed P [] h = tt
 each_indexed P (x ∷ fs) h = (h 0, each_indexed P fs (λ i. h (suc i)))
 
-all_apart : (t : Stored) (fs : List CachedFile) → ((f : ℕ) → cache.IsFiled t (file_in fs f)) → Each IsFile fs
+all_apart : (t : Stored) (fs : List CachedFile) → ((f : ℕ) → cache.IsFiled t (file_in fs f)) → AllByRecursion IsFile fs
 all_apart t fs filed =
     each_indexed IsFile fs (λ i. (let x = subst (cache.IsFiled t) (at_index fs i) (filed (i + 1)) in
     record { apart = x.apart; short = x.short }))

@@ -1,7 +1,7 @@
 -- Files by name, and a new one.
 use Rattle.std.proofs.Common.{◌≡◌, ℕ, zero, suc, ◌+◌, ◌-◌, ◌<◌, ◌≤◌, ◌∙◌, Bool, true, false, cond, List, [], ◌∷◌, ◌++◌, length, length-append, get_or, map, Option, Some, None, refl, sym, ap, subst, arith, inl, inr}
 use Rattle.std.specs.Prelude.{position, option_map, is_some, bytes_eq, flat_map, min, nat_lt, not, sum_by, ◌||◌}
-use Rattle.std.specs.List.{list_any, position_or_len, range_with_len}
+use Rattle.std.specs.List.{list_any, position_or_len, range_with_len, AllByRecursion}
 use Rattle.std.proofs.lemmas.Bool.{cases_eq, cases_lt}
 use Rattle.std.proofs.lemmas.Bool.Decides.{nat_tests}
 use Rattle.std.proofs.lemmas.List.{length-map, map-append, get_or_append_left, get_or_past}
@@ -27,7 +27,8 @@ use Rattle.iol_cache.specs.Sound as cache
 use Rattle.iol_cache.specs.declared.files.CachedFile.{CachedFile}
 use Rattle.iol_cache.proofs.Extents.FileEntries.{numbered_bounds, numbered_yes, additive_tally, file_nowhere, sum-flat}
 use Rattle.iol_kernel.specs.Calls.{AddsFile}
-use Rattle.iol_kernel.specs.KernelState.{KernelState, objects_of, Each, AreFiled, IsCached, IsFile, IsOpenEnd, IsSound, read_of}
+use Rattle.iol_kernel.specs.KernelState.{KernelState, objects_of, AreFiled, IsCached, IsFile, IsOpenEnd, IsSound}
+use Rattle.iol_kernel.specs.KernelState.{read_of}
 use Rattle.iol_kernel.specs.Readings.{Reading, slot_read, slots_read}
 use Rattle.iol_kernel.specs.Views.{state_view}
 use Rattle.iol_kernel.proofs.State.Slots.{file_bytes-none}
@@ -186,7 +187,16 @@ module _ (h : KernelState) (name : List ℕ) (p : ℕ) (c : Cached) (sound : IsS
         tidy = sound.tidy;
         still = sound.still;
         reclaimed = sound.reclaimed;
-        limits = record { aggs = sound.limits.aggs; few = sound.limits.few; objects = with_files _ _ sound.limits.objects (subst (λ (fs : Files). Each IsFile fs) (sym added) (each-push IsFile h.cache.files (new_file p) sound.limits.objects.cached (record { apart = tt; short = omega arith }))) kept.few_files };
+        limits =
+            record {
+              aggs = sound.limits.aggs;
+              few = sound.limits.few;
+              objects =
+                  with_files _ _ sound.limits.objects
+                  (subst (λ (fs : Files). AllByRecursion IsFile fs) (sym added)
+                  (each-push IsFile h.cache.files (new_file p) sound.limits.objects.cached
+                  (record { apart = tt; short = omega arith }))) kept.few_files;
+            };
         pooled = record { few = sound.pooled.few; opened = sound.pooled.opened; files_open = λ n there. (kept.opened n there).is_open };
         sums = sound.sums;
         filed = filed;

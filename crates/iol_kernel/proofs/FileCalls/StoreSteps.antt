@@ -2,7 +2,7 @@
 use Rattle.std.proofs.Common.{◌≡◌, ℕ, suc, ◌+◌, ◌<◌, ◌≤◌, List, [], ◌∷◌, length, get_or, map, ap, ◌∙◌, refl, sym, subst}
 use Rattle.std.proofs.Common.{arith, Option, Some, None, true}
 use Rattle.std.specs.Prelude.{sum_by}
-use Rattle.std.specs.List.{range_with_len}
+use Rattle.std.specs.List.{range_with_len, AllByRecursion}
 use Rattle.std.proofs.Math.ListN.{get_or-map}
 use Rattle.std.proofs.lemmas.List.{ext_get_or, length-map}
 use Rattle.iol_core.specs.State as machine
@@ -32,7 +32,7 @@ use Rattle.iol_cache.proofs.Evictions.Ready.{at_index}
 use Rattle.iol_kernel.specs.FileCalls.{IsBackedBy, holding_of, with_slots}
 use Rattle.iol_kernel.specs.HoldCounts.{domain_uses}
 use Rattle.iol_kernel.specs.EndCounts.{IsOpenOnce}
-use Rattle.iol_kernel.specs.KernelState.{KernelState, objects_of, Each, AreFiled, AreReadable, IsCached}
+use Rattle.iol_kernel.specs.KernelState.{KernelState, objects_of, AreFiled, AreReadable, IsCached}
 use Rattle.iol_kernel.specs.KernelState.{IsDomainReadable, IsFile, IsOpenEnd, IsSound, machine_of, read_of}
 use Rattle.iol_kernel.specs.Readings.{bytes_over, slot_read, slots_read}
 use Rattle.iol_kernel.specs.Views.{Objects, state_view}
@@ -72,7 +72,7 @@ fds-with_slots slots h d xs =
 
 -- The files of a cache, one after another.
 
-each_file : (P : CachedFile → Type 0) (fs : List CachedFile) → ((i : ℕ) → P (get_or fs i no_file)) → Each P fs
+each_file : (P : CachedFile → Type 0) (fs : List CachedFile) → ((i : ℕ) → P (get_or fs i no_file)) → AllByRecursion P fs
 each_file P [] all = tt
 each_file P (x ∷ fs) all = (all 0, each_file P fs (λ i. all (suc i)))
 
@@ -116,7 +116,7 @@ module _ (disk : Disk) (given : List BufId) (h : KernelState) (t : Stored) (c : 
   rest_now : AreReadable t rest
   rest_now = objects_stay h.store t goes.moves.stays h.domains rest rest_held rest_good
 
-  domains_now : Each (IsDomainReadable t) h.domains
+  domains_now : AllByRecursion (IsDomainReadable t) h.domains
   domains_now = domains_stay h.store t goes.moves.stays h.domains rest rest_held sound.domains
 
   -- whatever bytes files have, all else is as it was
@@ -156,7 +156,7 @@ module _ (disk : Disk) (given : List BufId) (h : KernelState) (t : Stored) (c : 
   filed_now = same_pools h.cache.files c.files goes.count goes.pools
       ∙ sym (same_pools h.cache.files h.cache.files refl (λ f. refl)) ∙ sound.filed
 
-  files_limited : Each IsFile c.files
+  files_limited : AllByRecursion IsFile c.files
   files_limited =
       each_file IsFile c.files
       (λ i. subst IsFile (at_index c.files i)
@@ -164,9 +164,12 @@ module _ (disk : Disk) (given : List BufId) (h : KernelState) (t : Stored) (c : 
 
   refilled-sound : (ds : Domains)
       → ((b : BufId) → sum_by (domain_uses b) ds ≡ sum_by (domain_uses b) h.domains + tally b given)
-      → Each (IsDomainReadable t) ds → Each (λ (d : Domain (List Slice)). Each (IsOpenEnd (objects_of h)) d.fds) ds
+      → AllByRecursion (IsDomainReadable t) ds
+      → AllByRecursion (λ (d : Domain (List Slice)). AllByRecursion (IsOpenEnd (objects_of h)) d.fds) ds
       → IsOpenOnce ds
-      → Each (λ (d : Domain (List Slice)). Each (λ (e : ℕ × List Slice). byte_len e.1 ≤ MAX_AGGREGATE_BYTES) d.aggs) ds
+      → AllByRecursion
+      (λ (d : Domain (List Slice)). AllByRecursion (λ (e : ℕ × List Slice). byte_len e.1 ≤ MAX_AGGREGATE_BYTES)
+      d.aggs) ds
       → live_aggs_in ds ≤ MAX_AGGREGATES → IsSound (refilled ds)
   unfolding IsCached
   refilled-sound ds uses readable ends once small few =
@@ -182,8 +185,8 @@ module _ (disk : Disk) (given : List BufId) (h : KernelState) (t : Stored) (c : 
                   λ n. record { laid = (kept.files n).laid };
             };
         fds =
-            each-weaker (λ (d : Domain (List Slice)). Each (IsOpenEnd (objects_of h)) d.fds)
-            (λ (d : Domain (List Slice)). Each (IsOpenEnd (objects_of (refilled ds))) d.fds) ds
+            each-weaker (λ (d : Domain (List Slice)). AllByRecursion (IsOpenEnd (objects_of h)) d.fds)
+            (λ (d : Domain (List Slice)). AllByRecursion (IsOpenEnd (objects_of (refilled ds))) d.fds) ds
             (λ d e. each-weaker (IsOpenEnd (objects_of h)) (IsOpenEnd (objects_of (refilled ds))) d.fds (same_end ds) e)
             ends;
         once = once;

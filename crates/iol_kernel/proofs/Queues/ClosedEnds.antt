@@ -1,5 +1,6 @@
 -- Closing the end of a pipe, as the machine sees it.
 use Rattle.std.proofs.Common.{◌≡◌, ℕ, ◌+◌, ◌<◌, ◌≤◌, List, [], ◌∷◌, length, ap, ◌∙◌, refl, sym, subst, arith, Option, Some, None, inl, inr, ◌⊎◌, get_or, true, false, Bool, length-set, ◌≢◌}
+use Rattle.std.specs.List.{AllByRecursion}
 use Rattle.std.specs.Prelude.{slice_set, unwrap_or, if◌then◌else◌, ◌||◌, sum_by, cond, eqb}
 use Rattle.std.proofs.lemmas.Bool.{cases_eq}
 use Rattle.std.proofs.lemmas.Bool.Decides.{nat_tests}
@@ -26,7 +27,8 @@ use Rattle.iol_hold.proofs.ReadSlices.{readable_none}
 use Rattle.iol_kernel.specs.Views.{Pipe, Objects, pipe_view, state_view}
 use Rattle.iol_kernel.specs.HoldCounts.{uses, pipe_uses, IsCounted}
 use Rattle.iol_kernel.specs.EndCounts.{same_end, on_end, ends_on, all_ends_on}
-use Rattle.iol_kernel.specs.KernelState.{KernelState, objects_of, Each, IsOpenEnd, IsPipeReadable, AreReadable, IsShort, IsLimited, IsSound, queue_at, read_of}
+use Rattle.iol_kernel.specs.KernelState.{KernelState, objects_of, IsOpenEnd, IsPipeReadable, AreReadable, IsShort}
+use Rattle.iol_kernel.specs.KernelState.{IsLimited, IsSound, queue_at, read_of}
 use Rattle.iol_kernel.specs.Readings.{Reading, read}
 use Rattle.iol_kernel.specs.ClosedEnds.{without_reader, without_writer, with_pipe_in, Closes, ClosesEnd, IsLetGo, KeepsEnds}
 use Rattle.iol_kernel.proofs.State.Uses.{uses-set_pipe, uses_at, Pipes}
@@ -137,14 +139,18 @@ writer_keeps o p there = record { each = each }
     each (on.Connection c) differ h = h
 
 -- what is not open on the closed end stays open
-pub ends_kept : (end : Descriptor) (old new : Objects (List Slice)) → KeepsEnds end old new → (fds : List (Option Descriptor)) → Each (IsOpenEnd old) fds → ends_on end fds ≡ 0 → Each (IsOpenEnd new) fds
+pub ends_kept : (end : Descriptor) (old new : Objects (List Slice)) → KeepsEnds end old new
+    → (fds : List (Option Descriptor)) → AllByRecursion (IsOpenEnd old) fds → ends_on end fds ≡ 0
+    → AllByRecursion (IsOpenEnd new) fds
 ends_kept end old new keeps [] e none = tt
 ends_kept end old new keeps (None ∷ fds) e none = let nothing : Option Descriptor = None in let c = sum_by-cons (on_end end) nothing fds in (tt, ends_kept end old new keeps fds e.1 (omega (arith, c, none)))
 ends_kept end old new keeps (Some y ∷ fds) e none =
     let c = sum_by-cons (on_end end) (Some y) fds in
     (keeps.each y (omega (arith, c, none)) e.0, ends_kept end old new keeps fds e.1 (omega (arith, c, none)))
 
-pub all_ends_kept : (end : Descriptor) (old new : Objects (List Slice)) → KeepsEnds end old new → (ds : List (Domain (List Slice))) → Each (λ d. Each (IsOpenEnd old) d.fds) ds → all_ends_on end ds ≡ 0 → Each (λ d. Each (IsOpenEnd new) d.fds) ds
+pub all_ends_kept : (end : Descriptor) (old new : Objects (List Slice)) → KeepsEnds end old new
+    → (ds : List (Domain (List Slice))) → AllByRecursion (λ d. AllByRecursion (IsOpenEnd old) d.fds) ds
+    → all_ends_on end ds ≡ 0 → AllByRecursion (λ d. AllByRecursion (IsOpenEnd new) d.fds) ds
 all_ends_kept end old new keeps [] e none = tt
 all_ends_kept end old new keeps (d ∷ ds) e none =
     let c = sum_by-cons (λ (y : Domain (List Slice)). ends_on end y.fds) d ds in

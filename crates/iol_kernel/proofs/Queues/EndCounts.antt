@@ -1,5 +1,6 @@
 -- Ends of pipes stay open where a pipe is added or its queue changes.
 use Rattle.std.proofs.Common.{◌≡◌, ◌≢◌, ℕ, zero, suc, ◌<◌, ◌≤◌, List, [], ◌∷◌, length, ap, ◌∙◌, refl, sym, arith, Bool}
+use Rattle.std.specs.List.{AllByRecursion}
 use Rattle.std.proofs.Common.{Option, Some, None, true, false, inl, inr, ◌⊎◌}
 use Rattle.std.specs.Prelude.{slice_set, unwrap_or}
 use Rattle.std.proofs.lemmas.Bool.{cases_lt, cases_eq}
@@ -10,7 +11,7 @@ use Rattle.iol_core.specs.declared.descriptors.Descriptor.{Descriptor}
 use Rattle.iol_core.specs.declared.descriptors.Descriptor.TheVariants as on
 use Rattle.iol_hold.specs.declared.slices.Slice.{Slice}
 use Rattle.iol_kernel.specs.Views.{Pipe, Objects}
-use Rattle.iol_kernel.specs.KernelState.{Each, IsOpenEnd, queue_at}
+use Rattle.iol_kernel.specs.KernelState.{IsOpenEnd, queue_at}
 use Rattle.iol_kernel.proofs.State.Once.{in_place-lowest}
 use Rattle.iol_kernel.proofs.State.Sound.{each-weaker}
 use Rattle.iol_kernel.proofs.State.Uses.{Pipes}
@@ -58,7 +59,8 @@ end_placed o x (Some (on.File f at mode)) h = h
 end_placed o x (Some (on.Connection c)) h = h
 
 pub ends_placed : (o : Objects (List Slice)) (x : Pipe (List Slice)) (fds : List (Option Descriptor))
-    → Each (IsOpenEnd o) fds → Each (IsOpenEnd (record o { pipes = placed o.pipes (lowest o.pipes) x })) fds
+    → AllByRecursion (IsOpenEnd o) fds
+    → AllByRecursion (IsOpenEnd (record o { pipes = placed o.pipes (lowest o.pipes) x })) fds
 ends_placed o x fds e = each-weaker (IsOpenEnd o) (IsOpenEnd (record o { pipes = placed o.pipes (lowest o.pipes) x }))
     fds (end_placed o x) e
 
@@ -132,8 +134,9 @@ end_queued o p q lt (Some (on.File f at mode)) h = h
 end_queued o p q lt (Some (on.Connection c)) h = h
 
 pub ends_queued : (o : Objects (List Slice)) (p : ℕ) (q : List Slice) → p < length o.pipes
-    → (fds : List (Option Descriptor)) → Each (IsOpenEnd o) fds
-    → Each (IsOpenEnd (record o { pipes = slice_set o.pipes p (Some (record (queue_at o.pipes p) { queue = q })) })) fds
+    → (fds : List (Option Descriptor)) → AllByRecursion (IsOpenEnd o) fds
+    → AllByRecursion
+    (IsOpenEnd (record o { pipes = slice_set o.pipes p (Some (record (queue_at o.pipes p) { queue = q })) })) fds
 ends_queued o p q lt fds e =
     each-weaker (IsOpenEnd o)
     (IsOpenEnd (record o { pipes = slice_set o.pipes p (Some (record (queue_at o.pipes p) { queue = q })) })) fds

@@ -1,5 +1,6 @@
 -- New bytes at the end of a queue that a domain writes to.
 use Rattle.std.proofs.Common.{◌≡◌, ℕ, zero, suc, ◌-◌, ◌<◌, ◌≤◌, ◌||◌, Bool, List, [], ◌∷◌, ◌++◌, length, map, take, ap}
+use Rattle.std.specs.List.{AllByRecursion}
 use Rattle.std.proofs.Common.{◌∙◌, refl, sym, subst, arith, Option, Some, None, true, false, inr}
 use Rattle.std.specs.Prelude.{slice_set, min, unwrap_or, MatchOption, Result, Ok, Err, IfErr, IfOk, OnErr, OnOk}
 use Rattle.std.proofs.lemmas.List.{length-take}
@@ -36,7 +37,7 @@ use Rattle.iol_kernel.specs.WritesByCopy.{FillsQueue, MayPut, lands_in, written_
 use Rattle.iol_kernel.specs.Queues.{with_queue_of}
 use Rattle.iol_kernel.specs.Views.{Pipe, pipe_view, state_view}
 use Rattle.iol_kernel.specs.KernelState as held
-use Rattle.iol_kernel.specs.KernelState.{KernelState, objects_of, Each, AreReadable, IsPipeReadable, IsOpenEnd, IsSound}
+use Rattle.iol_kernel.specs.KernelState.{KernelState, objects_of, AreReadable, IsPipeReadable, IsOpenEnd, IsSound}
 use Rattle.iol_kernel.specs.KernelState.{read_of, machine_of, queue_at}
 use Rattle.iol_kernel.specs.Readings.{Reading, read, bytes_over}
 use Rattle.iol_kernel.proofs.Connections.OneConnection.{conn_found, turned, turned-read}
@@ -176,8 +177,8 @@ module _ (h : KernelState) (t : Stored) (p pool : ℕ) (q : List Slice) (bytes :
         conns = rest_good.conns;
         files = rest_good.files;
       })
-      (each-weaker (λ (z : Domain (List Slice)). Each (IsOpenEnd (objects_of h)) z.fds)
-      (λ (z : Domain (List Slice)). Each (IsOpenEnd (record (objects_of h) { pipes = more })) z.fds) h.domains
+      (each-weaker (λ (z : Domain (List Slice)). AllByRecursion (IsOpenEnd (objects_of h)) z.fds)
+      (λ (z : Domain (List Slice)). AllByRecursion (IsOpenEnd (record (objects_of h) { pipes = more })) z.fds) h.domains
       (λ z e. ends_queued (objects_of h) p q there z.fds e) sound.fds)
       filling-counted (queue_limits h p q sound short)
       (pools_pooled h.store t h.conns h.cache.files adds.pools sound.pooled)

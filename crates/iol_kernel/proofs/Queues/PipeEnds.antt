@@ -1,5 +1,6 @@
 -- Effects on pipes and their ends.
 use Rattle.std.proofs.Common.{inl, inr, ◌∷◌, ◌++◌, ◌<◌, length, length-append, length-set, ◌≡◌, ◌≢◌, ℕ, ◌+◌, ◌≤◌, ◌==◌}
+use Rattle.std.specs.List.{AllByRecursion}
 use Rattle.std.proofs.Common.{List, [], ap, ◌∙◌, refl, sym, subst, arith, Option, Some, None, true, false}
 use Rattle.std.specs.Prelude.{slice_set, nat_lt, not, ◌&&◌, if◌then◌else◌, Bool}
 use Rattle.std.proofs.lemmas.Bool.Decides.{nat_tests}
@@ -20,7 +21,7 @@ use Rattle.iol_hold.proofs.ReadSlices.{readable_none}
 use Rattle.iol_desc.specs.Tables.{domain_in, with_domain_in, with_fds_in, with_next_fd, with_ends}
 use Rattle.iol_kernel.specs.Views.{Pipe, Objects, state_view}
 use Rattle.iol_kernel.specs.EndCounts.{same_end, ends_on, all_ends_on, IsOpenOnce}
-use Rattle.iol_kernel.specs.KernelState.{KernelState, objects_of, Each, IsOpenEnd, IsPipeReadable, IsSound, IsShort}
+use Rattle.iol_kernel.specs.KernelState.{KernelState, objects_of, IsOpenEnd, IsPipeReadable, IsSound, IsShort}
 use Rattle.iol_kernel.specs.KernelState.{read_of}
 use Rattle.iol_kernel.specs.ClosedEnds.{IsLetGo}
 use Rattle.iol_kernel.specs.NewDescriptors.{MayGiveFd, MayPipe}
@@ -143,15 +144,15 @@ piped-sound h ds qs d sound live few domains' pipes' =
             (length-placed h.pipes empty_pipe sound.limits.objects.few_pipes few);
       };
       fds =
-          each-weaker (λ (x : Domain (List Slice)). Each (IsOpenEnd (objects_of h)) x.fds)
-          (λ (x : Domain (List Slice)). Each (IsOpenEnd o) x.fds) h.domains
+          each-weaker (λ (x : Domain (List Slice)). AllByRecursion (IsOpenEnd (objects_of h)) x.fds)
+          (λ (x : Domain (List Slice)). AllByRecursion (IsOpenEnd o) x.fds) h.domains
           (λ x e. ends_placed (objects_of h) empty_pipe x.fds e) sound.fds;
     } in
     let xs : List (Option Descriptor) = (domain_in h.domains d).fds in
-    let first : Each (IsOpenEnd o) (with_read_end xs (lowest h.pipes)) =
+    let first : AllByRecursion (IsOpenEnd o) (with_read_end xs (lowest h.pipes)) =
     each-placed (IsOpenEnd o) xs (lowest xs) (on.ReadEnd (lowest h.pipes)) (ends_open k d sound')
     (new_reading h.pipes empty_pipe) in
-    let second : Each (IsOpenEnd o) (with_ends xs (lowest h.pipes)) =
+    let second : AllByRecursion (IsOpenEnd o) (with_ends xs (lowest h.pipes)) =
     each-placed (IsOpenEnd o) (with_read_end xs (lowest h.pipes)) (lowest (with_read_end xs (lowest h.pipes)))
     (on.WriteEnd (lowest h.pipes)) first (new_writing h.pipes empty_pipe) in
     subst (λ (ys : List (Option (Pipe (List Slice)))). IsSound (record h { domains = ds; pipes = ys })) (sym pipes')

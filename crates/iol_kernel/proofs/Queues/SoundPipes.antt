@@ -2,7 +2,7 @@
 use Rattle.std.proofs.Common.{◌≡◌, ◌∙◌, ℕ, ◌+◌, ◌-◌, ◌<◌, ◌≤◌, List, [], ◌∷◌, ◌++◌, length, take, drop, ap, refl, sym}
 use Rattle.std.proofs.Common.{subst, arith, Option, Some, None, true, false, inl, inr, length-set}
 use Rattle.std.specs.Prelude.{slice_set, unwrap_or, min}
-use Rattle.std.specs.List.{prefix_len, take_while}
+use Rattle.std.specs.List.{prefix_len, take_while, AllByRecursion}
 use Rattle.std.proofs.lemmas.List.{length-take, length-drop}
 use Rattle.iol_core.specs.NumberedLists.{in_place}
 use Rattle.iol_core.specs.Calls.Aggregates as aggs
@@ -27,7 +27,7 @@ use Rattle.iol_pipe.proofs.Texts.{readable_pushed, readable_given}
 use Rattle.iol_desc.specs.Tables.{agg_in, domain_in, with_agg_in, live_aggs_in}
 use Rattle.iol_kernel.specs.Views.{Pipe}
 use Rattle.iol_kernel.specs.HoldCounts.{IsCounted}
-use Rattle.iol_kernel.specs.KernelState.{KernelState, objects_of, Each, IsOpenEnd, IsPipeReadable, AreReadable}
+use Rattle.iol_kernel.specs.KernelState.{KernelState, objects_of, IsOpenEnd, IsPipeReadable, AreReadable}
 use Rattle.iol_kernel.specs.KernelState.{IsDomainReadable, IsShort, IsLimited, IsSound, queue_at, read_of}
 use Rattle.iol_kernel.specs.OpenDescriptors.{IsOpenOn}
 use Rattle.iol_kernel.specs.Readings.{Reading, bytes_over}
@@ -128,8 +128,8 @@ module _ (h : KernelState) (t : Stored) (qs : List (Option (Pipe (List Slice))))
       (moved-sound h.store (record h { store = t; pipes = more }) (shares_move shares).stays more_counted
       (shares.tidy sound.tidy) ((shares_move shares).still sound.still)
       (all_reclaimed_same h.store t shares.arena shares.pools sound.reclaimed) sound.domains more_good
-      (each-weaker (λ (x : Domain (List Slice)). Each (IsOpenEnd (objects_of h)) x.fds)
-      (λ (x : Domain (List Slice)). Each (IsOpenEnd (record (objects_of h) { pipes = more })) x.fds) h.domains
+      (each-weaker (λ (x : Domain (List Slice)). AllByRecursion (IsOpenEnd (objects_of h)) x.fds)
+      (λ (x : Domain (List Slice)). AllByRecursion (IsOpenEnd (record (objects_of h) { pipes = more })) x.fds) h.domains
       (λ x e. ends_queued (objects_of h) p (queue_at qs p).queue there x.fds e) sound.fds) sound.once
       (queue_limits h p (queue_at qs p).queue sound short)
       (pools_pooled h.store t h.conns h.cache.files shares.pools sound.pooled) sound.sums sound.filed sound.cached
@@ -179,7 +179,7 @@ module _ (h : KernelState) (t : Stored) (ds : List (Domain (List Slice))) (qs : 
     files = sound.objects.files;
   }
 
-  given_good : Each (IsDomainReadable h.store) given
+  given_good : AllByRecursion (IsDomainReadable h.store) given
   given_good = add_readable h.store h.domains d takes.slices sound.domains slices_good
 
   module _ (live : (domain_in h.domains d).live ≡ true) (few : live_aggs_in h.domains < MAX_AGGREGATES) where
@@ -223,8 +223,9 @@ module _ (h : KernelState) (t : Stored) (ds : List (Domain (List Slice))) (qs : 
         (all_reclaimed_same h.store t takes.shares.arena takes.shares.pools sound.reclaimed) given_good less_good
         (fds_stay (record (objects_of h) { pipes = less }) h.domains d
         (record x { aggs = x.aggs ++ (x.next_agg, takes.slices) ∷ []; next_agg = x.next_agg + 1 })
-        (each-weaker (λ (x : Domain (List Slice)). Each (IsOpenEnd (objects_of h)) x.fds)
-        (λ (x : Domain (List Slice)). Each (IsOpenEnd (record (objects_of h) { pipes = less })) x.fds) h.domains
+        (each-weaker (λ (x : Domain (List Slice)). AllByRecursion (IsOpenEnd (objects_of h)) x.fds)
+        (λ (x : Domain (List Slice)). AllByRecursion (IsOpenEnd (record (objects_of h) { pipes = less })) x.fds)
+        h.domains
         (λ x e. ends_queued (objects_of h) p (queue_at qs p).queue there' x.fds e) sound.fds) refl)
         (once_same h.domains d (record x {
           aggs = x.aggs ++ (x.next_agg, takes.slices) ∷ [];

@@ -2,7 +2,7 @@
 use Rattle.std.proofs.Common.{◌≡◌, ℕ, zero, suc, ◌+◌, ◌<◌, ◌≤◌, ◌||◌, Bool, cond, List, [], ◌∷◌, length, map, take}
 use Rattle.std.proofs.Common.{drop, ap, ◌∙◌, refl, sym, subst, arith, Option, Some, true, false, inl}
 use Rattle.std.specs.Prelude.{slice_set}
-use Rattle.std.specs.List.{take_while, prefix_len}
+use Rattle.std.specs.List.{take_while, prefix_len, AllByRecursion}
 use Rattle.std.proofs.lemmas.List.{length-drop, length-map, take-map}
 use Rattle.iol_core.specs.Text.{Text, bytes_of, admitted}
 use Rattle.iol_core.specs.NumberedLists.{lookup, changed}
@@ -29,7 +29,7 @@ use Rattle.iol_sock.specs.Table.{conn_in}
 use Rattle.iol_kernel.specs.Calls.{Leaves}
 use Rattle.iol_kernel.specs.Queues.{with_queue_of}
 use Rattle.iol_kernel.specs.Views.{Pipe, pipe_view}
-use Rattle.iol_kernel.specs.KernelState.{KernelState, objects_of, Each, AreReadable, IsConn, IsConnReadable}
+use Rattle.iol_kernel.specs.KernelState.{KernelState, objects_of, AreReadable, IsConn, IsConnReadable}
 use Rattle.iol_kernel.specs.KernelState.{IsPipeReadable, IsOpenEnd, IsSound, read_of, machine_of, queue_at}
 use Rattle.iol_kernel.proofs.Connections.OneConnection.{IsOpenConn, conn_in-found, conn_limit, conn_readable}
 use Rattle.iol_kernel.proofs.Connections.OneConnection.{open_conn-there, turned, turned_fds, turned_leaves}
@@ -253,8 +253,8 @@ module _ (h : KernelState) (t : Stored) (qs : List (Option (Pipe (List Slice))))
       })
       (moves.tidy sound.tidy) (moves.still sound.still) (reclaims (queue_readable h p sound) sound.reclaimed)
       sound.domains less_good
-      (each-weaker (λ (z : Domain (List Slice)). Each (IsOpenEnd (objects_of h)) z.fds)
-      (λ (z : Domain (List Slice)). Each (IsOpenEnd (record (objects_of h) { pipes = less })) z.fds) h.domains
+      (each-weaker (λ (z : Domain (List Slice)). AllByRecursion (IsOpenEnd (objects_of h)) z.fds)
+      (λ (z : Domain (List Slice)). AllByRecursion (IsOpenEnd (record (objects_of h) { pipes = less })) z.fds) h.domains
       (λ z e. ends_queued (objects_of h) p (queue_at qs p).queue there z.fds e) sound.fds) sound.once
       (queue_limits h p (queue_at qs p).queue sound short)
       (same_pooled h.store t h.conns h.cache.files lists sound.pooled) sound.sums sound.filed sound.cached

@@ -1,12 +1,13 @@
 -- Ends that were taken from a domain, and are closed one after another.
 use Rattle.std.proofs.Common.{◌≡◌, ℕ, suc, ◌+◌, ◌<◌, ◌≤◌, List, [], ◌∷◌, length, drop, ap, ◌∙◌, sym, subst, arith}
+use Rattle.std.specs.List.{AllByRecursion}
 use Rattle.std.proofs.Common.{Option, Some, get_or, true}
 use Rattle.std.proofs.Math.Seq.{drop-cons}
 use Rattle.std.proofs.lemmas.List.Sums.{sum_by-cons}
 use Rattle.iol_core.specs.declared.descriptors.Descriptor.{Descriptor}
 use Rattle.iol_desc.specs.Tables.{domain_in, with_fds_in}
 use Rattle.iol_kernel.specs.EndCounts.{same_end, on_end, ends_on, all_ends_on}
-use Rattle.iol_kernel.specs.KernelState.{KernelState, objects_of, Each, IsOpenEnd, IsSound}
+use Rattle.iol_kernel.specs.KernelState.{KernelState, objects_of, IsOpenEnd, IsSound}
 use Rattle.iol_kernel.specs.ClosedEnds.{AreLetGo, AreTaken, KeepsEnds}
 use Rattle.iol_kernel.specs.DomainAggregates.{Lives}
 use Rattle.iol_kernel.specs.Readings.{bytes_over}
@@ -31,7 +32,8 @@ taken_ends : (h : KernelState) (ds : Domains) (d : ℕ) (ends : List (Option Des
     → (domain_in h.domains d).live ≡ true → ends ≡ (domain_in h.domains d).fds → ds ≡ with_fds_in h.domains d []
     → AreTaken ds (objects_of h) ends
 taken_ends h ds d ends sound live is rest = record {
-  opened = subst (λ (xs : List (Option Descriptor)). Each (IsOpenEnd (objects_of h)) xs) (sym is) (ends_open h d sound);
+  opened = subst (λ (xs : List (Option Descriptor)). AllByRecursion (IsOpenEnd (objects_of h)) xs) (sym is)
+      (ends_open h d sound);
   once =
       λ x. omega (
         arith,

@@ -30,7 +30,7 @@ use Rattle.iol_desc.specs.Tables.{live_aggs_in, with_fds_in}
 use Rattle.iol_kernel.specs.Views.{Objects, state_view}
 use Rattle.iol_kernel.specs.HoldCounts.{IsCounted, domain_uses}
 use Rattle.iol_kernel.specs.EndCounts.{IsOpenOnce, ends_on}
-use Rattle.iol_kernel.specs.KernelState.{KernelState, objects_of, machine_of, Each, IsDomainReadable, AreReadable}
+use Rattle.iol_kernel.specs.KernelState.{KernelState, objects_of, machine_of, IsDomainReadable, AreReadable}
 use Rattle.iol_kernel.specs.KernelState.{IsOpenEnd, ArePooled, AreFiled, IsCached, IsSound, IsLimited, read_of}
 use Rattle.iol_kernel.specs.Readings.{Reading, read, bytes_over}
 use Rattle.iol_kernel.proofs.State.TableCalls.{answers_here}
@@ -52,7 +52,7 @@ use Rattle.iol_kernel.proofs.State.Pools.{same_pooled, pools_pooled, one_more_po
 use Rattle.iol_sum.specs.Sums.{IsRight}
 use Rattle.iol_sum.proofs.KeptSums.{IsRight-keeps}
 use Rattle.std.specs.Prelude.{◌==◌}
-use Rattle.std.specs.List.{list_any}
+use Rattle.std.specs.List.{list_any, AllByRecursion}
 use Rattle.iol_kernel.specs.NewAggregates.{AddsText}
 use Rattle.iol_kernel.specs.Calls.{MakesAgg, Answers, Leaves, KeepsPlaces}
 use Rattle.std.proofs.lemmas.List.Sums.{sum_by_push}
@@ -74,7 +74,8 @@ grown-sound h ds sound is =
     subst (λ (ys : List (Domain (List Slice))). IsSound (record h { domains = ys })) (sym is) (record {
       domains = each-push (IsDomainReadable h.store) h.domains new_domain sound.domains tt;
       objects = sound.objects;
-      fds = each-push (λ (x : Domain (List Slice)). Each (IsOpenEnd (objects_of h)) x.fds) h.domains new_domain
+      fds = each-push (λ (x : Domain (List Slice)). AllByRecursion (IsOpenEnd (objects_of h)) x.fds) h.domains
+          new_domain
           sound.fds
           tt;
       once =
@@ -93,7 +94,8 @@ grown-sound h ds sound is =
       still = sound.still;
       reclaimed = sound.reclaimed;
       limits = record {
-        aggs = each-push (λ (x : Domain (List Slice)). Each (λ e. byte_len e.1 ≤ MAX_AGGREGATE_BYTES) x.aggs) h.domains
+        aggs = each-push (λ (x : Domain (List Slice)). AllByRecursion (λ e. byte_len e.1 ≤ MAX_AGGREGATE_BYTES) x.aggs)
+            h.domains
             new_domain sound.limits.aggs tt;
         few =
             omega (
@@ -155,7 +157,7 @@ few_aggs f h d made given few =
 
 -- what is held is read as it was
 pub moved-read : (s : Stored) (k : KernelState) → Stays s k.store → AreHeld k.store k.domains (objects_of k)
-    → Each (IsDomainReadable s) k.domains → AreReadable s (objects_of k) → (stored : List (List ℕ))
+    → AllByRecursion (IsDomainReadable s) k.domains → AreReadable s (objects_of k) → (stored : List (List ℕ))
     → machine_of stored k ≡ read_of (bytes_over stored s) k
 unfolding read_of
 moved-read s k stays held e o stored = view-stays s k.store stays k.domains (objects_of k) held k.store.pools e o stored
@@ -163,7 +165,7 @@ moved-read s k stays held e o stored = view-stays s k.store stays k.domains (obj
 -- a change of the tables that is the same whatever is read, while the store goes on
 pub leaves : (after : State → State) (h k : KernelState) → ((f : Reading) → read_of f k ≡ after (read_of f h))
     → k.sums ≡ h.sums → k.cache ≡ h.cache
-    → Stays h.store k.store → KeepsPages h.store k.store [] → Each (IsDomainReadable h.store) k.domains
+    → Stays h.store k.store → KeepsPages h.store k.store [] → AllByRecursion (IsDomainReadable h.store) k.domains
     → AreReadable h.store (objects_of k) → IsSound k → Leaves after h k
 leaves after h k reads sums cache stays pages e o sound = record {
   bytes = λ stored. moved-read h.store k stays (counted_held sound.counted) e o stored
@@ -177,9 +179,10 @@ leaves after h k reads sums cache stays pages e o sound = record {
 }
 
 pub moved-sound : (s : Stored) (k : KernelState) → Stays s k.store → IsCounted k.store k.domains (objects_of k)
-    → IsTidy k.store → IsStill k.store.arena → AllReclaimed k.store → Each (IsDomainReadable s) k.domains
+    → IsTidy k.store → IsStill k.store.arena → AllReclaimed k.store → AllByRecursion (IsDomainReadable s) k.domains
     → AreReadable s (objects_of k)
-    → Each (λ (d : Domain (List Slice)). Each (IsOpenEnd (objects_of k)) d.fds) k.domains → IsOpenOnce k.domains
+    → AllByRecursion (λ (d : Domain (List Slice)). AllByRecursion (IsOpenEnd (objects_of k)) d.fds) k.domains
+    → IsOpenOnce k.domains
     → IsLimited k.domains (objects_of k) → ArePooled k.store.pools k.conns k.cache.files → IsRight s.arena k.sums
     → AreFiled k.files k.cache.files → IsCached s k.cache → page_count k.store.arena ≡ page_count s.arena
     → IsSound k
@@ -404,7 +407,7 @@ module _ (h : KernelState) (t : Stored) (ds : List (Domain (List Slice))) (d a :
   pub dropped : Leaves (λ s. aggs.without_agg s d a) h (record h { store = t; domains = ds })
   dropped = leaves (λ s. aggs.without_agg s d a) h (record h { store = t; domains = ds }) dropped-read refl refl
       moves.stays (keeps_pages_frees frees)
-      (subst (λ (ys : List (Domain (List Slice))). Each (IsDomainReadable h.store) ys) (sym rest)
+      (subst (λ (ys : List (Domain (List Slice))). AllByRecursion (IsDomainReadable h.store) ys) (sym rest)
       (drop_readable h d a sound)) sound.objects dropped-sound
 
 -- pools come and go; nothing is placed and nothing given up
@@ -466,7 +469,8 @@ fds-changed f h ds d xs is = ap (λ (ys : List (Domain (List Slice))). state_vie
     ∙ with_fds-view f h.domains h.store.pools (objects_of h) d xs
 
 pub fds-sound : (h : KernelState) (ds : List (Domain (List Slice))) (d : ℕ) (xs : List (Option Descriptor)) → IsSound h
-    → (domain_in h.domains d).live ≡ true → ds ≡ with_fds_in h.domains d xs → Each (IsOpenEnd (objects_of h)) xs
+    → (domain_in h.domains d).live ≡ true → ds ≡ with_fds_in h.domains d xs
+    → AllByRecursion (IsOpenEnd (objects_of h)) xs
     → IsOpenOnce (with_fds_in h.domains d xs) → IsSound (record h { domains = ds })
 fds-sound h ds d xs sound live is ends once =
     subst (λ (ys : List (Domain (List Slice))). IsSound (record h { domains = ys })) (sym is)

@@ -1,5 +1,6 @@
 -- New bytes lie at the end of a queue, and the store went on from h's to t.
 use Rattle.std.proofs.Common.{◌≡◌, ℕ, ◌+◌, ◌≤◌, List, length, ap, sym, subst, arith, Option, take}
+use Rattle.std.specs.List.{AllByRecursion}
 use Rattle.std.proofs.lemmas.List.{length-map, length-take}
 use Rattle.iol_core.specs.State.{Domain}
 use Rattle.iol_core.specs.declared.limits.TheConstants.{MAX_QUEUE_BYTES}
@@ -17,7 +18,7 @@ use Rattle.iol_pipe.specs.Queue.{fitting}
 use Rattle.iol_sock.specs.Connections.{Conn}
 use Rattle.iol_sum.proofs.KeptSums.{IsRight-keeps}
 use Rattle.iol_kernel.specs.HoldCounts.{IsCounted, uses}
-use Rattle.iol_kernel.specs.KernelState.{AreReadable, ArePooled, Each, IsLimited, IsOpenEnd, IsSound, KernelState}
+use Rattle.iol_kernel.specs.KernelState.{AreReadable, ArePooled, IsLimited, IsOpenEnd, IsSound, KernelState}
 use Rattle.iol_kernel.specs.KernelState.{machine_of, objects_of, read_of}
 use Rattle.iol_kernel.specs.Readings.{bytes_over}
 use Rattle.iol_kernel.specs.Views.{Objects, Pipe}
@@ -75,7 +76,8 @@ module _ (h : KernelState) (t : Stored) (old q : List Slice) (pool : ℕ) (bytes
     objects = record (objects_of h) { pipes = ps; conns = cs }
 
     pub added-sound : AreReadable t objects
-        → Each (λ (d : Domain (List Slice)). Each (IsOpenEnd objects) d.fds) h.domains → IsCounted t h.domains objects
+        → AllByRecursion (λ (d : Domain (List Slice)). AllByRecursion (IsOpenEnd objects) d.fds) h.domains
+        → IsCounted t h.domains objects
         → IsLimited h.domains objects → ArePooled t.pools cs h.cache.files
         → IsSound (record h { store = t; pipes = ps; conns = cs })
     added-sound readable fds counted limits pooled = record {

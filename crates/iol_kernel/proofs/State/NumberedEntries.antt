@@ -1,5 +1,6 @@
 -- Lists under rising numbers, of which one entry changes or goes.
 use Rattle.std.proofs.Common.{◌≡◌, ◌≢◌, ℕ, ◌+◌, ◌<◌, ◌≤◌, ◌==◌, Bool, List, [], ◌∷◌, ◌++◌, length, map, ap, ◌∙◌, refl}
+use Rattle.std.specs.List.{AllByRecursion}
 use Rattle.std.proofs.Common.{sym, subst, arith, Some, None, true, false, inl, inr}
 use Rattle.std.specs.Prelude.{if◌then◌else◌, sum_by}
 use Rattle.std.proofs.lemmas.Bool.{cases_eq}
@@ -7,7 +8,6 @@ use Rattle.std.proofs.lemmas.Bool.Decides.{nat_tests}
 use Rattle.std.proofs.lemmas.List.Sums.{sum_by-cons}
 use Rattle.iol_core.specs.NumberedLists.{lookup, without, changed}
 use Rattle.iol_desc.specs.EntryLists.{Rises}
-use Rattle.iol_kernel.specs.KernelState.{Each}
 
 -- the entry of a number, with another value
 
@@ -174,8 +174,9 @@ lookup_above (e ∷ es) from to rises =
 
 -- what holds of each
 
-pub each-changed : {A : Type 0} (P : ℕ × A → Type 0) (es : List (ℕ × A)) (n : ℕ) (y : A) → Each P es → P (n, y)
-    → Each P (changed es n y)
+pub each-changed : {A : Type 0} (P : ℕ × A → Type 0) (es : List (ℕ × A)) (n : ℕ) (y : A) → AllByRecursion P es
+    → P (n, y)
+    → AllByRecursion P (changed es n y)
 each-changed P [] n y e p = tt
 each-changed {A} P (x ∷ es) n y e p = (pick (x.0 == n), each-changed P es n y e.1 p)
   where
@@ -183,15 +184,16 @@ each-changed {A} P (x ∷ es) n y e p = (pick (x.0 == n), each-changed P es n y 
     pick true = p
     pick false = e.0
 
-pub each-without_any : {A : Type 0} (P : ℕ × A → Type 0) (es : List (ℕ × A)) (n : ℕ) → Each P es → Each P (without es n)
+pub each-without_any : {A : Type 0} (P : ℕ × A → Type 0) (es : List (ℕ × A)) (n : ℕ) → AllByRecursion P es
+    → AllByRecursion P (without es n)
 each-without_any P [] n e = tt
 each-without_any {A} P (x ∷ es) n e = elim (cases_eq x.0 n) [
-  | inl k ↦ subst (λ (l : List (ℕ × A)). Each P l) (sym (without_here x es n k)) e.1
-  | inr k ↦ (let same : Each P (x ∷ without es n) = (e.0, each-without_any P es n e.1) in
-      subst (λ (l : List (ℕ × A)). Each P l) (sym (without_later x es n k)) same)
+  | inl k ↦ subst (λ (l : List (ℕ × A)). AllByRecursion P l) (sym (without_here x es n k)) e.1
+  | inr k ↦ (let same : AllByRecursion P (x ∷ without es n) = (e.0, each-without_any P es n e.1) in
+      subst (λ (l : List (ℕ × A)). AllByRecursion P l) (sym (without_later x es n k)) same)
 ]
 
-pub each_found : {A : Type 0} (P : ℕ × A → Type 0) (es : List (ℕ × A)) (n : ℕ) (x : A) → Each P es
+pub each_found : {A : Type 0} (P : ℕ × A → Type 0) (es : List (ℕ × A)) (n : ℕ) (x : A) → AllByRecursion P es
     → lookup es n ≡ Some x → P (n, x)
 each_found P [] n x e is = absurd cc
 each_found {A} P (y ∷ es) n x e is = elim (cases_eq y.0 n) [

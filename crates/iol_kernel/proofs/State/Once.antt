@@ -1,5 +1,6 @@
 -- Each end of a pipe and each connection is open once, when a domain's descriptors change.
 use Rattle.std.proofs.Common.{◌≡◌, ℕ, suc, subst, false, Bool, ◌+◌, ◌<◌, ◌≤◌, ◌==◌, List, [], ◌∷◌, ◌++◌, length, ap}
+use Rattle.std.specs.List.{AllByRecursion}
 use Rattle.std.proofs.Common.{◌∙◌, refl, sym, arith, Option, Some, None, inl, inr, true}
 use Rattle.std.specs.Prelude.{slice_set, cond}
 use Rattle.std.proofs.lemmas.Bool.{cases_lt, cases_eq}
@@ -14,7 +15,7 @@ use Rattle.iol_core.specs.declared.descriptors.Descriptor.TheVariants as on
 use Rattle.iol_hold.specs.declared.slices.Slice.{Slice}
 use Rattle.iol_desc.specs.Tables.{domain_in, with_domain_in, with_fds_in}
 use Rattle.iol_kernel.specs.EndCounts.{same_end, on_end, ends_on, all_ends_on, IsOpenOnce}
-use Rattle.iol_kernel.specs.KernelState.{Each, IsOpenEnd}
+use Rattle.iol_kernel.specs.KernelState.{IsOpenEnd}
 use Rattle.iol_kernel.specs.Views.{Objects}
 use Rattle.iol_kernel.proofs.State.Uses.{sum-with_domain, Domains}
 
@@ -170,7 +171,7 @@ one_once (on.File f at mode) c k le none = omega (arith, le)
 one_once (on.Connection d) c k le none = one_more on.Connection d c k (λ same. cc) (one_at_most (d == c)) le none
 
 ends_closed : (qs : Objects (List Slice)) (x : Descriptor) → (IsOpenEnd qs (Some x) → ⊥)
-    → (fds : List (Option Descriptor)) → Each (IsOpenEnd qs) fds → ends_on x fds ≡ 0
+    → (fds : List (Option Descriptor)) → AllByRecursion (IsOpenEnd qs) fds → ends_on x fds ≡ 0
 ends_closed qs x closed [] e = refl
 ends_closed qs x closed (None ∷ fds) e = let none : Option Descriptor = None in let c =
     sum_by-cons (on_end x) none fds in omega (arith, c, ends_closed qs x closed fds e.1)
@@ -180,7 +181,7 @@ ends_closed qs x closed (Some y ∷ fds) e =
     omega (arith, c, z, ends_closed qs x closed fds e.1)
 
 pub all_ends_closed : (qs : Objects (List Slice)) (x : Descriptor) → (IsOpenEnd qs (Some x) → ⊥) → (ds : Domains)
-    → Each (λ d. Each (IsOpenEnd qs) d.fds) ds → all_ends_on x ds ≡ 0
+    → AllByRecursion (λ d. AllByRecursion (IsOpenEnd qs) d.fds) ds → all_ends_on x ds ≡ 0
 all_ends_closed qs x closed [] e = refl
 all_ends_closed qs x closed (d ∷ ds) e =
     let c = sum_by-cons (λ (y : Domain (List Slice)). ends_on x y.fds) d ds in

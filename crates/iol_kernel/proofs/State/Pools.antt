@@ -2,7 +2,7 @@
 use Rattle.std.proofs.Common.{◌≡◌, ◌≢◌, ℕ, zero, suc, get_or, refl, Bool, ◌-◌, ◌<◌, ◌≤◌, ◌==◌, List, [], ◌∷◌, ◌++◌}
 use Rattle.std.proofs.Common.{length, length-append, map, ap, ◌∙◌, sym, subst, arith, true, false, inl, inr}
 use Rattle.std.specs.Prelude.{◌||◌}
-use Rattle.std.specs.List.{list_any}
+use Rattle.std.specs.List.{list_any, AllByRecursion}
 use Rattle.std.proofs.lemmas.Bool.{cases_eq, cases_lt}
 use Rattle.std.proofs.lemmas.Bool.Decides.{nat_tests}
 use Rattle.std.proofs.lemmas.List.{get_or_append_left, get_or_past}
@@ -18,7 +18,7 @@ use Rattle.iol_sock.specs.Connections.{Conn}
 use Rattle.iol_cache.specs.CacheState.{file_in, no_file}
 use Rattle.iol_cache.specs.declared.files.CachedFile.{CachedFile}
 use Rattle.iol_cache.proofs.Extents.FileEntries.{numbered_bounds}
-use Rattle.iol_kernel.specs.KernelState.{Each, ArePooled, AreFiled}
+use Rattle.iol_kernel.specs.KernelState.{ArePooled, AreFiled}
 use Rattle.iol_kernel.proofs.State.Views.{numbered_or-map, length-map'}
 use Rattle.iol_kernel.proofs.State.Sound.{each-weaker}
 
@@ -109,8 +109,8 @@ one_admitted ps p d cs fs there pooled =
 -- one closes, which no connection is of
 
 others_open : (ps : List Pool) (p : ℕ) (cs : List (ℕ × Conn (List Slice))) → list_any (λ e. e.1.pool == p) cs ≡ false
-    → Each (λ e. (pool_in ps e.1.pool).closed ≡ false) cs
-    → Each (λ e. (pool_in (with_closed ps p) e.1.pool).closed ≡ false) cs
+    → AllByRecursion (λ e. (pool_in ps e.1.pool).closed ≡ false) cs
+    → AllByRecursion (λ e. (pool_in (with_closed ps p) e.1.pool).closed ≡ false) cs
 others_open ps p [] idle e = tt
 others_open ps p (c ∷ cs) idle e = elim (cases_eq c.1.pool p) [
   | inl k ↦ absurd (no (sym (busy k) ∙ idle))

@@ -2,7 +2,7 @@
 use Rattle.std.proofs.Common.{◌≡◌, ℕ, suc, ◌<◌, ◌∙◌, List, [], ◌∷◌, length, get_or, map, Option, Some, refl, sym, ap}
 use Rattle.std.proofs.Common.{subst, arith}
 use Rattle.std.proofs.lemmas.Bool.Decides.{nat_tests}
-use Rattle.std.specs.List.{range_with_len}
+use Rattle.std.specs.List.{range_with_len, AllByRecursion}
 use Rattle.iol_core.specs.State as machine
 use Rattle.iol_core.specs.State.{State}
 use Rattle.iol_core.specs.declared.descriptors.Descriptor.{Descriptor}
@@ -19,7 +19,7 @@ use Rattle.iol_cache.specs.declared.files.CachedFile.{CachedFile}
 use Rattle.iol_cache.proofs.Extents.FileEntries.{numbered_bounds, numbered_yes}
 use Rattle.iol_cache.proofs.Extents.KeptCover.{apart_of, evictions_keep, nothing_goes}
 use Rattle.iol_kernel.specs.FileCalls.{IsBackedBy, holding_of, with_slots}
-use Rattle.iol_kernel.specs.KernelState.{KernelState, objects_of, Each, AreFiled, AreReadable, IsCached, IsFile}
+use Rattle.iol_kernel.specs.KernelState.{KernelState, objects_of, AreFiled, AreReadable, IsCached, IsFile}
 use Rattle.iol_kernel.specs.KernelState.{IsOpenEnd, IsSound, read_of, machine_of}
 use Rattle.iol_kernel.specs.Room.{IsSame, MakesRoom}
 use Rattle.iol_kernel.specs.Readings.{Reading, bytes_over, slots_read}
@@ -32,7 +32,7 @@ use Rattle.iol_kernel.proofs.State.Sound.{AreHeld, domains_stay, objects_stay, v
 -- Files by slot, and as a list.
 
 files_each : (P : CachedFile → Type 0) (fs : List CachedFile) → ((i : ℕ) → i < length fs → P (get_or fs i no_file))
-    → Each P fs
+    → AllByRecursion P fs
 files_each P [] all = tt
 files_each P (x ∷ fs) all = (all 0 (omega arith), files_each P fs (λ i there. all (suc i) (omega (arith, there))))
 

@@ -8,7 +8,7 @@ use Rattle.std.proofs.lemmas.List.{ext_get_or}
 use Rattle.std.proofs.lemmas.List.FromFn.{get_or-map-range_with_len, length-map-range_with_len}
 use Rattle.std.proofs.lemmas.List.Concat.{flat_map-cons}
 use Rattle.std.proofs.lemmas.List.Sums.{sum_by-cons}
-use Rattle.std.specs.List.{range_with_len}
+use Rattle.std.specs.List.{range_with_len, AllByRecursion}
 use Rattle.iol_core.specs.NumberedLists.{is_numbered}
 use Rattle.iol_core.specs.declared.limits.TheConstants.{MAX_FILES, MAX_FILE_BYTES}
 use Rattle.iol_core.specs.declared.numbers.BufId.{BufId}
@@ -33,7 +33,7 @@ use Rattle.iol_cache.proofs.Extents.FileEntries.{numbered_bounds, additive_tally
 use Rattle.iol_cache.proofs.Extents.OtherCalls.{sound_stays}
 use Rattle.iol_cache.proofs.Extents.HeldSlices.{covers_file}
 use Rattle.iol_kernel.specs.HoldCounts.{uses}
-use Rattle.iol_kernel.specs.KernelState.{Each, IsFile, IsFileReadable, IsCached}
+use Rattle.iol_kernel.specs.KernelState.{IsFile, IsFileReadable, IsCached}
 use Rattle.iol_kernel.specs.Readings.{Reading, bytes_over, slot_read, slots_of, slots_read}
 
 -- what is held stays where it lies
@@ -72,7 +72,7 @@ file-none n = elim (cases_eq n 0) [ inl k ↦ grind (arith, nat_tests, k) | inr 
 pub none_readable : (s : Stored) (n : ℕ) → IsFileReadable s [] n
 none_readable s n =
     record {
-      laid = subst (λ (x : CachedFile). cache.Each (cache.IsLaid s x.pool) x.extents.extents) (sym (file-none n))
+      laid = subst (λ (x : CachedFile). AllByRecursion (cache.IsLaid s x.pool) x.extents.extents) (sym (file-none n))
           tt;
     }
 
@@ -129,7 +129,8 @@ extents_few b low (e ∷ es) apart =
       apart.0,
     )
 
-pub files_few : (b : BufId) (fs : List CachedFile) → Each IsFile fs → tally b (held fs) ≤ MAX_FILE_BYTES * length fs
+pub files_few : (b : BufId) (fs : List CachedFile) → AllByRecursion IsFile fs
+    → tally b (held fs) ≤ MAX_FILE_BYTES * length fs
 unfolding held
 files_few b fs each =
     omega (
@@ -138,7 +139,7 @@ files_few b fs each =
       few fs each,
     )
   where
-    few : (gs : List CachedFile) → Each IsFile gs
+    few : (gs : List CachedFile) → AllByRecursion IsFile gs
         → sum_by (λ (x : CachedFile). tally b (bufs_of (all_parts x.extents.extents))) gs ≤ MAX_FILE_BYTES * length gs
     few [] each = omega arith
     few (x ∷ gs) each = omega (

@@ -1,5 +1,6 @@
 -- What keeps a system sound, and what stays as the store goes on.
 use Rattle.std.proofs.Common.{◌≡◌, ℕ, zero, suc, ◌+◌, ◌-◌, ◌<◌, ◌≤◌, List, [], ◌∷◌, ◌++◌, length, map, ap, ◌∙◌, refl}
+use Rattle.std.specs.List.{AllByRecursion}
 use Rattle.std.proofs.Common.{sym, subst, arith, Option, Some, None, inl, inr, get_or, true, length-append}
 use Rattle.std.specs.Prelude.{option_map, slice_set, sum_by}
 use Rattle.std.proofs.lemmas.Bool.{cases_lt, cases_eq}
@@ -25,7 +26,7 @@ use Rattle.iol_kernel.specs.Views.{domain_view, Pipe, Objects, pipe_view, state_
 use Rattle.iol_kernel.specs.HoldCounts.{uses, domain_uses, pipe_uses, conn_uses, all_uses, IsCounted}
 use Rattle.iol_kernel.specs.EndCounts.{IsOpenOnce}
 use Rattle.iol_cache.specs.CacheState as cached
-use Rattle.iol_kernel.specs.KernelState.{KernelState, objects_of, Each, IsDomainReadable, IsPipeReadable}
+use Rattle.iol_kernel.specs.KernelState.{KernelState, objects_of, IsDomainReadable, IsPipeReadable}
 use Rattle.iol_kernel.specs.KernelState.{IsConnReadable, AreReadable, IsOpenEnd, IsSound, IsShort, AreLimited}
 use Rattle.iol_kernel.specs.KernelState.{IsLimited}
 use Rattle.iol_kernel.specs.Readings.{bytes_over, slots_read}
@@ -33,25 +34,29 @@ use Rattle.iol_kernel.proofs.State.Slots.{file_stays, slots_stay}
 use Rattle.iol_kernel.proofs.State.Uses.{uses-same, sum-with_domain, length-without}
 use Rattle.iol_core.specs.declared.limits.TheConstants.{MAX_AGGREGATES, MAX_AGGREGATE_BYTES, MAX_PIPES}
 
-pub each-push : {A : Type 0} (P : A → Type 0) (xs : List A) (x : A) → Each P xs → P x → Each P (xs ++ x ∷ [])
+pub each-push : {A : Type 0} (P : A → Type 0) (xs : List A) (x : A) → AllByRecursion P xs → P x
+    → AllByRecursion P (xs ++ x ∷ [])
 each-push P [] x e p = (p, tt)
 each-push P (y ∷ xs) x e p = (e.0, each-push P xs x e.1 p)
 
-pub each-set : {A : Type 0} (P : A → Type 0) (xs : List A) (n : ℕ) (x : A) → Each P xs → P x → Each P (slice_set xs n x)
+pub each-set : {A : Type 0} (P : A → Type 0) (xs : List A) (n : ℕ) (x : A) → AllByRecursion P xs → P x
+    → AllByRecursion P (slice_set xs n x)
 each-set P [] n x e p = tt
 each-set P (y ∷ xs) zero x e p = (p, e.1)
 each-set P (y ∷ xs) (suc n) x e p = (e.0, each-set P xs n x e.1 p)
 
-pub each-get : {A : Type 0} (P : A → Type 0) (xs : List A) (n : ℕ) (z : A) → Each P xs → P z → P (get_or xs n z)
+pub each-get : {A : Type 0} (P : A → Type 0) (xs : List A) (n : ℕ) (z : A) → AllByRecursion P xs → P z
+    → P (get_or xs n z)
 each-get P [] n z e p = p
 each-get P (y ∷ xs) zero z e p = e.0
 each-get P (y ∷ xs) (suc n) z e p = each-get P xs n z e.1 p
 
-pub each-weaker : {A : Type 0} (P Q : A → Type 0) (xs : List A) → ((x : A) → P x → Q x) → Each P xs → Each Q xs
+pub each-weaker : {A : Type 0} (P Q : A → Type 0) (xs : List A) → ((x : A) → P x → Q x) → AllByRecursion P xs
+    → AllByRecursion Q xs
 each-weaker P Q [] f e = tt
 each-weaker P Q (x ∷ xs) f e = (f x e.0, each-weaker P Q xs f e.1)
 
-each-lookup : {A : Type 0} (P : A → Type 0) (es : List (ℕ × A)) (n : ℕ) (x : A) → Each (λ e. P e.1) es
+each-lookup : {A : Type 0} (P : A → Type 0) (es : List (ℕ × A)) (n : ℕ) (x : A) → AllByRecursion (λ e. P e.1) es
     → Some x ≡ lookup es n → P x
 each-lookup P [] n x e is = absurd cc
 each-lookup {A} P (y ∷ es) n x e is = elim (cases_eq y.0 n) [
@@ -62,13 +67,15 @@ each-lookup {A} P (y ∷ es) n x e is = elim (cases_eq y.0 n) [
     same : (y : A) → Some x ≡ Some y → x ≡ y
     same y i = cc
 
-each-both : {A : Type 0} (P Q R : A → Type 0) (xs : List A) → ((x : A) → P x → Q x → R x) → Each P xs → Each Q xs
-    → Each R xs
+each-both : {A : Type 0} (P Q R : A → Type 0) (xs : List A) → ((x : A) → P x → Q x → R x) → AllByRecursion P xs
+    → AllByRecursion Q xs
+    → AllByRecursion R xs
 each-both P Q R [] f e k = tt
 each-both P Q R (x ∷ xs) f e k = (f x e.0 k.0, each-both P Q R xs f e.1 k.1)
 
-map-kept : {A B : Type 0} (P Q : A → Type 0) (f g : A → B) (xs : List A) → ((x : A) → P x → Q x → f x ≡ g x) → Each P xs
-    → Each Q xs → map f xs ≡ map g xs
+map-kept : {A B : Type 0} (P Q : A → Type 0) (f g : A → B) (xs : List A) → ((x : A) → P x → Q x → f x ≡ g x)
+    → AllByRecursion P xs
+    → AllByRecursion Q xs → map f xs ≡ map g xs
 map-kept P Q f g [] same e k = refl
 map-kept P Q f g (x ∷ xs) same e k = ap (λ y. y ∷ map f xs) (same x e.0 k.0)
     ∙ ap (λ ys. g x ∷ ys) (map-kept P Q f g xs same e.1 k.1)
@@ -79,14 +86,14 @@ abbrev IsAggCovered : Stored → (ℕ × List Slice) → Type 0
 IsAggCovered s e = Covers s (bufs_of e.1)
 
 abbrev IsDomainCovered : Stored → Domain (List Slice) → Type 0
-IsDomainCovered s d = Each (IsAggCovered s) d.aggs
+IsDomainCovered s d = AllByRecursion (IsAggCovered s) d.aggs
 
 abbrev IsPipeCovered : Stored → Option (Pipe (List Slice)) → Type 0
 IsPipeCovered s None = Unit {0}
 IsPipeCovered s (Some p) = Covers s (bufs_of p.queue)
 
 aggs_covered : (s : Stored) (es : List (ℕ × List Slice)) → ((b : BufId) → sum_by (λ e. uses b e.1) es ≤ count_of s b)
-    → Each (IsAggCovered s) es
+    → AllByRecursion (IsAggCovered s) es
 aggs_covered s [] h = tt
 aggs_covered s (e ∷ es) h = (
   record { each = λ b. (let c = sum_by-cons (λ (e : ℕ × List Slice). uses b e.1) e es in omega (arith, c, h b)) },
@@ -94,7 +101,7 @@ aggs_covered s (e ∷ es) h = (
 )
 
 domains_covered : (s : Stored) (ds : List (Domain (List Slice)))
-    → ((b : BufId) → sum_by (domain_uses b) ds ≤ count_of s b) → Each (IsDomainCovered s) ds
+    → ((b : BufId) → sum_by (domain_uses b) ds ≤ count_of s b) → AllByRecursion (IsDomainCovered s) ds
 domains_covered s [] h = tt
 domains_covered s (d ∷ ds) h = (
   aggs_covered s d.aggs (λ b. (let c = sum_by-cons (domain_uses b) d ds in omega (arith, c, h b))),
@@ -102,7 +109,7 @@ domains_covered s (d ∷ ds) h = (
 )
 
 pipes_covered : (s : Stored) (qs : List (Option (Pipe (List Slice))))
-    → ((b : BufId) → sum_by (pipe_uses b) qs ≤ count_of s b) → Each (IsPipeCovered s) qs
+    → ((b : BufId) → sum_by (pipe_uses b) qs ≤ count_of s b) → AllByRecursion (IsPipeCovered s) qs
 pipes_covered s [] h = tt
 pipes_covered s (None ∷ qs) h =
     (tt, pipes_covered s qs (λ b. (let c = sum_by-cons (pipe_uses b) None qs in omega (arith, c, h b))))
@@ -115,7 +122,7 @@ abbrev IsConnCovered : Stored → ℕ × Conn (List Slice) → Type 0
 IsConnCovered s e = Covers s (bufs_of e.1.incoming) × Covers s (bufs_of e.1.outgoing)
 
 conns_covered : (s : Stored) (cs : List (ℕ × Conn (List Slice)))
-    → ((b : BufId) → sum_by (conn_uses b) cs ≤ count_of s b) → Each (IsConnCovered s) cs
+    → ((b : BufId) → sum_by (conn_uses b) cs ≤ count_of s b) → AllByRecursion (IsConnCovered s) cs
 conns_covered s [] h = tt
 conns_covered s (x ∷ cs) h = (
   (
@@ -136,13 +143,13 @@ counted_held c = record { each = λ b. omega (arith, c.each b) }
 
 module _ (old new : Stored) (m : Stays old new) (ds : List (Domain (List Slice))) (qs : Objects (List Slice))
     (held : AreHeld new ds qs) where
-  domains_held : Each (IsDomainCovered new) ds
+  domains_held : AllByRecursion (IsDomainCovered new) ds
   domains_held = domains_covered new ds (λ b. omega (arith, held.each b))
 
-  pipes_held : Each (IsPipeCovered new) qs.pipes
+  pipes_held : AllByRecursion (IsPipeCovered new) qs.pipes
   pipes_held = pipes_covered new qs.pipes (λ b. omega (arith, held.each b))
 
-  conns_held : Each (IsConnCovered new) qs.conns
+  conns_held : AllByRecursion (IsConnCovered new) qs.conns
   conns_held = conns_covered new qs.conns (λ b. omega (arith, held.each b))
 
   domain_stays : (d : Domain (List Slice)) → IsDomainReadable old d → IsDomainCovered new d → IsDomainReadable new d
@@ -150,7 +157,7 @@ module _ (old new : Stored) (m : Stays old new) (ds : List (Domain (List Slice))
       each-both (λ (e : ℕ × List Slice). AllReadable old e.1) (IsAggCovered new) (λ e. AllReadable new e.1) d.aggs
       (λ x r c. readable_stays x.1 m c r) e k
 
-  pub domains_stay : Each (IsDomainReadable old) ds → Each (IsDomainReadable new) ds
+  pub domains_stay : AllByRecursion (IsDomainReadable old) ds → AllByRecursion (IsDomainReadable new) ds
   domains_stay e = each-both (IsDomainReadable old) (IsDomainCovered new) (IsDomainReadable new) ds domain_stays e
       domains_held
 
@@ -199,7 +206,8 @@ module _ (old new : Stored) (m : Stays old new) (ds : List (Domain (List Slice))
       (text_stays x.1.outgoing m k.1 e.1)
 
   -- so the machine has what it had
-  pub view-stays : (ps : List Pool) → Each (IsDomainReadable old) ds → AreReadable old qs → (stored : List (List ℕ))
+  pub view-stays : (ps : List Pool) → AllByRecursion (IsDomainReadable old) ds → AreReadable old qs
+      → (stored : List (List ℕ))
       → state_view (bytes_over stored new) ds ps qs ≡ state_view (bytes_over stored old) ds ps qs
   unfolding state_view
   view-stays ps e k stored =
@@ -223,34 +231,35 @@ module _ (old new : Stored) (m : Stays old new) (ds : List (Domain (List Slice))
       ∙ ap (λ (xs : List (List ℕ)). record (state_view (bytes_over stored old) ds ps qs) { slots = xs })
       (slots_stay stored old new qs.cached m files_held k.files)
 
-pub each-numbered : {A : Type 0} (P : A → Type 0) (xs : List A) (n : ℕ) (z : A) → Each P xs → P z
+pub each-numbered : {A : Type 0} (P : A → Type 0) (xs : List A) (n : ℕ) (z : A) → AllByRecursion P xs → P z
     → P (numbered_or xs n z)
 each-numbered P xs n z e p = elim (cases_eq n 0) [
   | inl k ↦ subst P (grind (arith, nat_tests, k)) p
   | inr k ↦ subst P (grind (arith, nat_tests, k)) (each-get P xs (n - 1) z e p)
 ]
 
-pub each-with_numbered : {A : Type 0} (P : A → Type 0) (xs : List A) (n : ℕ) (x : A) → Each P xs → P x
-    → Each P (with_numbered xs n x)
+pub each-with_numbered : {A : Type 0} (P : A → Type 0) (xs : List A) (n : ℕ) (x : A) → AllByRecursion P xs → P x
+    → AllByRecursion P (with_numbered xs n x)
 each-with_numbered P xs n x e p = elim (cases_eq n 0) [
-  | inl k ↦ subst (λ (ys : List _). Each P ys) (grind (arith, nat_tests, k)) e
-  | inr k ↦ subst (λ (ys : List _). Each P ys) (grind (arith, nat_tests, k)) (each-set P xs (n - 1) x e p)
+  | inl k ↦ subst (λ (ys : List _). AllByRecursion P ys) (grind (arith, nat_tests, k)) e
+  | inr k ↦ subst (λ (ys : List _). AllByRecursion P ys) (grind (arith, nat_tests, k)) (each-set P xs (n - 1) x e p)
 ]
 
-pub each-placed : {A : Type 0} (P : Option A → Type 0) (xs : List (Option A)) (n : ℕ) (x : A) → Each P xs → P (Some x)
-    → Each P (placed xs n x)
+pub each-placed : {A : Type 0} (P : Option A → Type 0) (xs : List (Option A)) (n : ℕ) (x : A) → AllByRecursion P xs
+    → P (Some x)
+    → AllByRecursion P (placed xs n x)
 each-placed P xs n x e p = elim (cases_lt n (length xs)) [
-  | inl k ↦ subst (λ (ys : List _). Each P ys) (grind (arith, nat_tests, k)) (each-set P xs n (Some x) e p)
-  | inr k ↦ subst (λ (ys : List _). Each P ys) (grind (arith, nat_tests, k)) (each-push P xs (Some x) e p)
+  | inl k ↦ subst (λ (ys : List _). AllByRecursion P ys) (grind (arith, nat_tests, k)) (each-set P xs n (Some x) e p)
+  | inr k ↦ subst (λ (ys : List _). AllByRecursion P ys) (grind (arith, nat_tests, k)) (each-push P xs (Some x) e p)
 ]
 
-pub each-domain_in : (P : Domain (List Slice) → Type 0) (ds : List (Domain (List Slice))) (d : ℕ) → Each P ds
+pub each-domain_in : (P : Domain (List Slice) → Type 0) (ds : List (Domain (List Slice))) (d : ℕ) → AllByRecursion P ds
     → P no_domain → P (domain_in ds d)
 unfolding domain_in
 each-domain_in P ds d e p = each-numbered P ds d no_domain e p
 
 pub each-with_domain_in : (P : Domain (List Slice) → Type 0) (ds : List (Domain (List Slice))) (d : ℕ)
-    (x : Domain (List Slice)) → Each P ds → P x → Each P (with_domain_in ds d x)
+    (x : Domain (List Slice)) → AllByRecursion P ds → P x → AllByRecursion P (with_domain_in ds d x)
 unfolding with_domain_in
 each-with_domain_in P ds d x e p = each-with_numbered P ds d x e p
 
@@ -259,14 +268,17 @@ each-with_domain_in P ds d x e p = each-with_numbered P ds d x e p
 pub aggs_readable : (h : KernelState) (d : ℕ) → IsSound h → IsDomainReadable h.store (domain_in h.domains d)
 aggs_readable h d sound = each-domain_in (IsDomainReadable h.store) h.domains d sound.domains tt
 
-pub ends_open : (h : KernelState) (d : ℕ) → IsSound h → Each (IsOpenEnd (objects_of h)) (domain_in h.domains d).fds
-ends_open h d sound = each-domain_in (λ (x : Domain (List Slice)). Each (IsOpenEnd (objects_of h)) x.fds) h.domains d
+pub ends_open : (h : KernelState) (d : ℕ) → IsSound h
+    → AllByRecursion (IsOpenEnd (objects_of h)) (domain_in h.domains d).fds
+ends_open h d sound = each-domain_in (λ (x : Domain (List Slice)). AllByRecursion (IsOpenEnd (objects_of h)) x.fds)
+    h.domains d
     sound.fds tt
 
 pub aggs_small : (h : KernelState) (d : ℕ) → IsSound h
-    → Each (λ (e : ℕ × List Slice). byte_len e.1 ≤ MAX_AGGREGATE_BYTES) (domain_in h.domains d).aggs
+    → AllByRecursion (λ (e : ℕ × List Slice). byte_len e.1 ≤ MAX_AGGREGATE_BYTES) (domain_in h.domains d).aggs
 aggs_small h d sound =
-    each-domain_in (λ (y : Domain (List Slice)). Each (λ e. byte_len e.1 ≤ MAX_AGGREGATE_BYTES) y.aggs) h.domains d
+    each-domain_in (λ (y : Domain (List Slice)). AllByRecursion (λ e. byte_len e.1 ≤ MAX_AGGREGATE_BYTES) y.aggs)
+    h.domains d
     sound.limits.aggs tt
 
 pub agg_small : (h : KernelState) (d a : ℕ) (xs : List Slice) → IsSound h → Some xs ≡ agg_in h.domains d a
@@ -282,15 +294,16 @@ agg_readable h d a xs sound is =
 
 -- one domain changes, its aggregates do not
 pub sound_with : (h : KernelState) (d : ℕ) (x : Domain (List Slice)) → IsSound h → (domain_in h.domains d).live ≡ true
-    → x.aggs ≡ (domain_in h.domains d).aggs → Each (IsOpenEnd (objects_of h)) x.fds
+    → x.aggs ≡ (domain_in h.domains d).aggs → AllByRecursion (IsOpenEnd (objects_of h)) x.fds
     → IsOpenOnce (with_domain_in h.domains d x) → IsSound (record h { domains = with_domain_in h.domains d x })
 sound_with h d x sound live same fds once = record {
   domains =
       each-with_domain_in (IsDomainReadable h.store) h.domains d x sound.domains
-      (subst (λ (es : List (ℕ × List Slice)). Each (λ e. AllReadable h.store e.1) es) (sym same)
+      (subst (λ (es : List (ℕ × List Slice)). AllByRecursion (λ e. AllReadable h.store e.1) es) (sym same)
       (aggs_readable h d sound));
   objects = sound.objects;
-  fds = each-with_domain_in (λ (y : Domain (List Slice)). Each (IsOpenEnd (objects_of h)) y.fds) h.domains d x sound.fds
+  fds = each-with_domain_in (λ (y : Domain (List Slice)). AllByRecursion (IsOpenEnd (objects_of h)) y.fds) h.domains d x
+      sound.fds
       fds;
   once = once;
   counted = record { each = λ b. omega (arith, sound.counted.each b, uses-same b h.domains d x live same) };
@@ -298,9 +311,11 @@ sound_with h d x sound live same fds once = record {
   still = sound.still;
   reclaimed = sound.reclaimed;
   limits = record {
-    aggs = each-with_domain_in (λ (y : Domain (List Slice)). Each (λ e. byte_len e.1 ≤ MAX_AGGREGATE_BYTES) y.aggs)
+    aggs =
+        each-with_domain_in (λ (y : Domain (List Slice)). AllByRecursion (λ e. byte_len e.1 ≤ MAX_AGGREGATE_BYTES)
+        y.aggs)
         h.domains d x sound.limits.aggs
-        (subst (λ (es : List (ℕ × List Slice)). Each (λ e. byte_len e.1 ≤ MAX_AGGREGATE_BYTES) es) (sym same)
+        (subst (λ (es : List (ℕ × List Slice)). AllByRecursion (λ e. byte_len e.1 ≤ MAX_AGGREGATE_BYTES) es) (sym same)
         (aggs_small h d sound));
     few =
         omega (
@@ -318,7 +333,8 @@ sound_with h d x sound live same fds once = record {
 }
 
 pub sound_fds : (h : KernelState) (d : ℕ) (xs : List (Option Descriptor)) → IsSound h
-    → (domain_in h.domains d).live ≡ true → Each (IsOpenEnd (objects_of h)) xs → IsOpenOnce (with_fds_in h.domains d xs)
+    → (domain_in h.domains d).live ≡ true → AllByRecursion (IsOpenEnd (objects_of h)) xs
+    → IsOpenOnce (with_fds_in h.domains d xs)
     → IsSound (record h { domains = with_fds_in h.domains d xs })
 sound_fds h d xs sound live fds once =
     sound_with h d (record (domain_in h.domains d) { fds = xs }) sound live refl fds once
@@ -331,11 +347,13 @@ pub limits_agg : (ds : List (Domain (List Slice))) (qs : Objects (List Slice)) (
 limits_agg ds qs d xs limits live small few =
     let x : Domain (List Slice) = domain_in ds d in
     let y : Domain (List Slice) = record x { aggs = x.aggs ++ (x.next_agg, xs) ∷ []; next_agg = x.next_agg + 1 } in
-    let was : Each (λ (e : ℕ × List Slice). byte_len e.1 ≤ MAX_AGGREGATE_BYTES) x.aggs =
-    each-domain_in (λ (y : Domain (List Slice)). Each (λ e. byte_len e.1 ≤ MAX_AGGREGATE_BYTES) y.aggs) ds d
+    let was : AllByRecursion (λ (e : ℕ × List Slice). byte_len e.1 ≤ MAX_AGGREGATE_BYTES) x.aggs =
+    each-domain_in (λ (y : Domain (List Slice)). AllByRecursion (λ e. byte_len e.1 ≤ MAX_AGGREGATE_BYTES) y.aggs) ds d
     limits.aggs tt in
     record {
-      aggs = each-with_domain_in (λ (y : Domain (List Slice)). Each (λ e. byte_len e.1 ≤ MAX_AGGREGATE_BYTES) y.aggs) ds
+      aggs =
+          each-with_domain_in (λ (y : Domain (List Slice)). AllByRecursion (λ e. byte_len e.1 ≤ MAX_AGGREGATE_BYTES)
+          y.aggs) ds
           d y limits.aggs (each-push (λ (e : ℕ × List Slice). byte_len e.1 ≤ MAX_AGGREGATE_BYTES) x.aggs
           (x.next_agg, xs) was small);
       few =
@@ -348,26 +366,28 @@ limits_agg ds qs d xs limits live small few =
       objects = limits.objects;
     }
 
-pub each-without : (P : ℕ × List Slice → Type 0) (es : List (ℕ × List Slice)) (a : ℕ) → Each P es
-    → Each P (without es a)
+pub each-without : (P : ℕ × List Slice → Type 0) (es : List (ℕ × List Slice)) (a : ℕ) → AllByRecursion P es
+    → AllByRecursion P (without es a)
 each-without P [] a h = tt
 each-without P (e ∷ es) a h = elim (cases_eq e.0 a) [
   | inl k ↦ (let w : es ≡ without (e ∷ es) a = grind (arith, nat_tests, k) in
-      subst (λ (l : List (ℕ × List Slice)). Each P l) w h.1)
-  | inr k ↦ (let r : Each P (e ∷ without es a) = (h.0, each-without P es a h.1) in
+      subst (λ (l : List (ℕ × List Slice)). AllByRecursion P l) w h.1)
+  | inr k ↦ (let r : AllByRecursion P (e ∷ without es a) = (h.0, each-without P es a h.1) in
       let w : e ∷ without es a ≡ without (e ∷ es) a = grind (arith, nat_tests, k) in
-      subst (λ (l : List (ℕ × List Slice)). Each P l) w r)
+      subst (λ (l : List (ℕ × List Slice)). AllByRecursion P l) w r)
 ]
 
 pub limits_drop : (ds : List (Domain (List Slice))) (qs : Objects (List Slice)) (d a : ℕ) (xs : List Slice)
     → IsLimited ds qs → (domain_in ds d).live ≡ true → Some xs ≡ agg_in ds d a → IsLimited (without_agg_in ds d a) qs
 limits_drop ds qs d a xs limits live is =
     let x : Domain (List Slice) = domain_in ds d in
-    let was : Each (λ (e : ℕ × List Slice). byte_len e.1 ≤ MAX_AGGREGATE_BYTES) x.aggs =
-    each-domain_in (λ (y : Domain (List Slice)). Each (λ e. byte_len e.1 ≤ MAX_AGGREGATE_BYTES) y.aggs) ds d
+    let was : AllByRecursion (λ (e : ℕ × List Slice). byte_len e.1 ≤ MAX_AGGREGATE_BYTES) x.aggs =
+    each-domain_in (λ (y : Domain (List Slice)). AllByRecursion (λ e. byte_len e.1 ≤ MAX_AGGREGATE_BYTES) y.aggs) ds d
     limits.aggs tt in
     record {
-      aggs = each-with_domain_in (λ (y : Domain (List Slice)). Each (λ e. byte_len e.1 ≤ MAX_AGGREGATE_BYTES) y.aggs) ds
+      aggs =
+          each-with_domain_in (λ (y : Domain (List Slice)). AllByRecursion (λ e. byte_len e.1 ≤ MAX_AGGREGATE_BYTES)
+          y.aggs) ds
           d (record x { aggs = without x.aggs a }) limits.aggs
           (each-without (λ (e : ℕ × List Slice). byte_len e.1 ≤ MAX_AGGREGATE_BYTES) x.aggs a was);
       few =
@@ -383,14 +403,15 @@ limits_drop ds qs d a xs limits live is =
 
 -- the other aggregates can still be read
 pub drop_readable : (h : KernelState) (d a : ℕ) → IsSound h
-    → Each (IsDomainReadable h.store) (without_agg_in h.domains d a)
+    → AllByRecursion (IsDomainReadable h.store) (without_agg_in h.domains d a)
 drop_readable h d a sound =
     let x : Domain (List Slice) = domain_in h.domains d in
     each-with_domain_in (IsDomainReadable h.store) h.domains d (record x { aggs = without x.aggs a }) sound.domains
     (each-without (λ (e : ℕ × List Slice). AllReadable h.store e.1) x.aggs a (aggs_readable h d sound))
 
 pub add_readable : (s : Stored) (ds : List (Domain (List Slice))) (d : ℕ) (xs : List Slice)
-    → Each (IsDomainReadable s) ds → AllReadable s xs → Each (IsDomainReadable s) (with_agg_in ds d xs)
+    → AllByRecursion (IsDomainReadable s) ds → AllReadable s xs
+    → AllByRecursion (IsDomainReadable s) (with_agg_in ds d xs)
 add_readable s ds d xs e readable =
     let x : Domain (List Slice) = domain_in ds d in
     let was : IsDomainReadable s x = each-domain_in (IsDomainReadable s) ds d e tt in
@@ -402,16 +423,18 @@ add_readable s ds d xs e readable =
 
 -- descriptors, when a domain's aggregates change
 pub fds_stay : (qs : Objects (List Slice)) (ds : List (Domain (List Slice))) (d : ℕ) (x : Domain (List Slice))
-    → Each (λ (y : Domain (List Slice)). Each (IsOpenEnd qs) y.fds) ds → x.fds ≡ (domain_in ds d).fds
-    → Each (λ (y : Domain (List Slice)). Each (IsOpenEnd qs) y.fds) (with_domain_in ds d x)
+    → AllByRecursion (λ (y : Domain (List Slice)). AllByRecursion (IsOpenEnd qs) y.fds) ds
+    → x.fds ≡ (domain_in ds d).fds
+    → AllByRecursion (λ (y : Domain (List Slice)). AllByRecursion (IsOpenEnd qs) y.fds) (with_domain_in ds d x)
 fds_stay qs ds d x e same =
-    let was : Each (IsOpenEnd qs) (domain_in ds d).fds =
-    each-domain_in (λ (y : Domain (List Slice)). Each (IsOpenEnd qs) y.fds) ds d e tt in
-    each-with_domain_in (λ (y : Domain (List Slice)). Each (IsOpenEnd qs) y.fds) ds d x e
-    (subst (λ (l : List (Option Descriptor)). Each (IsOpenEnd qs) l) (sym same) was)
+    let was : AllByRecursion (IsOpenEnd qs) (domain_in ds d).fds =
+    each-domain_in (λ (y : Domain (List Slice)). AllByRecursion (IsOpenEnd qs) y.fds) ds d e tt in
+    each-with_domain_in (λ (y : Domain (List Slice)). AllByRecursion (IsOpenEnd qs) y.fds) ds d x e
+    (subst (λ (l : List (Option Descriptor)). AllByRecursion (IsOpenEnd qs) l) (sym same) was)
 
 -- limits, when pipes change
-pub with_pipes : {o : Objects (List Slice)} {qs : List (Option (Pipe (List Slice)))} → AreLimited o → Each IsShort qs
+pub with_pipes : {o : Objects (List Slice)} {qs : List (Option (Pipe (List Slice)))} → AreLimited o
+    → AllByRecursion IsShort qs
     → length qs ≤ MAX_PIPES → AreLimited (record o { pipes = qs })
 with_pipes limits short few = record {
   queues = short;

@@ -1,5 +1,6 @@
 -- The slices of a buffer, counted over all holders, when a table changes.
 use Rattle.std.proofs.Common.{◌≡◌, ℕ, suc, ◌+◌, ◌-◌, ◌*◌, ◌<◌, ◌≤◌, ◌^◌, List, [], ◌∷◌, ◌++◌, length, ap, ◌∙◌, refl}
+use Rattle.std.specs.List.{AllByRecursion}
 use Rattle.std.proofs.Common.{arith, Option, Some, None, inl, inr, get_or, true, false}
 use Rattle.std.specs.Prelude.{slice_set, sum_by, unwrap_or}
 use Rattle.std.proofs.lemmas.Bool.{cases_lt, cases_eq}
@@ -17,7 +18,7 @@ use Rattle.iol_desc.specs.Tables.{domain_in, with_domain_in, agg_in, with_agg_in
 use Rattle.iol_sock.specs.Connections.{Conn}
 use Rattle.iol_kernel.specs.Views.{Pipe, Objects}
 use Rattle.iol_kernel.specs.HoldCounts.{uses, domain_uses, pipe_uses, conn_uses, all_uses, IsCounted}
-use Rattle.iol_kernel.specs.KernelState.{Each, IsLimited, IsShort, IsConn, queue_at}
+use Rattle.iol_kernel.specs.KernelState.{IsLimited, IsShort, IsConn, queue_at}
 use Rattle.iol_kernel.proofs.State.Rows.{live_numbered}
 use Rattle.iol_kernel.proofs.State.Slots.{uses_few, files_few}
 use Rattle.iol_core.specs.declared.limits.TheConstants.{MAX_AGGREGATE_BYTES, MAX_QUEUE_BYTES}
@@ -175,7 +176,7 @@ queue_covered s ds qs p counted there = record {
 
 -- How many there can be.
 
-aggs_few : (b : BufId) (es : List (ℕ × List Slice)) → Each (λ e. byte_len e.1 ≤ MAX_AGGREGATE_BYTES) es
+aggs_few : (b : BufId) (es : List (ℕ × List Slice)) → AllByRecursion (λ e. byte_len e.1 ≤ MAX_AGGREGATE_BYTES) es
     → sum_by (λ e. uses b e.1) es ≤ MAX_AGGREGATE_BYTES * length es
 aggs_few b [] h = omega arith
 aggs_few b (e ∷ es) h =
@@ -184,7 +185,8 @@ aggs_few b (e ∷ es) h =
     let u = uses_few b e.1 in
     omega (arith, r, c, u, h.0)
 
-domains_few : (b : BufId) (ds : Domains) → Each (λ d. Each (λ e. byte_len e.1 ≤ MAX_AGGREGATE_BYTES) d.aggs) ds
+domains_few : (b : BufId) (ds : Domains)
+    → AllByRecursion (λ d. AllByRecursion (λ e. byte_len e.1 ≤ MAX_AGGREGATE_BYTES) d.aggs) ds
     → sum_by (domain_uses b) ds ≤ MAX_AGGREGATE_BYTES * live_aggs_in ds
 domains_few b [] h = omega arith
 domains_few b (d ∷ ds) h =
@@ -194,14 +196,14 @@ domains_few b (d ∷ ds) h =
     let u = aggs_few b d.aggs h.0 in
     omega (arith, r, c, l, u)
 
-pipes_few : (b : BufId) (qs : Pipes) → Each IsShort qs → sum_by (pipe_uses b) qs ≤ MAX_QUEUE_BYTES * length qs
+pipes_few : (b : BufId) (qs : Pipes) → AllByRecursion IsShort qs → sum_by (pipe_uses b) qs ≤ MAX_QUEUE_BYTES * length qs
 pipes_few b [] h = omega arith
 pipes_few b (None ∷ qs) h = let r = pipes_few b qs h.1 in let c = sum_by-cons (pipe_uses b) None qs in
     omega (arith, r, c)
 pipes_few b (Some x ∷ qs) h = let r = pipes_few b qs h.1 in let c = sum_by-cons (pipe_uses b) (Some x) qs in let u =
     uses_few b x.queue in omega (arith, r, c, u, h.0)
 
-conns_few : (b : BufId) (cs : List (ℕ × Conn (List Slice))) → Each IsConn cs
+conns_few : (b : BufId) (cs : List (ℕ × Conn (List Slice))) → AllByRecursion IsConn cs
     → sum_by (conn_uses b) cs ≤ 2 * MAX_QUEUE_BYTES * length cs
 conns_few b [] h = omega arith
 conns_few b (x ∷ cs) h = let r = conns_few b cs h.1 in let c = sum_by-cons (conn_uses b) x cs in

@@ -1,5 +1,5 @@
 //! Aggregates: made of new bytes or of bytes that are in memory already, shown, and dropped.
-ghost use Rattle.std.specs.Prelude.{◌≡◌, ℕ, true, IfOk, IfErr, Err};
+ghost use Rattle.std.specs.Prelude.{◌≡◌, ℕ, true, IfOk, IfErr, Err, ◌≢◌};
 ghost use Rattle.iol_core.specs.Prelude.{is_live, domain};
 ghost use Rattle.iol_core.specs.Calls.Aggregates as calls;
 ghost use Rattle.iol_kernel.specs.Calls.{MayMake, RefusesShow};
@@ -248,7 +248,7 @@ impl Kernel {
     pub fn agg_drop(&mut self, by: DomainId, agg: AggId) -> Result<(), Refusal>
         requires { IsSound (state_of self.old) }
         ensures agg_drop { KeepsPlaces (λ s. calls.agg_drop s by agg) self.old result self.new }
-        ensures roomy { (p : ℕ) → result ≡ Err (Refusal.NoRoom p) → ⊥ }
+        ensures roomy { (p : ℕ) → result ≢ Err (Refusal.NoRoom p) }
     {
         self.find_len(by, agg)?;
         self.release(by, agg);
@@ -304,7 +304,7 @@ impl Kernel {
     pub fn show(&self, by: DomainId, agg: AggId) -> Result<Bytes, Refusal>
         requires { IsSound (state_of self.now) }
         ensures show { Steps (λ s. calls.show s by agg) self.now result self.now }
-        ensures roomy { (p : ℕ) → result ≡ Err (Refusal.NoRoom p) → ⊥ }
+        ensures roomy { (p : ℕ) → result ≢ Err (Refusal.NoRoom p) }
     {
         let found = self.find(by, agg)?;
         Ok(Bytes::from_vec(found.to_vec(self.alloc, &self.store)?))

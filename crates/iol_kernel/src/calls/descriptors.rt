@@ -137,7 +137,7 @@ impl Kernel {
     pub fn close(&mut self, by: DomainId, fd: Fd) -> Result<(), Refusal>
         requires { IsSound (state_of self.old) }
         ensures close { KeepsPlaces (λ s. calls.close s by fd) self.old result self.new }
-        ensures roomy { (p : ℕ) → result ≡ Err (Refusal.NoRoom p) → ⊥ }
+        ensures roomy { (p : ℕ) → result ≢ Err (Refusal.NoRoom p) }
     {
         let end = self.opened(by, fd)?;
         self.close_fd(by, fd, end);

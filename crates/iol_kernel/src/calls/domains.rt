@@ -1,5 +1,5 @@
 //! Calls that make and end domains.
-ghost use Rattle.std.specs.Prelude.{◌≡◌, ℕ, [], length, Option, Err};
+ghost use Rattle.std.specs.Prelude.{◌≡◌, ℕ, [], length, Option, Err, ◌≢◌};
 ghost use Rattle.iol_core.specs.Calls.Domains as calls;
 ghost use Rattle.iol_desc.specs.Prelude.{with_aggs_in, with_fds_in};
 ghost use Rattle.iol_kernel.specs.ClosedEnds.{AreLetGo, ClosesAll};
@@ -49,7 +49,7 @@ impl Kernel {
     pub fn exit(&mut self, by: DomainId) -> Result<(), Refusal>
         requires { IsSound (state_of self.old) }
         ensures exit { KeepsPlaces (λ s. calls.exit s by) self.old result self.new }
-        ensures roomy { (p : ℕ) → result ≡ Err (Refusal.NoRoom p) → ⊥ }
+        ensures roomy { (p : ℕ) → result ≢ Err (Refusal.NoRoom p) }
     {
         if !self.is_live(by) {
             return Err(Refusal::NoDomain);

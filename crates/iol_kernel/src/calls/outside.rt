@@ -82,7 +82,7 @@ impl Kernel {
         requires { IsSound (state_of self.old) }
         ensures peer_closed { KeepsPlaces (λ s. calls.peer_closed s conn how) self.old result
             self.new }
-        ensures roomy { (p : ℕ) → result ≡ Err (Refusal.NoRoom p) → ⊥ }
+        ensures roomy { (p : ℕ) → result ≢ Err (Refusal.NoRoom p) }
     {
         if self.lacks_conn(conn) {
             return Err(Refusal::BadFd);

@@ -1,5 +1,5 @@
 //! Calls on pools.
-ghost use Rattle.std.specs.Prelude.{◌≡◌, ℕ, ◌<◌, length, OnOk, Err};
+ghost use Rattle.std.specs.Prelude.{◌≡◌, ℕ, ◌<◌, length, OnOk, Err, ◌≢◌};
 ghost use Rattle.iol_core.specs.State as state;
 ghost use Rattle.iol_core.specs.Prelude.{is_pool};
 ghost use Rattle.iol_core.specs.Calls.Pools as calls;
@@ -147,8 +147,8 @@ impl Kernel {
         requires { IsSound (state_of self.old) }
         ensures admit { KeepsPlaces (λ s. calls.pool_admit s by pool domain) self.old result self.new }
         ensures list { OnOk result (state_of self.new ≡ with_reader (state_of self.old) pool domain) }
-        ensures free { result ≡ Err Refusal.Memory → ⊥ }
-        ensures roomy { (p : ℕ) → result ≡ Err (Refusal.NoRoom p) → ⊥ }
+        ensures free { result ≢ Err Refusal.Memory }
+        ensures roomy { (p : ℕ) → result ≢ Err (Refusal.NoRoom p) }
     {
         if !self.is_live(by) || !self.is_live(domain) {
             return Err(Refusal::NoDomain);
@@ -192,7 +192,7 @@ impl Kernel {
     pub fn pool_close(&mut self, by: DomainId, pool: PoolId) -> Result<(), Refusal>
         requires { IsSound (state_of self.old) }
         ensures pool_close { KeepsPlaces (λ s. calls.pool_close s by pool) self.old result self.new }
-        ensures roomy { (p : ℕ) → result ≡ Err (Refusal.NoRoom p) → ⊥ }
+        ensures roomy { (p : ℕ) → result ≢ Err (Refusal.NoRoom p) }
     {
         self.test_pool(by, pool)?;
         if self.is_busy(pool) {
