@@ -1,5 +1,5 @@
 -- The state of a system, and the state of the copying machine that it represents.
-use Rattle.std.specs.Prelude.{◌≡◌, ℕ, ◌+◌, ◌≤◌, length, List, [], flat_map, map, Option, Some, None}
+use Rattle.std.specs.Prelude.{◌≡◌, ℕ, ◌+◌, ◌≤◌, length, List, [], map, Option, Some, None}
 use Rattle.std.specs.List.{AllByRecursion}
 use Rattle.std.specs.Prelude.{unwrap_or, IsTrue, IsFalse, ⊤}
 use Rattle.iol_core.specs.NumberedLists.{is_numbered}
@@ -63,10 +63,6 @@ machine_of stored h = read_of (bytes_over stored h.store) h
 -- the machine state with the number of the place of each byte, and no bytes for those that only the store has
 abbrev pub layout_of : KernelState → machine.State
 layout_of h = read_of (record { at = number_at; stored = [] }) h
-
--- bytes in parts, one part after another
-abbrev pub joined : List (List ℕ) → List ℕ
-joined parts = flat_map (λ w. w) parts
 
 -- the slices of a domain's aggregates are in live buffers of their pools
 abbrev pub IsDomainReadable : Stored → machine.Domain (List Slice) → Type 0

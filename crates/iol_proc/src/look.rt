@@ -1,6 +1,6 @@
 //! A process's view of its aggregates.
 ghost use Rattle.std.specs.Prelude.{◌≡◌, Some, None, MatchOption, length, option_map};
-ghost use Rattle.iol_kernel.specs.Prelude.{joined};
+ghost use Rattle.std.specs.List.{concat};
 ghost use Rattle.iol_proc.specs.Looks.{readable};
 
 use iol_agg::Parts;
@@ -26,7 +26,7 @@ impl<'a> Look<'a> {
     /// Copies and allocates nothing.
     pub fn bytes(&self, agg: AggId) -> Option<Parts<'a>>
         ensures { MatchOption result (readable self.now agg ≡ None)
-            (λ parts. readable self.now agg ≡ Some (joined parts)) }
+            (λ parts. readable self.now agg ≡ Some (concat parts)) }
     {
         match self.aggregates.parts(self.by, agg) {
             Ok(parts) => Some(parts),

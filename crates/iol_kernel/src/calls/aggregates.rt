@@ -1,11 +1,12 @@
 //! Aggregates: made of new bytes or of bytes that are in memory already, shown, and dropped.
 ghost use Rattle.std.specs.Prelude.{◌≡◌, ℕ, true, IfOk, IfErr, Err, ◌≢◌};
+ghost use Rattle.std.specs.List.{concat};
 ghost use Rattle.iol_core.specs.Prelude.{is_live, domain};
 ghost use Rattle.iol_core.specs.Calls.Aggregates as calls;
 ghost use Rattle.iol_kernel.specs.Calls.{MayMake, RefusesShow};
 ghost use Rattle.iol_kernel.specs.Denials.{ReportsBarred};
 ghost use Rattle.iol_kernel.specs.DomainAggregates.{HasAgg, MayCut, MayGive, MayJoin, MayReplace, MaySplit};
-ghost use Rattle.iol_kernel.specs.KernelState.{joined, IsSound};
+ghost use Rattle.iol_kernel.specs.KernelState.{IsSound};
 ghost use Rattle.iol_kernel.specs.LocatedParts.{Locates};
 ghost use Rattle.iol_kernel.specs.NewBytes.{FillsNext, MakesAggregate, TestsMake};
 ghost use Rattle.iol_kernel.specs.Readings.{Reading};
@@ -327,7 +328,7 @@ impl Kernel {
     /// An aggregate's bytes, at their places in memory.
     pub fn parts(&self, by: DomainId, agg: AggId) -> Result<Parts<'_>, Refusal>
         requires { IsSound (state_of self.now) }
-        ensures ok { IfOk result (λ parts. Shows by agg (joined parts) self.now) }
+        ensures ok { IfOk result (λ parts. Shows by agg (concat parts) self.now) }
         ensures err { IfErr result (λ x. RefusesShow by agg x (state_of self.now)) }
     {
         let found = self.find(by, agg)?;

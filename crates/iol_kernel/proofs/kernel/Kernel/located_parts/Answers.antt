@@ -1,16 +1,17 @@
 use Rattle.std.proofs.Common.{[], ◌≡◌, ◌∙◌, List, map, ap, sym, rules}
 use Rattle.std.specs.Prelude.{unwrap_or}
 use Rattle.iol_core.specs.Text.{bytes_of}
-use Rattle.std.specs.List.{flat_map}
+use Rattle.std.specs.List.{concat, flat_map}
+use Rattle.std.proofs.lemmas.List.Concat.{concat_is}
 use Rattle.iol_hold.specs.Addresses.{Located, address_at, spread}
 use Rattle.iol_hold.specs.Places.{places}
 use Rattle.iol_hold.specs.declared.slices.Slice.{Slice}
-use Rattle.iol_agg.specs.Parts.{located_parts}
+use Rattle.iol_agg.specs.Parts.{located_parts, parts_of}
 use Rattle.iol_agg.proofs.Addresses.{spread_parts}
 use Rattle.iol_agg.proofs.Partwise.{bytes-located_parts, flat_map-parts_of}
 use Rattle.iol_kernel.specs.Kernel.{state_of}
 use Rattle.iol_kernel.specs.Readings.{bytes_over}
-use Rattle.iol_kernel.specs.KernelState.{joined, slices_in}
+use Rattle.iol_kernel.specs.KernelState.{slices_in}
 use Rattle.iol_kernel.proofs.State.Sound.{agg_readable}
 use Rattle.iol_kernel.proofs.kernel.Kernel.located_parts.Goals as goal
 
@@ -25,8 +26,8 @@ returns-clause-ok c =
     let s = c.args.self.now.store in
     let xs = c.in_ok-found.found.now in
     let readable = agg_readable h c.args.by c.args.agg xs c.requires c.in_ok-found.ensures.ok.found in
-    let bytes = ap (λ (l : List Located). joined (map (λ (x : Located). x.bytes) l)) c.located_parts.ensures
-    ∙ ap joined (bytes-located_parts s xs)
+    let bytes = ap (λ (l : List Located). concat (map (λ (x : Located). x.bytes) l)) c.located_parts.ensures
+    ∙ ap concat (bytes-located_parts s xs) ∙ concat_is (parts_of s xs)
     ∙ flat_map-parts_of s xs readable ∙ ap bytes_of (sym (c.in_ok-found.ensures.ok.text (bytes_over [] s))) in
     let none : List Slice = [] in
     let held : xs ≡ slices_in h.domains c.args.by c.args.agg =
