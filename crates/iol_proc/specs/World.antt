@@ -3,7 +3,7 @@
 -- The definitions are used for two machines: the copying machine, and a system over any store, with all that it
 -- guarantees.
 use Rattle.std.specs.Prelude.{◌≡◌, ◌≢◌, ◌⊎◌, ◌<◌, ◌≤◌, ◌||◌, ℕ, List, [], ◌∷◌, length, map, Option, Some, None, IfSome}
-use Rattle.std.specs.Prelude.{Bool, All, if◌then◌else◌, slice_get, slice_set, ⊤}
+use Rattle.std.specs.Prelude.{Bool, All, if◌then◌else◌, slice_get, slice_set}
 use Rattle.iol_core.specs.State.{State}
 use Rattle.iol_core.specs.Run.{StepsTo}
 use Rattle.iol_core.specs.declared.events.Event.{Event}
@@ -56,12 +56,6 @@ domains_of process_slots = map (λ s. s.by) process_slots
 -- a process in its domain, before its first turn
 abbrev pub process_slot_of : {P : Type 0} → ℕ × P → ProcessSlot P
 process_slot_of p = record { by = p.0; process = p.1; last = reply.Done }
-
--- each number is above the one before
-abbrev pub IsRising : List ℕ → Type 0
-IsRising [] = ⊤
-IsRising (x ∷ []) = ⊤
-IsRising (x ∷ y ∷ ys) = (x < y) × IsRising (y ∷ ys)
 
 -- no process is in this domain
 abbrev pub HasNoProcessSlot : {P : Type 0} → List (ProcessSlot P) → (by : ℕ) → Type 0

@@ -1,7 +1,7 @@
 //! A world: a system, and processes in some of its domains.
 ghost use Rattle.std.specs.Prelude.{◌≡◌, length, map, IfOk, OnErr, MatchOption, false, nat_eq};
 ghost use Rattle.std.specs.List.{IsDistinct};
-ghost use Rattle.std.specs.List.Sorted.{IsPermutation};
+ghost use Rattle.std.specs.List.Sorted.{IsPermutation, IsStrictlyIncreasing};
 ghost use Rattle.iol_back.specs.Prelude.{IfHonest};
 ghost use Rattle.iol_kernel.specs.Prelude.{Reports};
 ghost use Rattle.iol_system.specs.Prelude.{machine_of};
@@ -9,7 +9,7 @@ ghost use Rattle.iol_proc.specs.Prelude.{KeepsHonesty, copied, readable};
 ghost use Rattle.iol_proc.specs.Idle.{CopiedIdles, Idles};
 ghost use Rattle.iol_proc.specs.Laws.{HasEvents};
 ghost use Rattle.iol_proc.specs.ReadableBytes.{readable_to};
-ghost use Rattle.iol_proc.specs.World.{Stage, sharing, process_slot_of, domains_of, IsRising, IsInSlots, HasNoProcessSlot, SitsAt, WorldStep, WorldRun, DomainTurn, OutsideStep, CopiedStep, CopiedRun};
+ghost use Rattle.iol_proc.specs.World.{Stage, sharing, process_slot_of, domains_of, IsInSlots, HasNoProcessSlot, SitsAt, WorldStep, WorldRun, DomainTurn, OutsideStep, CopiedStep, CopiedRun};
 ghost use Rattle.iol_proc.specs.World.{CopiedTurnAt, TurnAt};
 
 use crate::activity::Activity;
@@ -42,15 +42,16 @@ pub struct World<B: Backing, P: Process> {
 
 impl<B: Backing, P: Process> Model for World<B, P> {
     ghost use Rattle.std.specs.Prelude.{◌≡◌, length};
+    ghost use Rattle.std.specs.List.Sorted.{IsStrictlyIncreasing};
     ghost use Rattle.iol_system.specs.Prelude.{SystemState};
-    ghost use Rattle.iol_proc.specs.World.{Stage, IsRising, domains_of};
+    ghost use Rattle.iol_proc.specs.World.{Stage, domains_of};
 
     ghost Value = { Stage SystemState P };
 
     ghost view = { λ w. record { machine = w.system; process_slots = w.process_slots.items; resource_failure = w.resource_failure } };
 
     ghost invariant = { λ w. (length w.yields.items ≡ length w.process_slots.items)
-        × IsRising (domains_of w.process_slots.items) };
+        × IsStrictlyIncreasing (domains_of w.process_slots.items) };
 }
 
 impl<B: Backing + Drop, P: Process> World<B, P> {
@@ -64,7 +65,7 @@ impl<B: Backing + Drop, P: Process> World<B, P> {
         requires { IsDistinct nat_eq (map (λ p. p.0) processes.items) }
         ensures system { IfOk result (λ w. w.machine ≡ system) }
         ensures process_slots { IfOk result (λ w. IsPermutation (map process_slot_of processes.items) w.process_slots) }
-        ensures rising { IfOk result (λ w. IsRising (domains_of w.process_slots)) }
+        ensures rising { IfOk result (λ w. IsStrictlyIncreasing (domains_of w.process_slots)) }
         ensures failure_free { IfOk result (λ w. w.resource_failure ≡ false) }
     {
         let process_slots = process_slots_by_domain(alloc, processes)?;
@@ -241,7 +242,7 @@ fn process_slots_by_domain<P: Process>(
 ) -> Result<Vec<ProcessSlot<P>>, AllocError>
     requires { IsDistinct nat_eq (map (λ p. p.0) processes.items) }
     ensures process_slots { IfOk result (λ process_slots. IsPermutation (map process_slot_of processes.items) process_slots.items) }
-    ensures rising { IfOk result (λ process_slots. IsRising (domains_of process_slots.items)) }
+    ensures rising { IfOk result (λ process_slots. IsStrictlyIncreasing (domains_of process_slots.items)) }
 {
     let mut process_slots = process_slots_for(alloc, processes)?;
     process_slots.sort_by_key(|process_slot| process_slot.by.number())?;

@@ -12,10 +12,6 @@ module _ {G : Type 0} (gathers : G → List ℕ → ℕ → G → Type 0) where
   abbrev pub HasTaken : (before after : G) → Type 0
   HasTaken before after = (calls : List (Gathering G)) × TookAll before calls after
 
-  -- no call
-  pub called_none : (a b : G) → b ≡ a → HasTaken a b
-  called_none a b same = ([], same)
-
   are_calls : (a b : G) (calls : List (Gathering G)) → TookAll a calls b → AreCalls gathers a calls b
   are_calls a b [] is = is
   are_calls a b (c ∷ calls) (call, some, all, rest) = (call, some, (λ more. all), are_calls c.after b calls rest)

@@ -1,10 +1,11 @@
 -- The processes of a site: their domains are distinct, in ascending order.
 use Rattle.std.proofs.Common.{◌≡◌, ◌∙◌, ℕ, zero, suc, ◌+◌, ◌<◌, List, [], ◌∷◌, ◌++◌, length, map, nat_eq, refl, sym, ap}
 use Rattle.std.proofs.Common.{subst, arith, append_assoc, append-nil, zero-add, Some, false}
+use Rattle.std.specs.Prelude.{slice_index}
 use Rattle.std.specs.List.{AllByRecursion, IsDistinct, range_with_len, slice_get}
+use Rattle.std.specs.List.Sorted.{IsStrictlyIncreasing}
 use Rattle.std.proofs.lemmas.Bool.Decides.{nat_tests}
 use Rattle.std.proofs.lemmas.List.{length-append}
-use Rattle.iol_proc.specs.World.{IsRising}
 use Rattle.flash_cgi.specs.declared.worker.Worker.{Worker}
 use Rattle.flash_laws.specs.World.Consistency.{Actor, Serving, Working}
 use Rattle.flash_lite.specs.Setup.{AreActors, HasWorkers, IsWorkerAt, workers_used}
@@ -90,10 +91,14 @@ unfolding IsDistinct
 range_apart a zero = tt
 range_apart a (suc n) = (past a (a + 1) n (omega arith), range_apart (a + 1) n)
 
-pub range_rises : (a n : ℕ) → IsRising (range_with_len a n)
-range_rises a zero = tt
-range_rises a (suc zero) = tt
-range_rises a (suc (suc n)) = (omega arith, range_rises (a + 1) (suc n))
+pub range_rises : (a n : ℕ) → IsStrictlyIncreasing (range_with_len a n)
+range_rises a zero k less = absurd (omega (arith, less))
+range_rises a (suc zero) k less = absurd (omega (arith, less))
+range_rises a (suc (suc n)) zero less = omega arith
+range_rises a (suc (suc n)) (suc k) less =
+    let next : suc (k + 1) ≡ suc k + 1 = omega arith in
+    subst (λ j. slice_index (range_with_len (a + 1) (suc n)) k < slice_index (range_with_len a (suc (suc n))) j) next
+    (range_rises (a + 1) (suc n) k (omega (arith, less)))
 
 pub actors_apart : (s : Site) (ps : List (ℕ × Actor Worker)) → AreActors s ps → IsDistinct nat_eq (map (λ p. p.0) ps)
 actors_apart s ps are =

@@ -1,10 +1,11 @@
 -- A new world of a site's processes is that of the site, and its run is hosted.
 use Rattle.std.proofs.Common.{◌≡◌, ℕ, List, map, ap, subst, ◌∙◌, IsPermutation, Bool, false}
+use Rattle.std.specs.List.Sorted.{IsStrictlyIncreasing}
 use Rattle.iol_core.specs.Positions.{ArePlaced}
 use Rattle.iol_core.specs.State.{State, new_state}
 use Rattle.iol_core.specs.declared.events.Reply.{Reply}
 use Rattle.iol_proc.specs.Idle.{Idles}
-use Rattle.iol_proc.specs.World.{IsRising, Stage, copied, copying, domains_of, process_slot_of, WorldRun}
+use Rattle.iol_proc.specs.World.{Stage, copied, copying, domains_of, process_slot_of, WorldRun}
 use Rattle.iol_proc.specs.declared.choice.Choice.{Choice}
 use Rattle.iol_system.specs.Machine.{SystemState, machine_of}
 use Rattle.flash_cgi.specs.declared.worker.Worker.{Worker}
@@ -24,7 +25,7 @@ pub world_new : (s : Site) (slots : List (List ℕ)) (old sys : SystemState) (w 
     → (machine_of sys).slots ≡ (machine_of old).slots
     → IsNewAt s (machine_of old) (machine_of sys)
     → AreActors s ps → w.machine ≡ sys → IsPermutation (map process_slot_of ps) w.process_slots
-    → IsRising (domains_of w.process_slots) → w.resource_failure ≡ false
+    → IsStrictlyIncreasing (domains_of w.process_slots) → w.resource_failure ≡ false
     → IsNewWorld s slots (copied w)
 world_new s slots old sys w ps begins placed leaves same new procs machine process_slots rises failure_free =
     let kept : (machine_of sys).slots ≡ slots = same ∙ ap (λ (m : State). m.slots) begins in

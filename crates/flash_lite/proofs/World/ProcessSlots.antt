@@ -1,11 +1,12 @@
 -- The process slots of a site's processes: in a world they are in ascending order of domains, which is the given order.
 use Rattle.std.proofs.Common.{◌≡◌, ◌∙◌, inl, inr, ℕ, suc, ◌<◌, List, [], ◌∷◌, map, refl, sym, ap, subst, arith}
 use Rattle.std.proofs.Common.{IsPermutation}
-use Rattle.std.specs.Prelude.{◌⊎◌}
+use Rattle.std.specs.Prelude.{◌+◌, ◌⊎◌, slice_index}
 use Rattle.std.specs.List.{AllByRecursion}
+use Rattle.std.specs.List.Sorted.{IsStrictlyIncreasing}
 use Rattle.std.proofs.lemmas.List.Elements.{All-from_recursion, recursion_from_All}
 use Rattle.std.proofs.lemmas.List.Sorted.{All-permutation, IsPermutation-sym}
-use Rattle.iol_proc.specs.World.{IsRising, domains_of, process_slot_of}
+use Rattle.iol_proc.specs.World.{domains_of, process_slot_of}
 use Rattle.iol_proc.specs.declared.process_slot.ProcessSlot.{ProcessSlot}
 use Rattle.flash_cgi.specs.declared.worker.Worker.{Worker}
 use Rattle.flash_laws.specs.World.Consistency.{Actor}
@@ -41,23 +42,27 @@ module _ {X : Type 0} where
 -- ---- in one order, by rising domains
 
 module _ {P : Type 0} where
-  rest_rises : (s : ProcessSlot P) (ss : List (ProcessSlot P)) → IsRising (domains_of (s ∷ ss))
-      → IsRising (domains_of ss)
-  rest_rises s [] rises = tt
-  rest_rises s (t ∷ ss) rises = rises.1
+  rest_rises : (s : ProcessSlot P) (ss : List (ProcessSlot P)) → IsStrictlyIncreasing (domains_of (s ∷ ss))
+      → IsStrictlyIncreasing (domains_of ss)
+  rest_rises s ss rises k less =
+      let next : suc k + 1 ≡ suc (k + 1) = omega arith in
+      subst (λ n. slice_index (domains_of ss) k < slice_index (domains_of (s ∷ ss)) n) next
+      (rises (suc k) (omega (arith, less)))
 
-  above : (s t : ProcessSlot P) (ss : List (ProcessSlot P)) → IsRising (domains_of (s ∷ ss)) → IsIn t ss → s.by < t.by
+  above : (s t : ProcessSlot P) (ss : List (ProcessSlot P)) → IsStrictlyIncreasing (domains_of (s ∷ ss)) → IsIn t ss
+      → s.by < t.by
   above s t [] rises at = absurd at
-  above s t (u ∷ us) rises (inl is) = subst (λ (v : ProcessSlot P). s.by < v.by) (sym is) rises.0
+  above s t (u ∷ us) rises (inl is) = subst (λ (v : ProcessSlot P). s.by < v.by) (sym is) (rises 0 (omega arith))
   above s t (u ∷ us) rises (inr at) =
-      let first = rises.0 in
-      let rest = above u t us rises.1 at in omega (arith, first, rest)
+      let first = rises 0 (omega arith) in
+      let rest = above u t us (rest_rises s (u ∷ us) rises) at in omega (arith, first, rest)
 
   apart : (s t : ProcessSlot P) → s.by < t.by → s ≡ t → ⊥
   apart s t less is =
       let e = ap (λ (v : ProcessSlot P). v.by) is in absurd (omega (arith, less, e))
 
-  same_order : (ss ts : List (ProcessSlot P)) → IsRising (domains_of ss) → IsRising (domains_of ts)
+  same_order : (ss ts : List (ProcessSlot P)) → IsStrictlyIncreasing (domains_of ss)
+      → IsStrictlyIncreasing (domains_of ts)
       → ((u : ProcessSlot P) → IsIn u ts → IsIn u ss) → ((u : ProcessSlot P) → IsIn u ss → IsIn u ts) → ts ≡ ss
   same_order [] [] rises rise from to = refl
   same_order [] (t ∷ ts) rises rise from to = absurd (from t (inl refl))
@@ -91,11 +96,11 @@ domains-process_slots (p ∷ ps) = ap (λ (l : List ℕ). p.0 ∷ l) (domains-pr
 
 pub in_slots_by : (s : Site) (ps : List (ℕ × Actor Worker)) (process_slots : List (ProcessSlot (Actor Worker)))
     → AreActors s ps
-    → IsPermutation (map process_slot_of ps) process_slots → IsRising (domains_of process_slots)
+    → IsPermutation (map process_slot_of ps) process_slots → IsStrictlyIncreasing (domains_of process_slots)
     → AreInSlots s process_slots
 in_slots_by s ps process_slots are moved rises =
-    let given : IsRising (domains_of (map process_slot_of ps)) =
-    subst (λ (l : List ℕ). IsRising l) (sym (domains-process_slots ps ∙ domains_are s ps are))
+    let given : IsStrictlyIncreasing (domains_of (map process_slot_of ps)) =
+    subst (λ (l : List ℕ). IsStrictlyIncreasing l) (sym (domains-process_slots ps ∙ domains_are s ps are))
     (range_rises 1 (suc (workers_used s))) in
     record {
       actors = ps;

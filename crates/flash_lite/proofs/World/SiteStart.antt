@@ -3,6 +3,7 @@
 use Rattle.std.proofs.Common.{◌≡◌, ◌∙◌, inl, inr, ℕ, List, [], ◌∷◌, ◌++◌, map, sym, ap, subst, Bool, false}
 use Rattle.std.proofs.Common.{IsPermutation}
 use Rattle.std.specs.Prelude.{◌*◌, replicate}
+use Rattle.std.specs.List.Sorted.{IsStrictlyIncreasing}
 use Rattle.iol_back.specs.Disk.{Disk}
 use Rattle.iol_core.specs.declared.configuration.Config.{Config}
 use Rattle.iol_core.specs.declared.events.Event.{Event}
@@ -13,7 +14,7 @@ use Rattle.iol_core.specs.declared.refusals.Refusal.{Refusal}
 use Rattle.iol_system.specs.Prelude.{no_entry, slots_of}
 use Rattle.iol_proc.specs.Idle.{Idles}
 use Rattle.iol_proc.specs.Laws.{HasEvents}
-use Rattle.iol_proc.specs.World.{IsRising, Stage, domains_of, sharing, process_slot_of, WorldRun}
+use Rattle.iol_proc.specs.World.{Stage, domains_of, sharing, process_slot_of, WorldRun}
 use Rattle.iol_proc.specs.declared.choice.Choice.{Choice}
 use Rattle.iol_proc.proofs.Chains.{honesty_kept}
 use Rattle.iol_system.specs.Machine.{SystemState, machine_of}
@@ -56,7 +57,7 @@ pub starts_by : (config : Config) (store : Disk) (s : Site) (begun sys : SystemS
     (w : Stage SystemState (Actor Worker))
     (ps : List (ℕ × Actor Worker)) → IsNewSystem config store begun → IsMade s begun sys
     → LeavesSite s (machine_of begun) (machine_of sys) → AreActors s ps → w.machine ≡ sys
-    → IsPermutation (map process_slot_of ps) w.process_slots → IsRising (domains_of w.process_slots)
+    → IsPermutation (map process_slot_of ps) w.process_slots → IsStrictlyIncreasing (domains_of w.process_slots)
     → w.resource_failure ≡ false → Starts config store s w
 starts_by config store s begun sys w ps new made leaves procs machine process_slots rises failure_free = record {
   begun = begun;
