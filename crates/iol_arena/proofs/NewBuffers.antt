@@ -1,8 +1,10 @@
 -- Buffers made on parts that waited: which pages they lie on, and which go back.
-use Rattle.std.proofs.Common.{◌≡◌, true, ℕ, zero, suc, ◌+◌, ◌-◌, ◌*◌, ◌<◌, ◌≤◌, ◌⊎◌, inl, inr, List, [], ◌∷◌, ◌++◌, length, get_or, map, take, drop, min, refl, sym, ap, ◌∙◌, arith, subst}
+use Rattle.std.proofs.Common.{◌≡◌, true, ℕ, zero, suc, ◌+◌, ◌-◌, ◌*◌, ◌<◌, ◌≤◌, ◌⊎◌, inl, inr, List, [], ◌∷◌, ◌++◌}
+use Rattle.std.proofs.Common.{length, get_or, map, take, drop, min, refl, sym, ap, ◌∙◌, arith, subst}
 use Rattle.std.specs.List.{All, Contains, range_with_len}
 use Rattle.std.proofs.lemmas.Bool.{cases_lt}
-use Rattle.iol_arena.specs.State.{State, entry_at, entry_in, generation_at, pages_for, marked, each_from, with_marked, is_free}
+use Rattle.iol_arena.specs.State.{State, entry_at, entry_in, generation_at, pages_for, marked, each_from, with_marked}
+use Rattle.iol_arena.specs.State.{is_free}
 use Rattle.iol_arena.specs.Buffers.{len_of, kind_len}
 use Rattle.iol_arena.specs.Chunks.{IsRisingFrom, usable}
 use Rattle.iol_arena.specs.Parts.{IsAll, AreAll, AreApart, IsSameAround, no_part, part_pages}
@@ -20,7 +22,8 @@ use Rattle.iol_arena.proofs.Steps.{all_at}
 use Rattle.std.proofs.lemmas.List.{append-nil, map-append, take_more}
 use Rattle.std.proofs.lemmas.Grind.{flat_map-append}
 use Rattle.iol_arena.proofs.Keeps.{published_first}
-use Rattle.iol_arena.proofs.Members.{In, in_left, in_right, in_either, in_or_out, in_range, range_in, in_rising, rising_range, rising_from, contains_in, in_contains}
+use Rattle.iol_arena.proofs.Members.{In, in_left, in_right, in_either, in_or_out, in_range, range_in, in_rising}
+use Rattle.iol_arena.proofs.Members.{rising_range, rising_from, contains_in, in_contains}
 
 -- Pages for numbers of bytes.
 
@@ -40,7 +43,8 @@ pages_none = refl
 abbrev pub needed : List Part → ℕ → List Part
 needed [] n = []
 needed (p ∷ ps) zero = []
-needed (p ∷ ps) (suc n) = record { first = p.first; count = pages_for (min (suc n) (p.count * 4096)) } ∷ needed ps (suc n - p.count * 4096)
+needed (p ∷ ps) (suc n) = record { first = p.first; count = pages_for (min (suc n) (p.count * 4096)) }
+    ∷ needed ps (suc n - p.count * 4096)
 
 needed-none : (ps : List Part) → needed ps 0 ≡ []
 needed-none [] = refl
@@ -59,30 +63,41 @@ left-snoc : (ps : List Part) (p : Part) (n : ℕ) → left_after (ps ++ p ∷ []
 left-snoc [] p n = refl
 left-snoc (r ∷ ps) p n = left-snoc ps p (n - r.count * 4096)
 
-needed-snoc : (ps : List Part) (p : Part) (n : ℕ) → needed (ps ++ p ∷ []) n ≡ needed ps n ++ needed (p ∷ []) (left_after ps n)
+needed-snoc : (ps : List Part) (p : Part) (n : ℕ)
+    → needed (ps ++ p ∷ []) n ≡ needed ps n ++ needed (p ∷ []) (left_after ps n)
 needed-snoc [] p n = refl
 needed-snoc (r ∷ ps) p zero = sym (ap (needed (p ∷ [])) (left_none (r ∷ ps)))
-needed-snoc (r ∷ ps) p (suc n) = ap (λ t. (let x : Part = record { first = r.first; count = pages_for (min (suc n) (r.count * 4096)) } in x) ∷ t) (needed-snoc ps p (suc n - r.count * 4096))
+needed-snoc (r ∷ ps) p (suc n) =
+    ap (λ t. (let x : Part = record { first = r.first; count = pages_for (min (suc n) (r.count * 4096)) } in x) ∷ t)
+    (needed-snoc ps p (suc n - r.count * 4096))
 
-pub left-more : (ps : List Part) (i n : ℕ) → i < length ps → left_after (take (i + 1) ps) n ≡ left_after (take i ps) n - (get_or ps i no_part).count * 4096
+pub left-more : (ps : List Part) (i n : ℕ) → i < length ps
+    → left_after (take (i + 1) ps) n ≡ left_after (take i ps) n - (get_or ps i no_part).count * 4096
 left-more ps i n h = ap (λ l. left_after l n) (take_more ps i no_part h) ∙ left-snoc (take i ps) (get_or ps i no_part) n
 
-needed-more : (ps : List Part) (i n : ℕ) → i < length ps → needed (take (i + 1) ps) n ≡ needed (take i ps) n ++ needed (get_or ps i no_part ∷ []) (left_after (take i ps) n)
+needed-more : (ps : List Part) (i n : ℕ) → i < length ps → needed (take (i + 1) ps) n ≡ needed (take i ps) n
+    ++ needed (get_or ps i no_part ∷ []) (left_after (take i ps) n)
 needed-more ps i n h = ap (λ l. needed l n) (take_more ps i no_part h) ∙ needed-snoc (take i ps) (get_or ps i no_part) n
 
 -- of one more part, some pages are needed, or none
-pub needed_some : (ps : List Part) (i n left here : ℕ) → i < length ps → left ≡ left_after (take i ps) n → 0 < left → here ≡ min left ((get_or ps i no_part).count * 4096)
-    → needed (take (i + 1) ps) n ≡ needed (take i ps) n ++ (let r : Part = record { first = (get_or ps i no_part).first; count = pages_for here } in r) ∷ []
+pub needed_some : (ps : List Part) (i n left here : ℕ) → i < length ps → left ≡ left_after (take i ps) n → 0 < left
+    → here ≡ min left ((get_or ps i no_part).count * 4096)
+    → needed (take (i + 1) ps) n ≡ needed (take i ps) n
+    ++ (let r : Part = record { first = (get_or ps i no_part).first; count = pages_for here } in r) ∷ []
 needed_some ps i n zero here h e some is = absurd (omega arith)
 needed_some ps i n (suc left) here h e some is =
     let p = get_or ps i no_part in
-    needed-more ps i n h ∙ ap (λ k. needed (take i ps) n ++ needed (p ∷ []) k) (sym e) ∙ ap (λ k. needed (take i ps) n ++ (let r : Part = record { first = p.first; count = pages_for k } in r) ∷ []) (sym is)
+    needed-more ps i n h ∙ ap (λ k. needed (take i ps) n ++ needed (p ∷ []) k) (sym e)
+    ∙ ap (λ k. needed (take i ps) n ++ (let r : Part = record { first = p.first; count = pages_for k } in r) ∷ [])
+    (sym is)
 
-pub needed_past : (ps : List Part) (i n : ℕ) → i < length ps → left_after (take i ps) n ≡ 0 → needed (take (i + 1) ps) n ≡ needed (take i ps) n ++ []
+pub needed_past : (ps : List Part) (i n : ℕ) → i < length ps → left_after (take i ps) n ≡ 0
+    → needed (take (i + 1) ps) n ≡ needed (take i ps) n ++ []
 needed_past ps i n h e = needed-more ps i n h ∙ ap (λ k. needed (take i ps) n ++ needed (get_or ps i no_part ∷ []) k) e
 
 -- of the first part: all bytes lie there, or it is full
-first_case : (n c : ℕ) → ((suc n < c * 4096) × (min (suc n) (c * 4096) ≡ suc n) × (suc n - c * 4096 ≡ 0)) ⊎ ((c * 4096 ≤ suc n) × (min (suc n) (c * 4096) ≡ c * 4096))
+first_case : (n c : ℕ) → ((suc n < c * 4096) × (min (suc n) (c * 4096) ≡ suc n) × (suc n - c * 4096 ≡ 0))
+    ⊎ ((c * 4096 ≤ suc n) × (min (suc n) (c * 4096) ≡ c * 4096))
 first_case n c = elim (cases_lt (suc n) (c * 4096)) [
   | inl few ↦ inl (few, omega (arith, few), omega (arith, few))
   | inr many ↦ inr (many, omega (arith, many))
@@ -95,9 +110,11 @@ take-range_less zero a c rest h = refl
 take-range_less (suc k) a zero rest h = absurd (omega arith)
 take-range_less (suc k) a (suc c) rest h = ap (λ t. a ∷ t) (take-range_less k (a + 1) c rest (omega arith))
 
-take-range_more : (c m a : ℕ) (rest : List ℕ) → take (c + m) (range_with_len a c ++ rest) ≡ range_with_len a c ++ take m rest
+take-range_more : (c m a : ℕ) (rest : List ℕ) → take (c + m) (range_with_len a c ++ rest) ≡ range_with_len a c
+    ++ take m rest
 take-range_more zero m a rest = let e : 0 + m ≡ m = omega arith in ap (λ k. take k rest) e
-take-range_more (suc c) m a rest = let e : suc c + m ≡ suc (c + m) = omega arith in rw e (ap (λ t. a ∷ t) (take-range_more c m (a + 1) rest))
+take-range_more (suc c) m a rest = let e : suc c + m ≡ suc (c + m) = omega arith in
+    rw e (ap (λ t. a ∷ t) (take-range_more c m (a + 1) rest))
 
 take-nil : (m : ℕ) → take m (let l : List ℕ = [] in l) ≡ []
 take-nil zero = refl
@@ -136,10 +153,18 @@ needed_apart low (p ∷ ps) (suc n) apart =
     let left : ℕ = suc n - p.count * 4096 in
     let some : 0 < here = omega (arith, apart.0.some) in
     let fit = pages_fit here p.count (omega arith) in (
-      record { rising = apart.0.rising; some = pages_some here some; chunk = omega (arith, apart.0.chunk, fit); apart = apart.0.apart },
+      record {
+        rising = apart.0.rising;
+        some = pages_some here some;
+        chunk = omega (arith, apart.0.chunk, fit);
+        apart =
+            apart.0.apart;
+      },
       elim (first_case n p.count) [
         | inl few ↦ subst (λ l. AreApart (p.first + pages_for here) l) (sym (ap (needed ps) few.2 ∙ needed-none ps)) tt
-        | inr many ↦ subst (λ k. AreApart (p.first + k) (needed ps left)) (sym (ap pages_for many.1 ∙ pages_whole p.count)) (needed_apart (p.first + p.count) ps left apart.1)
+        | inr many ↦
+            subst (λ k. AreApart (p.first + k) (needed ps left)) (sym (ap pages_for many.1 ∙ pages_whole p.count))
+            (needed_apart (p.first + p.count) ps left apart.1)
       ],
     )
 
@@ -150,14 +175,19 @@ needed_in (p ∷ ps) zero q h = absurd h
 needed_in (p ∷ ps) (suc n) q h =
     let here : ℕ = min (suc n) (p.count * 4096) in
     elim (in_either (range_with_len p.first (pages_for here)) (part_pages (needed ps (suc n - p.count * 4096))) q h) [
-      | inl k ↦ (let r = range_in p.first (pages_for here) q k in in_left (range_with_len p.first p.count) (part_pages ps) q (in_range p.first p.count q r.0 (omega (arith, r.1, pages_fit here p.count (omega arith)))))
+      | inl k ↦
+          (let r = range_in p.first (pages_for here) q k in
+          in_left (range_with_len p.first p.count) (part_pages ps) q
+          (in_range p.first p.count q r.0 (omega (arith, r.1, pages_fit here p.count (omega arith)))))
       | inr k ↦ in_right (range_with_len p.first p.count) (part_pages ps) q (needed_in ps (suc n - p.count * 4096) q k)
     ]
 
 -- the pages of parts go up
 pub pages_rising : (low : ℕ) (ps : List Part) → AreApart low ps → IsRisingFrom low (part_pages ps)
 pages_rising low [] apart = tt
-pages_rising low (p ∷ ps) apart = rising_from low p.first (part_pages (p ∷ ps)) apart.0.rising (rising_range p.first p.count (part_pages ps) (pages_rising (p.first + p.count) ps apart.1))
+pages_rising low (p ∷ ps) apart =
+    rising_from low p.first (part_pages (p ∷ ps)) apart.0.rising
+    (rising_range p.first p.count (part_pages ps) (pages_rising (p.first + p.count) ps apart.1))
 
 in_drop : (k : ℕ) (xs : List ℕ) (q : ℕ) → In (drop k xs) q → In xs q
 in_drop zero xs q h = h
@@ -168,12 +198,14 @@ in_drop (suc k) (x ∷ xs) q h = inr (in_drop k xs q h)
 drop_out : (low k : ℕ) (xs : List ℕ) (q : ℕ) → IsRisingFrom low xs → In (drop k xs) q → In (take k xs) q → ⊥
 drop_out low zero xs q rising h t = t
 drop_out low (suc k) [] q rising h t = t
-drop_out low (suc k) (x ∷ xs) q rising h (inl e) = (let r = in_rising (x + 1) xs q rising.1 (in_drop k xs q h) in omega (arith, r, e))
+drop_out low (suc k) (x ∷ xs) q rising h (inl e) =
+    (let r = in_rising (x + 1) xs q rising.1 (in_drop k xs q h) in omega (arith, r, e))
 drop_out low (suc k) (x ∷ xs) q rising h (inr t) = drop_out (x + 1) k xs q rising.1 h t
 
 -- one part published
 
-module _ (s : State) (p : Part) (n : ℕ) (all : IsAll Pending s.limit s.entries p) (some : 0 < n) (fit : n ≤ p.count * 4096) where
+module _ (s : State) (p : Part) (n : ℕ) (all : IsAll Pending s.limit s.entries p) (some : 0 < n)
+    (fit : n ≤ p.count * 4096) where
   abbrev t : State
   t = published_part s p n
 
@@ -192,8 +224,14 @@ module _ (s : State) (p : Part) (n : ℕ) (all : IsAll Pending s.limit s.entries
       elim (order p.first 1 q) [
         | inl h ↦ absurd (omega arith)
         | inr r ↦ elim r [
-          | inl h ↦ ap (λ e. e.generation) (rest ∙ each_there (marked (Head n) 1) p.first 1 q tails h.0 h.1 (omega (arith, all.within))) ∙ ap (λ e. e.generation + 1) (each_before (marked (Tail p.first) 1) (p.first + 1) (k - 1) q es (omega (arith, h.1)))
-          | inr h ↦ ap (λ e. e.generation) (rest ∙ each_after (marked (Head n) 1) p.first 1 q tails h ∙ each_there (marked (Tail p.first) 1) (p.first + 1) (k - 1) q es h (omega arith) (omega (arith, all.within)))
+          | inl h ↦
+              ap (λ e. e.generation) (rest
+              ∙ each_there (marked (Head n) 1) p.first 1 q tails h.0 h.1 (omega (arith, all.within)))
+              ∙ ap (λ e. e.generation + 1)
+              (each_before (marked (Tail p.first) 1) (p.first + 1) (k - 1) q es (omega (arith, h.1)))
+          | inr h ↦ ap (λ e. e.generation) (rest ∙ each_after (marked (Head n) 1) p.first 1 q tails h
+              ∙ each_there (marked (Tail p.first) 1) (p.first + 1) (k - 1) q es h (omega arith)
+              (omega (arith, all.within)))
         ]
       ]
 
@@ -208,8 +246,10 @@ module _ (s : State) (p : Part) (n : ℕ) (all : IsAll Pending s.limit s.entries
       let heads = each_from p.first 1 (marked (Head n) 1) tails in
       let long1 = length-each_from (marked (Tail p.first) 1) (p.first + 1) (k - 1) es in
       let long2 = length-each_from (marked (Head n) 1) p.first 1 tails in
-      each_there (marked Free 0) (p.first + k) (p.count - k) q heads lo (omega arith) (omega (arith, long1, long2, all.within))
-      ∙ ap (λ e. marked Free 0 e) (each_after (marked (Head n) 1) p.first 1 q tails (omega arith) ∙ each_after (marked (Tail p.first) 1) (p.first + 1) (k - 1) q es (omega arith))
+      each_there (marked Free 0) (p.first + k) (p.count - k) q heads lo (omega arith)
+      (omega (arith, long1, long2, all.within))
+      ∙ ap (λ e. marked Free 0 e) (each_after (marked (Head n) 1) p.first 1 q tails (omega arith)
+      ∙ each_after (marked (Tail p.first) 1) (p.first + 1) (k - 1) q es (omega arith))
 
   part_out : (q : ℕ) → (In (range_with_len p.first p.count) q → ⊥) → entry_at t q ≡ entry_at s q
   part_out q out = elim (order p.first p.count q) [
@@ -244,24 +284,31 @@ part_published s p n all some fit =
     let r : Part = record { first = p.first; count = pages_for n } in
     let few = pages_fit n p.count fit in
     let out = part_out s p n all some fit in
-    let left : (q : ℕ) → p.first ≤ q → q < p.first + p.count → (In (part_pages (r ∷ [])) q → ⊥) → entry_at (published_part s p n) q ≡ marked Free 0 (entry_at s q) =
+    let left : (q : ℕ) → p.first ≤ q → q < p.first + p.count → (In (part_pages (r ∷ [])) q → ⊥)
+    → entry_at (published_part s p n) q ≡ marked Free 0 (entry_at s q) =
     λ q lo hi off. elim (cases_lt q (p.first + pages_for n)) [
       | inl on ↦ absurd (off (run_one r q (in_range p.first (pages_for n) q lo on)))
       | inr past ↦ part_left s p n all some fit q past hi
     ] in
     record {
-      inside = λ q h. (let k = range_in p.first (pages_for n) q (one_run r q h) in in_range p.first p.count q k.0 (omega (arith, k.1, few)));
+      inside =
+          λ q h. (let k = range_in p.first (pages_for n) q (one_run r q h) in
+          in_range p.first p.count q k.0 (omega (arith, k.1, few)));
       out = out;
-      incremented = λ q h. (let k = range_in p.first (pages_for n) q (one_run r q h) in part_incremented s p n all some fit q k.0 k.1);
+      incremented =
+          λ q h. (let k = range_in p.first (pages_for n) q (one_run r q h) in
+          part_incremented s p n all some fit q k.0 k.1);
       kept = λ q off. elim (in_or_out (range_with_len p.first p.count) q) [
         | inl a ↦ (let k = range_in p.first p.count q a in ap (λ e. e.generation) (left q k.0 k.1 off) ∙ omega arith)
         | inr a ↦ ap (λ e. e.generation) (out q a)
       ];
-      back = λ q a off. (let k = range_in p.first p.count q a in ap (λ e. is_free s.limit e) (left q k.0 k.1 off) ∙ usable_left s.limit (entry_at s q) (all.below q k.0 k.1));
+      back = λ q a off. (let k = range_in p.first p.count q a in ap (λ e. is_free s.limit e) (left q k.0 k.1 off)
+          ∙ usable_left s.limit (entry_at s q) (all.below q k.0 k.1));
     }
 
 -- a part that is filled whole
-pub part_filled : (t u : State) (p : Part) → IsSameAround p t u → Raises t u (part_pages (p ∷ [])) → OnPart t u p (p ∷ [])
+pub part_filled : (t u : State) (p : Part) → IsSameAround p t u → Raises t u (part_pages (p ∷ []))
+    → OnPart t u p (p ∷ [])
 part_filled t u p around raises = record {
   inside = one_run p;
   out = λ q off. around.each q (elim (order p.first p.count q) [
@@ -274,18 +321,25 @@ part_filled t u p around raises = record {
 }
 
 -- a part that gets none
-pub part_dropped : (s : State) (p : Part) → IsAll Pending s.limit s.entries p → OnPart s (with_marked s p.first p.count Free 0) p []
+pub part_dropped : (s : State) (p : Part) → IsAll Pending s.limit s.entries p
+    → OnPart s (with_marked s p.first p.count Free 0) p []
 part_dropped s p all = record {
   inside = λ q h. elim h [ ];
   out = λ q off. elim (order p.first p.count q) [
     | inl h ↦ each_before (marked Free 0) p.first p.count q s.entries h
-    | inr r ↦ elim r [ inl h ↦ absurd (off (in_range p.first p.count q h.0 h.1)) | inr h ↦ each_after (marked Free 0) p.first p.count q s.entries h ]
+    | inr r ↦ elim r [
+      | inl h ↦ absurd (off (in_range p.first p.count q h.0 h.1))
+      | inr h ↦
+          each_after (marked Free 0) p.first p.count q s.entries h
+    ]
   ];
   incremented = λ q h. elim h [ ];
   kept = λ q off. generation-each_from (marked Free 0) (λ e. omega arith) p.first p.count q s.entries;
   back = λ q a off. (
       let k = range_in p.first p.count q a in
-      ap (λ e. is_free s.limit e) (each_there (marked Free 0) p.first p.count q s.entries k.0 k.1 (omega (arith, k.1, all.within))) ∙ usable_left s.limit (entry_at s q) (all.below q k.0 k.1));
+      ap (λ e. is_free s.limit e)
+      (each_there (marked Free 0) p.first p.count q s.entries k.0 k.1 (omega (arith, k.1, all.within)))
+      ∙ usable_left s.limit (entry_at s q) (all.below q k.0 k.1));
 }
 
 -- Parts on which the first n bytes were placed, one after another.
@@ -301,10 +355,20 @@ pub record Placed (s t : State) (bufs : List BufId) (ps : List Part) (n : ℕ) :
   pub back : (q : ℕ) → In (part_pages ps) q → (In (part_pages (needed ps n)) q → ⊥) → usable t q ≡ true
 
 pub placed_none : (s : State) (n : ℕ) → Placed s s [] [] n
-placed_none s n = record { begun = refl; whole = refl; incremented = λ q h. elim h [ ]; kept = λ q h. refl; others = λ q h. refl; back = λ q h. elim h [ ] }
+placed_none s n = record {
+  begun = refl;
+  whole = refl;
+  incremented = λ q h. elim h [ ];
+  kept = λ q h. refl;
+  others =
+      λ q h. refl;
+  back = λ q h. elim h [ ];
+}
 
 -- new buffers begin on pages that changed
-pub new_places : {s t : State} (pages : List ℕ) (bufs : List BufId) → ((q : ℕ) → (In pages q → ⊥) → entry_at t q ≡ entry_at s q) → All (IsNew s t) bufs → All (λ b. In pages b.page) bufs
+pub new_places : {s t : State} (pages : List ℕ) (bufs : List BufId)
+    → ((q : ℕ) → (In pages q → ⊥) → entry_at t q ≡ entry_at s q) → All (IsNew s t) bufs
+    → All (λ b. In pages b.page) bufs
 new_places {s = s} pages bufs others new = λ k d h.
     let b = get_or bufs k d in
     let x = new k d h in
@@ -321,7 +385,8 @@ map_same f g (x ∷ xs) same =
     λ i. first i ∷ rest i
 
 -- one part more
-module _ (s t : State) (ps : List Part) (i n : ℕ) (bufs : List BufId) (apart : AreApart 0 ps) (h : i < length ps) (m : Placed s t bufs (take i ps) n) where
+module _ (s t : State) (ps : List Part) (i n : ℕ) (bufs : List BufId) (apart : AreApart 0 ps) (h : i < length ps)
+    (m : Placed s t bufs (take i ps) n) where
   abbrev p : Part
   p = get_or ps i no_part
 
@@ -335,69 +400,87 @@ module _ (s t : State) (ps : List Part) (i n : ℕ) (bufs : List BufId) (apart :
   pub still_same : (q : ℕ) → (get_or ps i no_part).first ≤ q → entry_at t q ≡ entry_at s q
   still_same q lo = m.others q (λ a. (let r = before_part 0 ps i q apart h a in omega (arith, r, lo)))
 
-  pub still_waits : AreAll Pending s.limit s.entries ps → t.limit ≡ s.limit → length t.entries ≡ length s.entries → IsAll Pending t.limit t.entries (get_or ps i no_part)
-  still_waits all limit long = all_same Pending s t p limit long still_same (all_at Pending s.limit s.entries ps i all h)
+  pub still_waits : AreAll Pending s.limit s.entries ps → t.limit ≡ s.limit → length t.entries ≡ length s.entries
+      → IsAll Pending t.limit t.entries (get_or ps i no_part)
+  still_waits all limit long =
+      all_same Pending s t p limit long still_same (all_at Pending s.limit s.entries ps i all h)
 
   away : (q : ℕ) → In so_far q → In here q → ⊥
   away q a b = (let k = range_in p.first p.count q b in omega (arith, before_part 0 ps i q apart h a, k.0))
 
-  pub placed_more : (u : State) (more : List BufId) (rs : List Part) → All (IsNew s t) bufs → u.limit ≡ t.limit → OnPart t u (get_or ps i no_part) rs → needed (take (i + 1) ps) n ≡ needed (take i ps) n ++ rs
-      → more ≡ map (begun_on s) rs → map (λ b. pages_for (len_of u b)) more ≡ map (λ r. r.count) rs → Placed s u (bufs ++ more) (take (i + 1) ps) n
+  pub placed_more : (u : State) (more : List BufId) (rs : List Part) → All (IsNew s t) bufs → u.limit ≡ t.limit
+      → OnPart t u (get_or ps i no_part) rs → needed (take (i + 1) ps) n ≡ needed (take i ps) n ++ rs
+      → more ≡ map (begun_on s) rs → map (λ b. pages_for (len_of u b)) more ≡ map (λ r. r.count) rs
+      → Placed s u (bufs ++ more) (take (i + 1) ps) n
   placed_more u more rs new limit o needs begins fill =
       let was = needed (take i ps) n in
       let old = part_pages was in
       let add = part_pages rs in
       let all = ap part_pages needs ∙ flat_map-append (λ (r : Part). range_with_len r.first r.count) was rs in
       let pages = pages-more ps i h in
-      let left : (q : ℕ) → In old q → In (part_pages (needed (take (i + 1) ps) n)) q = λ q a. subst (λ l. In l q) (sym all) (in_left old add q a) in
-      let right : (q : ℕ) → In add q → In (part_pages (needed (take (i + 1) ps) n)) q = λ q a. subst (λ l. In l q) (sym all) (in_right old add q a) in
+      let left : (q : ℕ) → In old q → In (part_pages (needed (take (i + 1) ps) n)) q =
+      λ q a. subst (λ l. In l q) (sym all) (in_left old add q a) in
+      let right : (q : ℕ) → In add q → In (part_pages (needed (take (i + 1) ps) n)) q =
+      λ q a. subst (λ l. In l q) (sym all) (in_right old add q a) in
       let lens : List BufId → List ℕ = map (λ b. pages_for (len_of u b)) in
       record {
-        begun = ap (λ l. bufs ++ l) begins ∙ ap (λ l. l ++ map (begun_on s) rs) m.begun ∙ sym (map-append (begun_on s) was rs) ∙ ap (map (begun_on s)) (sym needs);
+        begun = ap (λ l. bufs ++ l) begins ∙ ap (λ l. l ++ map (begun_on s) rs) m.begun
+            ∙ sym (map-append (begun_on s) was rs) ∙ ap (map (begun_on s)) (sym needs);
         whole = map-append (λ b. pages_for (len_of u b)) bufs more ∙ ap (λ l. l ++ lens more)
-            (map_same (λ b. pages_for (len_of u b)) (λ b. pages_for (len_of t b)) bufs (λ k d lt. ap (λ e. pages_for (kind_len e.kind)) (o.out (get_or bufs k d).page (away (get_or bufs k d).page (new_places so_far bufs m.others new k d lt)))))
-            ∙ ap (λ l. l ++ lens more) m.whole ∙ ap (λ l. map (λ (r : Part). r.count) was ++ l) fill ∙ sym (map-append (λ (r : Part). r.count) was rs) ∙ ap (map (λ (r : Part). r.count)) (sym needs);
+            (map_same (λ b. pages_for (len_of u b)) (λ b. pages_for (len_of t b)) bufs
+            (λ k d lt. ap (λ e. pages_for (kind_len e.kind))
+            (o.out (get_or bufs k d).page
+            (away (get_or bufs k d).page (new_places so_far bufs m.others new k d lt)))))
+            ∙ ap (λ l. l ++ lens more) m.whole ∙ ap (λ l. map (λ (r : Part). r.count) was ++ l) fill
+            ∙ sym (map-append (λ (r : Part). r.count) was rs) ∙ ap (map (λ (r : Part). r.count)) (sym needs);
         incremented = λ q a. elim (in_either old add q (subst (λ l. In l q) all a)) [
           | inl b ↦ o.kept q (λ r. away q (needed_in (take i ps) n q b) (o.inside q r)) ∙ m.incremented q b
-          | inr b ↦ o.incremented q b ∙ ap (λ g. g + 1) (m.kept q (λ r. away q (needed_in (take i ps) n q r) (o.inside q b)))
+          | inr b ↦ o.incremented q b
+              ∙ ap (λ g. g + 1) (m.kept q (λ r. away q (needed_in (take i ps) n q r) (o.inside q b)))
         ];
         kept = λ q off. o.kept q (λ b. off (right q b)) ∙ m.kept q (λ b. off (left q b));
-        others = λ q off. o.out q (λ b. off (subst (λ l. In l q) (sym pages) (in_right so_far here q b))) ∙ m.others q (λ b. off (subst (λ l. In l q) (sym pages) (in_left so_far here q b)));
+        others = λ q off. o.out q (λ b. off (subst (λ l. In l q) (sym pages) (in_right so_far here q b)))
+            ∙ m.others q (λ b. off (subst (λ l. In l q) (sym pages) (in_left so_far here q b)));
         back = λ q a off. elim (in_either so_far here q (subst (λ l. In l q) pages a)) [
-          | inl b ↦ ap (λ e. is_free u.limit e) (o.out q (away q b)) ∙ ap (λ l. is_free l (entry_at t q)) limit ∙ m.back q b (λ r. off (left q r))
+          | inl b ↦ ap (λ e. is_free u.limit e) (o.out q (away q b)) ∙ ap (λ l. is_free l (entry_at t q)) limit
+              ∙ m.back q b (λ r. off (left q r))
           | inr b ↦ o.back q b (λ r. off (right q r))
         ];
       }
 
 -- All parts.
 
-module _ (s t : State) (bufs : List BufId) (ps : List Part) (n : ℕ) (apart : AreApart 0 ps) (m : Placed s t bufs ps n) where
-  pub made-placed : MadeOn s t bufs (take (pages_for n) (part_pages ps))
-  made-placed =
-      let pages = take (pages_for n) (part_pages ps) in
-      record {
-        runs = needed ps n;
-        apart = needed_apart 0 ps n apart;
-        cover = cover ps n;
-        begun = m.begun;
-        whole = m.whole;
-        raises = record {
-          incremented = λ q h. m.incremented q (subst (λ l. In l q) (sym (cover ps n)) (in_contains pages q h));
-          kept = λ q out. m.kept q (λ h. out (contains_in pages q (subst (λ l. In l q) (cover ps n) h)));
-        };
-      }
+module _ (s t : State) (bufs : List BufId) (ps : List Part) (n : ℕ) (apart : AreApart 0 ps) (m : Placed s t bufs ps n)
+  where
+    pub made-placed : MadeOn s t bufs (take (pages_for n) (part_pages ps))
+    made-placed =
+        let pages = take (pages_for n) (part_pages ps) in
+        record {
+          runs = needed ps n;
+          apart = needed_apart 0 ps n apart;
+          cover = cover ps n;
+          begun = m.begun;
+          whole = m.whole;
+          raises = record {
+            incremented = λ q h. m.incremented q (subst (λ l. In l q) (sym (cover ps n)) (in_contains pages q h));
+            kept = λ q out. m.kept q (λ h. out (contains_in pages q (subst (λ l. In l q) (cover ps n) h)));
+          };
+        }
 
-  pub others-placed : IsSameBut (part_pages ps) s t
-  others-placed = record { each = λ q out. m.others q (λ h. out (contains_in (part_pages ps) q h)) }
+    pub others-placed : IsSameBut (part_pages ps) s t
+    others-placed = record { each = λ q out. m.others q (λ h. out (contains_in (part_pages ps) q h)) }
 
-  pub returned-placed : AreUsable t (drop (pages_for n) (part_pages ps))
-  returned-placed = record {
-    each = λ q h.
-        let there = in_contains (drop (pages_for n) (part_pages ps)) q h in
-        m.back q (in_drop (pages_for n) (part_pages ps) q there) (λ j. drop_out 0 (pages_for n) (part_pages ps) q (pages_rising 0 ps apart) there (subst (λ l. In l q) (cover ps n) j));
-  }
+    pub returned-placed : AreUsable t (drop (pages_for n) (part_pages ps))
+    returned-placed = record {
+      each = λ q h.
+          let there = in_contains (drop (pages_for n) (part_pages ps)) q h in
+          m.back q (in_drop (pages_for n) (part_pages ps) q there)
+          (λ j. drop_out 0 (pages_for n) (part_pages ps) q (pages_rising 0 ps apart) there
+          (subst (λ l. In l q) (cover ps n) j));
+    }
 
-begun_since : (s t : State) (rs : List Part) → ((q : ℕ) → generation_at t q ≡ generation_at s q) → map (begun_on t) rs ≡ map (begun_on s) rs
+begun_since : (s t : State) (rs : List Part) → ((q : ℕ) → generation_at t q ≡ generation_at s q)
+    → map (begun_on t) rs ≡ map (begun_on s) rs
 begun_since s t [] same = refl
 begun_since s t (r ∷ rs) same =
     let g = same r.first in
@@ -405,7 +488,8 @@ begun_since s t (r ∷ rs) same =
     λ i. (let b : BufId = record { page = r.first; generation = g i + 1 } in b) ∷ rest i
 
 -- made after a change that raised no page
-pub made_since : {s t u : State} {bufs : List BufId} {placed : List ℕ} → ((q : ℕ) → generation_at t q ≡ generation_at s q) → MadeOn t u bufs placed → MadeOn s u bufs placed
+pub made_since : {s t u : State} {bufs : List BufId} {placed : List ℕ}
+    → ((q : ℕ) → generation_at t q ≡ generation_at s q) → MadeOn t u bufs placed → MadeOn s u bufs placed
 made_since {s = s} {t = t} same m = record {
   runs = m.runs;
   apart = m.apart;
@@ -434,5 +518,9 @@ made_none s pages =
       cover = sym none;
       begun = refl;
       whole = refl;
-      raises = record { incremented = λ q h. absurd (in_contains [] q (subst (λ l. Contains l q) none h)); kept = λ q out. refl };
+      raises = record {
+        incremented = λ q h. absurd (in_contains [] q (subst (λ l. Contains l q) none h));
+        kept =
+            λ q out. refl;
+      };
     }

@@ -1,6 +1,8 @@
 -- How often buffers are held.
-use Rattle.std.proofs.Common.{◌≡◌, ℕ, zero, suc, ◌+◌, ◌<◌, ◌≤◌, ◌⊎◌, inl, inr, List, [], ◌∷◌, ◌++◌, length, get_or, refl, sym, ap, ◌∙◌, arith, take, drop, map, Bool, true, false, eqb, cond, subst}
-use Rattle.std.proofs.lemmas.List.{get_or-set_same, get_or-set_other, get_or_default, map-append, take_more, take-append-drop}
+use Rattle.std.proofs.Common.{◌≡◌, ℕ, zero, suc, ◌+◌, ◌<◌, ◌≤◌, ◌⊎◌, inl, inr, List, [], ◌∷◌, ◌++◌, length, get_or}
+use Rattle.std.proofs.Common.{refl, sym, ap, ◌∙◌, arith, take, drop, map, Bool, true, false, eqb, cond, subst}
+use Rattle.std.proofs.lemmas.List.{get_or-set_same, get_or-set_other, get_or_default, map-append, take_more}
+use Rattle.std.proofs.lemmas.List.{take-append-drop}
 use Rattle.std.proofs.lemmas.Bool.{cases_eq, eq-eqb, ne_eqb}
 use Rattle.iol_core.specs.declared.numbers.BufId.{BufId}
 use Rattle.iol_arena.specs.State.{entry_at, kind_head}
@@ -46,7 +48,11 @@ pub no_head : (e : Entry) (n g : ℕ) → kind_head e.kind ≡ false → count_i
 no_head e n g h = rw h refl
 
 pub absent : (e : Entry) (n g : ℕ) → (e.generation ≡ g → ⊥) → count_in e n g ≡ 0
-absent e n g ne = elim (kind_head e.kind) as (λ v. ◌≡◌ {A = ℕ} (cond v (cond (eqb e.generation g) n 0) 0) 0) [ true ↦ rw (ne_eqb e.generation g ne) refl | false ↦ refl ]
+absent e n g ne = elim (kind_head e.kind) as (λ v. ◌≡◌ {A = ℕ} (cond v (cond (eqb e.generation g) n 0) 0) 0) [
+  | true ↦
+      rw (ne_eqb e.generation g ne) refl
+  | false ↦ refl
+]
 
 pub present : (e : Entry) (n g : ℕ) → kind_head e.kind ≡ true → e.generation ≡ g → count_in e n g ≡ n
 present e n g h e2 = rw (h, eq-eqb e.generation g e2) refl
@@ -65,19 +71,34 @@ head_of (Tail p) e = cc
 
 pub live_head : (s : Stored) (b : BufId) → 0 < count_of s b → kind_head (entry_at s.arena b.page).kind ≡ true
 unfolding count_of
-live_head s b h = elim (bool_cases (kind_head (entry_at s.arena b.page).kind)) [ inl e ↦ e | inr e ↦ absurd (omega (arith, no_head (entry_at s.arena b.page) (get_or s.counts b.page 0) b.generation e)) ]
+live_head s b h =
+    elim (bool_cases (kind_head (entry_at s.arena b.page).kind)) [
+      | inl e ↦ e
+      | inr e ↦
+          absurd (omega (arith, no_head (entry_at s.arena b.page) (get_or s.counts b.page 0) b.generation e))
+    ]
 
 pub live_generation : (s : Stored) (b : BufId) → 0 < count_of s b → (entry_at s.arena b.page).generation ≡ b.generation
 unfolding count_of
-live_generation s b h = elim (cases_eq (entry_at s.arena b.page).generation b.generation) [ inl e ↦ e | inr ne ↦ absurd (omega (arith, absent (entry_at s.arena b.page) (get_or s.counts b.page 0) b.generation ne)) ]
+live_generation s b h =
+    elim (cases_eq (entry_at s.arena b.page).generation b.generation) [
+      | inl e ↦ e
+      | inr ne ↦
+          absurd (omega (arith, absent (entry_at s.arena b.page) (get_or s.counts b.page 0) b.generation ne))
+    ]
 
 pub live_of : (s : Stored) (b : BufId) → 0 < count_of s b → IsLive s.arena b
-live_of s b h = record { head = head_of (entry_at s.arena b.page).kind (live_head s b h); generation = live_generation s b h }
+live_of s b h = record {
+  head = head_of (entry_at s.arena b.page).kind (live_head s b h);
+  generation =
+      live_generation s b h;
+}
 
 -- and the count of a live buffer is the number that is kept for its first page
 pub count_live : (s : Stored) (b : BufId) → IsLive s.arena b → count_of s b ≡ get_or s.counts b.page 0
 unfolding count_of
-count_live s b h = present (entry_at s.arena b.page) (get_or s.counts b.page 0) b.generation (ap kind_head h.head) h.generation
+count_live s b h = present (entry_at s.arena b.page) (get_or s.counts b.page 0) b.generation (ap kind_head h.head)
+    h.generation
 
 pub live_count : (s : Stored) (b : BufId) → 0 < count_of s b → get_or s.counts b.page 0 ≡ count_of s b
 live_count s b h = sym (count_live s b (live_of s b h))
@@ -96,9 +117,11 @@ count_read s b x h e = e ∙ get_or_default s.counts b.page x 0 (live_within s b
 
 -- One buffer's count alone changes.
 
-pub one_counts : (s t : Stored) (b : BufId) (xs ys : List BufId) → ((a : BufId) → (a.page ≡ b.page → ⊥) → count_of t a ≡ count_of s a)
+pub one_counts : (s t : Stored) (b : BufId) (xs ys : List BufId)
+    → ((a : BufId) → (a.page ≡ b.page → ⊥) → count_of t a ≡ count_of s a)
     → ((a : BufId) → a.page ≡ b.page → (a.generation ≡ b.generation → ⊥) → (count_of s a ≡ 0) × (count_of t a ≡ 0))
-    → ((a : BufId) → same a b ≡ 0 → tally a xs ≡ tally a ys) → count_of t b + tally b xs ≡ count_of s b + tally b ys → Counts s t xs ys
+    → ((a : BufId) → same a b ≡ 0 → tally a xs ≡ tally a ys) → count_of t b + tally b xs ≡ count_of s b + tally b ys
+    → Counts s t xs ys
 one_counts s t b xs ys off stale others held = record {
   each = λ a. elim (cases_eq a.page b.page) [
     | inl e ↦ elim (cases_eq a.generation b.generation) [
@@ -115,24 +138,36 @@ one_counts s t b xs ys off stale others held = record {
 pub count_set : (s : Stored) (b : BufId) (n : ℕ) → 0 < count_of s b → count_of (with_count s b.page n) b ≡ n
 unfolding count_of
 count_set s b n live =
-    ap (λ x. count_in (entry_at s.arena b.page) x b.generation) (get_or-set_same s.counts b.page n 0 (live_within s b live)) ∙ present (entry_at s.arena b.page) n b.generation (live_head s b live) (live_generation s b live)
+    ap (λ x. count_in (entry_at s.arena b.page) x b.generation)
+    (get_or-set_same s.counts b.page n 0 (live_within s b live))
+    ∙ present (entry_at s.arena b.page) n b.generation (live_head s b live) (live_generation s b live)
 
-pub set_counts : (s : Stored) (b : BufId) (n : ℕ) (xs ys : List BufId) → 0 < count_of s b → ((a : BufId) → same a b ≡ 0 → tally a xs ≡ tally a ys) → n + tally b xs ≡ count_of s b + tally b ys → Counts s (with_count s b.page n) xs ys
+pub set_counts : (s : Stored) (b : BufId) (n : ℕ) (xs ys : List BufId) → 0 < count_of s b
+    → ((a : BufId) → same a b ≡ 0 → tally a xs ≡ tally a ys) → n + tally b xs ≡ count_of s b + tally b ys
+    → Counts s (with_count s b.page n) xs ys
 unfolding count_of
 set_counts s b n xs ys live others held =
     let t = with_count s b.page n in
     one_counts s t b xs ys
-    (λ a ne. ap (λ x. count_in (entry_at s.arena a.page) x a.generation) (get_or-set_other s.counts b.page a.page n 0 ne))
-    (λ a e ne. (let now : (entry_at s.arena a.page).generation ≡ a.generation → ⊥ = λ g. ne (sym g ∙ ap (λ p. (entry_at s.arena p).generation) e ∙ live_generation s b live) in
-    (absent (entry_at s.arena a.page) (get_or s.counts a.page 0) a.generation now, absent (entry_at s.arena a.page) (get_or t.counts a.page 0) a.generation now)))
+    (λ a ne. ap (λ x. count_in (entry_at s.arena a.page) x a.generation)
+    (get_or-set_other s.counts b.page a.page n 0 ne))
+    (λ a e ne. (let now : (entry_at s.arena a.page).generation ≡ a.generation → ⊥ =
+    λ g. ne (sym g ∙ ap (λ p. (entry_at s.arena p).generation) e ∙ live_generation s b live) in (
+      absent (entry_at s.arena a.page) (get_or s.counts a.page 0) a.generation now,
+      absent (entry_at s.arena a.page) (get_or t.counts a.page 0) a.generation now,
+    )))
     others (omega (arith, count_set s b n live, held))
 
 -- one hold more, one hold less
-pub one_more : (s : Stored) (b : BufId) → 0 < count_of s b → Counts s (with_count s b.page (count_of s b + 1)) [] (b ∷ [])
-one_more s b live = set_counts s b (count_of s b + 1) [] (b ∷ []) live (λ a e. omega (arith, tally_one a b, tally_none a, e)) (omega (arith, tally_one b b, same_self b, tally_none b))
+pub one_more : (s : Stored) (b : BufId) → 0 < count_of s b
+    → Counts s (with_count s b.page (count_of s b + 1)) [] (b ∷ [])
+one_more s b live =
+    set_counts s b (count_of s b + 1) [] (b ∷ []) live (λ a e. omega (arith, tally_one a b, tally_none a, e))
+    (omega (arith, tally_one b b, same_self b, tally_none b))
 
 pub one_less : (s : Stored) (b : BufId) (n : ℕ) → n + 1 ≡ count_of s b → Counts s (with_count s b.page n) (b ∷ []) []
-one_less s b n is = set_counts s b n (b ∷ []) [] (omega arith) (λ a e. omega (arith, tally_one a b, tally_none a, e)) (omega (arith, is, tally_one b b, same_self b, tally_none b))
+one_less s b n is = set_counts s b n (b ∷ []) [] (omega arith) (λ a e. omega (arith, tally_one a b, tally_none a, e))
+    (omega (arith, is, tally_one b b, same_self b, tally_none b))
 
 -- Of slices in a list.
 
@@ -142,15 +177,31 @@ bufs-append xs ys = map-append (λ (x : Slice). x.hold.buf) xs ys
 pub bufs-push : (xs : List Slice) (x : Slice) → bufs_of (xs ++ x ∷ []) ≡ bufs_of xs ++ x.hold.buf ∷ []
 bufs-push xs x = bufs-append xs (x ∷ [])
 
-pub bufs-take_more : (xs : List Slice) (i : ℕ) (x : Slice) → i < length xs → x ≡ get_or xs i x → bufs_of (take (i + 1) xs) ≡ bufs_of (take i xs) ++ x.hold.buf ∷ []
-bufs-take_more xs i x h e = ap bufs_of (take_more xs i x h ∙ ap (λ y. take i xs ++ y ∷ []) (sym e)) ∙ bufs-push (take i xs) x
+pub bufs-take_more : (xs : List Slice) (i : ℕ) (x : Slice) → i < length xs → x ≡ get_or xs i x
+    → bufs_of (take (i + 1) xs) ≡ bufs_of (take i xs) ++ x.hold.buf ∷ []
+bufs-take_more xs i x h e = ap bufs_of (take_more xs i x h ∙ ap (λ y. take i xs ++ y ∷ []) (sym e))
+    ∙ bufs-push (take i xs) x
 
 pub tally-take : (b : BufId) (xs : List Slice) (i : ℕ) → tally b (bufs_of (take i xs)) ≤ tally b (bufs_of xs)
-tally-take b xs i = omega (arith, ap (λ ys. tally b (bufs_of ys)) (take-append-drop i xs), ap (tally b) (bufs-append (take i xs) (drop i xs)), tally-append b (bufs_of (take i xs)) (bufs_of (drop i xs)))
+tally-take b xs i =
+    omega (
+      arith,
+      ap (λ ys. tally b (bufs_of ys)) (take-append-drop i xs),
+      ap (tally b) (bufs-append (take i xs) (drop i xs)),
+      tally-append b (bufs_of (take i xs)) (bufs_of (drop i xs)),
+    )
 
 -- the i-th slice is one of them
-pub tally-at : (xs : List Slice) (i : ℕ) (x : Slice) (b : BufId) → i < length xs → x ≡ get_or xs i x → tally b (bufs_of (take i xs)) + same b x.hold.buf ≤ tally b (bufs_of xs)
-tally-at xs i x b h e = omega (arith, tally-take b xs (i + 1), ap (tally b) (bufs-take_more xs i x h e), tally-append b (bufs_of (take i xs)) (x.hold.buf ∷ []), tally_one b x.hold.buf)
+pub tally-at : (xs : List Slice) (i : ℕ) (x : Slice) (b : BufId) → i < length xs → x ≡ get_or xs i x
+    → tally b (bufs_of (take i xs)) + same b x.hold.buf ≤ tally b (bufs_of xs)
+tally-at xs i x b h e =
+    omega (
+      arith,
+      tally-take b xs (i + 1),
+      ap (tally b) (bufs-take_more xs i x h e),
+      tally-append b (bufs_of (take i xs)) (x.hold.buf ∷ []),
+      tally_one b x.hold.buf,
+    )
 
 -- a list holds a buffer once at most for each of its members
 pub same_few : (a b : BufId) → same a b ≤ 1

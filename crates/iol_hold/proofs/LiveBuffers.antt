@@ -21,7 +21,14 @@ pub holds_all : {s : Stored} → IsTidy s → HoldsAll s
 holds_all h = record { held = h.held; placed = h.placed }
 
 pub tidy_of : {s : Stored} → HoldsAll s → HasRuns s.arena.entries → AreOwned s.arena s.pools → IsTidy s
-tidy_of {s = s} h runs owned = record { held = h.held; placed = h.placed; alone = runs_alone s.arena runs; runs = runs; owned = owned }
+tidy_of {s = s} h runs owned = record {
+  held = h.held;
+  placed = h.placed;
+  alone = runs_alone s.arena runs;
+  runs =
+      runs;
+  owned = owned;
+}
 
 -- the count of a live buffer changes, not to 0
 pub tidy_count : (s : Stored) (b : BufId) (n : ℕ) → 0 < count_of s b → 0 < n → IsTidy s → IsTidy (with_count s b.page n)
@@ -29,8 +36,21 @@ tidy_count s b n live some tidy =
     let t = with_count s b.page n in
     record {
       held = λ a h. elim (cases_eq a.page b.page) [
-        | inl e ↦ omega (arith, count_live t a h, get_or-set_same s.counts b.page n 0 (live_within s b live), ap (λ p. get_or t.counts p 0) e, some)
-        | inr ne ↦ (let was : IsLive s.arena a = record { head = h.head; generation = h.generation } in omega (arith, count_live t a h, get_or-set_other s.counts b.page a.page n 0 ne, count_live s a was, tidy.held a was))
+        | inl e ↦ omega (
+          arith,
+          count_live t a h,
+          get_or-set_same s.counts b.page n 0 (live_within s b live),
+          ap (λ p. get_or t.counts p 0) e,
+          some,
+        )
+        | inr ne ↦ (let was : IsLive s.arena a = record { head = h.head; generation = h.generation } in
+            omega (
+              arith,
+              count_live t a h,
+              get_or-set_other s.counts b.page a.page n 0 ne,
+              count_live s a was,
+              tidy.held a was,
+            ))
       ];
       placed = tidy.placed;
       alone = record { each = tidy.alone.each };
@@ -46,20 +66,24 @@ live_stays s t b e h = record {
 }
 
 pub lies_stays : (s t : State) (b : BufId) (q : ℕ) → entry_at t b.page ≡ entry_at s b.page → LiesOn s b q → LiesOn t b q
-lies_stays s t b q e h = record { from = h.from; to = subst (λ x. q < b.page + pages_for (kind_len x.kind)) (sym e) h.to }
+lies_stays s t b q e h =
+    record { from = h.from; to = subst (λ x. q < b.page + pages_for (kind_len x.kind)) (sym e) h.to }
 
 -- a page whose entry stays, where the first pages of live buffers over it stay
-pub placed_stays : (s t : State) (q : ℕ) → entry_at t q ≡ entry_at s q → ((b : BufId) → IsLive s b → LiesOn s b q → entry_at t b.page ≡ entry_at s b.page) → IsPlaced s q → IsPlaced t q
+pub placed_stays : (s t : State) (q : ℕ) → entry_at t q ≡ entry_at s q
+    → ((b : BufId) → IsLive s b → LiesOn s b q → entry_at t b.page ≡ entry_at s b.page) → IsPlaced s q → IsPlaced t q
 placed_stays s t q e first h = elim h [
   | inl free ↦ inl (ap (λ x. x.kind) e ∙ free)
   | inr r ↦ elim r [
     | inl pending ↦ inr (inl (ap (λ x. x.kind) e ∙ pending))
-    | inr (b, live, lies) ↦ inr (inr (b, live_stays s t b (first b live lies) live, lies_stays s t b q (first b live lies) lies))
+    | inr (b, live, lies) ↦
+        inr (inr (b, live_stays s t b (first b live lies) live, lies_stays s t b q (first b live lies) lies))
   ]
 ]
 
 -- a buffer is freed
-module _ (s : State) (p n : ℕ) (head : (entry_at s p).kind ≡ Head n) (frees : Frees s (with_marked s p (pages_for n) Free 0) p) where
+module _ (s : State) (p n : ℕ) (head : (entry_at s p).kind ≡ Head n)
+    (frees : Frees s (with_marked s p (pages_for n) Free 0) p) where
   abbrev freed : State
   freed = with_marked s p (pages_for n) Free 0
 
@@ -67,7 +91,10 @@ module _ (s : State) (p n : ℕ) (head : (entry_at s p).kind ≡ Head n) (frees 
   cleared : (q : ℕ) → p ≤ q → q < p + pages_for n → (entry_at freed q).kind ≡ Free
   cleared q lo hi = elim (cases_lt q (length s.entries)) [
     | inl h ↦ ap (λ e. e.kind) (each_there (marked Free 0) p (pages_for n) q s.entries lo hi h)
-    | inr h ↦ ap (λ e. e.kind) (get_or_past freed.entries q no_entry (omega (arith, h, length-each_from (marked Free 0) p (pages_for n) s.entries)))
+    | inr h ↦
+        ap (λ e. e.kind)
+        (get_or_past freed.entries q no_entry
+        (omega (arith, h, length-each_from (marked Free 0) p (pages_for n) s.entries)))
   ]
 
   -- another live buffer's first page stays
@@ -79,20 +106,25 @@ module _ (s : State) (p n : ℕ) (head : (entry_at s p).kind ≡ Head n) (frees 
 
   pub freed_placed : (q : ℕ) → IsPlaced s q → IsPlaced freed q
   freed_placed q h = elim (order p (pages_for n) q) [
-    | inl lo ↦ placed_stays s freed q (each_before (marked Free 0) p (pages_for n) q s.entries lo) (λ b live lies. other b live (λ e. omega (arith, lies.from, lo, e))) h
+    | inl lo ↦ placed_stays s freed q (each_before (marked Free 0) p (pages_for n) q s.entries lo)
+        (λ b live lies. other b live (λ e. omega (arith, lies.from, lo, e))) h
     | inr r ↦ elim r [
       | inl at ↦ inl (cleared q at.0 at.1)
-      | inr hi ↦ placed_stays s freed q (each_after (marked Free 0) p (pages_for n) q s.entries hi) (λ b live lies. other b live (λ e. (let len = ap (λ x. kind_len (entry_at s x).kind) e ∙ ap kind_len head in let to = ap pages_for len in omega (arith, lies.to, hi, e, to)))) h
+      | inr hi ↦ placed_stays s freed q (each_after (marked Free 0) p (pages_for n) q s.entries hi)
+          (λ b live lies. other b live (λ e. (let len = ap (λ x. kind_len (entry_at s x).kind) e ∙ ap kind_len head in
+          let to = ap pages_for len in omega (arith, lies.to, hi, e, to)))) h
     ]
   ]
 
   pub freed_still : IsStill s → IsStill freed
   freed_still h = record {
     each = λ q pending. elim (order p (pages_for n) q) [
-      | inl lo ↦ h.each q (ap (λ e. e.kind) (sym (each_before (marked Free 0) p (pages_for n) q s.entries lo)) ∙ pending)
+      | inl lo ↦ h.each q (ap (λ e. e.kind) (sym (each_before (marked Free 0) p (pages_for n) q s.entries lo))
+          ∙ pending)
       | inr r ↦ elim r [
         | inl at ↦ (let free = cleared q at.0 at.1 in cc (free, pending))
-        | inr hi ↦ h.each q (ap (λ e. e.kind) (sym (each_after (marked Free 0) p (pages_for n) q s.entries hi)) ∙ pending)
+        | inr hi ↦ h.each q (ap (λ e. e.kind) (sym (each_after (marked Free 0) p (pages_for n) q s.entries hi))
+            ∙ pending)
       ]
     ];
   }
@@ -100,5 +132,13 @@ module _ (s : State) (p n : ℕ) (head : (entry_at s p).kind ≡ Head n) (frees 
   -- a buffer that is live after was live before, on another page
   pub freed_live : (b : BufId) → IsLive freed b → (b.page ≡ p → ⊥) × (entry_at freed b.page ≡ entry_at s b.page)
   freed_live b live =
-      let ne : b.page ≡ p → ⊥ = λ e. (let h = ap kind_head live.head in let g = ap (λ q. kind_head (entry_at freed q).kind) e ∙ frees.gone in cc (h, g)) in
-      (ne, elim (frees.others b.page ne) [ inl e ↦ e | inr f ↦ (let h = ap kind_head live.head in absurd (cc (h, f.1))) ])
+      let ne : b.page ≡ p → ⊥ =
+      λ e. (let h = ap kind_head live.head in let g = ap (λ q. kind_head (entry_at freed q).kind) e ∙ frees.gone in
+      cc (h, g)) in (
+        ne,
+        elim (frees.others b.page ne) [
+          | inl e ↦ e
+          | inr f ↦
+              (let h = ap kind_head live.head in absurd (cc (h, f.1)))
+        ],
+      )

@@ -1,11 +1,13 @@
 -- Buffers made on pages that waited, each held once. The other pages that waited are free.
-use Rattle.std.proofs.Common.{◌≡◌, true, ℕ, suc, ◌+◌, ◌<◌, ◌⊎◌, inl, inr, List, [], ◌∷◌, ◌++◌, Bool, length, map, get_or, set, drop, nat_lt, ◌&&◌, refl, sym, ap, ◌∙◌, arith, subst, length-set}
+use Rattle.std.proofs.Common.{◌≡◌, true, ℕ, suc, ◌+◌, ◌<◌, ◌⊎◌, inl, inr, List, [], ◌∷◌, ◌++◌, Bool, length, map}
+use Rattle.std.proofs.Common.{get_or, set, drop, nat_lt, ◌&&◌, refl, sym, ap, ◌∙◌, arith, subst, length-set}
 use Rattle.std.specs.List.{All, range_with_len}
 use Rattle.std.proofs.lemmas.List.Elements.{All-map}
 use Rattle.std.proofs.lemmas.List.{get_or-set_same, get_or-set_other, get_or_past}
 use Rattle.std.proofs.lemmas.Bool.{cases_eq, cases_lt}
 use Rattle.iol_core.specs.declared.numbers.BufId.{BufId}
-use Rattle.iol_arena.specs.State.{State, HasRuns, entry_at, generation_at, is_free, kind_free, kind_head, no_entry, page_count, pages_for}
+use Rattle.iol_arena.specs.State.{State, HasRuns, entry_at, generation_at, is_free, kind_free, kind_head, no_entry}
+use Rattle.iol_arena.specs.State.{page_count, pages_for}
 use Rattle.iol_arena.specs.Adds.{IsNew}
 use Rattle.iol_arena.specs.Buffers.{IsSpared, LiesOn, Grows, kind_len, len_of}
 use Rattle.iol_arena.specs.Chunks.{IsRisingFrom, usable}
@@ -20,7 +22,8 @@ use Rattle.iol_hold.specs.StoreState.{Stored, Buffer, IsInPool, count_in, count_
 use Rattle.iol_hold.specs.Moves.{same, tally, Counts}
 use Rattle.iol_hold.specs.Texts.{IsFilled}
 use Rattle.iol_hold.specs.PendingPages.{Publishes, all_held}
-use Rattle.iol_hold.proofs.Counts.{bufs-held_in, tally_none, same_self, equal_bufs, other_page, other_generation, no_head, absent, present, count_live}
+use Rattle.iol_hold.proofs.Counts.{bufs-held_in, tally_none, same_self, equal_bufs, other_page, other_generation}
+use Rattle.iol_hold.proofs.Counts.{no_head, absent, present, count_live}
 use Rattle.iol_hold.proofs.LiveBuffers.{HoldsAll, live_stays, placed_stays}
 
 -- Of new buffers in a list.
@@ -44,21 +47,30 @@ unfolding tally
 tally_off a [] out = refl
 tally_off a (b ∷ bs) out = omega (arith, other_page a b (λ e. out (inl e)), tally_off a bs (λ h. out (inr h)))
 
-tally_on : (s t : State) (low : ℕ) (a : BufId) (bs : List BufId) → All (IsNew s t) bs → IsRisingFrom low (firsts bs) → In (firsts bs) a.page → tally a bs ≡ same a (next s a.page)
+tally_on : (s t : State) (low : ℕ) (a : BufId) (bs : List BufId) → All (IsNew s t) bs → IsRisingFrom low (firsts bs)
+    → In (firsts bs) a.page → tally a bs ≡ same a (next s a.page)
 unfolding tally
 tally_on s t low a [] new rising h = elim h [ ]
 tally_on s t low a (b ∷ bs) new rising (inl e) =
-    let rest = tally_off a bs (λ h. (let l = in_rising (b.page + 1) (firsts bs) a.page rising.1 h in omega (arith, l, e))) in
+    let rest =
+    tally_off a bs (λ h. (let l = in_rising (b.page + 1) (firsts bs) a.page rising.1 h in omega (arith, l, e))) in
     omega (arith, rest, ap (same a) (is_next s t b a.page (new 0 b (omega arith)) e))
 tally_on s t low a (b ∷ bs) new rising (inr h) =
     let l = in_rising (b.page + 1) (firsts bs) a.page rising.1 h in
-    omega (arith, other_page a b (λ e. omega (arith, l, e)), tally_on s t (b.page + 1) a bs (λ k d lt. new (suc k) d (omega arith)) rising.1 h)
+    omega (
+      arith,
+      other_page a b (λ e. omega (arith, l, e)),
+      tally_on s t (b.page + 1) a bs (λ k d lt. new (suc k) d (omega arith)) rising.1 h,
+    )
 
-held_off : (counts : List ℕ) (bs : List BufId) (q : ℕ) → (In (firsts bs) q → ⊥) → get_or (all_held counts bs) q 0 ≡ get_or counts q 0
+held_off : (counts : List ℕ) (bs : List BufId) (q : ℕ) → (In (firsts bs) q → ⊥)
+    → get_or (all_held counts bs) q 0 ≡ get_or counts q 0
 held_off counts [] q out = refl
-held_off counts (b ∷ bs) q out = held_off (set counts b.page 1) bs q (λ h. out (inr h)) ∙ get_or-set_other counts b.page q 1 0 (λ e. out (inl e))
+held_off counts (b ∷ bs) q out = held_off (set counts b.page 1) bs q (λ h. out (inr h))
+    ∙ get_or-set_other counts b.page q 1 0 (λ e. out (inl e))
 
-held_on : (counts : List ℕ) (bs : List BufId) (q : ℕ) → q < length counts → In (firsts bs) q → get_or (all_held counts bs) q 0 ≡ 1
+held_on : (counts : List ℕ) (bs : List BufId) (q : ℕ) → q < length counts → In (firsts bs) q
+    → get_or (all_held counts bs) q 0 ≡ 1
 held_on counts [] q h there = elim there [ ]
 held_on counts (b ∷ bs) q h there = elim (in_or_out (firsts bs) q) [
   | inl on ↦ held_on (set counts b.page 1) bs q (omega (arith, h, length-set counts b.page 1)) on
@@ -72,24 +84,33 @@ pub length-all_held : (counts : List ℕ) (bs : List BufId) → length (all_held
 length-all_held counts [] = refl
 length-all_held counts (b ∷ bs) = length-all_held (set counts b.page 1) bs ∙ length-set counts b.page 1
 
-pub all_held-append : (counts : List ℕ) (xs ys : List BufId) → all_held counts (xs ++ ys) ≡ all_held (all_held counts xs) ys
+pub all_held-append : (counts : List ℕ) (xs ys : List BufId)
+    → all_held counts (xs ++ ys) ≡ all_held (all_held counts xs) ys
 all_held-append counts [] ys = refl
 all_held-append counts (x ∷ xs) ys = all_held-append (set counts x.page 1) xs ys
 
 -- Of the runs on which they were made.
 
-firsts_rising : (s : State) (low : ℕ) (rs : List Part) → AreApart low rs → IsRisingFrom low (firsts (map (begun_on s) rs))
+firsts_rising : (s : State) (low : ℕ) (rs : List Part) → AreApart low rs
+    → IsRisingFrom low (firsts (map (begun_on s) rs))
 firsts_rising s low [] apart = tt
-firsts_rising s low (r ∷ rs) apart = (apart.0.rising, rising_from (r.first + 1) (r.first + r.count) (firsts (map (begun_on s) rs)) (omega (arith, apart.0.some)) (firsts_rising s (r.first + r.count) rs apart.1))
+firsts_rising s low (r ∷ rs) apart = (
+  apart.0.rising,
+  rising_from (r.first + 1) (r.first + r.count) (firsts (map (begun_on s) rs))
+      (omega (arith, apart.0.some)) (firsts_rising s (r.first + r.count) rs apart.1),
+)
 
 -- the page lies in a new buffer
 abbrev pub IsOn : State → List BufId → ℕ → Type 0
 IsOn t bs q = (b : BufId) × In (firsts bs) b.page × LiesOn t b q
 
-run_of : (s t : State) (rs : List Part) (q : ℕ) → map (λ (b : BufId). pages_for (len_of t b)) (map (begun_on s) rs) ≡ map (λ (r : Part). r.count) rs → In (part_pages rs) q → IsOn t (map (begun_on s) rs) q
+run_of : (s t : State) (rs : List Part) (q : ℕ) → map (λ (b : BufId). pages_for (len_of t b)) (map (begun_on s) rs)
+    ≡ map (λ (r : Part). r.count) rs → In (part_pages rs) q → IsOn t (map (begun_on s) rs) q
 run_of s t [] q whole h = elim h [ ]
 run_of s t (r ∷ rs) q whole h = elim (in_either (range_with_len r.first r.count) (part_pages rs) q h) [
-  | inl k ↦ (let x = range_in r.first r.count q k in (begun_on s r, inl refl, record { from = x.0; to = omega (arith, x.1, ap (λ l. get_or l 0 0) whole) }))
+  | inl k ↦
+      (let x = range_in r.first r.count q k in
+      (begun_on s r, inl refl, record { from = x.0; to = omega (arith, x.1, ap (λ l. get_or l 0 0) whole) }))
   | inr k ↦ (let x = run_of s t rs q (ap (drop 1) whole) k in (x.0, inr x.1, x.2))
 ]
 
@@ -114,7 +135,12 @@ module _ (s t : Stored) (pages placed : List ℕ) (bufs : List BufId) (m : Makes
 
   -- a new buffer begins on one of the pages
   place : (q : ℕ) → In (firsts bufs) q → In pages q
-  place q h = elim (in_or_out pages q) [ inl there ↦ there | inr out ↦ absurd (omega (arith, (fresh q h).live.generation, ap (λ e. e.generation) (out_same q out))) ]
+  place q h =
+      elim (in_or_out pages q) [
+        | inl there ↦ there
+        | inr out ↦
+            absurd (omega (arith, (fresh q h).live.generation, ap (λ e. e.generation) (out_same q out)))
+      ]
 
   lies : (q : ℕ) → In placed q → IsOn t.arena bufs q
   lies q h =
@@ -123,11 +149,17 @@ module _ (s t : Stored) (pages placed : List ℕ) (bufs : List BufId) (m : Makes
       subst (λ bs. IsOn t.arena bs q) (sym m.on.begun) (run_of s.arena t.arena m.on.runs q whole there)
 
   -- what stands on its pages
-  kind_on : (q : ℕ) → IsOn t.arena bufs q → (In (firsts bufs) q × ((entry_at t.arena q).kind ≡ Head (len_of t.arena (next s.arena q)))) ⊎ ((p : ℕ) × ((entry_at t.arena q).kind ≡ Tail p))
+  kind_on : (q : ℕ) → IsOn t.arena bufs q
+      → (In (firsts bufs) q × ((entry_at t.arena q).kind ≡ Head (len_of t.arena (next s.arena q))))
+      ⊎ ((p : ℕ) × ((entry_at t.arena q).kind ≡ Tail p))
   kind_on q (b, on, at) =
       let head = (fresh b.page on).live.head in
       elim (cases_eq q b.page) [
-        | inl e ↦ inl (subst (In (firsts bufs)) (sym e) on, subst (λ p. (entry_at t.arena p).kind ≡ Head (kind_len (entry_at t.arena p).kind)) (sym e) head)
+        | inl e ↦
+            inl (
+              subst (In (firsts bufs)) (sym e) on,
+              subst (λ p. (entry_at t.arena p).kind ≡ Head (kind_len (entry_at t.arena p).kind)) (sym e) head,
+            )
         | inr ne ↦ inr (b.page, (m.runs.each b.page (len_of t.arena b) head).tails q (omega (arith, at.from, ne)) at.to)
       ]
 
@@ -135,7 +167,11 @@ module _ (s t : Stored) (pages placed : List ℕ) (bufs : List BufId) (m : Makes
   kind_now : (q : ℕ) → In pages q → ((entry_at t.arena q).kind ≡ Free) ⊎ IsOn t.arena bufs q
   kind_now q h = elim (in_or_out placed q) [
     | inl p ↦ inr (lies q p)
-    | inr off ↦ inl (kind_is_free (entry_at t.arena q).kind (and_left (kind_free (entry_at t.arena q).kind) (nat_lt (entry_at t.arena q).generation t.arena.limit) (m.back q h off)))
+    | inr off ↦
+        inl
+        (kind_is_free (entry_at t.arena q).kind
+        (and_left (kind_free (entry_at t.arena q).kind) (nat_lt (entry_at t.arena q).generation t.arena.limit)
+        (m.back q h off)))
   ]
 
   -- where no new buffer begins, none was made or freed
@@ -154,7 +190,8 @@ module _ (s t : Stored) (pages placed : List ℕ) (bufs : List BufId) (m : Makes
   within : (q : ℕ) → In pages q → q < length s.counts
   within q h = elim (cases_lt q (page_count s.arena)) [
     | inl lt ↦ omega (arith, lt, m.long)
-    | inr past ↦ (let none = ap (λ (e : Entry). e.kind) (get_or_past s.arena.entries q no_entry past) in let pending = m.waited q h in absurd (cc (none, pending)))
+    | inr past ↦ (let none = ap (λ (e : Entry). e.kind) (get_or_past s.arena.entries q no_entry past) in let pending =
+        m.waited q h in absurd (cc (none, pending)))
   ]
 
   held_once : (q : ℕ) → In (firsts bufs) q → get_or t.counts q 0 ≡ 1
@@ -168,15 +205,31 @@ module _ (s t : Stored) (pages placed : List ℕ) (bufs : List BufId) (m : Makes
   counts_on a on =
       let x = fresh a.page on in
       let b = next s.arena a.page in
-      let rising = subst (λ bs. IsRisingFrom 0 (firsts bs)) (sym m.on.begun) (firsts_rising s.arena 0 m.on.runs m.on.apart) in
-      let was = no_head (entry_at s.arena a.page) (get_or s.counts a.page 0) a.generation (ap kind_head (m.waited a.page (place a.page on))) in
+      let rising =
+      subst (λ bs. IsRisingFrom 0 (firsts bs)) (sym m.on.begun) (firsts_rising s.arena 0 m.on.runs m.on.apart) in
+      let was =
+      no_head (entry_at s.arena a.page) (get_or s.counts a.page 0) a.generation
+      (ap kind_head (m.waited a.page (place a.page on))) in
       let given = tally_on s.arena t.arena 0 a bufs m.new rising on in
       elim (cases_eq a.generation b.generation) [
         | inl g ↦ (
-            let now = present (entry_at t.arena a.page) (get_or t.counts a.page 0) a.generation (ap kind_head x.live.head) (x.live.generation ∙ sym g) in
-            omega (arith, tally_none a, was, now, held_once a.page on, given, ap (same a) (sym (equal_bufs a b refl g)), same_self a))
+            let now =
+            present (entry_at t.arena a.page) (get_or t.counts a.page 0) a.generation (ap kind_head x.live.head)
+            (x.live.generation ∙ sym g) in
+            omega (
+              arith,
+              tally_none a,
+              was,
+              now,
+              held_once a.page on,
+              given,
+              ap (same a) (sym (equal_bufs a b refl g)),
+              same_self a,
+            ))
         | inr ne ↦ (
-            let now = absent (entry_at t.arena a.page) (get_or t.counts a.page 0) a.generation (λ e. ne (sym e ∙ x.live.generation)) in
+            let now =
+            absent (entry_at t.arena a.page) (get_or t.counts a.page 0) a.generation
+            (λ e. ne (sym e ∙ x.live.generation)) in
             omega (arith, tally_none a, was, now, given, other_generation a b refl ne))
       ]
 
@@ -185,8 +238,21 @@ module _ (s t : Stored) (pages placed : List ℕ) (bufs : List BufId) (m : Makes
   counts_off a off =
       let n : ℕ = get_or t.counts a.page 0 in
       elim (spared a.page off) [
-        | inl e ↦ omega (arith, tally_none a, tally_off a bufs off, ap (λ x. count_in x n a.generation) e, ap (λ k. count_in (entry_at s.arena a.page) k a.generation) (count_stays a.page off))
-        | inr none ↦ omega (arith, tally_none a, tally_off a bufs off, no_head (entry_at t.arena a.page) n a.generation none.1, no_head (entry_at s.arena a.page) (get_or s.counts a.page 0) a.generation none.0)
+        | inl e ↦ omega (
+          arith,
+          tally_none a,
+          tally_off a bufs off,
+          ap (λ x. count_in x n a.generation) e,
+          ap (λ k. count_in (entry_at s.arena a.page) k a.generation) (count_stays a.page off),
+        )
+        | inr none ↦
+            omega (
+              arith,
+              tally_none a,
+              tally_off a bufs off,
+              no_head (entry_at t.arena a.page) n a.generation none.1,
+              no_head (entry_at s.arena a.page) (get_or s.counts a.page 0) a.generation none.0,
+            )
       ]
 
   -- each page is in a buffer that is held, or free, or waits
@@ -195,12 +261,18 @@ module _ (s t : Stored) (pages placed : List ℕ) (bufs : List BufId) (m : Makes
     held = λ b live. elim (in_or_out (firsts bufs) b.page) [
       | inl on ↦ omega (arith, count_live t b live, held_once b.page on)
       | inr off ↦ elim (spared b.page off) [
-        | inl e ↦ (let was = live_stays t.arena s.arena b (sym e) live in omega (arith, count_live t b live, count_stays b.page off, count_live s b was, tidy.held b was))
+        | inl e ↦ (let was = live_stays t.arena s.arena b (sym e) live in
+            omega (arith, count_live t b live, count_stays b.page off, count_live s b was, tidy.held b was))
         | inr none ↦ (let head = ap kind_head live.head in absurd (cc (head, none.1)))
       ]
     ];
     placed = λ q. elim (in_or_out pages q) [
-      | inl there ↦ elim (kind_now q there) [ inl free ↦ inl free | inr (b, on, at) ↦ inr (inr (next s.arena b.page, (fresh b.page on).live, record { from = at.from; to = at.to })) ]
+      | inl there ↦
+          elim (kind_now q there) [
+            | inl free ↦ inl free
+            | inr (b, on, at) ↦
+                inr (inr (next s.arena b.page, (fresh b.page on).live, record { from = at.from; to = at.to }))
+          ]
       | inr out ↦ placed_stays s.arena t.arena q (out_same q out) (λ b live lies. elim (in_or_out pages b.page) [
         | inl there ↦ (let pending = m.waited b.page there in let head = live.head in absurd (cc (pending, head)))
         | inr off ↦ out_same b.page off
@@ -212,34 +284,53 @@ module _ (s t : Stored) (pages placed : List ℕ) (bufs : List BufId) (m : Makes
   done : (q : ℕ) → In pages q → (entry_at t.arena q).kind ≡ Pending → ⊥
   done q there pending = elim (kind_now q there) [
     | inl free ↦ cc (free, pending)
-    | inr on ↦ elim (kind_on q on) [ inl h ↦ (let head = h.1 in cc (head, pending)) | inr h ↦ (let tail = h.1 in cc (tail, pending)) ]
+    | inr on ↦ elim (kind_on q on) [
+      | inl h ↦ (let head = h.1 in cc (head, pending))
+      | inr h ↦
+          (let tail = h.1 in cc (tail, pending))
+    ]
   ]
 
-  pub made_still : (q : ℕ) → (entry_at t.arena q).kind ≡ Pending → ((entry_at s.arena q).kind ≡ Pending) × (In pages q → ⊥)
+  pub made_still : (q : ℕ) → (entry_at t.arena q).kind ≡ Pending → ((entry_at s.arena q).kind ≡ Pending)
+      × (In pages q → ⊥)
   made_still q pending = elim (in_or_out pages q) [
     | inl there ↦ absurd (done q there pending)
     | inr out ↦ (sym (ap (λ e. e.kind) (out_same q out)) ∙ pending, out)
   ]
 
   -- where all pages are placed, no page but those was or is free
-  pub made_usable : t.arena.limit ≡ s.arena.limit → ((q : ℕ) → In pages q → In placed q) → (q : ℕ) → usable t.arena q ≡ usable s.arena q
+  pub made_usable : t.arena.limit ≡ s.arena.limit → ((q : ℕ) → In pages q → In placed q) → (q : ℕ)
+      → usable t.arena q ≡ usable s.arena q
   made_usable limit all q = elim (in_or_out pages q) [
     | inl there ↦ (
         let old = ap (λ k. kind_free k && nat_lt (entry_at s.arena q).generation s.arena.limit) (m.waited q there) in
         let test : Bool → Bool = λ b. b && nat_lt (entry_at t.arena q).generation t.arena.limit in
-        elim (kind_on q (lies q (all q there))) [ inl h ↦ ap (λ k. test (kind_free k)) h.1 ∙ sym old | inr h ↦ ap (λ k. test (kind_free k)) h.1 ∙ sym old ])
+        elim (kind_on q (lies q (all q there))) [
+          | inl h ↦ ap (λ k. test (kind_free k)) h.1 ∙ sym old
+          | inr h ↦
+              ap (λ k. test (kind_free k)) h.1 ∙ sym old
+        ])
     | inr out ↦ ap (λ e. is_free t.arena.limit e) (out_same q out) ∙ ap (λ l. is_free l (entry_at s.arena q)) limit
   ]
 
   pub made_counts : Counts s t [] bufs
-  made_counts = record { each = λ a. elim (in_or_out (firsts bufs) a.page) [ inl on ↦ counts_on a on | inr off ↦ counts_off a off ] }
+  made_counts =
+      record {
+        each =
+            λ a. elim (in_or_out (firsts bufs) a.page) [ inl on ↦ counts_on a on | inr off ↦ counts_off a off ];
+      }
 
-pub made_publishes : (s t : Stored) (ps : List Part) (placed : List ℕ) (bufs : List BufId) → Makes s t (part_pages ps) placed bufs → Grows s.arena t.arena → t.pools ≡ s.pools → Publishes s t ps bufs
+pub made_publishes : (s t : Stored) (ps : List Part) (placed : List ℕ) (bufs : List BufId)
+    → Makes s t (part_pages ps) placed bufs → Grows s.arena t.arena → t.pools ≡ s.pools → Publishes s t ps bufs
 made_publishes s t ps placed bufs m grows pools = record {
   counts = made_counts s t (part_pages ps) placed bufs m;
   grows = grows;
   pools = pools;
-  still = λ h. record { each = λ q pending. (let w = made_still s t (part_pages ps) placed bufs m q pending in w.1 (in_contains (part_pages ps) q (h.each q w.0))) };
+  still =
+      λ h. record {
+        each = λ q pending. (let w = made_still s t (part_pages ps) placed bufs m q pending in
+            w.1 (in_contains (part_pages ps) q (h.each q w.0)));
+      };
 }
 
 -- Of holds on the new buffers.
@@ -253,7 +344,10 @@ held_pool p bufs holds is =
     let one : BufId → Buffer = λ b. record { pool = p; buf = b } in
     subst (All P) (sym is) (All-map P one bufs (λ k d h. refl))
 
-pub held_filled : (s t : Stored) (p : ℕ) (bufs : List BufId) (holds : List Buffer) → holds ≡ held_in p bufs → All (IsNew s.arena t.arena) bufs → All (IsInPool t p) bufs → All (IsFilled t) holds
+pub held_filled : (s t : Stored) (p : ℕ) (bufs : List BufId) (holds : List Buffer) → holds ≡ held_in p bufs
+    → All (IsNew s.arena t.arena) bufs → All (IsInPool t p) bufs → All (IsFilled t) holds
 held_filled s t p bufs holds is made homes =
     let one : BufId → Buffer = λ b. record { pool = p; buf = b } in
-    subst (All (IsFilled t)) (sym is) (All-map (IsFilled t) one bufs (λ k d h. (let new = made k d h in record { live = new.live; home = homes k d h; some = new.some })))
+    subst (All (IsFilled t)) (sym is)
+    (All-map (IsFilled t) one bufs
+    (λ k d h. (let new = made k d h in record { live = new.live; home = homes k d h; some = new.some })))

@@ -1,5 +1,6 @@
 -- Pages after releases.
-use Rattle.std.proofs.Common.{inl, inr, ◌≡◌, ◌⊎◌, true, false, cond, ℕ, ◌+◌, ◌<◌, ◌≤◌, List, [], length, get_or, refl, sym, ap, ◌∙◌, arith, subst, ◌&&◌, Some, None}
+use Rattle.std.proofs.Common.{inl, inr, ◌≡◌, ◌⊎◌, true, false, cond, ℕ, ◌+◌, ◌<◌, ◌≤◌, List, [], length, get_or, refl}
+use Rattle.std.proofs.Common.{sym, ap, ◌∙◌, arith, subst, ◌&&◌, Some, None}
 use Rattle.std.proofs.lemmas.Bool.{cases_eq}
 use Rattle.iol_core.specs.declared.numbers.BufId.{BufId}
 use Rattle.iol_arena.specs.State.{State, HasRuns, entry_at, entry_in, generation_at, pages_for, marked, kind_head}
@@ -36,7 +37,9 @@ all_or_none a b c p (inl was) (inl same) = inl (same ∙ was)
 all_or_none a b c p (inr none) (inl same) = inr (same ∙ none)
 
 -- where no entry changed
-pub frees_chunks : (s t : Stored) → t.arena.entries ≡ s.arena.entries → t.arena.limit ≡ s.arena.limit → ((p : ℕ) → (pool_in s.pools p).closed ≡ false → pool_in t.pools p ≡ pool_in s.pools p) → ((p : ℕ) → HasAllOrNone s t p) → FreesOnly s t
+pub frees_chunks : (s t : Stored) → t.arena.entries ≡ s.arena.entries → t.arena.limit ≡ s.arena.limit
+    → ((p : ℕ) → (pool_in s.pools p).closed ≡ false → pool_in t.pools p ≡ pool_in s.pools p)
+    → ((p : ℕ) → HasAllOrNone s t p) → FreesOnly s t
 frees_chunks s t same limit open_stays chunks = record {
   chunks = chunks;
   count = ap length same;
@@ -45,11 +48,17 @@ frees_chunks s t same limit open_stays chunks = record {
   limit = limit;
   incremented = λ q. ap (λ (es : List Entry). (entry_in es q).generation) same;
   each = λ q. inl (ap (λ (es : List Entry). (entry_in es q).kind) same);
-  freed = λ q p free some. absurd (none_first (entry_at s.arena q).kind q p (sym (ap (λ (es : List Entry). (entry_in es q).kind) same) ∙ free) some);
+  freed =
+      λ q p free some.
+      absurd (none_first (entry_at s.arena q).kind q p (sym (ap (λ (es : List Entry). (entry_in es q).kind) same)
+      ∙ free) some);
 }
 
-pub frees_none : (s t : Stored) → t.arena.entries ≡ s.arena.entries → t.arena.limit ≡ s.arena.limit → t.pools ≡ s.pools → FreesOnly s t
-frees_none s t same limit pools = frees_chunks s t same limit (λ p is. ap (λ (ps : List Pool). pool_in ps p) pools) (λ p. inl (ap (λ (ps : List Pool). (pool_in ps p).chunks) pools))
+pub frees_none : (s t : Stored) → t.arena.entries ≡ s.arena.entries → t.arena.limit ≡ s.arena.limit → t.pools ≡ s.pools
+    → FreesOnly s t
+frees_none s t same limit pools =
+    frees_chunks s t same limit (λ p is. ap (λ (ps : List Pool). pool_in ps p) pools)
+    (λ p. inl (ap (λ (ps : List Pool). (pool_in ps p).chunks) pools))
 
 pub frees_trans : {a b c : Stored} {xs : List BufId} → FreesOnly a b → FreesOnly b c → Counts b c xs [] → FreesOnly a c
 frees_trans {a = a} {b = b} {c = c} {xs = xs} m n counts = record {
@@ -66,22 +75,28 @@ frees_trans {a = a} {b = b} {c = c} {xs = xs} m n counts = record {
   freed = λ q p free some. elim (m.each q) [
     | inl was ↦ (
         let there = ap (λ (k : kind.PageKind). first_on k q) was ∙ some in
-        let buf : buf_at b.arena p ≡ buf_at a.arena p = λ i. (let x : BufId = record { page = p; generation = m.incremented p i } in x) in
+        let buf : buf_at b.arena p ≡ buf_at a.arena p =
+        λ i. (let x : BufId = record { page = p; generation = m.incremented p i } in x) in
         ap (count_of c) (sym buf) ∙ n.freed q p free there)
-    | inr gone ↦ (let z = m.freed q p gone some in omega (arith, z, counts.each (buf_at a.arena p), tally_none (buf_at a.arena p)))
+    | inr gone ↦
+        (let z = m.freed q p gone some in
+        omega (arith, z, counts.each (buf_at a.arena p), tally_none (buf_at a.arena p)))
   ];
 }
 
 -- of the pages of a freed buffer
-module _ (s : State) (p : ℕ) (runs : HasRuns s.entries) (head : (entry_at s p).kind ≡ Head (kind_len (entry_at s p).kind)) where
+module _ (s : State) (p : ℕ) (runs : HasRuns s.entries)
+    (head : (entry_at s p).kind ≡ Head (kind_len (entry_at s p).kind)) where
   abbrev count : ℕ
   count = pages_for (kind_len (entry_at s p).kind)
 
-  pub page_after : (q : ℕ) → (entry_at (with_freed s p) q ≡ entry_at s q) ⊎ ((p ≤ q) × (q < p + count) × (entry_at (with_freed s p) q ≡ marked Free 0 (entry_at s q)))
+  pub page_after : (q : ℕ) → (entry_at (with_freed s p) q ≡ entry_at s q)
+      ⊎ ((p ≤ q) × (q < p + count) × (entry_at (with_freed s p) q ≡ marked Free 0 (entry_at s q)))
   page_after q = elim (order p count q) [
     | inl h ↦ inl (each_before (marked Free 0) p count q s.entries h)
     | inr r ↦ elim r [
-      | inl h ↦ (let room = (runs.each p (kind_len (entry_at s p).kind) head).room in inr (h.0, h.1, each_there (marked Free 0) p count q s.entries h.0 h.1 (omega (arith, h.1, room))))
+      | inl h ↦ (let room = (runs.each p (kind_len (entry_at s p).kind) head).room in
+          inr (h.0, h.1, each_there (marked Free 0) p count q s.entries h.0 h.1 (omega (arith, h.1, room))))
       | inr h ↦ inl (each_after (marked Free 0) p count q s.entries h)
     ]
   ]
@@ -89,12 +104,14 @@ module _ (s : State) (p : ℕ) (runs : HasRuns s.entries) (head : (entry_at s p)
   first_free : kind_head (entry_at (with_freed s p) p).kind ≡ false
   first_free =
       let run = runs.each p (kind_len (entry_at s p).kind) head in
-      ap (λ (e : Entry). kind_head e.kind) (freed_head s p (omega (arith, run.room, pages_some (kind_len (entry_at s p).kind) run.some)) run.some)
+      ap (λ (e : Entry). kind_head e.kind)
+      (freed_head s p (omega (arith, run.room, pages_some (kind_len (entry_at s p).kind) run.some)) run.some)
 
   first_of : (q r : ℕ) → p ≤ q → q < p + count → first_on (entry_at s q).kind q ≡ Some r → r ≡ p
   first_of q r lo hi some = elim (cases_eq q p) [
     | inl e ↦ (
-        let is : first_on (entry_at s q).kind q ≡ Some p = ap (λ n. first_on (entry_at s n).kind n) e ∙ ap (λ (k : kind.PageKind). first_on k p) head in
+        let is : first_on (entry_at s q).kind q ≡ Some p = ap (λ n. first_on (entry_at s n).kind n) e
+        ∙ ap (λ (k : kind.PageKind). first_on k p) head in
         cc)
     | inr ne ↦ (
         let tail = (runs.each p (kind_len (entry_at s p).kind) head).tails q (omega (arith, lo, ne)) hi in
@@ -103,7 +120,8 @@ module _ (s : State) (p : ℕ) (runs : HasRuns s.entries) (head : (entry_at s p)
   ]
 
 -- one buffer freed, whole
-pub frees_one : (s : Stored) (b : BufId) → HasRuns s.arena.entries → HasRuns (with_freed s.arena b.page).entries → IsLive s.arena b → FreesOnly s (with_arena s (with_freed s.arena b.page))
+pub frees_one : (s : Stored) (b : BufId) → HasRuns s.arena.entries → HasRuns (with_freed s.arena b.page).entries
+    → IsLive s.arena b → FreesOnly s (with_arena s (with_freed s.arena b.page))
 unfolding count_of
 frees_one s b runs after live = record {
   runs = λ h. after;
@@ -123,20 +141,29 @@ frees_one s b runs after live = record {
     | inl e ↦ absurd (none_first (entry_at s.arena q).kind q p (sym (ap (λ (x : Entry). x.kind) e) ∙ free) some)
     | inr e ↦ (
         let at : p ≡ b.page = first_of s.arena b.page runs live.head q p e.0 e.1 some in
-        no_head (entry_at (with_freed s.arena b.page) p) (get_or s.counts p 0) (generation_at s.arena p) (ap (λ n. kind_head (entry_at (with_freed s.arena b.page) n).kind) at ∙ first_free s.arena b.page runs live.head))
+        no_head (entry_at (with_freed s.arena b.page) p) (get_or s.counts p 0) (generation_at s.arena p)
+        (ap (λ n. kind_head (entry_at (with_freed s.arena b.page) n).kind) at
+        ∙ first_free s.arena b.page runs live.head))
   ];
 }
 
 -- chunks that go back leave pages as they are
 pub reclaimed_entries : (s : State) (ps : List Pool) (p : ℕ) → (reclaimed_arena s ps p).entries ≡ s.entries
 unfolding reclaimed_arena
-reclaimed_entries s ps p = elim (goes_back s ps p) as (λ b. ◌≡◌ {A = List Entry} (cond b (with_returned s (pool_in ps p).chunks) s).entries s.entries) [ true ↦ refl | false ↦ refl ]
+reclaimed_entries s ps p =
+    elim (goes_back s ps p) as (λ b. ◌≡◌ {A = List Entry} (cond b (with_returned s (pool_in ps p).chunks) s).entries
+    s.entries) [ true ↦ refl | false ↦ refl ]
 
 pub reclaimed_limit : (s : State) (ps : List Pool) (p : ℕ) → (reclaimed_arena s ps p).limit ≡ s.limit
 unfolding reclaimed_arena
-reclaimed_limit s ps p = elim (goes_back s ps p) as (λ b. ◌≡◌ {A = ℕ} (cond b (with_returned s (pool_in ps p).chunks) s).limit s.limit) [ true ↦ refl | false ↦ refl ]
+reclaimed_limit s ps p =
+    elim (goes_back s ps p) as (λ b. ◌≡◌ {A = ℕ} (cond b (with_returned s (pool_in ps p).chunks) s).limit s.limit) [
+      | true ↦ refl
+      | false ↦ refl
+    ]
 
-pub open_reclaimed : (s : State) (ps : List Pool) (p q : ℕ) → (pool_in ps q).closed ≡ false → pool_in (reclaimed s ps p) q ≡ pool_in ps q
+pub open_reclaimed : (s : State) (ps : List Pool) (p q : ℕ) → (pool_in ps q).closed ≡ false
+    → pool_in (reclaimed s ps p) q ≡ pool_in ps q
 open_reclaimed s ps p q is = elim (cases_eq q p) [
   | inl e ↦ (
       let shut : (pool_in ps p).closed ≡ false = ap (λ n. (pool_in ps n).closed) (sym e) ∙ is in
@@ -146,7 +173,8 @@ open_reclaimed s ps p q is = elim (cases_eq q p) [
 ]
 
 -- all chunks of one pool may go back, and those of the others stay
-pub chunks_reclaimed : (s : State) (ps : List Pool) (p q : ℕ) → ((pool_in (reclaimed s ps p) q).chunks ≡ (pool_in ps q).chunks) ⊎ ((pool_in (reclaimed s ps p) q).chunks ≡ [])
+pub chunks_reclaimed : (s : State) (ps : List Pool) (p q : ℕ)
+    → ((pool_in (reclaimed s ps p) q).chunks ≡ (pool_in ps q).chunks) ⊎ ((pool_in (reclaimed s ps p) q).chunks ≡ [])
 chunks_reclaimed s ps p q = elim (cases_eq q p) [
   | inr ne ↦ inl (ap (λ (x : Pool). x.chunks) (pool_in-reclaimed s ps p q ne))
   | inl e ↦ elim (bool_cases (goes_back s ps p)) [

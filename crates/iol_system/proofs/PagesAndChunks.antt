@@ -28,7 +28,11 @@ pub keeps_then_frees : {a b c : Stored} {placed : List ℕ} → SameLists b c �
 keeps_then_frees {a = a} {b = b} {c = c} same m n = record {
   count = n.count ∙ m.count;
   limit = n.limit ∙ m.limit;
-  raises = record { incremented = λ q h. n.incremented q ∙ m.raises.incremented q h; kept = λ q h. n.incremented q ∙ m.raises.kept q h };
+  raises = record {
+    incremented = λ q h. n.incremented q ∙ m.raises.incremented q h;
+    kept = λ q h. n.incremented q
+        ∙ m.raises.kept q h;
+  };
   others = λ q h. elim (n.each q) [
     | inl x ↦ elim (m.others q h) [ inl y ↦ inl (x ∙ y) | inr y ↦ inr (x ∙ y) ]
     | inr x ↦ inr x

@@ -1,5 +1,6 @@
 -- The objects that a phase uses, before its call and after the reply.
-use Rattle.std.proofs.Common.{inl, inr, ◌≡◌, ℕ, ◌+◌, ◌==◌, ◌⊎◌, List, [], ◌∷◌, ap, ◌∙◌, refl, sym, arith, Some, None, true, false, Bool, if◌then◌else◌}
+use Rattle.std.proofs.Common.{inl, inr, ◌≡◌, ℕ, ◌+◌, ◌==◌, ◌⊎◌, List, [], ◌∷◌, ap, ◌∙◌, refl, sym, arith, Some, None}
+use Rattle.std.proofs.Common.{true, false, Bool, if◌then◌else◌}
 use Rattle.std.specs.Prelude.{nat_le, ◌||◌, slice_range}
 use Rattle.std.proofs.lemmas.Bool.Decides.{nat_tests}
 use Rattle.iol_core.specs.State.{State, descriptor}
@@ -18,7 +19,9 @@ use Rattle.flash_http.specs.declared.ranges.Selection.TheVariants.{Bytes, Unsati
 use Rattle.flash_http.specs.Range.{selected}
 use Rattle.flash_http.specs.Request.{Answer, serve, refuse}
 use Rattle.flash_laws.specs.Answers.{keeps}
-use Rattle.flash_laws.specs.Conn.{Following, has_followed, file_result_agg, content_agg, uses_agg, uses_fd, is_head_only, most_read, piece_end, count_of, wants, sends_of, resolved, following, headed, proceeds, drops_next, after_reply, after_receive, begins}
+use Rattle.flash_laws.specs.Conn.{Following, has_followed, file_result_agg, content_agg, uses_agg, uses_fd}
+use Rattle.flash_laws.specs.Conn.{is_head_only, most_read, piece_end, count_of, wants, sends_of, resolved, following}
+use Rattle.flash_laws.specs.Conn.{headed, proceeds, drops_next, after_reply, after_receive, begins}
 use Rattle.flash_laws.specs.Conn.{after_taking, next_piece, whole}
 use Rattle.flash_laws.specs.declared.phase.FileResult.{FileResult}
 use Rattle.flash_laws.specs.declared.phase.FileResult.TheVariants.{File, Length, Fails, Text as TextOf}
@@ -26,7 +29,9 @@ use Rattle.flash_laws.specs.declared.phase.Payload.{Payload}
 use Rattle.flash_laws.specs.declared.phase.Payload.TheVariants.{Body}
 use Rattle.flash_laws.specs.declared.phase.Sending.{Sending}
 use Rattle.flash_laws.specs.declared.phase.Phase.{Phase}
-use Rattle.flash_laws.specs.declared.phase.Phase.TheVariants.{Rests, Got, Opens, Reads as Reading, Shuts, Picks, Spares, Heads, Joins, Sends, Cuts, Offers, Swaps, Sent, Breaks, Drops, Closes, Over}
+use Rattle.flash_laws.specs.declared.phase.Phase.TheVariants.{Rests, Got, Opens, Reads as Reading, Shuts, Picks, Spares}
+use Rattle.flash_laws.specs.declared.phase.Phase.TheVariants.{Heads, Joins, Sends, Cuts, Offers, Swaps, Sent, Breaks}
+use Rattle.flash_laws.specs.declared.phase.Phase.TheVariants.{Drops, Closes, Over}
 use Rattle.flash_laws.specs.Conn.Fits.{IsReadable, MoreIsReadable, HasContent, HasFileResult, Has}
 use Rattle.flash_laws.specs.Conn.Fits.{HoldsRestFrom}
 use Rattle.flash_laws.specs.Site.{server}
@@ -48,7 +53,8 @@ pub gives-wants : (fd : ℕ) (kept : List ℕ) (q : Answer) (d : Phase) (a : ℕ
 gives-wants fd kept q (Got b) a is = is
 gives-wants fd kept q (Reading f) a is = absurd (by (is_head_only q) is)
   where
-    by : (b : Bool) → gives_up (event.Call server (if b then call.Length f else call.IolRead f most_read)) server a ≡ true
+    by : (b : Bool) → gives_up (event.Call server (if b then call.Length f else call.IolRead f most_read)) server a
+        ≡ true
         → ⊥
     by true is = cc
     by false is = cc
@@ -76,7 +82,8 @@ uses-rests kept q (reply.Agg n) [] a u = inr (bare (n == a) u)
 uses-rests kept q (reply.Agg n) (b ∷ received) a u = inr u
 uses-rests kept q r received a u = absurd (cc)
 
-uses-resolved : (q : Answer) (g : ℕ) (k : FileResult) (a : ℕ) → uses_agg (resolved q k) a ≡ true → file_result_agg k a ≡ true
+uses-resolved : (q : Answer) (g : ℕ) (k : FileResult) (a : ℕ) → uses_agg (resolved q k) a ≡ true
+    → file_result_agg k a ≡ true
 uses-resolved (serve w) g (File b len) a u = by (selected w.range len) u
   where
     by : (sel : Selection) → uses_agg (sends_of sel b len) a ≡ true → (b == a) ≡ true
@@ -141,9 +148,15 @@ uses-after_reply kept q (Reading f) (reply.Refused no.WouldBlock) received a u =
 uses-after_reply kept q (Reading f) (reply.Refused x) received a u = absurd (cc)
 uses-after_reply kept q (Reading f) r received a u = absurd (cc)
 uses-after_reply kept q (Shuts f k) reply.Done received a u = inl (uses-resolved q f k a u)
-uses-after_reply kept q (Picks b first last len) (reply.Agg n) received a u = elim (one-of (b == a) (n == a) u) [ inl is ↦ inl is | inr is ↦ inr is ]
+uses-after_reply kept q (Picks b first last len) (reply.Agg n) received a u =
+    elim (one-of (b == a) (n == a) u) [ inl is ↦ inl is | inr is ↦ inr is ]
 uses-after_reply kept q (Spares b k) reply.Done received a u = inl (later_of (b == a) (content_agg k a) u)
-uses-after_reply kept q (Heads k) (reply.Agg n) received a u = elim (one-of (n == a) (has_followed (following k) a) (uses-headed n (count_of received) (following k) a u)) [ inl is ↦ inr is | inr is ↦ inl (uses-following k a is) ]
+uses-after_reply kept q (Heads k) (reply.Agg n) received a u =
+    elim (one-of (n == a) (has_followed (following k) a) (uses-headed n (count_of received) (following k) a u)) [
+      | inl
+          is ↦ inr is
+      | inr is ↦ inl (uses-following k a is)
+    ]
 uses-after_reply kept q (Joins b size body len) (reply.Agg n) received a u = inr (bare (n == a) u)
 uses-after_reply kept q (Sends s) (reply.Count k) received a u = inl (sym (next-uses (after_taking s k) a) ∙ u)
 uses-after_reply kept q (Sends s) (reply.Refused no.BrokenPipe) received a u = inl u
@@ -154,7 +167,8 @@ uses-after_reply kept q (Offers s piece) (reply.Refused no.BrokenPipe) received 
 uses-after_reply kept q (Swaps s piece) reply.Done received a u =
     inl (later_of (piece == a) ((s.agg == a) || has_followed s.more a) (sym (next-uses s a) ∙ u))
 uses-after_reply kept q (Sent b taken more) reply.Done received a u = inl (uses-proceeds q b taken more a u)
-uses-after_reply kept q (Breaks piece b more) reply.Done received a u = inl (later_of (piece == a) ((b == a) || has_followed more a) u)
+uses-after_reply kept q (Breaks piece b more) reply.Done received a u =
+    inl (later_of (piece == a) ((b == a) || has_followed more a) u)
 uses-after_reply kept q (Drops b more) reply.Done received a u = inl (uses-drops b more a u)
 uses-after_reply kept q Closes reply.Done received a u = absurd (cc)
 uses-after_reply kept q d r received a u = inl u
@@ -202,10 +216,14 @@ uses_fd-after_reply kept q (Reading f) (reply.Agg n) received g u = inl u
 uses_fd-after_reply kept q (Reading f) (reply.Count n) received g u = inl u
 uses_fd-after_reply kept q (Reading f) (reply.Refused no.WouldBlock) received g u = inl u
 uses_fd-after_reply kept q (Reading f) (reply.Refused x) received g u = inl u
-uses_fd-after_reply kept q (Shuts f k) reply.Done received g u = absurd (clash (uses_fd (resolved q k) g) u (no_fd-resolved q k g))
+uses_fd-after_reply kept q (Shuts f k) reply.Done received g u =
+    absurd (clash (uses_fd (resolved q k) g) u (no_fd-resolved q k g))
 uses_fd-after_reply kept q (Picks b first last len) (reply.Agg n) received g u = absurd (cc)
 uses_fd-after_reply kept q (Spares b k) reply.Done received g u = absurd (cc)
-uses_fd-after_reply kept q (Heads k) (reply.Agg n) received g u = absurd (clash (uses_fd (headed n (count_of received) (following k)) g) u (no_fd-headed n (count_of received) (following k) g))
+uses_fd-after_reply kept q (Heads k) (reply.Agg n) received g u =
+    absurd
+    (clash (uses_fd (headed n (count_of received) (following k)) g) u
+    (no_fd-headed n (count_of received) (following k) g))
 uses_fd-after_reply kept q (Joins b size body len) (reply.Agg n) received g u = absurd (cc)
 uses_fd-after_reply kept q (Sends s) (reply.Count k) received g u =
     absurd (clash (uses_fd (next_piece (after_taking s k)) g) u (next-no_fd (after_taking s k) g))
@@ -215,9 +233,11 @@ uses_fd-after_reply kept q (Offers s piece) (reply.Count k) received g u = absur
 uses_fd-after_reply kept q (Offers s piece) (reply.Refused no.BrokenPipe) received g u = absurd (cc)
 uses_fd-after_reply kept q (Swaps s piece) reply.Done received g u =
     absurd (clash (uses_fd (next_piece s) g) u (next-no_fd s g))
-uses_fd-after_reply kept q (Sent b taken more) reply.Done received g u = absurd (clash (uses_fd (proceeds q taken more) g) u (no_fd-proceeds q taken more g))
+uses_fd-after_reply kept q (Sent b taken more) reply.Done received g u =
+    absurd (clash (uses_fd (proceeds q taken more) g) u (no_fd-proceeds q taken more g))
 uses_fd-after_reply kept q (Breaks piece b more) reply.Done received g u = absurd (cc)
-uses_fd-after_reply kept q (Drops b more) reply.Done received g u = absurd (clash (uses_fd (drops_next more) g) u (no_fd-drops more g))
+uses_fd-after_reply kept q (Drops b more) reply.Done received g u =
+    absurd (clash (uses_fd (drops_next more) g) u (no_fd-drops more g))
 uses_fd-after_reply kept q Closes reply.Done received g u = absurd (cc)
 uses_fd-after_reply kept q d r received g u = inl u
 
@@ -231,7 +251,8 @@ begins-no_fd (refuse status head_only close) g = refl
 
 -- What a connection uses is there.
 
-at-number : (m : State) (b a : ℕ) → (b == a) ≡ true → (bytes : List ℕ) → readable_at m server b ≡ Some bytes → IsReadable m a
+at-number : (m : State) (b a : ℕ) → (b == a) ≡ true → (bytes : List ℕ) → readable_at m server b ≡ Some bytes
+    → IsReadable m a
 at-number m b a is bytes readable = (bytes, ap (λ n. readable_at m server n) (sym (same-number b a is)) ∙ readable)
 
 at-following : (m : State) (more : Following) (bytes : List ℕ) (a : ℕ) → has_followed more a ≡ true
@@ -253,7 +274,8 @@ at-file_result m q expected x a u h = absurd (cc)
 
 two : (m : State) (b : ℕ) (rest : Bool) (a : ℕ) → ((b == a) || rest) ≡ true → (bytes : List ℕ)
     → readable_at m server b ≡ Some bytes → (rest ≡ true → IsReadable m a) → IsReadable m a
-two m b rest a u bytes readable other = elim (one-of (b == a) rest u) [ inl is ↦ at-number m b a is bytes readable | inr is ↦ other is ]
+two m b rest a u bytes readable other =
+    elim (one-of (b == a) rest u) [ inl is ↦ at-number m b a is bytes readable | inr is ↦ other is ]
 
 at-rest : (m : State) (expected : List ℕ) (s : Sending) (a : ℕ) → ((s.agg == a) || has_followed s.more a) ≡ true
     → HoldsRestFrom m expected s → IsReadable m a
@@ -265,9 +287,11 @@ pub has-agg : (m : State) (q : Answer) (expected : List ℕ) (d : Phase) (a : �
 has-agg m q expected (Got b) a u has = at-number m b a u has.0 has.1
 has-agg m q expected (Shuts f k) a u has = at-file_result m q expected k a u has.1
 has-agg m q expected (Picks b first last len) a u has = at-number m b a u has.bytes has.is_readable
-has-agg m q expected (Spares b k) a u has = two m b (content_agg k a) a u has.0.0 has.0.1 (λ is. at-content m q expected k a is has.2)
+has-agg m q expected (Spares b k) a u has =
+    two m b (content_agg k a) a u has.0.0 has.0.1 (λ is. at-content m q expected k a is has.2)
 has-agg m q expected (Heads k) a u has = at-content m q expected k a u has
-has-agg m q expected (Joins b size body len) a u has = two m b (body == a) a u has.0.bytes has.0.is_readable (λ is. at-number m body a is has.0.after has.0.follows.0)
+has-agg m q expected (Joins b size body len) a u has =
+    two m b (body == a) a u has.0.bytes has.0.is_readable (λ is. at-number m body a is has.0.after has.0.follows.0)
 has-agg m q expected (Sends s) a u has = at-rest m expected s a u has.0
 has-agg m q expected (Cuts s) a u has = at-rest m expected s a u has.0
 has-agg m q expected (Offers s piece) a u has =
@@ -275,15 +299,23 @@ has-agg m q expected (Offers s piece) a u has =
     has.is_readable (λ v. at-rest m expected s a v has.whole)
 has-agg m q expected (Swaps s piece) a u has =
     two m piece ((s.agg == a) || has_followed s.more a) a u has.0.0 has.0.1 (λ v. at-rest m expected s a v has.2)
-has-agg m q expected (Sent b taken more) a u has = two m b (has_followed more a) a u has.bytes has.is_readable (λ is. at-following m more has.after a is has.follows)
-has-agg m q expected (Breaks piece b more) a u has = two m piece ((b == a) || has_followed more a) a u has.0.0 has.0.1 (λ v. two m b (has_followed more a) a v has.2.readable.0 has.2.readable.1 (λ is. at-following m more has.2.after a is has.2.follows))
-has-agg m q expected (Drops b more) a u has = two m b (has_followed more a) a u has.readable.0 has.readable.1 (λ is. at-following m more has.after a is has.follows)
+has-agg m q expected (Sent b taken more) a u has =
+    two m b (has_followed more a) a u has.bytes has.is_readable (λ is. at-following m more has.after a is has.follows)
+has-agg m q expected (Breaks piece b more) a u has =
+    two m piece ((b == a) || has_followed more a) a u has.0.0 has.0.1
+    (λ v. two m b (has_followed more a) a v has.2.readable.0 has.2.readable.1
+    (λ is. at-following m more has.2.after a is has.2.follows))
+has-agg m q expected (Drops b more) a u has =
+    two m b (has_followed more a) a u has.readable.0 has.readable.1
+    (λ is. at-following m more has.after a is has.follows)
 has-agg m q expected Over a u has = absurd has
 has-agg m q expected d a u has = absurd (cc)
 
 pub has-fd : (m : State) (q : Answer) (expected : List ℕ) (d : Phase) (g : ℕ) → uses_fd d g ≡ true
     → Has m q expected d → (f pos : ℕ) × (descriptor m server g ≡ Some (on.File f pos modes.Read))
-has-fd m q expected (Reading f) g u has = (has.1.0, has.1.1, ap (λ n. descriptor m server n) (sym (same-number f g u)) ∙ has.1.2)
-has-fd m q expected (Shuts f k) g u has = (has.0.0, has.0.1, ap (λ n. descriptor m server n) (sym (same-number f g u)) ∙ has.0.2)
+has-fd m q expected (Reading f) g u has =
+    (has.1.0, has.1.1, ap (λ n. descriptor m server n) (sym (same-number f g u)) ∙ has.1.2)
+has-fd m q expected (Shuts f k) g u has =
+    (has.0.0, has.0.1, ap (λ n. descriptor m server n) (sym (same-number f g u)) ∙ has.0.2)
 has-fd m q expected Over g u has = absurd has
 has-fd m q expected d g u has = absurd (cc)

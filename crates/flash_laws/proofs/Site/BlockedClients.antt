@@ -1,5 +1,7 @@
 -- A client whose call would block is unchanged.
-use Rattle.std.proofs.Common.{inl, inr, ◌≡◌, ℕ, zero, suc, ◌+◌, ◌-◌, ◌<◌, ◌≤◌, ◌⊎◌, List, [], ◌∷◌, ◌++◌, length, ap, ◌∙◌, refl, sym, subst, arith, Option, Some, None, true, false, Bool, append-nil, slice_set}
+use Rattle.std.proofs.Common.{inl, inr, ◌≡◌, ℕ, zero, suc, ◌+◌, ◌-◌, ◌<◌, ◌≤◌, ◌⊎◌, List, [], ◌∷◌, ◌++◌, length, ap}
+use Rattle.std.proofs.Common.{◌∙◌, refl, sym, subst, arith, Option, Some, None, true, false, Bool, append-nil}
+use Rattle.std.proofs.Common.{slice_set}
 use Rattle.std.specs.Prelude.{replicate}
 use Rattle.std.proofs.lemmas.Bool.{cases_lt}
 use Rattle.std.proofs.lemmas.Bool.Decides.{nat_tests}
@@ -15,7 +17,9 @@ use Rattle.iol_core.specs.declared.events.Reply.TheVariants as reply
 use Rattle.iol_core.specs.Run.{StepsTo}
 use Rattle.iol_laws.specs.RefusalsLeft.{may_wait}
 use Rattle.flash_http.specs.Request.{Answer, serve, refuse, Wanted}
-use Rattle.flash_laws.specs.Client.{Client, is_for_script, conn_wants, wants, Readies, IsAwaiting, kept_text, after_drop_whole, file_after_reply, keeps_text, text_on, proceeds, run_after_reply, after_reply, left_over}
+use Rattle.flash_laws.specs.Client.{Client, is_for_script, conn_wants, wants, Readies, IsAwaiting, kept_text}
+use Rattle.flash_laws.specs.Client.{after_drop_whole, file_after_reply, keeps_text, text_on, proceeds, run_after_reply}
+use Rattle.flash_laws.specs.Client.{after_reply, left_over}
 use Rattle.flash_laws.specs.Conn as conn
 use Rattle.flash_laws.specs.Conn.{Conn, is_head_only, text_of, begins, Starts}
 use Rattle.flash_laws.specs.World.Idle.{WouldWait, Blocks, BlocksAt}
@@ -36,7 +40,8 @@ use Rattle.flash_laws.proofs.Lists.{never_passed}
 
 -- which calls may be told to wait
 abbrev pub WaitLaw : Type 0
-WaitLaw = (s t : State) (d : ℕ) (k : Call) → StepsTo s (event.Call d k) (reply.Refused no.WouldBlock) t → may_wait k ≡ true
+WaitLaw = (s t : State) (d : ℕ) (k : Call) → StepsTo s (event.Call d k) (reply.Refused no.WouldBlock) t
+    → may_wait k ≡ true
 
 -- Places.
 
@@ -45,7 +50,9 @@ none-in clients i past = grind (arith, nat_tests, common_steps, past)
 
 grown-none : (clients : List (Option Client)) (fd : ℕ) → fd < length clients
     → clients ++ replicate (fd + 1 - length clients) None ≡ clients
-grown-none clients fd lt = (let e : fd + 1 - length clients ≡ 0 = omega (arith, lt) in ap (λ k. clients ++ replicate k None) e ∙ append-nil clients)
+grown-none clients fd lt =
+    (let e : fd + 1 - length clients ≡ 0 = omega (arith, lt) in ap (λ k. clients ++ replicate k None) e
+    ∙ append-nil clients)
 
 set-there : (clients : List (Option Client)) (fd : ℕ) (x : Client) → in_place clients fd ≡ Some x
     → slice_set clients fd (Some x) ≡ clients
@@ -54,31 +61,42 @@ set-there (y ∷ clients) zero x is = ap (λ (z : Option Client). z ∷ clients)
 set-there (y ∷ clients) (suc fd) x is = ap (λ (l : List (Option Client)). y ∷ l) (set-there clients fd x is)
 
 within : (clients : List (Option Client)) (fd : ℕ) (x : Client) → in_place clients fd ≡ Some x → fd < length clients
-within clients fd x is = elim (cases_lt fd (length clients)) [ inl lt ↦ lt | inr past ↦ (let none = none-in clients fd past in absurd (cc (none, is))) ]
+within clients fd x is =
+    elim (cases_lt fd (length clients)) [
+      | inl lt ↦ lt
+      | inr past ↦
+          (let none = none-in clients fd past in absurd (cc (none, is)))
+    ]
 
 -- the same client in its place changes nothing
 pub same-there : (clients : List (Option Client)) (fd : ℕ) (x : Client) → in_place clients fd ≡ Some x
     → with_at clients fd (Some x) ≡ clients
-same-there clients fd x is = ap (λ (l : List (Option Client)). slice_set l fd (Some x)) (grown-none clients fd (within clients fd x is)) ∙ set-there clients fd x is
+same-there clients fd x is =
+    ap (λ (l : List (Option Client)). slice_set l fd (Some x)) (grown-none clients fd (within clients fd x is))
+    ∙ set-there clients fd x is
 
 -- A connection that would block is as it was.
 
-conn-blocked : (kept : List ℕ) (q : Answer) (d : Phase) (received : List ℕ) → conn.after_reply (at kept q d) (reply.Refused no.WouldBlock) received ≡ at kept q d
+conn-blocked : (kept : List ℕ) (q : Answer) (d : Phase) (received : List ℕ)
+    → conn.after_reply (at kept q d) (reply.Refused no.WouldBlock) received ≡ at kept q d
 conn-blocked kept q Rests received = refl
 conn-blocked kept q d received = refl
 
 -- so is a run
 
-part-blocked : (run : Run) (d : Phase) (frame : Option ℕ) → after_sending run d frame (reply.Refused no.WouldBlock) ≡ Runs run (act.Sending d frame)
+part-blocked : (run : Run) (d : Phase) (frame : Option ℕ)
+    → after_sending run d frame (reply.Refused no.WouldBlock) ≡ Runs run (act.Sending d frame)
 part-blocked run (Sent a taken None) frame = refl
 part-blocked run (Drops a None) frame = refl
 part-blocked run d frame = refl
 
-step-blocked : (w : Wanted) (run : Run) (s : Step) (received : List ℕ) → running.after_step w run s (reply.Refused no.WouldBlock) received ≡ Runs run s
+step-blocked : (w : Wanted) (run : Run) (s : Step) (received : List ℕ)
+    → running.after_step w run s (reply.Refused no.WouldBlock) received ≡ Runs run s
 step-blocked w run (act.Sending d frame) received = part-blocked run d frame
 step-blocked w run s received = refl
 
-run-blocked : (worker : ℕ) (w : Wanted) (y : Running) (received : List ℕ) → running.after_reply worker w y (reply.Refused no.WouldBlock) received ≡ y
+run-blocked : (worker : ℕ) (w : Wanted) (y : Running) (received : List ℕ)
+    → running.after_reply worker w y (reply.Refused no.WouldBlock) received ≡ y
 run-blocked worker w (Runs run s) received = step-blocked w run s received
 run-blocked worker w (Leaves d) received = ap (λ (x : Conn). Leaves x.phase) (conn-blocked [] (serve w) d received)
 run-blocked worker w x received = refl
@@ -94,21 +112,31 @@ stands x y over run_is =
     ∙ (ap (λ (l : List ℕ). record { conn = x.conn; run = Some y; script = l }) (same-text (keeps_text y) x.script)
     ∙ ap (λ (o : Option Running). record { conn = x.conn; run = o; script = x.script }) (sym run_is))
   where
-    same : (b : Bool) → proceeds b b x y y ≡ record { conn = x.conn; run = Some y; script = text_on (keeps_text y) (keeps_text y) x.script }
+    same : (b : Bool)
+        → proceeds b b x y y ≡ record {
+          conn = x.conn;
+          run = Some y;
+          script =
+              text_on (keeps_text y) (keeps_text y) x.script;
+        }
     same true = refl
     same false = refl
 
 -- A client that would block is as it was.
 
-script-blocked : (kept : List ℕ) (q : Answer) (d : Phase) (script received : List ℕ) → file_after_reply true (of (at kept q d) None script) (reply.Refused no.WouldBlock) received ≡ of (at kept q d) None script
+script-blocked : (kept : List ℕ) (q : Answer) (d : Phase) (script received : List ℕ)
+    → file_after_reply true (of (at kept q d) None script) (reply.Refused no.WouldBlock) received
+    ≡ of (at kept q d) None script
 script-blocked kept q (Reading f) script received = by (is_head_only q)
   where
-    by : (h : Bool) → of (at kept q (Reading f)) None (kept_text h script (reply.Refused no.WouldBlock) received) ≡ of (at kept q (Reading f)) None script
+    by : (h : Bool) → of (at kept q (Reading f)) None (kept_text h script (reply.Refused no.WouldBlock) received)
+        ≡ of (at kept q (Reading f)) None script
     by true = refl
     by false = refl
 script-blocked kept q (Spares a Script) script received = by (is_head_only q)
   where
-    by : (h : Bool) → of (at kept q (Spares a Script)) (after_drop_whole h (reply.Refused no.WouldBlock)) script ≡ of (at kept q (Spares a Script)) None script
+    by : (h : Bool) → of (at kept q (Spares a Script)) (after_drop_whole h (reply.Refused no.WouldBlock)) script
+        ≡ of (at kept q (Spares a Script)) None script
     by true = refl
     by false = refl
 script-blocked kept q d script received = refl
@@ -122,22 +150,29 @@ after_reply-blocked scripts worker c None script received = by (is_for_script sc
     by false = ap (λ (z : Conn). of z None script) (conn-blocked c.kept c.q c.phase received)
 after_reply-blocked scripts worker c (Some y) script received = by c.q
   where
-    by : (q : Answer) → run_after_reply worker q (of c (Some y) script) y (reply.Refused no.WouldBlock) received ≡ of c (Some y) script
-    by (serve w) = ap (λ (z : Running). proceeds (is_over y) (is_over z) (of c (Some y) script) y z) (run-blocked worker w y received) ∙ stands (of c (Some y) script) y (is_over y) refl
+    by : (q : Answer) → run_after_reply worker q (of c (Some y) script) y (reply.Refused no.WouldBlock) received
+        ≡ of c (Some y) script
+    by (serve w) =
+        ap (λ (z : Running). proceeds (is_over y) (is_over z) (of c (Some y) script) y z)
+        (run-blocked worker w y received) ∙ stands (of c (Some y) script) y (is_over y) refl
     by (refuse status head_only close) = refl
 
 -- and it is not over
-phase-blocked : WaitLaw → (m : State) (by fd : ℕ) (b : Bool) (kept : List ℕ) (q : Answer) (d : Phase) (x : Client) → WouldWait m by (conn_wants b fd (at kept q d)) → left_by d x ≡ Some x
+phase-blocked : WaitLaw → (m : State) (by fd : ℕ) (b : Bool) (kept : List ℕ) (q : Answer) (d : Phase) (x : Client)
+    → WouldWait m by (conn_wants b fd (at kept q d)) → left_by d x ≡ Some x
 phase-blocked waits m by fd true kept q Over x step = absurd (let may = waits m m by (call.Close fd) step in cc (may))
 phase-blocked waits m by fd false kept q Over x step = absurd (let may = waits m m by (call.Close fd) step in cc (may))
 phase-blocked waits m by fd b kept q d x step = refl
 
-left-blocked : WaitLaw → (m : State) (by workers fd : ℕ) (clients : List (Option Client)) (c : Conn) (run : Option Running) (script : List ℕ)
+left-blocked : WaitLaw
+    → (m : State) (by workers fd : ℕ) (clients : List (Option Client)) (c : Conn) (run : Option Running)
+    (script : List ℕ)
     → Blocks m by workers clients fd (of c run script) → left_over (of c run script) ≡ Some (of c run script)
 left-blocked waits m by workers fd clients c (Some y) script blocks = refl
 left-blocked waits m by workers fd clients c None script blocks = elim blocks.1 [
   | inl passed ↦ absurd (never_passed (has_free workers clients) passed)
-  | inr step ↦ phase-blocked waits m by fd (is_for_script (runs_scripts workers) c.q) c.kept c.q c.phase (of c None script) step
+  | inr step ↦ phase-blocked waits m by fd (is_for_script (runs_scripts workers) c.q) c.kept c.q c.phase
+      (of c None script) step
 ]
 
 pub filed-at : WaitLaw → (m : State) (by workers fd : ℕ) (clients : List (Option Client)) (received : List ℕ)
@@ -145,11 +180,15 @@ pub filed-at : WaitLaw → (m : State) (by workers fd : ℕ) (clients : List (Op
     → after_reply_at workers clients fd (in_place clients fd) (reply.Refused no.WouldBlock) received ≡ clients
 filed-at waits m by workers fd clients received blocked = at_place (in_place clients fd) refl
   where
-    at_place : (o : Option Client) → in_place clients fd ≡ o → after_reply_at workers clients fd o (reply.Refused no.WouldBlock) received ≡ clients
+    at_place : (o : Option Client) → in_place clients fd ≡ o
+        → after_reply_at workers clients fd o (reply.Refused no.WouldBlock) received ≡ clients
     at_place None is = refl
     at_place (Some x) is =
-        ap (λ (y : Client). with_at clients fd (left_over y)) (after_reply-blocked (runs_scripts workers) (first_free workers clients) x.conn x.run x.script received)
-        ∙ (ap (λ (o : Option Client). with_at clients fd o) (left-blocked waits m by workers fd clients x.conn x.run x.script (blocked x is)) ∙ same-there clients fd x is)
+        ap (λ (y : Client). with_at clients fd (left_over y))
+        (after_reply-blocked (runs_scripts workers) (first_free workers clients) x.conn x.run x.script received)
+        ∙ (ap (λ (o : Option Client). with_at clients fd o)
+        (left-blocked waits m by workers fd clients x.conn x.run x.script (blocked x is))
+        ∙ same-there clients fd x is)
 
 -- What is made ready is what stood there, or begins.
 
@@ -159,7 +198,8 @@ Stands x y = (y ≡ x) × conn.IsAwaiting y
 abbrev Begins : Conn → Type 0
 Begins y = (p : Answer) × (rest : List ℕ) × (y ≡ at rest p (begins p))
 
-pub conn-ready : (kept : List ℕ) (q : Answer) (d : Phase) (y : Conn) → conn.Readies (at kept q d) y → Stands (at kept q d) y ⊎ Begins y
+pub conn-ready : (kept : List ℕ) (q : Answer) (d : Phase) (y : Conn) → conn.Readies (at kept q d) y
+    → Stands (at kept q d) y ⊎ Begins y
 conn-ready kept q Rests y ready = by ready
   where
     by : Starts (at kept q Rests) y → Stands (at kept q Rests) y ⊎ Begins y
@@ -168,20 +208,30 @@ conn-ready kept q Rests y ready = by ready
 conn-ready kept q d y ready = inl (ready, subst (λ (x : Conn). conn.IsAwaiting x) (sym ready) tt)
 
 -- a request that begins does not block
-never-waits : WaitLaw → (m : State) (by fd : ℕ) (b : Bool) (rest : List ℕ) (p : Answer) → WouldWait m by (conn_wants b fd (at rest p (begins p))) → ⊥
-never-waits waits m by fd true rest (serve w) step = (let may = waits m m by (call.OpenFile w.name modes.Read) step in cc (may))
-never-waits waits m by fd false rest (serve w) step = (let may = waits m m by (call.OpenFile w.name modes.Read) step in cc (may))
-never-waits waits m by fd true rest (refuse status head_only close) step = (let may = waits m m by (call.AggMake (text_of (refuse status head_only close) (Error status))) step in cc (may))
-never-waits waits m by fd false rest (refuse status head_only close) step = (let may = waits m m by (call.AggMake (text_of (refuse status head_only close) (Error status))) step in cc (may))
+never-waits : WaitLaw → (m : State) (by fd : ℕ) (b : Bool) (rest : List ℕ) (p : Answer)
+    → WouldWait m by (conn_wants b fd (at rest p (begins p))) → ⊥
+never-waits waits m by fd true rest (serve w) step =
+    (let may = waits m m by (call.OpenFile w.name modes.Read) step in cc (may))
+never-waits waits m by fd false rest (serve w) step =
+    (let may = waits m m by (call.OpenFile w.name modes.Read) step in cc (may))
+never-waits waits m by fd true rest (refuse status head_only close) step =
+    (let may = waits m m by (call.AggMake (text_of (refuse status head_only close) (Error status))) step in cc (may))
+never-waits waits m by fd false rest (refuse status head_only close) step =
+    (let may = waits m m by (call.AggMake (text_of (refuse status head_only close) (Error status))) step in cc (may))
 
 -- what stood is what is ready, where its call would block
-pub ready-blocked : WaitLaw → (m : State) (by fd : ℕ) (scripts : Bool) (c : Conn) (run : Option Running) (script : List ℕ) (y : Client)
+pub ready-blocked : WaitLaw
+    → (m : State) (by fd : ℕ) (scripts : Bool) (c : Conn) (run : Option Running) (script : List ℕ) (y : Client)
     → Readies (of c run script) y → WouldWait m by (wants scripts fd y) → (y ≡ of c run script) × IsAwaiting y
-ready-blocked waits m by fd scripts c (Some z) script y ready step = (ready, subst (λ (x : Client). IsAwaiting x) (sym ready) tt)
+ready-blocked waits m by fd scripts c (Some z) script y ready step =
+    (ready, subst (λ (x : Client). IsAwaiting x) (sym ready) tt)
 ready-blocked waits m by fd scripts c None script y ready step = elim (conn-ready c.kept c.q c.phase ready.0 ready.1) [
   | inl stands ↦ (
     ready.2 ∙ ap (λ (x : Conn). of x None script) stands.0,
     subst (λ (x : Client). IsAwaiting x) (sym ready.2) stands.1,
   )
-  | inr begun ↦ absurd (never-waits waits m by fd (is_for_script scripts begun.0) begun.1 begun.0 (subst (λ (x : Client). WouldWait m by (wants scripts fd x)) (ready.2 ∙ ap (λ (x : Conn). of x None script) begun.2) step))
+  | inr begun ↦
+      absurd (never-waits waits m by fd (is_for_script scripts begun.0) begun.1 begun.0
+      (subst (λ (x : Client). WouldWait m by (wants scripts fd x)) (ready.2
+      ∙ ap (λ (x : Conn). of x None script) begun.2) step))
 ]

@@ -1,5 +1,6 @@
 -- The server's own call for a client preserves the invariants of all other clients, and of all workers.
-use Rattle.std.proofs.Common.{inl, inr, ◌≡◌, ◌≢◌, ◌<◌, ℕ, ◌==◌, ◌⊎◌, List, [], ap, ◌∙◌, refl, sym, subst, Option, Some, None, true, false, Bool, append-nil, slice_get}
+use Rattle.std.proofs.Common.{inl, inr, ◌≡◌, ◌≢◌, ◌<◌, ℕ, ◌==◌, ◌⊎◌, List, [], ap, ◌∙◌, refl, sym, subst, Option, Some}
+use Rattle.std.proofs.Common.{None, true, false, Bool, append-nil, slice_get}
 use Rattle.std.proofs.lemmas.Bool.{cases_eq}
 use Rattle.iol_core.specs.Text.{bytes_of}
 use Rattle.iol_core.specs.NumberedLists.{in_place}
@@ -18,14 +19,16 @@ use Rattle.iol_laws.specs.Frame.{Leaves, touches_conn, touches_pipe, touches_fd}
 use Rattle.iol_laws.specs.Order.{IsOrderly}
 use Rattle.iol_proc.specs.declared.process_slot.ProcessSlot.{ProcessSlot}
 use Rattle.flash_http.specs.Request.{serve, Wanted}
-use Rattle.flash_laws.specs.Client.{Client, uses_agg, uses_fd, is_for_script, conn_wants, wants, IsAwaiting, awaits, file_after_reply, after_reply, left_over}
+use Rattle.flash_laws.specs.Client.{Client, uses_agg, uses_fd, is_for_script, conn_wants, wants, IsAwaiting, awaits}
+use Rattle.flash_laws.specs.Client.{file_after_reply, after_reply, left_over}
 use Rattle.flash_laws.specs.Client.Fits.{expected_in, FitsAlone, FitsBy, Fits}
 use Rattle.flash_laws.specs.Client.Holdings.{has_fd}
 use Rattle.flash_laws.specs.Conn.{Conn, after_disconnect}
 use Rattle.flash_laws.specs.Workers.WorkerSet.{WorkerSet, IsFixedFor}
 use Rattle.flash_laws.specs.Conn.Fits.{Has, Names, is_closing}
 use Rattle.flash_laws.specs.Site.Past.{Past}
-use Rattle.flash_laws.specs.Site.Places.{EachHasItsOwn, is_run_by, is_free, has_free, first_free, may_go, after_reply_at}
+use Rattle.flash_laws.specs.Site.Places.{EachHasItsOwn, is_run_by, is_free, has_free, first_free, may_go}
+use Rattle.flash_laws.specs.Site.Places.{after_reply_at}
 use Rattle.flash_laws.specs.Run.{worker_domain, job_pipe, is_over}
 use Rattle.flash_laws.specs.Site.ClientConsistency.{Held, Ended, Aside, AreAtJobQueues, FitsAt, AllFit}
 use Rattle.flash_laws.specs.SiteContents.{SiteContents, IsAmong}
@@ -48,7 +51,8 @@ use Rattle.flash_laws.proofs.Site.Peers.{IsAfterReply, after_reply-call}
 use Rattle.flash_laws.proofs.Site.OwnWorkers.{free-runs, first-free, runs-for, left-over-is, workers_shared}
 use Rattle.flash_laws.proofs.Site.OpenDescriptors.{no-true, held-open, not-waiting, not-closed, conn-same}
 use Rattle.flash_laws.proofs.World.AllLaws.{AllLaws}
-use Rattle.flash_laws.proofs.World.Calls.{CallsAlone, MayTouchPipe, kind-admits, opens-on, calls-alone, there-agg, there-fd}
+use Rattle.flash_laws.proofs.World.Calls.{CallsAlone, MayTouchPipe, kind-admits, opens-on, calls-alone, there-agg}
+use Rattle.flash_laws.proofs.World.Calls.{there-fd}
 use Rattle.flash_laws.proofs.World.Ends.{no-returns, no-job_queue, uses-or-job_queue, has-from, touches-from}
 use Rattle.flash_laws.proofs.World.ClientFrame.{fits_beside}
 use Rattle.flash_laws.proofs.World.JobQueue.Frame.{LeavesOne}
@@ -60,7 +64,8 @@ use Rattle.flash_laws.proofs.World.Turn.{replaced, held-on, own-call, no-reader-
 use Rattle.flash_laws.proofs.World.TurnLeaves.{conn-left}
 
 -- a turn of the server for the client at a descriptor
-pub record IsOwnTurn (site_contents : SiteContents) (worker_set : WorkerSet) (m n : State) (p : Past) (clients : List (Option Client)) (fd : ℕ) (x : Client) (r : Reply)
+pub record IsOwnTurn (site_contents : SiteContents) (worker_set : WorkerSet) (m n : State) (p : Past)
+    (clients : List (Option Client)) (fd : ℕ) (x : Client) (r : Reply)
     (received : List ℕ) (process_slots : List (ProcessSlot worker_set.Worker)) : Type 0 where
   pub order : IsOrderly m
   pub order_after : IsOrderly n
@@ -73,8 +78,10 @@ pub record IsOwnTurn (site_contents : SiteContents) (worker_set : WorkerSet) (m 
   pub step : StepsTo m (event.Call server (wants site_contents.scripts fd x)) r n
   pub names : Names n r received
 
-module _ (site_contents : SiteContents) (worker_set : WorkerSet) (laws : AllLaws worker_set) (m n : State) (p : Past) (clients : List (Option Client)) (fd : ℕ) (conn : Conn) (run : Option Running) (script : List ℕ) (r : Reply)
-    (received : List ℕ) (process_slots : List (ProcessSlot worker_set.Worker)) (t : IsOwnTurn site_contents worker_set m n p clients fd (of conn run script) r received process_slots) where
+module _ (site_contents : SiteContents) (worker_set : WorkerSet) (laws : AllLaws worker_set) (m n : State) (p : Past)
+    (clients : List (Option Client)) (fd : ℕ) (conn : Conn) (run : Option Running) (script : List ℕ) (r : Reply)
+    (received : List ℕ) (process_slots : List (ProcessSlot worker_set.Worker))
+    (t : IsOwnTurn site_contents worker_set m n p clients fd (of conn run script) r received process_slots) where
   abbrev x : Client
   x = of conn run script
 
@@ -100,62 +107,91 @@ module _ (site_contents : SiteContents) (worker_set : WorkerSet) (laws : AllLaws
   leaves = laws.the.steps.leaves m n (event.Call server (wants site_contents.scripts fd x)) r t.step
 
   pub own-site : KeepsSite m n
-  own-site = site-stays site_contents.finds m n (event.Call server (wants site_contents.scripts fd x)) leaves t.fixed.site alone.files (λ q. kind-admits (wants site_contents.scripts fd x) q alone.kind)
+  own-site = site-stays site_contents.finds m n (event.Call server (wants site_contents.scripts fd x)) leaves
+      t.fixed.site alone.files (λ q. kind-admits (wants site_contents.scripts fd x) q alone.kind)
 
   none-returned : (v : Run) (write : ℕ) → run ≡ Some (Runs v (Returns write)) → ⊥
   none-returned = no-returns site_contents worker_set m (p.came c) (p.sent c) fd c process_slots conn run script f
 
   among : (y : Running) (s : Step) (v : Run) → run ≡ Some (Runs v s) → v.worker < worker_set.count
-  among y s v is = t.fit.own.among fd v.worker x t.there (ap (λ (o : Option Running). is_run_by (of conn o script) v.worker) is ∙ self v.worker)
+  among y s v is =
+      t.fit.own.among fd v.worker x t.there (ap (λ (o : Option Running). is_run_by (of conn o script) v.worker) is
+      ∙ self v.worker)
 
   -- what it has is no connection
   not-conn : (g e : ℕ) → has_fd (of conn run script) g ≡ true → descriptor m server g ≡ Some (on.Connection e) → ⊥
-  not-conn g e u is = elim (there-fd site_contents worker_set laws m (p.came c) (p.sent c) fd c process_slots conn run script g f u) [
-    | inl file ↦ (let h = file.2 in cc (h, is))
-    | inr end ↦ elim end.1 [ inl read ↦ cc (read, is) | inr write ↦ cc (write, is) ]
-  ]
+  not-conn g e u is =
+      elim (there-fd site_contents worker_set laws m (p.came c) (p.sent c) fd c process_slots conn run script g f u) [
+        | inl file ↦ (let h = file.2 in cc (h, is))
+        | inr end ↦ elim end.1 [ inl read ↦ cc (read, is) | inr write ↦ cc (write, is) ]
+      ]
 
   -- a connection elsewhere keeps its descriptor
-  un-conn : (gd e : ℕ) → fd ≢ gd → descriptor m server gd ≡ Some (on.Connection e) → touches_fd m (event.Call server (wants site_contents.scripts fd (of conn run script))) server gd ≡ false
-  un-conn gd e differ is = no-true (touches_fd m ev server gd) (λ u. elim (alone.fds gd u) [ inl has ↦ not-conn gd e has is | inr same ↦ differ same ])
+  un-conn : (gd e : ℕ) → fd ≢ gd → descriptor m server gd ≡ Some (on.Connection e)
+      → touches_fd m (event.Call server (wants site_contents.scripts fd (of conn run script))) server gd ≡ false
+  un-conn gd e differ is =
+      no-true (touches_fd m ev server gd) (λ u. elim (alone.fds gd u) [
+        | inl has ↦ not-conn gd e has is
+        | inr same ↦
+            differ same
+      ])
 
   -- and so does a job queue's
-  un-job_queue : (k : ℕ) → k < worker_set.count → touches_fd m (event.Call server (wants site_contents.scripts fd (of conn run script))) server (job_pipe k) ≡ false
+  un-job_queue : (k : ℕ) → k < worker_set.count
+      → touches_fd m (event.Call server (wants site_contents.scripts fd (of conn run script))) server (job_pipe k)
+      ≡ false
   un-job_queue k lt = no-true (touches_fd m ev server (job_pipe k)) (λ u. elim (alone.fds (job_pipe k) u) [
-    | inl has ↦ no-job_queue site_contents worker_set m (p.came c) (p.sent c) fd c process_slots conn run script (job_pipe k) k f has lt (t.fit.job_queues.job_queues k lt)
-    | inr same ↦ (let a = open_on in let b = ap (λ g. descriptor m server g) same in let d = t.fit.job_queues.job_queues k lt in cc (a, b, d))
+    | inl has ↦ no-job_queue site_contents worker_set m (p.came c) (p.sent c) fd c process_slots conn run script
+        (job_pipe k) k f has lt (t.fit.job_queues.job_queues k lt)
+    | inr same ↦ (let a = open_on in let b = ap (λ g. descriptor m server g) same in let d =
+        t.fit.job_queues.job_queues k lt in cc (a, b, d))
   ])
 
   -- the job queue of a worker that this client has not stays as it is
-  job_queue-stays : (k : ℕ) → k < worker_set.count → is_run_by (of conn run script) k ≡ false → pipe_at n (worker_set.job_queue k) ≡ pipe_at m (worker_set.job_queue k)
-  job_queue-stays k lt none = leaves.pipes (worker_set.job_queue k) (no-true (touches_pipe m ev (worker_set.job_queue k)) (λ u.
-      let own = own-job_queue site_contents worker_set laws m p clients process_slots t.order t.fit run k lt among none-returned (alone.pipes (worker_set.job_queue k) u) in
-      let runs = ap (λ (o : Option Running). is_run_by (of conn o script) k) own.2 ∙ (ap (λ j. own.0.worker == j) (sym own.3) ∙ self own.0.worker) in
+  job_queue-stays : (k : ℕ) → k < worker_set.count → is_run_by (of conn run script) k ≡ false
+      → pipe_at n (worker_set.job_queue k) ≡ pipe_at m (worker_set.job_queue k)
+  job_queue-stays k lt none =
+      leaves.pipes (worker_set.job_queue k) (no-true (touches_pipe m ev (worker_set.job_queue k)) (λ u.
+      let own = own-job_queue site_contents worker_set laws m p clients process_slots t.order t.fit run k lt among
+      none-returned (alone.pipes (worker_set.job_queue k) u) in
+      let runs = ap (λ (o : Option Running). is_run_by (of conn o script) k) own.2
+      ∙ (ap (λ j. own.0.worker == j) (sym own.3) ∙ self own.0.worker) in
       clash (is_run_by (of conn run script) k) runs none))
 
   -- a worker elsewhere is not this client's
-  other-worker : (gd k : ℕ) (y : Client) → fd ≢ gd → in_place clients gd ≡ Some y → is_run_by y k ≡ true → is_run_by (of conn run script) k ≡ false
-  other-worker gd k y differ is runs = no-true (is_run_by (of conn run script) k) (λ u. differ (t.fit.own.apart fd gd k x y t.there is u runs))
+  other-worker : (gd k : ℕ) (y : Client) → fd ≢ gd → in_place clients gd ≡ Some y → is_run_by y k ≡ true
+      → is_run_by (of conn run script) k ≡ false
+  other-worker gd k y differ is runs =
+      no-true (is_run_by (of conn run script) k) (λ u. differ (t.fit.own.apart fd gd k x y t.there is u runs))
 
   -- the pipe of another's script stays as it is
-  pipe-stays : (gd : ℕ) (y : Client) (v : Run) (s : Step) (q : ℕ) → fd ≢ gd → in_place clients gd ≡ Some y → has_fd y v.from ≡ true
-      → descriptor m server v.from ≡ Some (on.ReadEnd q) → ((k : ℕ) → k < worker_set.count → worker_set.job_queue k ≢ q) → pipe_at n q ≡ pipe_at m q
-  pipe-stays gd y v s q differ is has reads apart = leaves.pipes q (no-true (touches_pipe m ev q) (λ u. by run refl (alone.pipes q u) u))
+  pipe-stays : (gd : ℕ) (y : Client) (v : Run) (s : Step) (q : ℕ) → fd ≢ gd → in_place clients gd ≡ Some y
+      → has_fd y v.from ≡ true
+      → descriptor m server v.from ≡ Some (on.ReadEnd q) → ((k : ℕ) → k < worker_set.count → worker_set.job_queue k ≢ q)
+      → pipe_at n q ≡ pipe_at m q
+  pipe-stays gd y v s q differ is has reads apart =
+      leaves.pipes q (no-true (touches_pipe m ev q) (λ u. by run refl (alone.pipes q u) u))
     where
-      by : (o : Option Running) → run ≡ o → MayTouchPipe m o q → touches_pipe m (event.Call server (wants site_contents.scripts fd (of conn run script))) q ≡ true → ⊥
+      by : (o : Option Running) → run ≡ o → MayTouchPipe m o q
+          → touches_pipe m (event.Call server (wants site_contents.scripts fd (of conn run script))) q ≡ true → ⊥
       by None none may u = may
-      by (Some Awaits) is_run may u = no-reader-there m (ap (λ j. (pipe_at m j).reading) may ∙ t.order.all_stand server v.from (on.ReadEnd q) reads)
+      by (Some Awaits) is_run may u =
+          no-reader-there m (ap (λ j. (pipe_at m j).reading) may ∙ t.order.all_stand server v.from (on.ReadEnd q) reads)
       by (Some (Runs z (Hands j g))) is_run may u =
           let here = t.fit.job_queues.job_queues z.worker (among Awaits (Hands j g) z is_run) in
-          apart z.worker (among Awaits (Hands j g) z is_run) (write-inj (worker_set.job_queue z.worker) q (sym here ∙ may))
+          apart z.worker (among Awaits (Hands j g) z is_run)
+          (write-inj (worker_set.job_queue z.worker) q (sym here ∙ may))
         where
           write-inj : (a b : ℕ) → Some (on.WriteEnd a) ≡ Some (on.WriteEnd b) → a ≡ b
           write-inj a b e = cc
       by (Some (Runs z (Returns write))) is_run may u = none-returned z write is_run
       by (Some (Runs z st)) is_run may u =
-          let reading = touches-from site_contents worker_set m (p.came c) (p.sent c) fd c process_slots conn run script f z st q is_run u in
+          let reading = touches-from site_contents worker_set m (p.came c) (p.sent c) fd c process_slots conn run script
+          f z st q is_run u in
           let same = (t.order.one server server z.from v.from (on.ReadEnd q) refl may reads).1 in
-          let mine_has : has_fd (of conn run script) v.from ≡ true = subst (λ g. has_fd (of conn run script) g ≡ true) same (ap (λ (o : Option Running). has_fd (of conn o script) z.from) is_run ∙ has-from z st reading) in
+          let mine_has : has_fd (of conn run script) v.from ≡ true =
+          subst (λ g. has_fd (of conn run script) g ≡ true) same
+          (ap (λ (o : Option Running). has_fd (of conn o script) z.from) is_run ∙ has-from z st reading) in
           differ (t.fit.fds_apart fd gd v.from x y t.there is mine_has has)
       by o is_run may u = may
 
@@ -168,31 +204,50 @@ module _ (site_contents : SiteContents) (worker_set : WorkerSet) (laws : AllLaws
     theirs = (t.fit.each gd y is).fits
 
     opens : descriptor m server gd ≡ Some (on.Connection e)
-    opens = opens-on site_contents worker_set laws m (p.came e) (p.sent e) gd e process_slots y.conn y.run y.script theirs
+    opens = opens-on site_contents worker_set laws m (p.came e) (p.sent e) gd e process_slots y.conn y.run y.script
+        theirs
 
     same-conn : conn_at n e ≡ conn_at m e
-    same-conn = leaves.conns e (no-true (touches_conn m ev e) (λ u. differ (t.order.one server server fd gd (on.Connection e) refl (open_on ∙ ap (λ z. Some (on.Connection z)) (alone.conns e u)) opens).1))
+    same-conn =
+        leaves.conns e
+        (no-true (touches_conn m ev e)
+        (λ u.
+        differ
+        (t.order.one server server fd gd (on.Connection e) refl (open_on
+        ∙ ap (λ z. Some (on.Connection z)) (alone.conns e u)) opens).1))
 
     there-conn : (g : ℕ) → has_fd y g ≡ true → descriptor m server g ≡ Some (on.Connection c) → ⊥
-    there-conn g has at = elim (there-fd site_contents worker_set laws m (p.came e) (p.sent e) gd e process_slots y.conn y.run y.script g theirs has) [
-      | inl file ↦ (let h = file.2 in cc (h, at))
-      | inr end ↦ elim end.1 [ inl read ↦ cc (read, at) | inr write ↦ cc (write, at) ]
-    ]
+    there-conn g has at =
+        elim (there-fd site_contents worker_set laws m (p.came e) (p.sent e) gd e process_slots y.conn y.run y.script g
+        theirs has) [
+          | inl file ↦ (let h = file.2 in cc (h, at))
+          | inr end ↦ elim end.1 [ inl read ↦ cc (read, at) | inr write ↦ cc (write, at) ]
+        ]
 
     un-touched : (g : ℕ) → uses_fd y g ≡ true → touches_fd m ev server g ≡ true → ⊥
-    un-touched g u touched = elim (uses-or-job_queue site_contents worker_set m (p.came e) (p.sent e) gd e process_slots y.conn y.run y.script g theirs u) [
-      | inl has ↦ elim (alone.fds g touched) [
-        | inl mine ↦ differ (t.fit.fds_apart fd gd g x y t.there is mine has)
-        | inr here ↦ there-conn g has (ap (λ h. descriptor m server h) (sym here) ∙ open_on)
-      ]
-      | inr job_queue ↦ clash (touches_fd m ev server (job_pipe job_queue.0.worker)) (ap (λ h. touches_fd m ev server h) job_queue.3 ∙ touched)
-          (un-job_queue job_queue.0.worker (t.fit.own.among gd job_queue.0.worker y is (ap (λ (o : Option Running). is_run_by (of y.conn o y.script) job_queue.0.worker) job_queue.2 ∙ self job_queue.0.worker)))
-    ]
+    un-touched g u touched =
+        elim (uses-or-job_queue site_contents worker_set m (p.came e) (p.sent e) gd e process_slots y.conn y.run
+        y.script g theirs u) [
+          | inl has ↦ elim (alone.fds g touched) [
+            | inl mine ↦ differ (t.fit.fds_apart fd gd g x y t.there is mine has)
+            | inr here ↦ there-conn g has (ap (λ h. descriptor m server h) (sym here) ∙ open_on)
+          ]
+          | inr job_queue ↦
+              clash (touches_fd m ev server (job_pipe job_queue.0.worker))
+              (ap (λ h. touches_fd m ev server h) job_queue.3
+              ∙ touched)
+              (un-job_queue job_queue.0.worker
+              (t.fit.own.among gd job_queue.0.worker y is
+              (ap (λ (o : Option Running). is_run_by (of y.conn o y.script) job_queue.0.worker) job_queue.2
+              ∙ self job_queue.0.worker)))
+        ]
 
     left-one : LeavesOne worker_set m n ev gd y
     left-one = record {
       own = un-conn gd e differ opens;
-      aggs = λ a u. no-true (gives_up ev server a) (λ given. differ (t.fit.aggs_apart fd gd a x y t.there is (alone.aggs a given) u));
+      aggs =
+          λ a u. no-true (gives_up ev server a)
+          (λ given. differ (t.fit.aggs_apart fd gd a x y t.there is (alone.aggs a given) u));
       fds = λ g u. no-true (touches_fd m ev server g) (un-touched g u);
       site = own-site;
       others = λ k lt runs. own-call (wants site_contents.scripts fd (of conn run script)) (worker_domain k) k refl;
@@ -203,20 +258,25 @@ module _ (site_contents : SiteContents) (worker_set : WorkerSet) (laws : AllLaws
     there : FitsAt site_contents worker_set n p gd y process_slots
     there = record {
       conn = e;
-      fits = subst (λ (l : List ℕ). Fits site_contents worker_set n l (p.sent e) gd e y process_slots) (append-nil (p.came e))
-          (fits_beside site_contents worker_set laws m n ev r (p.came e) (p.sent e) [] (p.sent e) gd e y process_slots t.order t.fixed t.fit.job_queues t.step left-one
-          (ap (λ (k : Connection). bytes_of k.incoming) same-conn ∙ sym (append-nil (bytes_of (conn_at m e).incoming))) (conn-left (conn_at m e) (conn_at n e) (p.sent e) same-conn) theirs);
+      fits = subst (λ (l : List ℕ). Fits site_contents worker_set n l (p.sent e) gd e y process_slots)
+          (append-nil (p.came e))
+          (fits_beside site_contents worker_set laws m n ev r (p.came e) (p.sent e) [] (p.sent e) gd e y process_slots
+          t.order t.fixed t.fit.job_queues t.step left-one
+          (ap (λ (k : Connection). bytes_of k.incoming) same-conn ∙ sym (append-nil (bytes_of (conn_at m e).incoming)))
+          (conn-left (conn_at m e) (conn_at n e) (p.sent e) same-conn) theirs);
     }
 
   -- ---- what becomes of the client itself
 
   -- it goes on, or its connection has ended
   abbrev Became : Client → Type 0
-  Became z = Fits site_contents worker_set n (p.came c) (p.sent c) fd c z process_slots ⊎ ((left_over z ≡ None) × Ended site_contents p c (conn_at n c))
+  Became z = Fits site_contents worker_set n (p.came c) (p.sent c) fd c z process_slots
+      ⊎ ((left_over z ≡ None) × Ended site_contents p c (conn_at n c))
 
   record Becomes (z : Client) : Type 0 where
     pub became : Became z
-    pub freed : (k : ℕ) (process_slot : ProcessSlot worker_set.Worker) → slice_get process_slots k ≡ Some process_slot → is_run_by (of conn run script) k ≡ true → is_run_by z k ≡ false
+    pub freed : (k : ℕ) (process_slot : ProcessSlot worker_set.Worker) → slice_get process_slots k ≡ Some process_slot
+        → is_run_by (of conn run script) k ≡ true → is_run_by z k ≡ false
         → worker_set.Free n (worker_set.job_queue k) process_slot
 
   abbrev worker : ℕ
@@ -226,62 +286,93 @@ module _ (site_contents : SiteContents) (worker_set : WorkerSet) (laws : AllLaws
   after = after_reply site_contents.scripts (first_free worker_set.count clients) (of conn run script) r received
 
   hired : awaits (of conn run script) ≡ true → (first_free worker_set.count clients < worker_set.count)
-      × ((process_slot : ProcessSlot worker_set.Worker) → slice_get process_slots (first_free worker_set.count clients) ≡ Some process_slot → worker_set.Free m (worker_set.job_queue (first_free worker_set.count clients)) process_slot)
+      × ((process_slot : ProcessSlot worker_set.Worker) → slice_get process_slots (first_free worker_set.count clients)
+      ≡ Some process_slot
+      → worker_set.Free m (worker_set.job_queue (first_free worker_set.count clients)) process_slot)
   hired waiting =
-      let first = first-free worker_set.count clients (must (has_free worker_set.count clients) (awaits x) t.goes waiting) in
+      let first =
+      first-free worker_set.count clients (must (has_free worker_set.count clients) (awaits x) t.goes waiting) in
       (first.0, λ process_slot sits. t.fit.free worker process_slot sits first.1)
 
   after_reply_gone : IsAfterReply (p.gone c) (conn_at m c)
   after_reply_gone = t.fit.left c
 
-  of-fits : (o : Option Running) → run ≡ o → FitsBy site_contents worker_set o m (p.came c) (p.sent c) fd c (of conn run script) process_slots
-  of-fits o is = subst (λ (v : Option Running). FitsBy site_contents worker_set v m (p.came c) (p.sent c) fd c (of conn run script) process_slots) is f
+  of-fits : (o : Option Running) → run ≡ o
+      → FitsBy site_contents worker_set o m (p.came c) (p.sent c) fd c (of conn run script) process_slots
+  of-fits o is =
+      subst (λ (v : Option Running). FitsBy site_contents worker_set v m (p.came c) (p.sent c) fd c (of conn run script)
+      process_slots) is f
 
   none-runs : run ≡ None → (k : ℕ) → is_run_by (of conn run script) k ≡ true → ⊥
   none-runs is k runs = (let e = ap (λ (o : Option Running). is_run_by (of conn o script) k) is in cc (e, runs))
 
   -- its connection is to be closed
   closing : run ≡ None → conn.phase ≡ phase.Closes → Became after
-  closing is_none is_closes = by r (laws.the.own.closes_conn m n server fd c r t.order open_on did_close) did_close (after_reply_is r)
+  closing is_none is_closes =
+      by r (laws.the.own.closes_conn m n server fd c r t.order open_on did_close) did_close (after_reply_is r)
     where
       closes : (b : Bool) → conn_wants b fd conn ≡ call.Close fd
       closes false = ap (λ (d : Phase). conn_wants false fd (record conn { phase = d })) is_closes
       closes true = ap (λ (d : Phase). conn_wants true fd (record conn { phase = d })) is_closes
 
       call_is : wants site_contents.scripts fd (of conn run script) ≡ call.Close fd
-      call_is = ap (λ (o : Option Running). wants site_contents.scripts fd (of conn o script)) is_none ∙ closes (is_for_script site_contents.scripts conn.q)
+      call_is = ap (λ (o : Option Running). wants site_contents.scripts fd (of conn o script)) is_none
+          ∙ closes (is_for_script site_contents.scripts conn.q)
 
       did_close : StepsTo m (event.Call server (call.Close fd)) r n
       did_close = subst (λ (k : Call). StepsTo m (event.Call server k) r n) call_is t.step
 
-      after_reply_is : (s : Reply) → after_reply site_contents.scripts worker (of conn run script) s received ≡ of (record conn { phase = after_disconnect s }) None script
-      after_reply_is s = ap (λ (o : Option Running). after_reply site_contents.scripts worker (of conn o script) s received) is_none ∙ filing (is_for_script site_contents.scripts conn.q)
+      after_reply_is : (s : Reply) → after_reply site_contents.scripts worker (of conn run script) s received
+          ≡ of (record conn { phase = after_disconnect s }) None script
+      after_reply_is s =
+          ap (λ (o : Option Running). after_reply site_contents.scripts worker (of conn o script) s received) is_none
+          ∙ filing (is_for_script site_contents.scripts conn.q)
         where
-          filing : (b : Bool) → file_after_reply b (of conn None script) s received ≡ of (record conn { phase = after_disconnect s }) None script
-          filing false = ap (λ (d : Phase). file_after_reply false (of (record conn { phase = d }) None script) s received) is_closes
-          filing true = ap (λ (d : Phase). file_after_reply true (of (record conn { phase = d }) None script) s received) is_closes
+          filing : (b : Bool)
+              → file_after_reply b (of conn None script) s received ≡ of (record conn { phase = after_disconnect s })
+              None script
+          filing false =
+              ap (λ (d : Phase). file_after_reply false (of (record conn { phase = d }) None script) s received)
+              is_closes
+          filing true =
+              ap (λ (d : Phase). file_after_reply true (of (record conn { phase = d }) None script) s received)
+              is_closes
 
       by : (s : Reply) → o.ClosesConn m c s n → StepsTo m (event.Call server (call.Close fd)) s n
-          → after_reply site_contents.scripts worker (of conn run script) s received ≡ of (record conn { phase = after_disconnect s }) None script
+          → after_reply site_contents.scripts worker (of conn run script) s received
+          ≡ of (record conn { phase = after_disconnect s }) None script
           → Became (after_reply site_contents.scripts worker (of conn run script) s received)
       by reply.Done did step is =
-          let ended = alone_closes site_contents worker_set laws m n (p.came c) (p.sent c) fd c (of conn run script) t.order is_closes (of-fits None is_none) step in
+          let ended = alone_closes site_contents worker_set laws m n (p.came c) (p.sent c) fd c (of conn run script)
+          t.order is_closes (of-fits None is_none) step in
           inr (
             ap (λ (z : Client). left_over z) is,
             record {
               closed = ended.0;
               begins = ended.1;
-              whole = elim ended.2 [ inl gone ↦ inl (after_reply_gone (held-open m fd c t.order open_on).1 gone) | inr all ↦ inr all ];
+              whole =
+                  elim ended.2 [
+                    | inl gone ↦ inl (after_reply_gone (held-open m fd c t.order open_on).1 gone)
+                    | inr all ↦
+                        inr all
+                  ];
             },
           )
-      by (reply.Refused y) did step is = inl (subst (λ (z : Client). Fits site_contents worker_set n (p.came c) (p.sent c) fd c z process_slots) (sym (is ∙ same))
-          (subst (λ (s : State). FitsAlone site_contents s (p.came c) (p.sent c) fd c (of conn None script)) (sym did) (alone-of None is_none (of-fits None is_none))))
+      by (reply.Refused y) did step is =
+          inl (subst (λ (z : Client). Fits site_contents worker_set n (p.came c) (p.sent c) fd c z process_slots)
+          (sym (is ∙ same))
+          (subst (λ (s : State). FitsAlone site_contents s (p.came c) (p.sent c) fd c (of conn None script)) (sym did)
+          (alone-of None is_none (of-fits None is_none))))
         where
           same : of (record conn { phase = phase.Closes }) None script ≡ of conn None script
           same = ap (λ (d : Phase). of (record conn { phase = d }) None script) (sym is_closes)
 
-          alone-of : (o : Option Running) → run ≡ o → FitsAlone site_contents m (p.came c) (p.sent c) fd c (of conn run script) → FitsAlone site_contents m (p.came c) (p.sent c) fd c (of conn o script)
-          alone-of o is g = subst (λ (v : Option Running). FitsAlone site_contents m (p.came c) (p.sent c) fd c (of conn v script)) is g
+          alone-of : (o : Option Running) → run ≡ o
+              → FitsAlone site_contents m (p.came c) (p.sent c) fd c (of conn run script)
+              → FitsAlone site_contents m (p.came c) (p.sent c) fd c (of conn o script)
+          alone-of o is g =
+              subst (λ (v : Option Running). FitsAlone site_contents m (p.came c) (p.sent c) fd c (of conn v script)) is
+              g
       by s did step is = absurd did
 
   becomes : Becomes after
@@ -289,23 +380,36 @@ module _ (site_contents : SiteContents) (worker_set : WorkerSet) (laws : AllLaws
     where
       closed : (d : Phase) → conn.phase ≡ d → is_closing d ≡ true → run ≡ None → Became after
       closed phase.Closes is closing_is none = closing none is
-      closed phase.Over is closing_is none = absurd (subst (λ (d : Phase). Has m conn.q (expected_in (of-fits None none).expected conn.q d) d) is (of-fits None none).has)
+      closed phase.Over is closing_is none =
+          absurd (subst (λ (d : Phase). Has m conn.q (expected_in (of-fits None none).expected conn.q d) d) is
+          (of-fits None none).has)
       closed d is closing_is none = absurd (cc (closing_is))
 
       by : (o : Option Running) → run ≡ o → Becomes after
-      by None none = record { became = on (is_closing conn.phase) refl; freed = λ k process_slot sits runs gone. absurd (none-runs none k runs) }
+      by None none =
+          record {
+            became = on (is_closing conn.phase) refl;
+            freed =
+                λ k process_slot sits runs gone. absurd (none-runs none k runs);
+          }
         where
           on : (b : Bool) → is_closing conn.phase ≡ b → Became after
           on true is = closed conn.phase refl is none
-          on false is = inl (alone_step site_contents worker_set laws m n (p.came c) (p.sent c) fd c worker (of conn run script) r received process_slots t.order t.fixed none (of-fits None none) t.waits is t.among t.step t.names)
+          on false is =
+              inl (alone_step site_contents worker_set laws m n (p.came c) (p.sent c) fd c worker (of conn run script) r
+              received process_slots t.order t.fixed none (of-fits None none) t.waits is t.among t.step t.names)
       by (Some y) some =
-          let went = run_step site_contents worker_set laws m n (p.came c) (p.sent c) fd c worker (of conn run script) y r received process_slots t.order t.order_after t.fixed t.fit.job_queues some (of-fits (Some y) some) hired t.among t.step t.names in
+          let went = run_step site_contents worker_set laws m n (p.came c) (p.sent c) fd c worker (of conn run script) y
+          r received process_slots t.order t.order_after t.fixed t.fit.job_queues some (of-fits (Some y) some) hired
+          t.among t.step t.names in
           record { became = inl went.fits; freed = went.freed }
 
   -- ---- all clients after it
 
   -- one that fits is not over
-  left-some : (run_z : Option Running) (z : Conn) (text : List ℕ) → Fits site_contents worker_set n (p.came c) (p.sent c) fd c (of z run_z text) process_slots → left_over (of z run_z text) ≡ None → ⊥
+  left-some : (run_z : Option Running) (z : Conn) (text : List ℕ)
+      → Fits site_contents worker_set n (p.came c) (p.sent c) fd c (of z run_z text) process_slots
+      → left_over (of z run_z text) ≡ None → ⊥
   left-some None z text g is = by z.phase refl is
     where
       by : (d : Phase) → z.phase ≡ d → left_by d (of z None text) ≡ None → ⊥
@@ -315,7 +419,13 @@ module _ (site_contents : SiteContents) (worker_set : WorkerSet) (laws : AllLaws
 
   here : (z : Client) → left_over after ≡ Some z → FitsAt site_contents worker_set n p fd z process_slots
   here z is = elim becomes.became [
-    | inl fits ↦ record { conn = c; fits = subst (λ (v : Client). Fits site_contents worker_set n (p.came c) (p.sent c) fd c v process_slots) (left-over-is after.conn after.run after.script z is) fits }
+    | inl fits ↦
+        record {
+          conn = c;
+          fits =
+              subst (λ (v : Client). Fits site_contents worker_set n (p.came c) (p.sent c) fd c v process_slots)
+              (left-over-is after.conn after.run after.script z is) fits;
+        }
     | inr over ↦ (let none = over.0 in absurd (cc (is, none)))
   ]
 
@@ -329,75 +439,117 @@ module _ (site_contents : SiteContents) (worker_set : WorkerSet) (laws : AllLaws
     | inl same ↦
         (let open_k = subst (λ g. descriptor m server g ≡ Some (on.Connection k)) (sym same) held.open_on in
         after_own k (conn-same m fd c k open_on open_k) becomes.became)
-    | inr differ ↦ inl (held-on m n clients fd k (left_over after) held differ (leaves.fds server held.fd (on.Connection k) held.open_on (un-conn held.fd k differ held.open_on)))
+    | inr differ ↦
+        inl
+        (held-on m n clients fd k (left_over after) held differ
+        (leaves.fds server held.fd (on.Connection k) held.open_on (un-conn held.fd k differ held.open_on)))
   ]
     where
-      after_own : (k : ℕ) → c ≡ k → Became after → Held n (with_at clients fd (left_over after)) k ⊎ Aside site_contents p k (conn_at n k)
+      after_own : (k : ℕ) → c ≡ k → Became after → Held n (with_at clients fd (left_over after)) k
+          ⊎ Aside site_contents p k (conn_at n k)
       after_own k is_k (inr over) = inr (inr (inl (subst (λ z. Ended site_contents p z (conn_at n z)) is_k over.1)))
       after_own k is_k (inl fits) = by (left_over after) refl
         where
-          by : (o : Option Client) → left_over after ≡ o → Held n (with_at clients fd (left_over after)) k ⊎ Aside site_contents p k (conn_at n k)
+          by : (o : Option Client) → left_over after ≡ o → Held n (with_at clients fd (left_over after)) k
+              ⊎ Aside site_contents p k (conn_at n k)
           by (Some z) is = inl (record {
             fd = fd;
             client = z;
             at = at-same clients fd (left_over after) ∙ is;
-            open_on = subst (λ z. descriptor n server fd ≡ Some (on.Connection z)) is_k (opens-on site_contents worker_set laws n (p.came c) (p.sent c) fd c process_slots after.conn after.run after.script fits);
+            open_on =
+                subst (λ z. descriptor n server fd ≡ Some (on.Connection z)) is_k
+                (opens-on site_contents worker_set laws n (p.came c) (p.sent c) fd c process_slots after.conn after.run
+                after.script fits);
           })
           by None is = absurd (left-some after.run after.conn after.script fits is)
   elsewhere k (inr (inl waits)) =
       let same = away k (not-waiting m fd c k t.order open_on waits.waits) in
       inr (inl (subst (λ (z : Connection). Waits p k z) (sym same) waits))
-  elsewhere k (inr (inr (inr foreign))) = inr (inr (inr (record { other_pool = foreign.other_pool; taken = laws.the.other.accepted m n server (wants site_contents.scripts fd x) r k t.order t.step foreign.taken })))
+  elsewhere k (inr (inr (inr foreign))) =
+      inr
+      (inr
+      (inr
+      (record {
+        other_pool = foreign.other_pool;
+        taken =
+            laws.the.other.accepted m n server (wants site_contents.scripts fd x) r k t.order t.step foreign.taken;
+      })))
   elsewhere k (inr (inr (inl ended))) =
       let same = away k (not-closed m fd c k t.order open_on ended.closed) in
       inr (inr (inl (subst (λ (z : Connection). Ended site_contents p k z) (sym same) ended)))
 
   -- what it uses now another does not use
-  mixed_agg : (gd a : ℕ) (y z : Client) → fd ≢ gd → left_over after ≡ Some y → in_place clients gd ≡ Some z → uses_agg y a ≡ true → uses_agg z a ≡ true → ⊥
+  mixed_agg : (gd a : ℕ) (y z : Client) → fd ≢ gd → left_over after ≡ Some y → in_place clients gd ≡ Some z
+      → uses_agg y a ≡ true → uses_agg z a ≡ true → ⊥
   mixed_agg gd a y z differ is_y is_z uses uses_z =
-      elim (client-uses site_contents.scripts worker conn run script r received a (ap (λ (w : Client). uses_agg w a) (left-over-is after.conn after.run after.script y is_y) ∙ uses)) [
+      elim (client-uses site_contents.scripts worker conn run script r received a
+      (ap (λ (w : Client). uses_agg w a) (left-over-is after.conn after.run after.script y is_y) ∙ uses)) [
         | inl old ↦ differ (t.fit.aggs_apart fd gd a x z t.there is_z old uses_z)
         | inr made ↦
             (let none = agg-new laws.the m n (wants site_contents.scripts fd x) r a t.order alone.kind t.step made in
             let at = t.fit.each gd z is_z in
-            let some = (there-agg site_contents worker_set laws m (p.came at.conn) (p.sent at.conn) gd at.conn process_slots z.conn z.run z.script a at.fits uses_z).1 in cc (none, some))
+            let some =
+            (there-agg site_contents worker_set laws m (p.came at.conn) (p.sent at.conn) gd at.conn process_slots
+            z.conn z.run z.script a at.fits uses_z).1 in cc (none, some))
       ]
 
-  going : (o : Option Running) → FitsBy site_contents worker_set o m (p.came c) (p.sent c) fd c (of conn run script) process_slots → (y : Running) → o ≡ Some y → is_over y ≡ false
+  going : (o : Option Running)
+      → FitsBy site_contents worker_set o m (p.came c) (p.sent c) fd c (of conn run script) process_slots
+      → (y : Running) → o ≡ Some y → is_over y ≡ false
   going None g y is = absurd (cc (is))
   going (Some v) g y is = ap (λ (w : Running). is_over w) (sym (some-inj v y is)) ∙ g.ongoing
 
-  asks-of : (o : Option Running) → FitsBy site_contents worker_set o m (p.came c) (p.sent c) fd c (of conn run script) process_slots → o ≡ Some Awaits → (w : Wanted) × (conn.q ≡ serve w)
+  asks-of : (o : Option Running)
+      → FitsBy site_contents worker_set o m (p.came c) (p.sent c) fd c (of conn run script) process_slots
+      → o ≡ Some Awaits → (w : Wanted) × (conn.q ≡ serve w)
   asks-of None g is = absurd (cc (is))
   asks-of (Some v) g is = (g.wanted, g.script.asks)
 
-  mixed_fd : (gd a : ℕ) (y z : Client) → fd ≢ gd → left_over after ≡ Some y → in_place clients gd ≡ Some z → has_fd y a ≡ true → has_fd z a ≡ true → ⊥
+  mixed_fd : (gd a : ℕ) (y z : Client) → fd ≢ gd → left_over after ≡ Some y → in_place clients gd ≡ Some z
+      → has_fd y a ≡ true → has_fd z a ≡ true → ⊥
   mixed_fd gd a y z differ is_y is_z uses uses_z =
-      elim (client-fds site_contents.scripts worker conn run script r received a (going run f) (ap (λ (w : Client). has_fd w a) (left-over-is after.conn after.run after.script y is_y) ∙ uses)) [
+      elim (client-fds site_contents.scripts worker conn run script r received a (going run f)
+      (ap (λ (w : Client). has_fd w a) (left-over-is after.conn after.run after.script y is_y) ∙ uses)) [
         | inl old ↦ differ (t.fit.fds_apart fd gd a x z t.there is_z old uses_z)
         | inr made ↦ taken (new made)
       ]
     where
-      new : ((run ≡ None) × (o.is_fd r a ≡ true)) ⊎ ((run ≡ Some Awaits) × (is_fds r a ≡ true)) → descriptor m server a ≡ None
-      new (inl file) = fd-new laws.the m n site_contents.scripts fd conn run script (record { head_only = false; name = []; query = []; keep = false; range = None; chunked = false }) r a t.order (λ is. (let e = file.0 in absurd (cc (is, e)))) t.step (inl file)
-      new (inr pipe) = (let asked = asks-of run f pipe.0 in fd-new laws.the m n site_contents.scripts fd conn run script asked.0 r a t.order (λ is. asked.1) t.step (inr pipe))
+      new : ((run ≡ None) × (o.is_fd r a ≡ true)) ⊎ ((run ≡ Some Awaits) × (is_fds r a ≡ true))
+          → descriptor m server a ≡ None
+      new (inl file) =
+          fd-new laws.the m n site_contents.scripts fd conn run script
+          (record { head_only = false; name = []; query = []; keep = false; range = None; chunked = false }) r a t.order
+          (λ is. (let e = file.0 in absurd (cc (is, e)))) t.step (inl file)
+      new (inr pipe) =
+          (let asked = asks-of run f pipe.0 in
+          fd-new laws.the m n site_contents.scripts fd conn run script asked.0 r a t.order (λ is. asked.1) t.step
+          (inr pipe))
 
       taken : descriptor m server a ≡ None → ⊥
       taken none =
           let at = t.fit.each gd z is_z in
-          elim (there-fd site_contents worker_set laws m (p.came at.conn) (p.sent at.conn) gd at.conn process_slots z.conn z.run z.script a at.fits uses_z) [
+          elim (there-fd site_contents worker_set laws m (p.came at.conn) (p.sent at.conn) gd at.conn process_slots
+          z.conn z.run z.script a at.fits uses_z) [
             | inl file ↦ (let h = file.2 in cc (h, none))
             | inr end ↦ elim end.1 [ inl read ↦ cc (read, none) | inr write ↦ cc (write, none) ]
           ]
 
   -- each that runs has its own worker
   own_after : EachHasItsOwn worker_set.count (with_at clients fd (left_over after))
-  own_after = subst (λ (b : Bool). EachHasItsOwn worker_set.count (with_at clients fd (left_over (after_reply b worker (of conn run script) r received)))) (sym t.fixed.scripts)
-      (subst (λ (v : Option Client). EachHasItsOwn worker_set.count (after_reply_at worker_set.count clients fd v r received)) t.there
+  own_after =
+      subst
+      (λ (b : Bool). EachHasItsOwn worker_set.count
+      (with_at clients fd (left_over (after_reply b worker (of conn run script) r received)))) (sym t.fixed.scripts)
+      (subst
+      (λ (v : Option Client). EachHasItsOwn worker_set.count
+      (after_reply_at worker_set.count clients fd v r received)) t.there
       (workers_shared.filing worker_set.count clients (At fd) r received t.fit.own
-      (λ y is. subst (λ (z : Client). may_go (has_free worker_set.count clients) z ≡ true) (some-inj x y (sym t.there ∙ is)) t.goes)))
+      (λ y is. subst (λ (z : Client). may_go (has_free worker_set.count clients) z ≡ true)
+      (some-inj x y (sym t.there ∙ is)) t.goes)))
 
-  free_after : (k : ℕ) (process_slot : ProcessSlot worker_set.Worker) → slice_get process_slots k ≡ Some process_slot → is_free (with_at clients fd (left_over after)) k ≡ true → worker_set.Free n (worker_set.job_queue k) process_slot
+  free_after : (k : ℕ) (process_slot : ProcessSlot worker_set.Worker) → slice_get process_slots k ≡ Some process_slot
+      → is_free (with_at clients fd (left_over after)) k ≡ true
+      → worker_set.Free n (worker_set.job_queue k) process_slot
   free_after k process_slot sits free = by (is_free clients k) refl
     where
       place : (k < worker_set.count) × (process_slot.by ≡ worker_domain k)
@@ -405,7 +557,8 @@ module _ (site_contents : SiteContents) (worker_set : WorkerSet) (laws : AllLaws
 
       -- one that ran for nobody, and runs for nobody
       stays : is_free clients k ≡ true → worker_set.Free n (worker_set.job_queue k) process_slot
-      stays was = laws.workers.free_others m n (worker_set.job_queue k) process_slot ev r t.fixed.placed t.step (own-call (wants site_contents.scripts fd (of conn run script)) process_slot.by k place.1)
+      stays was = laws.workers.free_others m n (worker_set.job_queue k) process_slot ev r t.fixed.placed t.step
+          (own-call (wants site_contents.scripts fd (of conn run script)) process_slot.by k place.1)
           (job_queue-stays k place.0 (free-runs clients k fd x was t.there)) (t.fit.free k process_slot sits was)
 
       by : (b : Bool) → is_free clients k ≡ b → worker_set.Free n (worker_set.job_queue k) process_slot
@@ -413,9 +566,15 @@ module _ (site_contents : SiteContents) (worker_set : WorkerSet) (laws : AllLaws
       by false busy =
           let ran = runs-for clients k busy in
           elim (cases_eq fd ran.fd) [
-            | inr differ ↦ absurd (clash (is_run_by ran.client k) ran.runs (free-runs (with_at clients fd (left_over after)) k ran.fd ran.client free (at-other clients fd ran.fd (left_over after) differ ∙ ran.at)))
+            | inr differ ↦
+                absurd
+                (clash (is_run_by ran.client k) ran.runs
+                (free-runs (with_at clients fd (left_over after)) k ran.fd ran.client free
+                (at-other clients fd ran.fd (left_over after) differ ∙ ran.at)))
             | inl same ↦
-                (let is_x : x ≡ ran.client = some-inj x ran.client (sym t.there ∙ subst (λ g. in_place clients g ≡ Some ran.client) (sym same) ran.at) in
+                (let is_x : x ≡ ran.client =
+                some-inj x ran.client (sym t.there ∙ subst (λ g. in_place clients g ≡ Some ran.client) (sym same)
+                ran.at) in
                 let runs : is_run_by x k ≡ true = ap (λ (z : Client). is_run_by z k) is_x ∙ ran.runs in
                 becomes.freed k process_slot sits runs (no-more runs (left_over after) refl))
           ]
@@ -423,27 +582,46 @@ module _ (site_contents : SiteContents) (worker_set : WorkerSet) (laws : AllLaws
           no-more : is_run_by x k ≡ true → (o : Option Client) → left_over after ≡ o → is_run_by after k ≡ false
           no-more runs (Some z) is =
               let same = left-over-is after.conn after.run after.script z is in
-              ap (λ (v : Client). is_run_by v k) same ∙ free-runs (with_at clients fd (left_over after)) k fd z free (at-same clients fd (left_over after) ∙ is)
+              ap (λ (v : Client). is_run_by v k) same
+              ∙ free-runs (with_at clients fd (left_over after)) k fd z free (at-same clients fd (left_over after)
+              ∙ is)
           no-more runs None is = over after.run refl
             where
               over : (o : Option Running) → after.run ≡ o → is_run_by after k ≡ false
               over None none = ap (λ (o : Option Running). is_run_by (of after.conn o after.script) k) none
-              over (Some y) some = absurd (let e = ap (λ (o : Option Running). left_over (of after.conn o after.script)) some in cc (e, is))
+              over (Some y) some =
+                  absurd (let e = ap (λ (o : Option Running). left_over (of after.conn o after.script)) some in
+                  cc (e, is))
 
   job_queues_after : AreAtJobQueues worker_set n process_slots
   job_queues_after = record {
     in_slots = t.fit.job_queues.in_slots;
     by = t.fit.job_queues.by;
-    job_queues = λ k lt. leaves.fds server (job_pipe k) (on.WriteEnd (worker_set.job_queue k)) (t.fit.job_queues.job_queues k lt) (un-job_queue k lt);
+    job_queues =
+        λ k lt. leaves.fds server (job_pipe k) (on.WriteEnd (worker_set.job_queue k)) (t.fit.job_queues.job_queues k lt)
+        (un-job_queue k lt);
   }
 
-  all_after : AllFit site_contents worker_set n p (with_at clients fd (left_over (after_reply site_contents.scripts (first_free worker_set.count clients) (of conn run script) r received))) process_slots
-  all_after = replaced site_contents worker_set m n p clients fd (left_over after) process_slots t.fit (laws.the.rises m n ev r t.step) here there (λ k. elsewhere k (t.fit.others k))
-      (λ z. after_reply-call (p.gone z) m n server (wants site_contents.scripts fd x) r z t.order t.step (t.fit.left z)) mixed_agg mixed_fd own_after free_after job_queues_after
+  all_after : AllFit site_contents worker_set n p
+      (with_at clients fd
+      (left_over (after_reply site_contents.scripts (first_free worker_set.count clients) (of conn run script) r
+      received))) process_slots
+  all_after = replaced site_contents worker_set m n p clients fd (left_over after) process_slots t.fit
+      (laws.the.rises m n ev r t.step) here there (λ k. elsewhere k (t.fit.others k))
+      (λ z. after_reply-call (p.gone z) m n server (wants site_contents.scripts fd x) r z t.order t.step (t.fit.left z))
+      mixed_agg mixed_fd own_after free_after job_queues_after
 
 -- a turn of the server for the client at a descriptor
-pub own_turn : (site_contents : SiteContents) (worker_set : WorkerSet) (laws : AllLaws worker_set) (m n : State) (p : Past) (clients : List (Option Client)) (fd : ℕ) (x : Client) (r : Reply) (received : List ℕ) (process_slots : List (ProcessSlot worker_set.Worker))
+pub own_turn : (site_contents : SiteContents) (worker_set : WorkerSet) (laws : AllLaws worker_set) (m n : State)
+    (p : Past) (clients : List (Option Client)) (fd : ℕ) (x : Client) (r : Reply) (received : List ℕ)
+    (process_slots : List (ProcessSlot worker_set.Worker))
     → IsOwnTurn site_contents worker_set m n p clients fd x r received process_slots
-    → KeepsSite m n × AllFit site_contents worker_set n p (with_at clients fd (left_over (after_reply site_contents.scripts (first_free worker_set.count clients) x r received))) process_slots
-own_turn site_contents worker_set laws m n p clients fd x r received process_slots t =
-    (own-site site_contents worker_set laws m n p clients fd x.conn x.run x.script r received process_slots t, all_after site_contents worker_set laws m n p clients fd x.conn x.run x.script r received process_slots t)
+    → KeepsSite m n
+    × AllFit site_contents worker_set n p
+    (with_at clients fd
+    (left_over (after_reply site_contents.scripts (first_free worker_set.count clients) x r received)))
+    process_slots
+own_turn site_contents worker_set laws m n p clients fd x r received process_slots t = (
+  own-site site_contents worker_set laws m n p clients fd x.conn x.run x.script r received process_slots t,
+  all_after site_contents worker_set laws m n p clients fd x.conn x.run x.script r received process_slots t,
+)

@@ -1,5 +1,6 @@
 -- A run uses only objects that it had before, or that the reply returned, and these exist.
-use Rattle.std.proofs.Common.{inl, inr, ◌≡◌, ◌⊎◌, ℕ, ◌==◌, List, [], ◌∷◌, ap, ◌∙◌, refl, sym, Option, Some, None, true, false, Bool, if◌then◌else◌}
+use Rattle.std.proofs.Common.{inl, inr, ◌≡◌, ◌⊎◌, ℕ, ◌==◌, List, [], ◌∷◌, ap, ◌∙◌, refl, sym, Option, Some, None, true}
+use Rattle.std.proofs.Common.{false, Bool, if◌then◌else◌}
 use Rattle.std.specs.Prelude.{◌||◌, ◌&&◌, nat_lt}
 use Rattle.iol_core.specs.State.{State, descriptor}
 use Rattle.iol_core.specs.declared.descriptors.Descriptor.TheVariants as on
@@ -13,7 +14,8 @@ use Rattle.flash_laws.specs.Conn.{Following, has_followed, count_of}
 use Rattle.flash_laws.specs.Conn.Fits.{IsReadable}
 use Rattle.flash_laws.specs.Run.Fits.{Progress, HasStep, HasRun, HasLeft, HasFrame, IsHeld, HasOutput, HasPart}
 use Rattle.flash_laws.specs.Run.Holdings.{has_end}
-use Rattle.flash_laws.specs.Run.{has_frame, step_agg, ends_of, is_reading, step_fd, uses_agg, is_again, after_sending, holding, filled, hearing, after_output, both, finishing, after_step, after_reply}
+use Rattle.flash_laws.specs.Run.{has_frame, step_agg, ends_of, is_reading, step_fd, uses_agg, is_again, after_sending}
+use Rattle.flash_laws.specs.Run.{holding, filled, hearing, after_output, both, finishing, after_step, after_reply}
 use Rattle.flash_laws.specs.Run.{sends_part, in_phase}
 use Rattle.flash_laws.specs.Site.{server}
 use Rattle.flash_laws.specs.declared.phase.Phase.{Phase}
@@ -21,7 +23,10 @@ use Rattle.flash_laws.specs.declared.phase.Phase.TheVariants as phase
 use Rattle.flash_laws.specs.declared.script_run.TheConstants.{CHUNK_BYTES}
 use Rattle.flash_laws.specs.declared.script_run.Run.{Run}
 use Rattle.flash_laws.specs.declared.script_run.Step.{Step}
-use Rattle.flash_laws.specs.declared.script_run.Step.TheVariants.{Gives, Makes, Hands, Lets, Heads, Sending, Receives, Spills, Gathers, Frames, Wraps, Trims, Ended, Unholds, Stops, Unframes, Lasts, WrapsLast, TrimsLast, Unwraps, Returns, Lapses, Fails}
+use Rattle.flash_laws.specs.declared.script_run.Step.TheVariants.{Gives, Makes, Hands, Lets, Heads, Sending, Receives}
+use Rattle.flash_laws.specs.declared.script_run.Step.TheVariants.{Spills, Gathers, Frames, Wraps, Trims, Ended, Unholds}
+use Rattle.flash_laws.specs.declared.script_run.Step.TheVariants.{Stops, Unframes, Lasts, WrapsLast, TrimsLast, Unwraps}
+use Rattle.flash_laws.specs.declared.script_run.Step.TheVariants.{Returns, Lapses, Fails}
 use Rattle.flash_laws.specs.declared.script_run.Running.{Running}
 use Rattle.flash_laws.specs.declared.script_run.Running.TheVariants.{Awaits, Runs, Leaves}
 use Rattle.flash_laws.proofs.Lists.{later_of, bare, former_of, swapped}
@@ -63,11 +68,13 @@ module _ (worker : ℕ) (w : Wanted) (run : Run) (a : ℕ) where
   sending-new (phase.Breaks piece b more) frame r u = part-new (phase.Breaks piece b more) frame r u
   sending-new d frame r u = inl u
 
-  holding-new : (n size : ℕ) (frame : Option ℕ) (r : Reply) (was : Bool) → (n == a ≡ true → is_agg r a ≡ true) → (has_frame frame a ≡ true → was ≡ true)
+  holding-new : (n size : ℕ) (frame : Option ℕ) (r : Reply) (was : Bool) → (n == a ≡ true → is_agg r a ≡ true)
+      → (has_frame frame a ≡ true → was ≡ true)
       → step_agg (holding n size frame) a ≡ true → New r a was
   holding-new n size frame r was made old u = by (nat_lt size CHUNK_BYTES) u
     where
-      set : (frame : Option ℕ) → (has_frame frame a ≡ true → was ≡ true) → step_agg (filled n frame) a ≡ true → New r a was
+      set : (frame : Option ℕ) → (has_frame frame a ≡ true → was ≡ true) → step_agg (filled n frame) a ≡ true
+          → New r a was
       set None old u = inr (made u)
       set (Some f) old u = elim (one-of (n == a) (f == a) u) [ inl is ↦ inr (made is) | inr is ↦ inl (old is) ]
 
@@ -75,24 +82,44 @@ module _ (worker : ℕ) (w : Wanted) (run : Run) (a : ℕ) where
       by true u = elim (one-of (n == a) (has_frame frame a) u) [ inl is ↦ inr (made is) | inr is ↦ inl (old is) ]
       by false u = set frame old u
 
-  hearing-new : (c d : Bool) (held : Following) (frame : Option ℕ) (n len : ℕ) → step_agg (hearing c d held frame n len) a ≡ true
+  hearing-new : (c d : Bool) (held : Following) (frame : Option ℕ) (n len : ℕ)
+      → step_agg (hearing c d held frame n len) a ≡ true
       → New (reply.Agg n) a (has_followed held a || has_frame frame a)
-  hearing-new true d held frame n len u = elim (one-of (n == a) (has_frame frame a) u) [ inl is ↦ inr is | inr is ↦ inl (later_of (has_followed held a) (has_frame frame a) is) ]
-  hearing-new false false held frame n len u = elim (one-of ((n == a) || false) (has_frame frame a) u) [ inl is ↦ inr (bare (n == a) is) | inr is ↦ inl (later_of (has_followed held a) (has_frame frame a) is) ]
-  hearing-new false true None frame n len u = holding-new n len frame (reply.Agg n) (has_frame frame a) (λ is. is) (λ is. is) u
+  hearing-new true d held frame n len u =
+      elim (one-of (n == a) (has_frame frame a) u) [
+        | inl is ↦ inr is
+        | inr is ↦
+            inl (later_of (has_followed held a) (has_frame frame a) is)
+      ]
+  hearing-new false false held frame n len u =
+      elim (one-of ((n == a) || false) (has_frame frame a) u) [
+        | inl is ↦ inr (bare (n == a) is)
+        | inr is ↦
+            inl (later_of (has_followed held a) (has_frame frame a) is)
+      ]
+  hearing-new false true None frame n len u =
+      holding-new n len frame (reply.Agg n) (has_frame frame a) (λ is. is) (λ is. is) u
   hearing-new false true (Some x) frame n len u = elim (one-of (x.0 == a) ((n == a) || has_frame frame a) u) [
     | inl is ↦ inl (former_of (x.0 == a) (has_frame frame a) is)
-    | inr is ↦ elim (one-of (n == a) (has_frame frame a) is) [ inl made ↦ inr made | inr old ↦ inl (later_of (x.0 == a) (has_frame frame a) old) ]
+    | inr is ↦ elim (one-of (n == a) (has_frame frame a) is) [
+      | inl made ↦ inr made
+      | inr old ↦
+          inl (later_of (x.0 == a) (has_frame frame a) old)
+    ]
   ]
 
-  receives-new : (held : Following) (frame : Option ℕ) (r : Reply) (received : List ℕ) → UsesNew (Receives held frame) r (after_output w run held frame r received)
-  receives-new held frame (reply.Agg n) [] u = elim (one-of (n == a) (has_followed held a || has_frame frame a) u) [ inl is ↦ inr is | inr is ↦ inl is ]
-  receives-new held frame (reply.Agg n) (b ∷ received) u = hearing-new run.broken w.chunked held frame n (count_of (b ∷ received)) u
+  receives-new : (held : Following) (frame : Option ℕ) (r : Reply) (received : List ℕ)
+      → UsesNew (Receives held frame) r (after_output w run held frame r received)
+  receives-new held frame (reply.Agg n) [] u =
+      elim (one-of (n == a) (has_followed held a || has_frame frame a) u) [ inl is ↦ inr is | inr is ↦ inl is ]
+  receives-new held frame (reply.Agg n) (b ∷ received) u =
+      hearing-new run.broken w.chunked held frame n (count_of (b ∷ received)) u
   receives-new None frame (reply.Refused (no.Denied p)) received u = inl u
   receives-new (Some x) frame (reply.Refused (no.Denied p)) received u = inl u
   receives-new held frame r received u = inl u
 
-  finishing-new : (b c : Bool) (held : Following) → uses_agg (finishing b c run held) a ≡ true → has_followed held a ≡ true
+  finishing-new : (b c : Bool) (held : Following) → uses_agg (finishing b c run held) a ≡ true
+      → has_followed held a ≡ true
   finishing-new false true held u = u
   finishing-new false false held u = absurd (cc (u))
   finishing-new true c held u = absurd (cc (u))
@@ -115,29 +142,36 @@ module _ (worker : ℕ) (w : Wanted) (run : Run) (a : ℕ) where
   step-new (Sending d frame) r received u = sending-new d frame r u
   step-new (Receives held frame) r received u = receives-new held frame r received u
   step-new (Spills b frame) reply.Done received u = inl (later_of (b == a) (has_frame frame a) u)
-  step-new (Gathers held size piece len frame) (reply.Agg n) received u = holding-new n (both size len) frame (reply.Agg n) ((held == a) || ((piece == a) || has_frame frame a)) (λ is. is)
+  step-new (Gathers held size piece len frame) (reply.Agg n) received u =
+      holding-new n (both size len) frame (reply.Agg n) ((held == a) || ((piece == a) || has_frame frame a)) (λ is. is)
       (λ is. later_of (held == a) ((piece == a) || has_frame frame a) (later_of (piece == a) (has_frame frame a) is)) u
-  step-new (Frames held) (reply.Agg n) received u = elim (one-of (held == a) (n == a) u) [ inl is ↦ inl is | inr is ↦ inr is ]
+  step-new (Frames held) (reply.Agg n) received u =
+      elim (one-of (held == a) (n == a) u) [ inl is ↦ inl is | inr is ↦ inr is ]
   step-new (Wraps held frame) (reply.Agg n) received u = around (held == a) (n == a) (frame == a) u
   step-new (Trims held chunk len frame) reply.Done received u = inl (by (held == a) (chunk == a) (frame == a) u)
     where
       by : (x y z : Bool) → (((y || false) || z)) ≡ true → (x || (y || z)) ≡ true
       by x true z u = later_of x true refl
       by x false z u = later_of x z u
-  step-new (Ended b held frame) reply.Done received u = inl (later_of (b == a) (has_followed held a || has_frame frame a) u)
+  step-new (Ended b held frame) reply.Done received u =
+      inl (later_of (b == a) (has_followed held a || has_frame frame a) u)
   step-new (Unholds held frame) reply.Done received u = inl (later_of (held == a) (has_frame frame a) u)
-  step-new (Stops held None) reply.Done received u = inl (former_of (has_followed held a) false (finishing-new run.broken w.chunked held u))
+  step-new (Stops held None) reply.Done received u =
+      inl (former_of (has_followed held a) false (finishing-new run.broken w.chunked held u))
   step-new (Stops held (Some f)) reply.Done received u = inl (swapped (f == a) (has_followed held a) u)
-  step-new (Unframes f held) reply.Done received u = inl (later_of (f == a) (has_followed held a) (finishing-new run.broken w.chunked held u))
+  step-new (Unframes f held) reply.Done received u =
+      inl (later_of (f == a) (has_followed held a) (finishing-new run.broken w.chunked held u))
   step-new (Lasts None) (reply.Agg n) received u = inr (bare (n == a) u)
-  step-new (Lasts (Some x)) (reply.Agg n) received u = elim (one-of (x.0 == a) (n == a) u) [ inl is ↦ inl is | inr is ↦ inr is ]
+  step-new (Lasts (Some x)) (reply.Agg n) received u =
+      elim (one-of (x.0 == a) (n == a) u) [ inl is ↦ inl is | inr is ↦ inr is ]
   step-new (WrapsLast held size frame) (reply.Agg n) received u = around (held == a) (n == a) (frame == a) u
   step-new (TrimsLast held chunk len frame) reply.Done received u = inl (by (held == a) (chunk == a) (frame == a) u)
     where
       by : (x y z : Bool) → (z || y) ≡ true → (x || (y || z)) ≡ true
       by x true z u = later_of x true refl
       by x false z u = later_of x z (bare z u)
-  step-new (Unwraps frame chunk len) reply.Done received u = inl (later_of (frame == a) (chunk == a) (bare (chunk == a) u))
+  step-new (Unwraps frame chunk len) reply.Done received u =
+      inl (later_of (frame == a) (chunk == a) (bare (chunk == a) u))
   step-new (Returns write) reply.Done received u = absurd (cc (u))
   step-new (Returns write) r received u = absurd (cc (u))
   step-new (Lapses j) reply.Done received u = absurd (cc (u))
@@ -145,7 +179,8 @@ module _ (worker : ℕ) (w : Wanted) (run : Run) (a : ℕ) where
   step-new Fails r received u = absurd (cc (u))
   step-new s r received u = inl u
 
-pub run-uses : (worker : ℕ) (w : Wanted) (y : Running) (r : Reply) (received : List ℕ) (a : ℕ) → uses_agg (after_reply worker w y r received) a ≡ true
+pub run-uses : (worker : ℕ) (w : Wanted) (y : Running) (r : Reply) (received : List ℕ) (a : ℕ)
+    → uses_agg (after_reply worker w y r received) a ≡ true
     → New r a (uses_agg y a)
 run-uses worker w Awaits (reply.Fds from write) received a u = absurd (cc (u))
 run-uses worker w (Runs run s) r received a u = step-new worker w run a s r received u
@@ -168,10 +203,12 @@ module _ (w : Wanted) (run : Run) (g : ℕ) where
 
   -- one that reads goes on to have what it reads from
   on-reading : (s : Step) → is_reading s ≡ true → (run.from == g) ≡ true → ends_of run s g ≡ true
-  on-reading s reads is = former_of (is_reading s && (run.from == g)) (step_fd s g) (ap (λ b. b && (run.from == g)) reads ∙ is)
+  on-reading s reads is =
+      former_of (is_reading s && (run.from == g)) (step_fd s g) (ap (λ b. b && (run.from == g)) reads ∙ is)
 
   only-from : (s : Step) → ((h : ℕ) → step_fd s h ≡ false) → ends_of run s g ≡ true → (run.from == g) ≡ true
-  only-from s none u = from-end (is_reading s) (run.from == g) (ap (λ b. (is_reading s && (run.from == g)) || b) (sym (none g)) ∙ u)
+  only-from s none u =
+      from-end (is_reading s) (run.from == g) (ap (λ b. (is_reading s && (run.from == g)) || b) (sym (none g)) ∙ u)
 
   holding-fd : (n size : ℕ) (frame : Option ℕ) (h : ℕ) → step_fd (holding n size frame) h ≡ false
   holding-fd n size frame h = by (nat_lt size CHUNK_BYTES)
@@ -184,7 +221,8 @@ module _ (w : Wanted) (run : Run) (g : ℕ) where
       by true = refl
       by false = set frame
 
-  hearing-fd : (c d : Bool) (held : Following) (frame : Option ℕ) (n len h : ℕ) → step_fd (hearing c d held frame n len) h ≡ false
+  hearing-fd : (c d : Bool) (held : Following) (frame : Option ℕ) (n len h : ℕ)
+      → step_fd (hearing c d held frame n len) h ≡ false
   hearing-fd true d held frame n len h = refl
   hearing-fd false false held frame n len h = refl
   hearing-fd false true None frame n len h = holding-fd n len frame h
@@ -195,10 +233,12 @@ module _ (w : Wanted) (run : Run) (g : ℕ) where
   sending-has (phase.Drops b None) frame reply.Done u = u
   sending-has d frame r u = u
 
-  receives-has : (held : Following) (frame : Option ℕ) (r : Reply) (received : List ℕ) → Has (Receives held frame) (after_output w run held frame r received)
+  receives-has : (held : Following) (frame : Option ℕ) (r : Reply) (received : List ℕ)
+      → Has (Receives held frame) (after_output w run held frame r received)
   receives-has held frame (reply.Agg n) [] u = u
   receives-has held frame (reply.Agg n) (b ∷ received) u = on-reading (Receives held frame) refl
-      (only-from (hearing run.broken w.chunked held frame n (count_of (b ∷ received))) (hearing-fd run.broken w.chunked held frame n (count_of (b ∷ received))) u)
+      (only-from (hearing run.broken w.chunked held frame n (count_of (b ∷ received)))
+      (hearing-fd run.broken w.chunked held frame n (count_of (b ∷ received))) u)
   receives-has None frame (reply.Refused (no.Denied p)) received u = u
   receives-has (Some x) frame (reply.Refused (no.Denied p)) received u = u
   receives-has held frame r received u = u
@@ -221,7 +261,9 @@ module _ (w : Wanted) (run : Run) (g : ℕ) where
   step-has Heads (reply.Agg n) received u = u
   step-has (Sending d frame) r received u = sending-has d frame r u
   step-has (Receives held frame) r received u = receives-has held frame r received u
-  step-has (Gathers held size piece len frame) (reply.Agg n) received u = on-reading (Gathers held size piece len frame) refl (only-from (holding n (both size len) frame) (holding-fd n (both size len) frame) u)
+  step-has (Gathers held size piece len frame) (reply.Agg n) received u =
+      on-reading (Gathers held size piece len frame) refl
+      (only-from (holding n (both size len) frame) (holding-fd n (both size len) frame) u)
   step-has (Frames held) (reply.Agg n) received u = u
   step-has (Wraps held frame) (reply.Agg n) received u = u
   step-has (Stops held None) reply.Done received u = absurd (finishing-has run.broken w.chunked held u)
@@ -236,7 +278,8 @@ module _ (w : Wanted) (run : Run) (g : ℕ) where
   step-has other reply.Done received u = u
   step-has s r received u = u
 
-pub run-ends : (worker : ℕ) (w : Wanted) (y : Running) (r : Reply) (received : List ℕ) (g : ℕ) → has_end (after_reply worker w y r received) g ≡ true
+pub run-ends : (worker : ℕ) (w : Wanted) (y : Running) (r : Reply) (received : List ℕ) (g : ℕ)
+    → has_end (after_reply worker w y r received) g ≡ true
     → (has_end y g ≡ true) ⊎ (is_fds r g ≡ true)
 run-ends worker w Awaits (reply.Fds from write) received g u = inr u
 run-ends worker w (Runs run s) r received g u = inl (step-has w run g s r received u)
@@ -248,50 +291,81 @@ module _ (m : State) (a : ℕ) where
   at : (b : ℕ) → (b == a) ≡ true → (bytes : List ℕ) → readable_at m server b ≡ Some bytes → IsReadable m a
   at b is bytes readable = (bytes, ap (λ n. readable_at m server n) (sym (same-number b a is)) ∙ readable)
 
-  two : (b : ℕ) (rest : Bool) → ((b == a) || rest) ≡ true → (bytes : List ℕ) → readable_at m server b ≡ Some bytes → (rest ≡ true → IsReadable m a) → IsReadable m a
-  two b rest u bytes readable other = elim (one-of (b == a) rest u) [ inl is ↦ at b is bytes readable | inr is ↦ other is ]
+  two : (b : ℕ) (rest : Bool) → ((b == a) || rest) ≡ true → (bytes : List ℕ) → readable_at m server b ≡ Some bytes
+      → (rest ≡ true → IsReadable m a) → IsReadable m a
+  two b rest u bytes readable other =
+      elim (one-of (b == a) rest u) [ inl is ↦ at b is bytes readable | inr is ↦ other is ]
 
   frame-there : (frame : Option ℕ) → has_frame frame a ≡ true → HasFrame m frame → IsReadable m a
   frame-there None u has = absurd (cc (u))
   frame-there (Some f) u has = at f u _ has
 
-  held-there : (w : Wanted) (held : Following) (bytes : List ℕ) → has_followed held a ≡ true → IsHeld m w held bytes → IsReadable m a
+  held-there : (w : Wanted) (held : Following) (bytes : List ℕ) → has_followed held a ≡ true → IsHeld m w held bytes
+      → IsReadable m a
   held-there w None bytes u has = absurd (cc (u))
   held-there w (Some x) bytes u has = at x.0 u bytes has.is_readable
 
-  output-there : (w : Wanted) (held : Following) (frame : Option ℕ) (bytes : List ℕ) → (has_followed held a || has_frame frame a) ≡ true
+  output-there : (w : Wanted) (held : Following) (frame : Option ℕ) (bytes : List ℕ)
+      → (has_followed held a || has_frame frame a) ≡ true
       → HasOutput m w held frame bytes → IsReadable m a
-  output-there w held frame bytes u has = elim (one-of (has_followed held a) (has_frame frame a) u) [ inl is ↦ held-there w held bytes is has.holds | inr is ↦ frame-there frame is has.frames ]
+  output-there w held frame bytes u has =
+      elim (one-of (has_followed held a) (has_frame frame a) u) [
+        | inl is ↦
+            held-there w held bytes is has.holds
+        | inr is ↦ frame-there frame is has.frames
+      ]
 
-  part-there : (w : Wanted) (o : Progress) (run : Run) (d : Phase) (frame : Option ℕ) → (conn.uses_agg d a || has_frame frame a) ≡ true
+  part-there : (w : Wanted) (o : Progress) (run : Run) (d : Phase) (frame : Option ℕ)
+      → (conn.uses_agg d a || has_frame frame a) ≡ true
       → HasPart m w o run d frame → IsReadable m a
-  part-there w o run d frame u has = elim (one-of (conn.uses_agg d a) (has_frame frame a) u) [ inl is ↦ has-agg m (serve w) has.part d a is has.has | inr is ↦ frame-there frame is has.frames ]
+  part-there w o run d frame u has =
+      elim (one-of (conn.uses_agg d a) (has_frame frame a) u) [
+        | inl is ↦
+            has-agg m (serve w) has.part d a is has.has
+        | inr is ↦ frame-there frame is has.frames
+      ]
 
-  step-there : (job : ℕ → List ℕ) (w : Wanted) (o : Progress) (run : Run) (s : Step) → step_agg s a ≡ true → HasStep job m w o run s → IsReadable m a
+  step-there : (job : ℕ → List ℕ) (w : Wanted) (o : Progress) (run : Run) (s : Step) → step_agg s a ≡ true
+      → HasStep job m w o run s → IsReadable m a
   step-there job w o run (Hands j f) u has = at j u (job f) has.1
   step-there job w o run (Lets j) u has = at j u has.1.0 has.1.1
   step-there job w o run (Sending d frame) u has = part-there w o run d frame u has
   step-there job w o run (Receives held frame) u has = output-there w held frame has.bytes u has.has
-  step-there job w o run (Spills b frame) u has = two b (has_frame frame a) u has.0.0.0 has.0.0.1 (λ is. frame-there frame is has.1.has.frames)
-  step-there job w o run (Gathers held size piece len frame) u has = two held ((piece == a) || has_frame frame a) u has.bytes has.has.holds.is_readable
+  step-there job w o run (Spills b frame) u has =
+      two b (has_frame frame a) u has.0.0.0 has.0.0.1 (λ is. frame-there frame is has.1.has.frames)
+  step-there job w o run (Gathers held size piece len frame) u has =
+      two held ((piece == a) || has_frame frame a) u has.bytes has.has.holds.is_readable
       (λ v. two piece (has_frame frame a) v has.more has.is_readable (λ is. frame-there frame is has.has.frames))
   step-there job w o run (Frames held) u has = at held u has.bytes has.is_readable
-  step-there job w o run (Wraps held frame) u has = two held (frame == a) u has.0.bytes has.0.is_readable (λ is. at frame is _ has.1)
-  step-there job w o run (Trims held chunk len frame) u has = two held ((chunk == a) || (frame == a)) u has.0.0.0 has.0.0.1
+  step-there job w o run (Wraps held frame) u has =
+      two held (frame == a) u has.0.bytes has.0.is_readable (λ is. at frame is _ has.1)
+  step-there job w o run (Trims held chunk len frame) u has =
+      two held ((chunk == a) || (frame == a)) u has.0.0.0 has.0.0.1
       (λ v. part-there w o run (sends_part chunk len) (Some frame) (widen (chunk == a) (frame == a) v) has.1)
     where
       widen : (x y : Bool) → (x || y) ≡ true → ((x || false) || y) ≡ true
       widen true y v = refl
       widen false y v = v
-  step-there job w o run (Ended b held frame) u has = two b (has_followed held a || has_frame frame a) u has.0.0.0 has.0.0.1 (λ v. output-there w held frame has.2.bytes v has.2.has)
-  step-there job w o run (Unholds held frame) u has = two held (has_frame frame a) u has.0.0.0 has.0.0.1 (λ is. frame-there frame is has.2.has.frames)
+  step-there job w o run (Ended b held frame) u has =
+      two b (has_followed held a || has_frame frame a) u has.0.0.0 has.0.0.1
+      (λ v. output-there w held frame has.2.bytes v has.2.has)
+  step-there job w o run (Unholds held frame) u has =
+      two held (has_frame frame a) u has.0.0.0 has.0.0.1 (λ is. frame-there frame is has.2.has.frames)
   step-there job w o run (Stops held frame) u has = output-there w held frame has.1.bytes u has.1.has
-  step-there job w o run (Unframes f held) u has = elim (one-of (f == a) (has_followed held a) u) [ inl is ↦ at f is _ has.has.frames | inr is ↦ held-there w held has.bytes is has.has.holds ]
+  step-there job w o run (Unframes f held) u has =
+      elim (one-of (f == a) (has_followed held a) u) [
+        | inl is ↦ at f is _ has.has.frames
+        | inr is ↦
+            held-there w held has.bytes is has.has.holds
+      ]
   step-there job w o run (Lasts held) u has = held-there w held has.2.bytes u has.2.has.holds
-  step-there job w o run (WrapsLast held size frame) u has = two held (frame == a) u has.bytes has.holds.is_readable (λ is. at frame is _ has.frames)
-  step-there job w o run (TrimsLast held chunk len frame) u has = two held ((chunk == a) || (frame == a)) u has.0.0.0 has.0.0.1
+  step-there job w o run (WrapsLast held size frame) u has =
+      two held (frame == a) u has.bytes has.holds.is_readable (λ is. at frame is _ has.frames)
+  step-there job w o run (TrimsLast held chunk len frame) u has =
+      two held ((chunk == a) || (frame == a)) u has.0.0.0 has.0.0.1
       (λ v. two chunk (frame == a) v has.2.bytes has.2.is_readable (λ is. at frame is has.1.0.0 has.1.0.1))
-  step-there job w o run (Unwraps frame chunk len) u has = two frame (chunk == a) u has.0.0.0 has.0.0.1 (λ is. at chunk is has.1.bytes has.1.is_readable)
+  step-there job w o run (Unwraps frame chunk len) u has =
+      two frame (chunk == a) u has.0.0.0 has.0.0.1 (λ is. at chunk is has.1.bytes has.1.is_readable)
   step-there job w o run (Lapses j) u has = at j u has.1.0 has.1.1
   step-there job w o run s u has = absurd (cc (u))
 
@@ -300,7 +374,8 @@ module _ (m : State) (a : ℕ) where
   left-there w o phase.Closes u has = absurd (cc (u))
   left-there w o d u has = has-agg m (serve w) has.expected d a u has.has
 
-  pub run-there : (job : ℕ → List ℕ) (w : Wanted) (o : Progress) (y : Running) → uses_agg y a ≡ true → HasRun job m w o y → IsReadable m a
+  pub run-there : (job : ℕ → List ℕ) (w : Wanted) (o : Progress) (y : Running) → uses_agg y a ≡ true
+      → HasRun job m w o y → IsReadable m a
   run-there job w o (Runs run s) u has = step-there job w o run s u has.1
   run-there job w o (Leaves d) u has = left-there w o d u has
   run-there job w o x u has = absurd (cc (u))
@@ -319,20 +394,36 @@ module _ (m : State) (g : ℕ) where
   of-one : (x : Bool) → ((true && x) || false) ≡ true → x ≡ true
   of-one x u = bare x u
 
-  step-end : (job : ℕ → List ℕ) (w : Wanted) (o : Progress) (run : Run) (s : Step) → ends_of run s g ≡ true → HasStep job m w o run s → IsEnd m g
-  step-end job w o run (Gives write) u has = elim (one-of (run.from == g) (write == g) u) [ inl is ↦ read-there run.from has.0.pipe is has.0.read_end | inr is ↦ write-there write has.0.pipe is has.0.write_end ]
-  step-end job w o run (Returns write) u has = elim (one-of (run.from == g) (write == g) u) [ inl is ↦ read-there run.from has.0.pipe is has.0.read_end | inr is ↦ write-there write has.0.pipe is has.0.write_end ]
+  step-end : (job : ℕ → List ℕ) (w : Wanted) (o : Progress) (run : Run) (s : Step) → ends_of run s g ≡ true
+      → HasStep job m w o run s → IsEnd m g
+  step-end job w o run (Gives write) u has =
+      elim (one-of (run.from == g) (write == g) u) [
+        | inl is ↦
+            read-there run.from has.0.pipe is has.0.read_end
+        | inr is ↦ write-there write has.0.pipe is has.0.write_end
+      ]
+  step-end job w o run (Returns write) u has =
+      elim (one-of (run.from == g) (write == g) u) [
+        | inl is ↦
+            read-there run.from has.0.pipe is has.0.read_end
+        | inr is ↦ write-there write has.0.pipe is has.0.write_end
+      ]
   step-end job w o run (Makes f) u has = read-there run.from has.0.0 (of-one (run.from == g) u) has.0.1
   step-end job w o run (Hands j f) u has = read-there run.from has.0.0 (of-one (run.from == g) u) has.0.1
   step-end job w o run (Lets j) u has = read-there run.from has.0.0 (of-one (run.from == g) u) has.0.1
   step-end job w o run Heads u has = read-there run.from has.0.0 (of-one (run.from == g) u) has.0.1
   step-end job w o run (Sending d frame) u has = read-there run.from has.reads.0 (of-one (run.from == g) u) has.reads.1
-  step-end job w o run (Receives held frame) u has = read-there run.from has.reads.0 (of-one (run.from == g) u) has.reads.1
-  step-end job w o run (Spills b frame) u has = read-there run.from has.1.reads.0 (of-one (run.from == g) u) has.1.reads.1
-  step-end job w o run (Gathers held size piece len frame) u has = read-there run.from has.reads.0 (of-one (run.from == g) u) has.reads.1
+  step-end job w o run (Receives held frame) u has =
+      read-there run.from has.reads.0 (of-one (run.from == g) u) has.reads.1
+  step-end job w o run (Spills b frame) u has =
+      read-there run.from has.1.reads.0 (of-one (run.from == g) u) has.1.reads.1
+  step-end job w o run (Gathers held size piece len frame) u has =
+      read-there run.from has.reads.0 (of-one (run.from == g) u) has.reads.1
   step-end job w o run (Frames held) u has = read-there run.from has.reads.0 (of-one (run.from == g) u) has.reads.1
-  step-end job w o run (Wraps held frame) u has = read-there run.from has.0.reads.0 (of-one (run.from == g) u) has.0.reads.1
-  step-end job w o run (Trims held chunk len frame) u has = read-there run.from has.1.reads.0 (of-one (run.from == g) u) has.1.reads.1
+  step-end job w o run (Wraps held frame) u has =
+      read-there run.from has.0.reads.0 (of-one (run.from == g) u) has.0.reads.1
+  step-end job w o run (Trims held chunk len frame) u has =
+      read-there run.from has.1.reads.0 (of-one (run.from == g) u) has.1.reads.1
   step-end job w o run (Ended b held frame) u has = read-there run.from has.1.0 (of-one (run.from == g) u) has.1.1
   step-end job w o run (Unholds held frame) u has = read-there run.from has.1.0 (of-one (run.from == g) u) has.1.1
   step-end job w o run (Stops held frame) u has = read-there run.from has.0.0 (of-one (run.from == g) u) has.0.1
@@ -340,6 +431,7 @@ module _ (m : State) (g : ℕ) where
   step-end job w o run Fails u has = read-there run.from has.0.0 (of-one (run.from == g) u) has.0.1
   step-end job w o run s u has = absurd (cc (u))
 
-  pub run-end : (job : ℕ → List ℕ) (w : Wanted) (o : Progress) (y : Running) → has_end y g ≡ true → HasRun job m w o y → IsEnd m g
+  pub run-end : (job : ℕ → List ℕ) (w : Wanted) (o : Progress) (y : Running) → has_end y g ≡ true → HasRun job m w o y
+      → IsEnd m g
   run-end job w o (Runs run s) u has = step-end job w o run s u has.1
   run-end job w o y u has = absurd (cc (u))

@@ -51,7 +51,8 @@ pub pinned_same : {s t : Stored} {clean left : List BufId} (q : ℕ) → FreesOn
     → is_pinned t left q ≡ is_pinned s clean q
 unfolding is_pinned
 pinned_same {s = s} {t = t} {clean = clean} {left = left} q f g =
-    let last = ap not (ap (λ n. nat_lt n t.arena.limit) (f.incremented q) ∙ ap (nat_lt (generation_at s.arena q)) f.limit) in
+    let last =
+    ap not (ap (λ n. nat_lt n t.arena.limit) (f.incremented q) ∙ ap (nat_lt (generation_at s.arena q)) f.limit) in
     let held : is_begun t left (first_on (entry_at t.arena q).kind q)
     ≡ is_begun s clean (first_on (entry_at s.arena q).kind q) = elim (f.each q) [
       | inl same ↦ ap (λ (k : kind.PageKind). is_begun t left (first_on k q)) same

@@ -1,5 +1,7 @@
 -- Files by name, and a new one.
-use Rattle.std.proofs.Common.{◌≡◌, ℕ, zero, suc, ◌+◌, ◌-◌, ◌<◌, ◌≤◌, ◌∙◌, Bool, true, false, cond, List, [], ◌∷◌, ◌++◌, length, length-append, get_or, map, Option, Some, None, refl, sym, ap, subst, arith, inl, inr}
+use Rattle.std.proofs.Common.{◌≡◌, ℕ, zero, suc, ◌+◌, ◌-◌, ◌<◌, ◌≤◌, ◌∙◌, Bool, true, false, cond, List, [], ◌∷◌, ◌++◌}
+use Rattle.std.proofs.Common.{length, length-append, get_or, map, Option, Some, None, refl, sym, ap, subst, arith, inl}
+use Rattle.std.proofs.Common.{inr}
 use Rattle.std.specs.Prelude.{position, option_map, is_some, bytes_eq, flat_map, min, nat_lt, not, sum_by, ◌||◌}
 use Rattle.std.specs.List.{list_any, position_or_len, range_with_len, AllByRecursion}
 use Rattle.std.proofs.lemmas.Bool.{cases_eq, cases_lt}
@@ -47,15 +49,19 @@ any-first p (x ∷ xs) = of (p x) (any-first p xs)
     shifted : (n m : ℕ) → nat_lt n m ≡ nat_lt (1 + n) (suc m)
     shifted n m = elim (cases_lt n m) [ inl k ↦ grind (arith, nat_tests, k) | inr k ↦ grind (arith, nat_tests, k) ]
 
-    of : (b : Bool) → list_any p xs ≡ nat_lt (position_or_len p xs) (length xs) → (b || list_any p xs) ≡ nat_lt (cond (not b) (1 + position_or_len p xs) 0) (suc (length xs))
+    of : (b : Bool) → list_any p xs ≡ nat_lt (position_or_len p xs) (length xs)
+        → (b || list_any p xs) ≡ nat_lt (cond (not b) (1 + position_or_len p xs) 0) (suc (length xs))
     of true same = grind (arith, nat_tests)
     of false same = same ∙ shifted (position_or_len p xs) (length xs)
 
-pub has-file_called : (f : Reading) (h : KernelState) (name : List ℕ) → list_any (λ x. bytes_eq x.name name) h.files ≡ is_some (file_called (read_of f h) name)
+pub has-file_called : (f : Reading) (h : KernelState) (name : List ℕ)
+    → list_any (λ x. bytes_eq x.name name) h.files ≡ is_some (file_called (read_of f h) name)
 has-file_called f h name =
     any-first (λ (x : machine.File). bytes_eq x.name name) h.files
-    ∙ numbered (nat_lt (position_or_len (λ (x : machine.File). bytes_eq x.name name) h.files) (length h.files)) (position_or_len (λ (x : machine.File). bytes_eq x.name name) h.files)
-    ∙ ap (λ (fs : List machine.File). is_some (option_map (λ i. i + 1) (position (λ x. bytes_eq x.name name) fs))) (sym (files-read_of f h))
+    ∙ numbered (nat_lt (position_or_len (λ (x : machine.File). bytes_eq x.name name) h.files) (length h.files))
+    (position_or_len (λ (x : machine.File). bytes_eq x.name name) h.files)
+    ∙ ap (λ (fs : List machine.File). is_some (option_map (λ i. i + 1) (position (λ x. bytes_eq x.name name) fs)))
+    (sym (files-read_of f h))
   where
     numbered : (b : Bool) (n : ℕ) → b ≡ is_some (option_map (λ i. i + 1) (cond b (Some n) None))
     numbered true n = refl
@@ -73,15 +79,19 @@ no_extents fs n past = ap (λ (x : CachedFile). x.extents.extents) (file_nowhere
 
 slot-new : (f : Reading) (fs : Files) (n : ℕ) → length fs < n → slot_read f fs n ≡ content f.stored n
 slot-new f fs n past =
-    ap (file_bytes (λ p. (f.at p).0) (content f.stored n)) (no_extents fs n past) ∙ file_bytes-none (λ p. (f.at p).0) (content f.stored n)
+    ap (file_bytes (λ p. (f.at p).0) (content f.stored n)) (no_extents fs n past)
+    ∙ file_bytes-none (λ p. (f.at p).0) (content f.stored n)
 
 pub numbered_more : {A : Type 0} (xs ys : List A) (n : ℕ) → is_numbered xs n ≡ true → is_numbered (xs ++ ys) n ≡ true
-numbered_more xs ys n is = let bounds = numbered_bounds xs n is in numbered_yes (xs ++ ys) n bounds.0 (omega (arith, bounds.1, length-append xs ys))
+numbered_more xs ys n is = let bounds = numbered_bounds xs n is in
+    numbered_yes (xs ++ ys) n bounds.0 (omega (arith, bounds.1, length-append xs ys))
 
 pub as_many : (h : KernelState) → AreFiled h.files h.cache.files → length h.cache.files ≡ length h.files
-as_many h filed = sym (length-map h.cache.files (λ (x : CachedFile). x.pool)) ∙ ap length filed ∙ length-map h.files (λ (x : machine.File). x.pool)
+as_many h filed = sym (length-map h.cache.files (λ (x : CachedFile). x.pool)) ∙ ap length filed
+    ∙ length-map h.files (λ (x : machine.File). x.pool)
 
-pub next-slot : (f : Reading) (h : KernelState) → AreFiled h.files h.cache.files → length h.files < MAX_FILES → machine.content (read_of f h) (length h.files + 1) ≡ content f.stored (length h.files + 1)
+pub next-slot : (f : Reading) (h : KernelState) → AreFiled h.files h.cache.files → length h.files < MAX_FILES
+    → machine.content (read_of f h) (length h.files + 1) ≡ content f.stored (length h.files + 1)
 unfolding read_of state_view machine.content slots_read
 next-slot f h filed few =
     let n : ℕ = length h.files in
@@ -91,7 +101,8 @@ next-slot f h filed few =
     ∙ get_or-map-range_with_len (slot_read f h.cache.files) 1 MAX_FILES n (n + 1) [] few (omega arith)
     ∙ slot-new f h.cache.files (n + 1) (omega (arith, as_many h filed))
 
-pub last-slot : (f : Reading) (h : KernelState) → MAX_FILES ≤ length h.files → machine.content (read_of f h) (length h.files + 1) ≡ []
+pub last-slot : (f : Reading) (h : KernelState) → MAX_FILES ≤ length h.files
+    → machine.content (read_of f h) (length h.files + 1) ≡ []
 unfolding read_of state_view machine.content slots_read
 last-slot f h full =
     let n : ℕ = length h.files in
@@ -100,22 +111,34 @@ last-slot f h full =
     at ∙ get_or_past slots n [] (omega (arith, full, length-map-range_with_len (slot_read f h.cache.files) 1 MAX_FILES))
 
 -- whether an honest store has more there than a file may have
-pub next_too_long : (disk : Disk) (h : KernelState) (len : ℕ) → AreFiled h.files h.cache.files → length h.files < MAX_FILES → IfHonest disk (len ≡ min (length (content disk.slots (length h.files + 1))) 4294967295)
-    → IfHonest disk ((f : Reading) → f.stored ≡ disk.slots → nat_lt MAX_FILE_BYTES len ≡ nat_lt MAX_FILE_BYTES (length (machine.content (read_of f h) (length (read_of f h).files + 1))))
+pub next_too_long : (disk : Disk) (h : KernelState) (len : ℕ) → AreFiled h.files h.cache.files
+    → length h.files < MAX_FILES
+    → IfHonest disk (len ≡ min (length (content disk.slots (length h.files + 1))) 4294967295)
+    → IfHonest disk ((f : Reading) → f.stored ≡ disk.slots
+    → nat_lt MAX_FILE_BYTES len
+    ≡ nat_lt MAX_FILE_BYTES (length (machine.content (read_of f h) (length (read_of f h).files + 1))))
 next_too_long disk h len filed few is honest f stored =
     more len (length (content disk.slots (length h.files + 1))) (is honest)
     ∙ ap (λ (slots : List (List ℕ)). nat_lt MAX_FILE_BYTES (length (content slots (length h.files + 1)))) (sym stored)
     ∙ ap (λ (bytes : List ℕ). nat_lt MAX_FILE_BYTES (length bytes)) (sym (next-slot f h filed few))
-    ∙ ap (λ (fs : List machine.File). nat_lt MAX_FILE_BYTES (length (machine.content (read_of f h) (length fs + 1)))) (sym (files-read_of f h))
+    ∙ ap (λ (fs : List machine.File). nat_lt MAX_FILE_BYTES (length (machine.content (read_of f h) (length fs + 1))))
+    (sym (files-read_of f h))
   where
     more : (n m : ℕ) → n ≡ min m 4294967295 → nat_lt MAX_FILE_BYTES n ≡ nat_lt MAX_FILE_BYTES m
-    more n m is = elim (cases_lt MAX_FILE_BYTES m) [ inl k ↦ grind (arith, nat_tests, k, is) | inr k ↦ grind (arith, nat_tests, k, is) ]
+    more n m is =
+        elim (cases_lt MAX_FILE_BYTES m) [
+          | inl k ↦ grind (arith, nat_tests, k, is)
+          | inr k ↦
+              grind (arith, nat_tests, k, is)
+        ]
 
 -- past the last slot there is nothing
-pub last_not_too_long : (h : KernelState) (f : Reading) → MAX_FILES ≤ length h.files → false ≡ nat_lt MAX_FILE_BYTES (length (machine.content (read_of f h) (length (read_of f h).files + 1)))
+pub last_not_too_long : (h : KernelState) (f : Reading) → MAX_FILES ≤ length h.files
+    → false ≡ nat_lt MAX_FILE_BYTES (length (machine.content (read_of f h) (length (read_of f h).files + 1)))
 last_not_too_long h f full =
     ap (λ (bytes : List ℕ). nat_lt MAX_FILE_BYTES (length bytes)) (sym (last-slot f h full))
-    ∙ ap (λ (fs : List machine.File). nat_lt MAX_FILE_BYTES (length (machine.content (read_of f h) (length fs + 1)))) (sym (files-read_of f h))
+    ∙ ap (λ (fs : List machine.File). nat_lt MAX_FILE_BYTES (length (machine.content (read_of f h) (length fs + 1))))
+    (sym (files-read_of f h))
 
 -- A new file, of which nothing is in memory.
 
@@ -125,12 +148,15 @@ extents-push fs p n = elim (cases_eq n 0) [
   | inl k ↦ grind (arith, nat_tests, k)
   | inr k ↦ elim (cases_lt (n - 1) (length fs)) [
     | inl l ↦ (let same = get_or_append_left fs (new_file p ∷ []) no_file (n - 1) l in
-        let is : numbered_or (fs ++ new_file p ∷ []) n no_file ≡ numbered_or fs n no_file = grind (arith, nat_tests, k, same) in
+        let is : numbered_or (fs ++ new_file p ∷ []) n no_file ≡ numbered_or fs n no_file =
+        grind (arith, nat_tests, k, same) in
         ap (λ (x : CachedFile). x.extents.extents) is)
     | inr l ↦ (let past = get_or_past fs (n - 1) no_file l in
         let old : numbered_or fs n no_file ≡ no_file = grind (arith, nat_tests, k, past) in
-        let new : numbered_or (fs ++ new_file p ∷ []) n no_file ≡ get_or (fs ++ new_file p ∷ []) (n - 1) no_file = grind (arith, nat_tests, k) in
-        ap (λ (x : CachedFile). x.extents.extents) new ∙ none_past (n - 1) fs l ∙ ap (λ (x : CachedFile). x.extents.extents) (sym old))
+        let new : numbered_or (fs ++ new_file p ∷ []) n no_file ≡ get_or (fs ++ new_file p ∷ []) (n - 1) no_file =
+        grind (arith, nat_tests, k) in
+        ap (λ (x : CachedFile). x.extents.extents) new ∙ none_past (n - 1) fs l
+        ∙ ap (λ (x : CachedFile). x.extents.extents) (sym old))
   ]
 ]
   where
@@ -142,16 +168,21 @@ extents-push fs p n = elim (cases_eq n 0) [
 
 slots-push : (f : Reading) (fs : Files) (p : ℕ) → slots_read f (fs ++ new_file p ∷ []) ≡ slots_read f fs
 unfolding slots_read
-slots-push f fs p = λ i. map (λ n. file_bytes (λ q. (f.at q).0) (content f.stored n) (extents-push fs p n i)) (range_with_len 1 MAX_FILES)
+slots-push f fs p =
+    λ i. map (λ n. file_bytes (λ q. (f.at q).0) (content f.stored n) (extents-push fs p n i))
+    (range_with_len 1 MAX_FILES)
 
 held-push : (b : BufId) (fs : Files) (p : ℕ) → tally b (held (fs ++ new_file p ∷ [])) ≡ tally b (held fs)
 unfolding held
 held-push b fs p =
     let w : CachedFile → ℕ = λ x. tally b (bufs_of (all_parts x.extents.extents)) in
-    let one : (gs : Files) → tally b (flat_map (λ (x : CachedFile). bufs_of (all_parts x.extents.extents)) gs) ≡ sum_by w gs = λ gs. sum-flat (additive_tally b) (λ (x : CachedFile). bufs_of (all_parts x.extents.extents)) gs in
+    let one : (gs : Files) → tally b (flat_map (λ (x : CachedFile). bufs_of (all_parts x.extents.extents)) gs)
+    ≡ sum_by w gs = λ gs. sum-flat (additive_tally b) (λ (x : CachedFile). bufs_of (all_parts x.extents.extents))
+    gs in
     omega (arith, one (fs ++ new_file p ∷ []), one fs, sum_by_push w fs (new_file p), tally_none b)
 
-module _ (h : KernelState) (name : List ℕ) (p : ℕ) (c : Cached) (sound : IsSound h) (added : c.files ≡ h.cache.files ++ new_file p ∷ []) (kept : cache.IsSound h.store c) where
+module _ (h : KernelState) (name : List ℕ) (p : ℕ) (c : Cached) (sound : IsSound h) (added : c.files ≡ h.cache.files
+    ++ new_file p ∷ []) (kept : cache.IsSound h.store c) where
   abbrev file : machine.File
   file = record { name = name; pool = p }
 
@@ -180,10 +211,24 @@ module _ (h : KernelState) (name : List ℕ) (p : ℕ) (c : Cached) (sound : IsS
   named-sound =
       record {
         domains = sound.domains;
-        objects = record { pipes = sound.objects.pipes; conns = sound.objects.conns; files = λ n. record { laid = (kept.files n).laid } };
+        objects = record {
+          pipes = sound.objects.pipes;
+          conns = sound.objects.conns;
+          files =
+              λ n. record { laid = (kept.files n).laid };
+        };
         fds = ends_weaker (objects_of h) (objects_of named) h.domains same_end sound.fds;
         once = sound.once;
-        counted = record { each = λ b. omega (arith, sound.counted.each b, ap (λ (fs : Files). tally b (held fs)) added, held-push b h.cache.files p) };
+        counted =
+            record {
+              each =
+                  λ b. omega (
+                    arith,
+                    sound.counted.each b,
+                    ap (λ (fs : Files). tally b (held fs)) added,
+                    held-push b h.cache.files p,
+                  );
+            };
         tidy = sound.tidy;
         still = sound.still;
         reclaimed = sound.reclaimed;
@@ -197,7 +242,12 @@ module _ (h : KernelState) (name : List ℕ) (p : ℕ) (c : Cached) (sound : IsS
                   (each-push IsFile h.cache.files (new_file p) sound.limits.objects.cached
                   (record { apart = tt; short = omega arith }))) kept.few_files;
             };
-        pooled = record { few = sound.pooled.few; opened = sound.pooled.opened; files_open = λ n there. (kept.opened n there).is_open };
+        pooled = record {
+          few = sound.pooled.few;
+          opened = sound.pooled.opened;
+          files_open =
+              λ n there. (kept.opened n there).is_open;
+        };
         sums = sound.sums;
         filed = filed;
         cached = kept;
@@ -206,37 +256,52 @@ module _ (h : KernelState) (name : List ℕ) (p : ℕ) (c : Cached) (sound : IsS
   named-read : (f : Reading) → read_of f named ≡ record (read_of f h) { files = (read_of f h).files ++ file ∷ [] }
   unfolding read_of state_view
   named-read f =
-      ap (λ (xs : List (List ℕ)). record (read_of f h) { files = h.files ++ file ∷ []; slots = xs }) (ap (slots_read f) added ∙ slots-push f h.cache.files p)
+      ap (λ (xs : List (List ℕ)). record (read_of f h) { files = h.files ++ file ∷ []; slots = xs })
+      (ap (slots_read f) added ∙ slots-push f h.cache.files p)
 
-  pub named_answers : (d n : ℕ) → n ≡ length h.cache.files + 1 → ((q : ℕ) → order_in c.orders q ≡ order_in h.cache.orders q) → AddsFile (λ s. calls.file_new s d name p) h n named
+  pub named_answers : (d n : ℕ) → n ≡ length h.cache.files + 1
+      → ((q : ℕ) → order_in c.orders q ≡ order_in h.cache.orders q)
+      → AddsFile (λ s. calls.file_new s d name p) h n named
   named_answers d n number orders = record {
     answer = λ f keeps. number ∙ ap (λ k. k + 1) (as_many h sound.filed ∙ ap length (sym (files-read_of f h)));
     after = λ f keeps. named-read f;
     backed = λ disk short backed. record {
       honest = backed.honest;
       short = λ f there. elim (cases_lt f (length c.files)) [
-        | inl l ↦ backed.short f (let bounds = numbered_bounds c.files f there in numbered_yes h.cache.files f bounds.0 (omega (arith, l, longer)))
+        | inl l ↦ backed.short f (let bounds = numbered_bounds c.files f there in
+            numbered_yes h.cache.files f bounds.0 (omega (arith, l, longer)))
         | inr l ↦ (let bounds = numbered_bounds c.files f there in
             let last : length h.files + 1 ≡ f = omega (arith, l, bounds.1, longer, as_many h sound.filed) in
             subst (λ k. length (content disk.slots k) ≤ MAX_FILE_BYTES) last short)
       ];
       mirrors = record {
-        each = λ f. subst (λ (es : List Extent). AreStored h.store (content disk.slots f) es) (sym (ap (λ (fs : Files). extents_in fs f) added ∙ extents-push h.cache.files p f)) (backed.mirrors.each f);
+        each =
+            λ f. subst (λ (es : List Extent). AreStored h.store (content disk.slots f) es)
+            (sym (ap (λ (fs : Files). extents_in fs f) added ∙ extents-push h.cache.files p f)) (backed.mirrors.each f);
       };
     };
     store = refl;
     sums = refl;
-    keeps = record { each = λ f i c' is. ap (λ (es : List Extent). cover es i) (ap (λ (fs : Files). extents_in fs f) added ∙ extents-push h.cache.files p f) ∙ is };
+    keeps =
+        record {
+          each = λ f i c' is. ap (λ (es : List Extent). cover es i) (ap (λ (fs : Files). extents_in fs f) added
+              ∙ extents-push h.cache.files p f) ∙ is;
+        };
     same = refl;
     added = record { pool = p; files = added; orders = orders };
     sound = named-sound;
   }
 
 -- the tables that have it
-pub named_as : (h : KernelState) (d n p : ℕ) (name : List ℕ) (files : List machine.File) (c : Cached) → IsSound h → n ≡ length h.cache.files + 1 → (let x : machine.File = record { name = name; pool = p } in files ≡ h.files ++ x ∷ [])
-    → c.files ≡ h.cache.files ++ new_file p ∷ [] → ((q : ℕ) → order_in c.orders q ≡ order_in h.cache.orders q) → cache.IsSound h.store c → AddsFile (λ s. calls.file_new s d name p) h n (record h { files = files; cache = c })
+pub named_as : (h : KernelState) (d n p : ℕ) (name : List ℕ) (files : List machine.File) (c : Cached) → IsSound h
+    → n ≡ length h.cache.files + 1
+    → (let x : machine.File = record { name = name; pool = p } in files ≡ h.files ++ x ∷ [])
+    → c.files ≡ h.cache.files ++ new_file p ∷ [] → ((q : ℕ) → order_in c.orders q ≡ order_in h.cache.orders q)
+    → cache.IsSound h.store c
+    → AddsFile (λ s. calls.file_new s d name p) h n (record h { files = files; cache = c })
 named_as h d n p name files c sound number listed added orders kept =
-    subst (λ (fs : List machine.File). AddsFile (λ s. calls.file_new s d name p) h n (record h { files = fs; cache = c })) (sym listed) (named_answers h name p c sound added kept d n number orders)
+    subst (λ (fs : List machine.File). AddsFile (λ s. calls.file_new s d name p) h n
+    (record h { files = fs; cache = c })) (sym listed) (named_answers h name p c sound added kept d n number orders)
 
 -- what holds in the cache that the kernel has
 pub cache_sound : (h : KernelState) → IsSound h → cache.IsSound h.store h.cache

@@ -1,5 +1,6 @@
 -- The domains that each event leaves unchanged.
-use Rattle.std.proofs.Common.{inl, inr, ◌≡◌, ℕ, ◌==◌, List, ap, ◌∙◌, refl, subst, sym, arith, Option, Some, None, true, false, Bool}
+use Rattle.std.proofs.Common.{inl, inr, ◌≡◌, ℕ, ◌==◌, List, ap, ◌∙◌, refl, subst, sym, arith, Option, Some, None, true}
+use Rattle.std.proofs.Common.{false, Bool}
 use Rattle.std.specs.Prelude.{◌&&◌}
 use Rattle.std.specs.List.{list_any}
 use Rattle.std.proofs.lemmas.Bool.Decides.{nat_tests}
@@ -14,7 +15,9 @@ use Rattle.iol_core.specs.declared.events.Event.{Event}
 use Rattle.iol_core.specs.declared.events.Event.TheVariants as event
 use Rattle.iol_core.proofs.Lookups.{domain-with_domain, domain-same, domain-push}
 use Rattle.iol_laws.specs.Frame.{ends, sets_default}
-use Rattle.iol_laws.proofs.Changes.{Change, OnDomain, OnPipe, OnConn, NewDomain, OfDomain, Ends, Prefers, Act, Writes, domain_by, changed, all_changed, changes, own, uses, used_as, hands, kept_all, changes-meant, none_at_all, none_changed}
+use Rattle.iol_laws.proofs.Changes.{Change, OnDomain, OnPipe, OnConn, NewDomain, OfDomain, Ends, Prefers, Act, Writes}
+use Rattle.iol_laws.proofs.Changes.{domain_by, changed, all_changed, changes, own, uses, used_as, hands, kept_all}
+use Rattle.iol_laws.proofs.Changes.{changes-meant, none_at_all, none_changed}
 use Rattle.iol_laws.proofs.Domains.{domains-with_conn, domains-with_pipe}
 use Rattle.iol_laws.proofs.Tests.{both-false}
 
@@ -27,14 +30,19 @@ untested : (test : Bool) (e d : ℕ) → (test && (e == d)) ≡ false → e ≡ 
 untested test e d un same = grind (arith, nat_tests, un, same)
 
 -- Something about a domain that only some changes of it change.
-module _ {A : Type 0} (f : Domain Text → A) (test : OfDomain → Bool) (each : (x : OfDomain) (y : Domain Text) → test x ≡ false → (f (domain_by x y) ≡ f y) × ((domain_by x y).live ≡ y.live)) where
-  field_same : (s t : State) (d : ℕ) (v : A) → domain t d ≡ domain s d → (is_live s d ≡ true) × (f (domain s d) ≡ v) → (is_live t d ≡ true) × (f (domain t d) ≡ v)
+module _ {A : Type 0} (f : Domain Text → A) (test : OfDomain → Bool) (each : (x : OfDomain) (y : Domain Text)
+    → test x ≡ false → (f (domain_by x y) ≡ f y) × ((domain_by x y).live ≡ y.live)) where
+  field_same : (s t : State) (d : ℕ) (v : A) → domain t d ≡ domain s d → (is_live s d ≡ true) × (f (domain s d) ≡ v)
+      → (is_live t d ≡ true) × (f (domain t d) ≡ v)
   field_same s t d v same was = subst (λ (x : Domain Text). (x.live ≡ true) × (f x ≡ v)) (sym same) was
 
-  field_changed : (d : ℕ) (v : A) (s : State) (c : Change) → is_of test d c ≡ false → (is_live s d ≡ true) × (f (domain s d) ≡ v) → (is_live (changed s c) d ≡ true) × (f (domain (changed s c) d) ≡ v)
+  field_changed : (d : ℕ) (v : A) (s : State) (c : Change) → is_of test d c ≡ false
+      → (is_live s d ≡ true) × (f (domain s d) ≡ v) → (is_live (changed s c) d ≡ true)
+      × (f (domain (changed s c) d) ≡ v)
   unfolding with_content
   field_changed d v s (OnDomain e x) un was = elim (domain-with_domain s e d (domain_by x (domain s e))) [
-    | inl both ↦ (let kept = each x (domain s e) (untested (test x) e d un both.0) in let old = subst (λ n. (is_live s n ≡ true) × (f (domain s n) ≡ v)) (sym both.0) was in
+    | inl both ↦ (let kept = each x (domain s e) (untested (test x) e d un both.0) in let old =
+        subst (λ n. (is_live s n ≡ true) × (f (domain s n) ≡ v)) (sym both.0) was in
         subst (λ (y : Domain Text). (y.live ≡ true) × (f y ≡ v)) (sym both.1) (kept.1 ∙ old.0, kept.0 ∙ old.1))
     | inr same ↦ field_same s _ d v same was
   ]
@@ -46,8 +54,11 @@ module _ {A : Type 0} (f : Domain Text → A) (test : OfDomain → Bool) (each :
   ]
   field_changed d v s c un was = field_same s (changed s c) d v (domain-same s (changed s c) d refl) was
 
-  field_all : (s : State) (cs : List Change) (d : ℕ) → list_any (is_of test d) cs ≡ false → is_live s d ≡ true → (is_live (all_changed s cs) d ≡ true) × (f (domain (all_changed s cs) d) ≡ f (domain s d))
-  field_all s cs d un live = kept_all (λ t. (is_live t d ≡ true) × (f (domain t d) ≡ f (domain s d))) (is_of test d) (field_changed d (f (domain s d))) s cs un (live, refl)
+  field_all : (s : State) (cs : List Change) (d : ℕ) → list_any (is_of test d) cs ≡ false → is_live s d ≡ true
+      → (is_live (all_changed s cs) d ≡ true) × (f (domain (all_changed s cs) d) ≡ f (domain s d))
+  field_all s cs d un live =
+      kept_all (λ t. (is_live t d ≡ true) × (f (domain t d) ≡ f (domain s d))) (is_of test d)
+      (field_changed d (f (domain s d))) s cs un (live, refl)
 
 -- it ends, or, at true, its default pool is set
 abbrev pub ends_or : Bool → OfDomain → Bool
@@ -55,21 +66,30 @@ ends_or b Ends = true
 ends_or b (Prefers p) = b
 ends_or b x = false
 
-none_used : (b : Bool) (s : State) (by fd d : ℕ) (o : Option Descriptor) (act : Act) → list_any (is_of (ends_or b) d) (used_as s by fd o act) ≡ false
+none_used : (b : Bool) (s : State) (by fd d : ℕ) (o : Option Descriptor) (act : Act)
+    → list_any (is_of (ends_or b) d) (used_as s by fd o act) ≡ false
 none_used b s by fd d (Some (on.File f at mode)) (Writes w) = refl
 none_used b s by fd d (Some (on.ReadEnd p)) (Writes w) = refl
 none_used b s by fd d (Some (on.WriteEnd p)) (Writes w) = refl
 none_used b s by fd d o act = refl
 
-none_own : (b : Bool) (s : State) (by d : ℕ) (k : Call) → ends (event.Call by k) d ≡ false → (b && sets_default (event.Call by k) d) ≡ false → list_any (is_of (ends_or b) d) (own s by k) ≡ false
+none_own : (b : Bool) (s : State) (by d : ℕ) (k : Call) → ends (event.Call by k) d ≡ false
+    → (b && sets_default (event.Call by k) d) ≡ false → list_any (is_of (ends_or b) d) (own s by k) ≡ false
 none_own b s by d call.Exit un sets = both-false _ _ un refl
 none_own b s by d (call.SetPool p) un sets = both-false _ _ sets refl
-none_own b s by d (call.GiveFd fd to) un sets = elim (descriptor s by fd) as (λ o. list_any (is_of (ends_or b) d) (hands by fd to o) ≡ false) [ None ↦ refl | Some x ↦ refl ]
+none_own b s by d (call.GiveFd fd to) un sets =
+    elim (descriptor s by fd) as (λ o. list_any (is_of (ends_or b) d) (hands by fd to o) ≡ false) [
+      | None ↦
+          refl
+      | Some x ↦ refl
+    ]
 none_own b s by d k un sets = refl
 
-none_meant : (b : Bool) (s : State) (e : Event) (d : ℕ) → ends e d ≡ false → (b && sets_default e d) ≡ false → list_any (is_of (ends_or b) d) (changes s e) ≡ false
+none_meant : (b : Bool) (s : State) (e : Event) (d : ℕ) → ends e d ≡ false → (b && sets_default e d) ≡ false
+    → list_any (is_of (ends_or b) d) (changes s e) ≡ false
 none_meant b s (event.Call by k) d un sets =
-    none_changed s by k (λ u. false) _ (λ u none. none_used b s u.by u.fd d u.end u.act) (none_at_all (uses s by k)) (none_own b s by d k un sets)
+    none_changed s by k (λ u. false) _ (λ u none. none_used b s u.by u.fd d u.end u.act) (none_at_all (uses s by k))
+    (none_own b s by d k un sets)
 none_meant b s e d un sets = refl
 
 -- what ends a domain also changes its default pool
@@ -85,15 +105,22 @@ pub record KeepsDomains (s : State) (e : Event) (t : State) : Type 0 where
 
 pub domains_meant : (s : State) (e : Event) → KeepsDomains s e (meaning s e).after
 domains_meant s e = subst (KeepsDomains s e) (sym (changes-meant s e)) (record {
-  lives = λ d live un. (field_all (λ x. x.live) (ends_or false) alive s (changes s e) d (none_meant false s e d un refl) live).0;
-  defaults = λ d live un. (field_all (λ x. x.default) (ends_or true) settled s (changes s e) d (none_meant true s e d (not_ended e d un) un) live).1;
+  lives =
+      λ d live un. (field_all (λ x. x.live) (ends_or false) alive s (changes s e) d (none_meant false s e d un refl)
+      live).0;
+  defaults =
+      λ d live un.
+      (field_all (λ x. x.default) (ends_or true) settled s (changes s e) d (none_meant true s e d (not_ended e d un) un)
+      live).1;
 })
   where
-    alive : (x : OfDomain) (y : Domain Text) → ends_or false x ≡ false → ((domain_by x y).live ≡ y.live) × ((domain_by x y).live ≡ y.live)
+    alive : (x : OfDomain) (y : Domain Text) → ends_or false x ≡ false → ((domain_by x y).live ≡ y.live)
+        × ((domain_by x y).live ≡ y.live)
     alive Ends y un = absurd (cc)
     alive x y un = (refl, refl)
 
-    settled : (x : OfDomain) (y : Domain Text) → ends_or true x ≡ false → ((domain_by x y).default ≡ y.default) × ((domain_by x y).live ≡ y.live)
+    settled : (x : OfDomain) (y : Domain Text) → ends_or true x ≡ false → ((domain_by x y).default ≡ y.default)
+        × ((domain_by x y).live ≡ y.live)
     settled Ends y un = absurd (cc)
     settled (Prefers p) y un = absurd (cc)
     settled x y un = (refl, refl)

@@ -88,7 +88,14 @@ step g c =
       offered = a ++ b ++ d ++ e;
       size = four_long a b d e;
       full = o.long;
-      some = omega (arith, o.long, c.loop-taken.invariant.full, c.loop-taken-test.true, next_some xs i (i + 4) (omega arith) there);
+      some =
+          omega (
+            arith,
+            o.long,
+            c.loop-taken.invariant.full,
+            c.loop-taken-test.true,
+            next_some xs i (i + 4) (omega arith) there,
+          );
       call = c.gather-count.ensures.call;
       few = c.gather-count.ensures.bound;
       written =

@@ -11,12 +11,15 @@ returns-in-Asks c =
     let y : Client =
     record { conn = c.advance.new.self; run = c.self.inside.run; script = c.self.inside.script.items } in
     let onward =
-    subst (λ (o : Onward). IsOnward c.args.context.fd c.self.inside.conn c.args.reply.last.now (received c.args.reply.parts) o
+    subst (λ (o : Onward). IsOnward c.args.context.fd c.self.inside.conn c.args.reply.last.now
+    (received c.args.reply.parts) o
     c.advance.new.self) c.in-Asks.is c.in_ok-call.ensures.onward in
-    let goes = subst (λ (s : Client). Proceeds s.conn c.args.reply.last.now (received c.args.reply.parts) c.advance.new.self)
+    let goes =
+    subst (λ (s : Client). Proceeds s.conn c.args.reply.last.now (received c.args.reply.parts) c.advance.new.self)
     c.self.view_is onward.0 in
     record {
-      course = asks_alone c.args.context.scripts c.args.context.fd c.args.self.now y c.args.reply.last.now (received c.args.reply.parts)
+      course = asks_alone c.args.context.scripts c.args.context.fd c.args.self.now y c.args.reply.last.now
+          (received c.args.reply.parts)
           c.file_call.result c.requires goes
           (ap (λ (s : Client). s.run) c.self.view_is ∙ c.requires) (ap (λ (s : Client). s.script) c.self.view_is)
           c.file_call.ensures;
