@@ -5,7 +5,7 @@
 //! begin an answer to those received. The function has no effect; its contract is the law.
 #![tactic(auto)]
 
-ghost use Rattle.std.specs.Prelude.{◌≡◌, get_or, None, Some, IfSome};
+ghost use Rattle.std.specs.Prelude.{◌≡◌, get_or, None, Some, IfNone, IfSome};
 ghost use Rattle.flash_answers.specs.Answered.{IsAnsweredClient, ServesSites};
 ghost use Rattle.flash_answers.specs.Clients.{ClientsAreAnswered};
 ghost use Rattle.flash_answers.specs.Sites.{SitesAnswer};
@@ -62,6 +62,8 @@ pub fn client<'a, S: Socket + Drop, B: Backing + Drop, V: HonestSites<B>>(
 ) -> Option<&'a Client<S>>
     ensures place { IfSome result
         (λ c. get_or engine.entry.now.places.clients.items slot None ≡ Some c.now) }
+    ensures none { IfNone result
+        (get_or engine.entry.now.places.clients.items slot None ≡ None) }
     ensures answers { IfSome result (λ c. IsAnsweredClient S.supplied S.accepted
         engine.entry.now.places.worlds.pool c.now) }
 {

@@ -19,12 +19,6 @@
 //! ```text
 //! world_law::world_law::<Worker>(); // the answers cite c.world_law.ensures.run
 //! ```
-//! A law is the contract of a function that does nothing, so a proof in a crate above has it by a
-//! call of that function:
-//!
-//! ```text
-//! world_law::world_law::<Worker>(); // the answers cite c.world_law.ensures.run
-//! ```
 #![tactic(auto)]
 
 pub mod answer_laws;

@@ -133,10 +133,19 @@ set_same [] i x h is = absurd (omega (arith, h))
 set_same (y ∷ ys) zero x h is = ap (λ z. z ∷ ys) is
 set_same (y ∷ ys) (suc i) x h is = ap (λ (zs : List _). y ∷ zs) (set_same ys i x (omega (arith, h)) is)
 
-none_past : {X : Type 0} (xs : List (Option X)) (i : ℕ) → length xs ≤ i → get_or xs i None ≡ None
+pub none_past : {X : Type 0} (xs : List (Option X)) (i : ℕ) → length xs ≤ i → get_or xs i None ≡ None
 none_past [] i h = refl
 none_past (x ∷ xs) zero h = absurd (omega (arith, h))
 none_past (x ∷ xs) (suc i) h = none_past xs i (omega (arith, h))
+
+-- a place that is emptied, and what was in it
+pub taken_from : {X : Type 0} (xs : List (Option X)) (i : ℕ) (place taken : Option X) → i < length xs
+    → place ≡ get_or xs i place → taken ≡ place → taken ≡ get_or xs i None
+taken_from xs i place taken within is same = same ∙ (is ∙ get_or_any xs i place None within)
+
+pub emptied : {X : Type 0} (xs : List (Option X)) (i : ℕ) (place : Option X) → i < length xs → place ≡ None
+    → get_or (set xs i place) i None ≡ None
+emptied xs i place within none = get_or-set_same xs i place None within ∙ none
 
 none_pushed : {X : Type 0} (xs : List (Option X)) (i : ℕ) → get_or (xs ++ None ∷ []) i None ≡ get_or xs i None
 none_pushed [] zero = refl

@@ -185,6 +185,10 @@ pub record IsCompleted {S : Type 0} (c next : Client S) : Type 0 where
 abbrev pub IsPhaseAt : {S : Type 0} → (slot : ℕ) → List (Option (Client S)) → Phase → Type 0
 IsPhaseAt {S} slot clients at = (c : Client S) → get_or clients slot None ≡ Some c → c.phase ≡ at
 
+-- a client with this socket is in this place
+abbrev pub HasSocketAt : {S : Type 0} → (socket : S) → (slot : ℕ) → List (Option (Client S)) → Type 0
+HasSocketAt {S} socket slot clients = (c : Client S) × (get_or clients slot None ≡ Some c) × (c.socket ≡ socket)
+
 -- a frame of the bytes after the request in progress of the client in this place
 abbrev pub IsFrameAt : {S : Type 0} → (frames : List ℕ → Frame → Type 0) → (slot : ℕ) → List (Option (Client S)) → Frame
     → Type 0

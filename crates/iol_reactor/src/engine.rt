@@ -1,5 +1,5 @@
 //! The clients and the worlds that serve them, for all kinds of sockets.
-ghost use Rattle.std.specs.Prelude.{◌≡◌, [], get_or, None, Some, IfSome};
+ghost use Rattle.std.specs.Prelude.{◌≡◌, [], get_or, None, Some, IfNone, IfSome};
 ghost use Rattle.iol_reactor.specs.Served.{HasKnownHistory, IsEmpty};
 
 use crate::client::Client;
@@ -148,6 +148,8 @@ impl<S: Socket + Drop, B: Backing + Drop, P: Process, V: Service<B, P>> Engine<S
     pub fn client(&self, slot: usize) -> Option<&Client<S>>
         ensures place { IfSome result
             (λ c. get_or self.entry.now.places.clients.items slot None ≡ Some c.now) }
+        ensures none { IfNone result
+            (get_or self.entry.now.places.clients.items slot None ≡ None) }
         ensures history { IfSome result (λ c. HasKnownHistory P.turns V.starts V.frames
             self.entry.now.places.worlds.pool S.supplied S.accepted c.now) }
     {

@@ -1,10 +1,10 @@
 //! The clients in their places, and the worlds that serve them.
-ghost use Rattle.std.specs.Prelude.{◌≡◌, ◌≢◌, [], get_or, None, Some, true, false, IfNone, IfOk};
-ghost use Rattle.std.specs.Prelude.{IfSome};
+ghost use Rattle.std.specs.Prelude.{◌≡◌, ◌≢◌, ◌<◌, [], length, get_or, None, Some, true, false, IfNone};
+ghost use Rattle.std.specs.Prelude.{IfOk, IfSome};
 ghost use Rattle.iol_reactor.specs.Connections.{link_at};
 ghost use Rattle.iol_reactor.specs.LinkVisits.{IsOver, serving};
-ghost use Rattle.iol_reactor.specs.Served.{AreFollowed, HasKnownHistory, IsEmpty, IsFrameAt};
-ghost use Rattle.iol_reactor.specs.Served.{IsPhaseAt, is_ending, is_free};
+ghost use Rattle.iol_reactor.specs.Served.{AreFollowed, HasKnownHistory, HasSocketAt, IsEmpty};
+ghost use Rattle.iol_reactor.specs.Served.{IsFrameAt, IsPhaseAt, is_ending, is_free};
 
 use crate::client::{Client, Phase};
 use crate::input::Reading;
@@ -84,10 +84,13 @@ impl<S: Socket + Drop, B: Backing + Drop, P: Process, V: Service<B, P>> Places<S
         Ok(())
     }
 
-    /// A new client, in a place that has none.
+    /// A new client with this socket, in a place that has none. If there is no such place, the
+    /// socket is dropped.
     pub fn admit(&mut self, slot: usize, alloc: Global, socket: S, peer: SocketAddr, now: u64)
         requires supplied { IsEmpty (S.supplied socket) }
         requires accepted { IsEmpty (S.accepted socket) }
+        ensures admits { slot < length self.old.clients.items → HasSocketAt socket slot
+            self.new.clients.items }
     {
         self.worlds.release(slot);
         if slot < self.clients.len() {
@@ -95,9 +98,11 @@ impl<S: Socket + Drop, B: Backing + Drop, P: Process, V: Service<B, P>> Places<S
         }
     }
 
-    /// The client in this place is removed.
+    /// Removes the client in this place, and returns it. None: the place was empty.
     pub fn remove(&mut self, slot: usize) -> Option<Client<S>>
-        ensures { IfSome result (λ c. HasKnownHistory P.turns V.starts V.frames
+        ensures client { result ≡ get_or self.old.clients.items slot None }
+        ensures removed { get_or self.new.clients.items slot None ≡ None }
+        ensures history { IfSome result (λ c. HasKnownHistory P.turns V.starts V.frames
             self.old.worlds.pool S.supplied S.accepted c) }
     {
         if slot >= self.clients.len() {
