@@ -56,7 +56,8 @@ fn with(phase: Phase, begun: usize, piece: Piece) -> Option<After>
 
 // Buffers the result of a `wc` line.
 fn collect_said(alloc: Global, piece: &Piece, said: Said, begun: usize) -> AfterReply
-    ensures { IfOk result (λ after. reached piece.now after ≡ spec.said_collected begun piece.now said) }
+    ensures { IfOk result
+        (λ after. reached piece.now after ≡ spec.said_collected begun piece.now said) }
 {
     let text = said.text(alloc)?;
     let piece = piece.with_text(alloc, text.as_slice())?;
@@ -71,7 +72,8 @@ fn after_opening(
     begun: usize,
     last: &Reply,
 ) -> AfterReply
-    ensures { IfOk result (λ after. reached piece.now after ≡ spec.after_opening piece.now purpose begun last.now) }
+    ensures { IfOk result
+        (λ after. reached piece.now after ≡ spec.after_opening piece.now purpose begun last.now) }
 {
     match last {
         Reply::Fd(file) => Ok(at(
@@ -154,7 +156,8 @@ fn interleave(alloc: Global, piece: Piece, agg: AggId, begun: usize) -> Result<S
 
 // After making an aggregate of the buffered text.
 fn after_making(alloc: Global, piece: &Piece, begun: usize, last: &Reply) -> AfterReply
-    ensures { IfOk result (λ after. reached piece.now after ≡ spec.after_making piece.now begun last.now) }
+    ensures { IfOk result
+        (λ after. reached piece.now after ≡ spec.after_making piece.now begun last.now) }
 {
     match last {
         Reply::Agg(agg) => {
@@ -169,7 +172,8 @@ fn after_making(alloc: Global, piece: &Piece, begun: usize, last: &Reply) -> Aft
 // After the call that makes an aggregate of the buffered text, begins the next line, or closes the
 // output.
 fn after_begin(alloc: Global, job: &Job, piece: &Piece, begun: usize, last: &Reply) -> AfterReply
-    ensures { IfOk result (λ after. reached piece.now after ≡ spec.after_begin job.now piece.now begun last.now) }
+    ensures { IfOk result
+        (λ after. reached piece.now after ≡ spec.after_begin job.now piece.now begun last.now) }
 {
     if is_expected(job, piece, begun) {
         return after_making(alloc, piece, begun, last);
@@ -286,7 +290,8 @@ fn after_joining(
     begun: usize,
     last: &Reply,
 ) -> AfterReply
-    ensures { IfOk result (λ after. reached piece.now after ≡ spec.after_joining piece.now from len begun last.now) }
+    ensures { IfOk result
+        (λ after. reached piece.now after ≡ spec.after_joining piece.now from len begun last.now) }
 {
     match last {
         Reply::Agg(held) => {
@@ -308,7 +313,8 @@ fn place_at(place: Option<Place>) -> u32
 
 // After cutting off the bytes of the last file: inserts them into this text.
 fn after_parting(alloc: Global, piece: &Piece, agg: AggId, begun: usize, last: &Reply) -> AfterReply
-    ensures { IfOk result (λ after. reached piece.now after ≡ spec.after_parting piece.now agg begun last.now) }
+    ensures { IfOk result
+        (λ after. reached piece.now after ≡ spec.after_parting piece.now agg begun last.now) }
 {
     match last {
         Reply::Aggs(held, part) => {
@@ -344,7 +350,8 @@ fn after_replacing(
 
 // After dropping the bytes that were cut off: inserts the bytes of the file before.
 fn after_dropping_part(alloc: Global, piece: &Piece, made: AggId, begun: usize) -> AfterReply
-    ensures { IfOk result (λ after. reached piece.now after ≡ Some (spec.interleave_on begun piece.now made)) }
+    ensures { IfOk result
+        (λ after. reached piece.now after ≡ Some (spec.interleave_on begun piece.now made)) }
 {
     let piece = piece.copy(alloc)?;
     let step = interleave(alloc, piece, made, begun)?;
@@ -389,7 +396,8 @@ fn after_cutting(agg: AggId, begun: usize, last: &Reply) -> Option<After>
 
 // After writing all of an aggregate: writes the file that is too long, or continues the script.
 fn after_dropping(alloc: Global, piece: &Piece, begun: usize) -> AfterReply
-    ensures after { IfOk result (λ after. reached piece.now after ≡ spec.after_dropping piece.now piece.now.next begun) }
+    ensures after { IfOk result
+        (λ after. reached piece.now after ≡ spec.after_dropping piece.now piece.now.next begun) }
     ensures wants { OnErr result (is_some piece.now.next ≡ true) }
 {
     match piece.next {
@@ -403,7 +411,8 @@ fn after_dropping(alloc: Global, piece: &Piece, begun: usize) -> AfterReply
 
 // After a write without reader: drops the rest, and ends the script.
 fn after_breaking(alloc: Global, job: &Job, piece: &Piece, begun: usize) -> AfterReply
-    ensures after { IfOk result (λ after. reached piece.now after ≡ spec.after_breaking job.now piece.now piece.now.next begun) }
+    ensures after { IfOk result
+        (λ after. reached piece.now after ≡ spec.after_breaking job.now piece.now piece.now.next begun) }
     ensures wants { OnErr result (is_some piece.now.next ≡ true) }
 {
     match piece.next {

@@ -13,7 +13,8 @@ use iol_laws::laws;
 /// script outputs one text, which is in these pools, and only a full pipe can block its worker. A
 /// worker changes nothing else, and is free again after the script.
 pub fn workers_run()
-    ensures { (pools : ℕ → Bool) → WorkersRun worker_turns HasWaited pools (IsFreeFor pools) (IsExpectedOf pools) }
+    ensures { (pools : ℕ → Bool)
+        → WorkersRun worker_turns HasWaited pools (IsFreeFor pools) (IsExpectedOf pools) }
 {
     scripts::workers_stay_free();
     scripts::scripts_put_out();
@@ -34,7 +35,8 @@ pub fn expected_may_come()
 /// front of the remaining text; a read of no bytes means that all was read and that the worker is
 /// free; and no read is denied. Turns of the worker and events of others preserve the rest.
 pub fn texts_are_put_out()
-    ensures { (pools : ℕ → Bool) → TextsArePutOut worker_turns pools (IsFreeFor pools) (IsExpectedOf pools) }
+    ensures { (pools : ℕ → Bool)
+        → TextsArePutOut worker_turns pools (IsFreeFor pools) (IsExpectedOf pools) }
 {
     workers_run();
     scripts::others_receive();

@@ -38,7 +38,8 @@ pub trait RunsScripts: Drop {
 
     /// Shows that a script outputs one text. The function has no effect.
     fn runs()
-        ensures { (pools : ℕ → Bool) → WorkersRun turns quiescent pools (free pools) (expected pools) };
+        ensures { (pools : ℕ → Bool)
+            → WorkersRun turns quiescent pools (free pools) (expected pools) };
 
     /// Shows that it preserves its condition. The function has no effect.
     fn quiesces()

@@ -108,13 +108,15 @@ impl Process for Actor {
     ghost turns = { actor_turns in_rounds worker_turns };
 
     fn next(&mut self, last: &Reply, look: &Look<'_>) -> Result<Turn, AllocError>
-        ensures turn { IfOk result (λ turn. acts self.old last.now (readable look.now) turn self.new) }
+        ensures turn { IfOk result
+            (λ turn. acts self.old last.now (readable look.now) turn self.new) }
         ensures quiet { IfOk result IsCopyFree }
         ensures err { OnErr result (self.new ≡ self.old) }
 
         // The server needs memory only for its buffers and the bytes of its calls, and a worker
         // for a job and the bytes of its calls.
-        ensures wants { OnErr result (actor_wants worker_turns self.old last.now (readable look.now)) }
+        ensures wants { OnErr result
+            (actor_wants worker_turns self.old last.now (readable look.now)) }
     {
         match &mut self.role {
             Role::Server(server) => server.next(last, look),

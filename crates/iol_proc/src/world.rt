@@ -64,7 +64,8 @@ impl<B: Backing + Drop, P: Process> World<B, P> {
     ) -> Result<World<B, P>, AllocError>
         requires { IsDistinct nat_eq (map (λ p. p.0) processes.items) }
         ensures system { IfOk result (λ w. w.machine ≡ system) }
-        ensures process_slots { IfOk result (λ w. IsPermutation (map process_slot_of processes.items) w.process_slots) }
+        ensures process_slots { IfOk result
+            (λ w. IsPermutation (map process_slot_of processes.items) w.process_slots) }
         ensures rising { IfOk result (λ w. IsStrictlyIncreasing (domains_of w.process_slots)) }
         ensures failure_free { IfOk result (λ w. w.resource_failure ≡ false) }
     {
@@ -241,8 +242,10 @@ fn process_slots_by_domain<P: Process>(
     processes: Vec<(DomainId, P)>,
 ) -> Result<Vec<ProcessSlot<P>>, AllocError>
     requires { IsDistinct nat_eq (map (λ p. p.0) processes.items) }
-    ensures process_slots { IfOk result (λ process_slots. IsPermutation (map process_slot_of processes.items) process_slots.items) }
-    ensures rising { IfOk result (λ process_slots. IsStrictlyIncreasing (domains_of process_slots.items)) }
+    ensures process_slots { IfOk result
+        (λ process_slots. IsPermutation (map process_slot_of processes.items) process_slots.items) }
+    ensures rising { IfOk result
+        (λ process_slots. IsStrictlyIncreasing (domains_of process_slots.items)) }
 {
     let mut process_slots = process_slots_for(alloc, processes)?;
     process_slots.sort_by_key(|process_slot| process_slot.by.number())?;
@@ -254,7 +257,8 @@ fn process_slots_for<P: Process>(
     alloc: Global,
     processes: Vec<(DomainId, P)>,
 ) -> Result<Vec<ProcessSlot<P>>, AllocError>
-    ensures { IfOk result (λ process_slots. process_slots.items ≡ map process_slot_of processes.items) }
+    ensures { IfOk result
+        (λ process_slots. process_slots.items ≡ map process_slot_of processes.items) }
 {
     let mut process_slots = Vec::new(alloc);
     for (by, process) in processes {
@@ -269,7 +273,8 @@ fn process_slots_for<P: Process>(
 
 /// The index of the process of a domain.
 fn place_of<P: Process>(process_slots: &[ProcessSlot<P>], by: DomainId) -> Option<usize>
-    ensures { MatchOption result (HasNoProcessSlot process_slots.now by) (SitsAt process_slots.now by) }
+    ensures { MatchOption result
+        (HasNoProcessSlot process_slots.now by) (SitsAt process_slots.now by) }
 {
     process_slots
         .iter()

@@ -45,7 +45,8 @@ fn add_body(
     status: StatusCode,
     head_only: bool,
 ) -> Result<(), AllocError>
-    ensures { OnOk result (bytes.new.items ≡ bytes.old.items ++ texts.refusal_body head_only status) }
+    ensures { OnOk result
+        (bytes.new.items ≡ bytes.old.items ++ texts.refusal_body head_only status) }
 {
     if !head_only {
         let body = error_body(alloc, status)?;

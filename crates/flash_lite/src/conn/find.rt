@@ -171,7 +171,8 @@ pub(crate) fn after_close_file(
     file_result: FileResult,
     last: &Reply,
 ) -> Phase
-    ensures after_reply { result ≡ spec.after_close_file (answer asked.now) file file_result last.now }
+    ensures after_reply { result
+        ≡ spec.after_close_file (answer asked.now) file file_result last.now }
     ensures small { IsSmall result }
 {
     match last {

@@ -100,7 +100,8 @@ pub(crate) fn after_release_frame(
     last: &Reply,
 ) -> Running
     requires { IsSmallRun run × IsPiece held }
-    ensures after_reply { result ≡ spec.after_release_frame (wanted request.now) run frame held last.now }
+    ensures after_reply { result
+        ≡ spec.after_release_frame (wanted request.now) run frame held last.now }
     ensures small { IsSmallRunning result }
 {
     match last {
@@ -164,7 +165,8 @@ pub(crate) fn after_wrap_last(
     parts: Option<Parts<'_>>,
 ) -> Step
     requires { IsPiece (Some (held, size)) }
-    ensures after_reply { result ≡ spec.after_wrap_last held size frame last.now (received parts.entry) }
+    ensures after_reply { result
+        ≡ spec.after_wrap_last held size frame last.now (received parts.entry) }
     ensures small { IsSmallStep result }
 {
     match last {

@@ -70,7 +70,8 @@ pub(crate) fn after_sending(run: Run, phase: Phase, frame: Option<AggId>, last: 
 // After dropping an aggregate that was taken whole.
 fn after_taken(request: &Request, agg: AggId, taken: u64, more: Following, last: &Reply) -> Phase
     requires { IsSmall (Sent agg taken more) }
-    ensures after_reply { result ≡ conn.after_taken (serve (wanted request.now)) agg taken more last.now }
+    ensures after_reply { result
+        ≡ conn.after_taken (serve (wanted request.now)) agg taken more last.now }
     ensures small { IsSmall result }
 {
     match last {
@@ -87,7 +88,8 @@ pub(crate) fn after_reply_left(
     parts: Option<Parts<'_>>,
 ) -> Phase
     requires { IsGoing phase }
-    ensures after_reply { result ≡ after_reply_left (wanted request.now) phase last.now (received parts.entry) }
+    ensures after_reply { result
+        ≡ after_reply_left (wanted request.now) phase last.now (received parts.entry) }
     ensures small { IsSmall result }
 {
     match phase {
