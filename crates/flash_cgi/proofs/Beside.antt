@@ -64,20 +64,20 @@ module _ (m n : State) (d : ℕ) (left : LeavesWorker m d n) where
   bytes_stay a h = (h.0, left.bytes a h.0 h.1)
 
   needs_stay : (x : Phase) → Needs m d x → Needs n d x
-  needs_stay (phase.Drops a) h = bytes_stay a h
-  needs_stay (phase.Reads file u) h =
+  needs_stay (phase.DroppingWritten a) h = bytes_stay a h
+  needs_stay (phase.Reading file u) h =
       record {
         number = h.number;
         place = h.place;
         open_on = left.fds file (on.File h.number h.place Read) h.open_on;
         may = left.may file h.number h.place Read h.open_on h.may;
       }
-  needs_stay (phase.Counted file a s) h = (open_stays file h.0, bytes_stay a h.1)
-  needs_stay (phase.ShutsToSay file s) h = open_stays file h
-  needs_stay (phase.Shuts file a) h = (open_stays file h.0, bytes_stay a h.1)
-  needs_stay (phase.Writes a) h = bytes_stay a h
-  needs_stay (phase.Cuts a from to) h = (h.0, left.bytes a h.0 h.1, h.2)
-  needs_stay (phase.Swaps a b) h = (bytes_stay b h.0, h.1)
+  needs_stay (phase.DroppingCounted file a s) h = (open_stays file h.0, bytes_stay a h.1)
+  needs_stay (phase.ClosingCounted file s) h = open_stays file h
+  needs_stay (phase.ClosingFile file a) h = (open_stays file h.0, bytes_stay a h.1)
+  needs_stay (phase.Writing a) h = bytes_stay a h
+  needs_stay (phase.CuttingRest a from to) h = (h.0, left.bytes a h.0 h.1, h.2)
+  needs_stay (phase.DroppingTaken a b) h = (bytes_stay b h.0, h.1)
   needs_stay x h = h
 
   -- what is collected is lent as it was
@@ -124,14 +124,14 @@ module _ (m n : State) (d : ℕ) (left : LeavesWorker m d n) where
   files_same (Some a) ps h = same_at a h.0 h.1
 
   holds_stay : (x : Collected) (y : Phase) → HoldsAt (readable_at m d) x y → HoldsAt (readable_at n d) x y
-  holds_stay x phase.Waits h = h
-  holds_stay x (phase.Skips a) h = h
-  holds_stay x (phase.Breaks a) h = h
-  holds_stay x phase.Runs h = piece_stays (length x.text) x h
-  holds_stay x (phase.Reads file u) h = gathers_stays x h
-  holds_stay x (phase.ShutsToSay file s) h = gathers_stays x h
-  holds_stay x (phase.Counted file a s) h = (gathers_stays x h.0, h.1)
-  holds_stay x (phase.Shuts file a) h = (gathers_stays x h.0, h.1)
+  holds_stay x phase.Waiting h = h
+  holds_stay x (phase.DroppingOther a) h = h
+  holds_stay x (phase.Aborting a) h = h
+  holds_stay x phase.Interpreting h = piece_stays (length x.text) x h
+  holds_stay x (phase.Reading file u) h = gathers_stays x h
+  holds_stay x (phase.ClosingCounted file s) h = gathers_stays x h
+  holds_stay x (phase.DroppingCounted file a s) h = (gathers_stays x h.0, h.1)
+  holds_stay x (phase.ClosingFile file a) h = (gathers_stays x h.0, h.1)
   holds_stay x (phase.JoiningFile held a from len) h = record {
     gathers = gathers_stays x h.gathers;
     held_is = h.held_is;
@@ -161,10 +161,10 @@ module _ (m n : State) (d : ℕ) (left : LeavesWorker m d n) where
   holds_stay x (phase.DroppingText a part made) h =
       record { drops = part_stays x part made h.drops; apart = h.apart; differ = h.differ }
   holds_stay x (phase.DroppingPart part made) h = part_stays x part made h
-  holds_stay x (phase.Drops a) h = (rest_stays x h.0, h.1)
-  holds_stay x (phase.Writes a) h = (rest_stays x h.0, h.1)
-  holds_stay x (phase.Cuts a from to) h = (rest_stays x h.0, h.1)
-  holds_stay x (phase.Swaps a b) h = (rest_stays x h.0, h.1, h.2)
+  holds_stay x (phase.DroppingWritten a) h = (rest_stays x h.0, h.1)
+  holds_stay x (phase.Writing a) h = (rest_stays x h.0, h.1)
+  holds_stay x (phase.CuttingRest a from to) h = (rest_stays x h.0, h.1)
+  holds_stay x (phase.DroppingTaken a b) h = (rest_stays x h.0, h.1, h.2)
 
   -- so it is the same text
   all_stays : (len : ℕ) (text : List ℕ) (x : Collected) → HasPiece (readable_at m d) len x
@@ -187,18 +187,18 @@ module _ (m n : State) (d : ℕ) (left : LeavesWorker m d n) where
   still_stays : (job : Task) (begun : ℕ) (x : Collected) (y : Phase) (os : List Outcome) → Needs m d y
       → HoldsAt (readable_at m d) x y
       → still_phase job begun (readable_at n d) x y os ≡ still_phase job begun (readable_at m d) x y os
-  still_stays job begun x phase.Waits os h k = refl
-  still_stays job begun x (phase.Skips a) os h k = refl
-  still_stays job begun x (phase.Breaks a) os h k = refl
-  still_stays job begun x phase.Runs os h k = then_stays job begun x os k
-  still_stays job begun x (phase.Drops a) os h k = then_stays job begun x os k.0.piece
-  still_stays job begun x (phase.Reads file u) os h k =
+  still_stays job begun x phase.Waiting os h k = refl
+  still_stays job begun x (phase.DroppingOther a) os h k = refl
+  still_stays job begun x (phase.Aborting a) os h k = refl
+  still_stays job begun x phase.Interpreting os h k = then_stays job begun x os k
+  still_stays job begun x (phase.DroppingWritten a) os h k = then_stays job begun x os k.0.piece
+  still_stays job begun x (phase.Reading file u) os h k =
       ap (λ (l : List ℕ). l ++ by_first (put_out u) (rest_of job begun) os) (all_stays (length x.text) x.text x k.piece)
-  still_stays job begun x (phase.Counted file a s) os h k =
+  still_stays job begun x (phase.DroppingCounted file a s) os h k =
       ap (λ (l : List ℕ). l ++ (said_text s ++ rest_of job begun os)) (all_stays (length x.text) x.text x k.0.piece)
-  still_stays job begun x (phase.ShutsToSay file s) os h k =
+  still_stays job begun x (phase.ClosingCounted file s) os h k =
       ap (λ (l : List ℕ). l ++ (said_text s ++ rest_of job begun os)) (all_stays (length x.text) x.text x k.piece)
-  still_stays job begun x (phase.Shuts file a) os h k =
+  still_stays job begun x (phase.ClosingFile file a) os h k =
       ap (λ (l : List ℕ). l ++ (bytes_at (readable_at n d) a ++ rest_of job begun os))
       (all_stays (length x.text) x.text x k.0.piece)
       ∙ ap (λ (l : List ℕ). collected (readable_at m d) x ++ (l ++ rest_of job begun os)) (same_at a h.1.0 h.1.1)
@@ -220,18 +220,19 @@ module _ (m n : State) (d : ℕ) (left : LeavesWorker m d n) where
       made_text x made (rest_of job begun os) k.drops.is_readable k.drops.piece
   still_stays job begun x (phase.DroppingPart part made) os h k =
       made_text x made (rest_of job begun os) k.is_readable k.piece
-  still_stays job begun x (phase.Writes a) os h k =
+  still_stays job begun x (phase.Writing a) os h k =
       ap (λ (l : List ℕ). l ++ then_rest job begun (readable_at n d) x os) (same_at a h.0 h.1)
       ∙ ap (λ (l : List ℕ). bytes_at (readable_at m d) a ++ l) (then_stays job begun x os k.0.piece)
-  still_stays job begun x (phase.Cuts a from to) os h k =
+  still_stays job begun x (phase.CuttingRest a from to) os h k =
       ap (λ (l : List ℕ). drop from l ++ then_rest job begun (readable_at n d) x os) (same_at a h.0 h.1)
       ∙ ap (λ (l : List ℕ). drop from (bytes_at (readable_at m d) a) ++ l) (then_stays job begun x os k.0.piece)
-  still_stays job begun x (phase.Swaps a b) os h k =
+  still_stays job begun x (phase.DroppingTaken a b) os h k =
       ap (λ (l : List ℕ). l ++ then_rest job begun (readable_at n d) x os) (same_at b h.0.0 h.0.1)
       ∙ ap (λ (l : List ℕ). bytes_at (readable_at m d) b ++ l) (then_stays job begun x os k.0.piece)
 
   -- the step that a reply leads to stays the same: it depends on bytes that the worker has
-  has_written : (a k len : ℕ) (t : Bool) → Needs m d (if t then phase.Drops a else phase.Cuts a k len) → HasBytes m d a
+  has_written : (a k len : ℕ) (t : Bool) → Needs m d (if t then phase.DroppingWritten a else phase.CuttingRest a k len)
+      → HasBytes m d a
   has_written a k len true h = h
   has_written a k len false h = (h.0, h.1)
 
@@ -254,8 +255,8 @@ module _ (m n : State) (d : ℕ) (left : LeavesWorker m d n) where
       small (Some held) is h = (h.1.is_readable, files_same x.held x.places h.1.gathers.piece.files)
 
       by : (t u : Bool) → At (if t then file_collected x x.held from a len begun
-          else (if u then Some (record { phase = phase.Writes a; begun = begun; piece = x }) else Some
-          (record { phase = phase.Runs; begun = begun; piece = with_next x a })))
+          else (if u then Some (record { phase = phase.Writing a; begun = begun; piece = x }) else Some
+          (record { phase = phase.Interpreting; begun = begun; piece = with_next x a })))
           → IsReadable (readable_at m d) a
           × (bytes_of_one (readable_at n d) x.held ≡ bytes_of_one (readable_at m d) x.held)
       by true u h = small x.held refl h
@@ -268,10 +269,10 @@ module _ (m n : State) (d : ℕ) (left : LeavesWorker m d n) where
       (or_again (after_phase (readable_at m d) job step.piece step.begun x last) step).phase
       → after_phase (readable_at n d) job step.piece step.begun x last ≡ after_phase (readable_at m d) job step.piece
       step.begun x last
-  after_reply_stays job step (phase.Reads file purpose.Wc) (reply.Agg a) h k =
-      ap (λ (l : List ℕ). after_phase (λ k. Some l) job step.piece step.begun (phase.Reads file purpose.Wc)
+  after_reply_stays job step (phase.Reading file purpose.Wc) (reply.Agg a) h k =
+      ap (λ (l : List ℕ). after_phase (λ k. Some l) job step.piece step.begun (phase.Reading file purpose.Wc)
       (reply.Agg a)) (same_at a h.1.0 h.1.1)
-  after_reply_stays job step (phase.Shuts file a) last h k =
+  after_reply_stays job step (phase.ClosingFile file a) last h k =
       let has =
       has_shut step.piece (length (bytes_of_one (readable_at m d) step.piece.held)) a
       (length (bytes_at (readable_at m d) a)) step.begun
@@ -285,10 +286,10 @@ module _ (m n : State) (d : ℕ) (left : LeavesWorker m d n) where
           → HoldsAt (readable_at m d) (or_again o step).piece (or_again o step).phase → At o
       at_both None h k = tt
       at_both (Some v) h k = (h, k)
-  after_reply_stays job step (phase.Writes a) (reply.Count k) h held =
+  after_reply_stays job step (phase.Writing a) (reply.Count k) h held =
       let has = has_written a k (length (bytes_at (readable_at m d) a)) (k == length (bytes_at (readable_at m d) a))
       h in
-      ap (λ (l : List ℕ). after_phase (λ k. Some l) job step.piece step.begun (phase.Writes a) (reply.Count k))
+      ap (λ (l : List ℕ). after_phase (λ k. Some l) job step.piece step.begun (phase.Writing a) (reply.Count k))
       (same_at a has.0 has.1)
   after_reply_stays job step x last h k = refl
 
@@ -301,7 +302,8 @@ module _ (m n : State) (d : ℕ) (left : LeavesWorker m d n) where
   filed_stays x w last h k = refl
 
   begins_stays : (p : ℕ) (job : Task) (a : ℕ) (unseen after : List Outcome → List ℕ) → (b : Begins m d p job a unseen)
-      → Feeds n d p job (record { phase = phase.Drops a; begun = 0; piece = nothing }) after → Begins n d p job a after
+      → Feeds n d p job (record { phase = phase.DroppingWritten a; begun = 0; piece = nothing }) after
+      → Begins n d p job a after
   begins_stays p job a unseen after b f =
       record { bytes = b.bytes; is_readable = left.bytes a b.bytes b.is_readable; is_job = b.is_job; feeds = f }
 
@@ -331,14 +333,14 @@ module _ (m n : State) (d : ℕ) (left : LeavesWorker m d n) where
   -- where files are left, so is what is still to come of them
   come_still : LeavesFiles m d n → (job : Task) (begun : ℕ) (x : Phase)
       → to_come_phase n d job begun x ≡ to_come_phase m d job begun x
-  come_still files job begun phase.Waits = refl
-  come_still files job begun (phase.Reads file u) =
+  come_still files job begun phase.Waiting = refl
+  come_still files job begun (phase.Reading file u) =
       sym (same_outcomes m n d files.outcomes (drop (begun - 1) job.lines))
   come_still files job begun x = sym (same_outcomes m n d files.outcomes (drop begun job.lines))
 
   named_still : LeavesFiles m d n → (job : Task) (begun : ℕ) (x : Phase) → ReadsNamed m d job begun x
       → ReadsNamed n d job begun x
-  named_still files job begun (phase.Reads file u) g = record {
+  named_still files job begun (phase.Reading file u) g = record {
     number = g.number;
     open_on = left.fds file (on.File g.number 0 Read) g.open_on;
     names = sym (same_outcomes m n d files.outcomes (drop (begun - 1) job.lines)) ∙ (g.names
@@ -352,30 +354,31 @@ module _ (m n : State) (d : ℕ) (left : LeavesWorker m d n) where
 
 -- what is written or counted depends on bytes that it is lent; a step at which it waits does not
 waits_still : (lm ln : ℕ → Option (List ℕ)) (job : Task) (step : Step) (x : Phase) (last : Reply)
-    → (or_again (after_phase lm job step.piece step.begun x last) step).phase ≡ phase.Waits
-    → (or_again (after_phase ln job step.piece step.begun x last) step).phase ≡ phase.Waits
-waits_still lm ln job step (phase.Reads file purpose.Wc) (reply.Agg a) h = absurd (cc (h))
-waits_still lm ln job step (phase.Shuts file a) last h =
+    → (or_again (after_phase lm job step.piece step.begun x last) step).phase ≡ phase.Waiting
+    → (or_again (after_phase ln job step.piece step.begun x last) step).phase ≡ phase.Waiting
+waits_still lm ln job step (phase.Reading file purpose.Wc) (reply.Agg a) h = absurd (cc (h))
+waits_still lm ln job step (phase.ClosingFile file a) last h =
     absurd (shut_on step.piece.held (nat_le (length (bytes_at lm a)) 4096) (is_nothing step.piece) h)
   where
     collects_on : (o : Option ℕ) (from len : ℕ)
-        → (or_again (file_collected step.piece o from a len step.begun) step).phase ≡ phase.Waits → ⊥
+        → (or_again (file_collected step.piece o from a len step.begun) step).phase ≡ phase.Waiting → ⊥
     collects_on None from len e = cc (e)
     collects_on (Some held) from len e = cc (e)
 
     shut_on : (o : Option ℕ) (t u : Bool)
         → (or_again (if t then file_collected step.piece o (length (bytes_of_one lm step.piece.held)) a
         (length (bytes_at lm a)) step.begun
-        else (if u then Some (record { phase = phase.Writes a; begun = step.begun; piece = step.piece }) else Some
-        (record { phase = phase.Runs; begun = step.begun; piece = with_next step.piece a }))) step).phase
-        ≡ phase.Waits → ⊥
+        else (if u then Some (record { phase = phase.Writing a; begun = step.begun; piece = step.piece }) else Some
+        (record { phase = phase.Interpreting; begun = step.begun; piece = with_next step.piece a }))) step).phase
+        ≡ phase.Waiting → ⊥
     shut_on o true u e = collects_on o (length (bytes_of_one lm step.piece.held)) (length (bytes_at lm a)) e
     shut_on o false true e = cc (e)
     shut_on o false false e = cc (e)
-waits_still lm ln job step (phase.Writes a) (reply.Count k) h =
+waits_still lm ln job step (phase.Writing a) (reply.Count k) h =
     absurd (writes_on (k == length (bytes_at lm a)) (length (bytes_at lm a)) h)
   where
-    writes_on : (t : Bool) (len : ℕ) → (if t then phase.Drops a else phase.Cuts a k len) ≡ phase.Waits → ⊥
+    writes_on : (t : Bool) (len : ℕ) → (if t then phase.DroppingWritten a else phase.CuttingRest a k len)
+        ≡ phase.Waiting → ⊥
     writes_on true len e = cc (e)
     writes_on false len e = cc (e)
 waits_still lm ln job step x last h = h
@@ -385,8 +388,8 @@ free_still m n process_slot h =
     record { not_over = h.not_over; waits = by process_slot.process.standing h.waits; not_given = h.not_given }
   where
     by : (s : Standing) → (filed_step s process_slot.process (readable_at m process_slot.by) process_slot.last).phase
-        ≡ phase.Waits → (filed_step s process_slot.process (readable_at n process_slot.by) process_slot.last).phase
-        ≡ phase.Waits
+        ≡ phase.Waiting → (filed_step s process_slot.process (readable_at n process_slot.by) process_slot.last).phase
+        ≡ phase.Waiting
     by standing.Asked is =
         waits_still (readable_at m process_slot.by) (readable_at n process_slot.by) process_slot.process.job
         process_slot.process.step process_slot.process.step.phase process_slot.last is
@@ -428,7 +431,7 @@ module _ (m n : State) (p : ℕ) (process_slot : ProcessSlot Worker) (left : Lea
     reads = λ files right. tt;
   }
   gone unseen (inr (inl h)) =
-      let step : Step = record { phase = phase.Drops h.agg; begun = 0; piece = nothing } in
+      let step : Step = record { phase = phase.DroppingWritten h.agg; begun = 0; piece = nothing } in
       record {
         after = λ os. bytes_of (pipe_at n p).queue ++ still h.job (readable_at m process_slot.by) step os;
         splits = λ os. h.begins.feeds.is os ∙ front (still h.job (readable_at m process_slot.by) step os);

@@ -87,11 +87,11 @@ free_waits : (m : State) (process_slot : ProcessSlot Worker) → IsFree m proces
 free_waits m process_slot free needs = subst (λ (x : Phase). Needs m process_slot.by x) free.waits needs
 
 free_was_after_reply : (process_slot : ProcessSlot Worker) (m : State) (a : ℕ) → IsFree m process_slot
-    → process_slot.process.step.phase ≡ phase.Waits → process_slot.process.standing ≡ standing.Asked
+    → process_slot.process.step.phase ≡ phase.Waiting → process_slot.process.standing ≡ standing.Asked
     → process_slot.last ≡ reply.Agg a → ⊥
 free_was_after_reply process_slot m a free waits asked last =
     let given = ap (λ (x : Phase). is_given x process_slot.last) waits
-    ∙ ap (λ (l : Reply). is_given phase.Waits l) last in
+    ∙ ap (λ (l : Reply). is_given phase.Waiting l) last in
     let none = sym given ∙ free.not_given asked in
     cc (none)
 

@@ -305,7 +305,7 @@ makes_call w v k l readable standing.Asked is goes un did = filed w.step.phase l
 
     filed : (x : Phase) (y : Reply) → is_given x y ≡ false → files w x y readable (turn.Make k) v
         → MakesCall w v k (or_again (after_reply w.job w.step readable y) w.step)
-    filed phase.Waits (reply.Agg a) given did = absurd (cc (given))
+    filed phase.Waiting (reply.Agg a) given did = absurd (cc (given))
     filed x y given did = on (after_reply w.job w.step readable y) did
 
 -- a step that it is at keeps to files, and to the pipe of its output
@@ -339,22 +339,22 @@ both false b one two = absurd (cc (one))
 
 step_keeps : (m : State) (d p : ℕ) (job : Task) (x : Collected) (begun : ℕ) (y : Phase)
     → descriptor m d job.fd ≡ Some (on.WriteEnd p) → Needs m d y → keeps_to m d p (phase_call job x begun y) ≡ true
-step_keeps m d p job x begun phase.Waits opened h = absurd h
-step_keeps m d p job x begun (phase.Skips a) opened h = absurd h
-step_keeps m d p job x begun (phase.Breaks a) opened h = absurd h
-step_keeps m d p job x begun phase.Runs opened h =
+step_keeps m d p job x begun phase.Waiting opened h = absurd h
+step_keeps m d p job x begun (phase.DroppingOther a) opened h = absurd h
+step_keeps m d p job x begun (phase.Aborting a) opened h = absurd h
+step_keeps m d p job x begun phase.Interpreting opened h =
     begin_keeps m d p job x (slice_get job.lines begun) (expected_now job x begun) (output_is m d p job.fd opened).0
-step_keeps m d p job x begun (phase.Reads file u) opened h = file_is m d p file h.number h.place h.open_on
-step_keeps m d p job x begun (phase.Shuts file a) opened h = file_is m d p file h.0.0 h.0.1 h.0.2
-step_keeps m d p job x begun (phase.ShutsToSay file s) opened h = file_is m d p file h.0 h.1 h.2
-step_keeps m d p job x begun (phase.Writes a) opened h = (let o = output_is m d p job.fd opened in both _ _ o.0 o.1)
+step_keeps m d p job x begun (phase.Reading file u) opened h = file_is m d p file h.number h.place h.open_on
+step_keeps m d p job x begun (phase.ClosingFile file a) opened h = file_is m d p file h.0.0 h.0.1 h.0.2
+step_keeps m d p job x begun (phase.ClosingCounted file s) opened h = file_is m d p file h.0 h.1 h.2
+step_keeps m d p job x begun (phase.Writing a) opened h = (let o = output_is m d p job.fd opened in both _ _ o.0 o.1)
 step_keeps m d p job x begun y opened h = refl
 
 -- one that runs was given no text, or it would wait
 given_waits : (m : State) (d : ℕ) (x : Phase) (y : Reply) (w : Worker) (readable : ℕ → Option (List ℕ))
     → w.step.phase ≡ x → Needs m d (or_again (after_phase readable w.job w.step.piece w.step.begun x y) w.step).phase
     → is_given x y ≡ false
-given_waits m d phase.Waits (reply.Agg a) w readable at h = absurd (subst (λ (z : Phase). Needs m d z) at h)
+given_waits m d phase.Waiting (reply.Agg a) w readable at h = absurd (subst (λ (z : Phase). Needs m d z) at h)
 given_waits m d x y w readable at h = refl
 
 pub run_is_not_given : (m : State) (d : ℕ) (w : Worker) (l : Reply) (readable : ℕ → Option (List ℕ)) (s : Standing)
@@ -445,7 +445,8 @@ module _ (steps : EachStepLeavesTheRest) (come : AggregatesComeAndGo) (by_reply 
           let filed =
           subst (λ (s : Standing). works_as s w process_slot.last (readable_at m process_slot.by) (turn.Make k) v)
           h.asked goes in
-          let took = subst (λ (l : Reply). files w phase.Waits l (readable_at m process_slot.by) (turn.Make k) v) h.last
+          let took = subst (λ (l : Reply). files w phase.Waiting l (readable_at m process_slot.by) (turn.Make k) v)
+          h.last
           (subst (λ (x : Phase). files w x process_slot.last (readable_at m process_slot.by) (turn.Make k) v) h.waits
           filed) in
           ap (λ c. keeps_to m process_slot.by p c) (made_is k (call.AggDrop h.agg) took.0)

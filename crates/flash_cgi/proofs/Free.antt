@@ -45,13 +45,13 @@ no_front (b ∷ s) t e = absurd (cc (e))
 
 -- a worker that was refused a job is free
 pub refused_is_free : (n : State) (d : ℕ) (x : Worker) (r y : Reply) → x.standing ≡ standing.Asked
-    → x.step.phase ≡ phase.Waits → is_given phase.Waits y ≡ false → r ≡ y → IsFree n (process_slot_at d x r)
+    → x.step.phase ≡ phase.Waiting → is_given phase.Waiting y ≡ false → r ≡ y → IsFree n (process_slot_at d x r)
 refused_is_free n d x r y asked at un is = record {
   not_over = ap (λ (s : Standing). is_over s) asked;
   waits = ap (λ (s : Standing). (filed_step s x (readable_at n d) r).phase) asked
       ∙ (ap (λ (z : Phase). (or_again (after_phase (readable_at n d) x.job x.step.piece x.step.begun z r) x.step).phase)
       at ∙ at);
-  not_given = λ e. ap (λ (z : Phase). is_given z r) at ∙ (ap (λ (l : Reply). is_given phase.Waits l) is ∙ un);
+  not_given = λ e. ap (λ (z : Phase). is_given z r) at ∙ (ap (λ (l : Reply). is_given phase.Waiting l) is ∙ un);
 }
 
 -- its turn changes nothing, and leaves it free; or it is given what lies in its job pipe
@@ -66,21 +66,21 @@ module _ (m n : State) (d : ℕ) (v : Worker) (r : Reply) (t : Turn) (yields : B
   Stays x = FreeTurn m n d (process_slot_at d x r) r
 
   -- it asks for a job, and is refused, or is given a text
-  read : (x : Worker) → x.standing ≡ standing.Asked → x.step.phase ≡ phase.Waits → (l : Reply) → r ≡ l
+  read : (x : Worker) → x.standing ≡ standing.Asked → x.step.phase ≡ phase.Waiting → (l : Reply) → r ≡ l
       → StepsTo m (event.Call d (call.IolRead 0 65536)) l n → Stays x
   read x asked at (reply.Agg a) is step = inr (a, step, is)
   read x asked at (reply.Refused y) is step = inl (step.1, refused_is_free n d x r (reply.Refused y) asked at refl is)
   read x asked at l is step = (let e = step.1 in absurd (cc))
 
   asks : (x : Worker) → t ≡ turn.Make (call_at x.job x.step) → v ≡ x → x.standing ≡ standing.Asked
-      → x.step.phase ≡ phase.Waits → Stays v
+      → x.step.phase ≡ phase.Waiting → Stays v
   asks x is v_is asked at =
       let make : t ≡ turn.Make (call.IolRead 0 65536) =
       is ∙ ap (λ (z : Phase). turn.Make (phase_call x.job x.step.piece x.step.begun z)) at in
       let step = (subst (λ (u : Turn). ComesOf copying worker_turns m d u yields r n) make comes).1 in
       subst (λ (y : Worker). Stays y) (sym v_is) (read x asked at r refl step)
 
-  on : (w : Worker) (o : Option Step) → w.standing ≡ standing.Asked → (or_again o w.step).phase ≡ phase.Waits
+  on : (w : Worker) (o : Option Step) → w.standing ≡ standing.Asked → (or_again o w.step).phase ≡ phase.Waiting
       → proceeds w o t v → Stays v
   on w (Some next) asked waits did = asks (record w { step = next }) did.0 did.1 asked waits
   on w None asked waits did = subst (λ (y : Worker). Stays y) (sym did.1)
@@ -90,13 +90,13 @@ module _ (m n : State) (d : ℕ) (v : Worker) (r : Reply) (t : Turn) (yields : B
       ))
 
   filed : (w : Worker) (x : Phase) (l : Reply) → w.standing ≡ standing.Asked
-      → (or_again (after_reply w.job w.step (readable_at m d) l) w.step).phase ≡ phase.Waits → is_given x l ≡ false
+      → (or_again (after_reply w.job w.step (readable_at m d) l) w.step).phase ≡ phase.Waiting → is_given x l ≡ false
       → files w x l (readable_at m d) t v → Stays v
-  filed w phase.Waits (reply.Agg a) asked waits un did = absurd (cc (un))
+  filed w phase.Waiting (reply.Agg a) asked waits un did = absurd (cc (un))
   filed w x l asked waits un did = on w (after_reply w.job w.step (readable_at m d) l) asked waits did
 
   moves : (w : Worker) (last : Reply) (s : Standing) → w.standing ≡ s → is_over s ≡ false
-      → (filed_step s w (readable_at m d) last).phase ≡ phase.Waits
+      → (filed_step s w (readable_at m d) last).phase ≡ phase.Waiting
       → (s ≡ standing.Asked → is_given w.step.phase last ≡ false) → works_as s w last (readable_at m d) t v → Stays v
   moves w last standing.Over is goes waits un did = absurd (cc (goes))
   moves w last standing.Asks is goes waits un did = asks (record w { standing = standing.Asked }) did.0 did.1 refl waits
@@ -149,7 +149,7 @@ skipped n d a w r asked = record {
 
 skips : (m n : State) (a b : ℕ) (bs : List ℕ) (process_slot next : ProcessSlot Worker) (yields : Bool) (r : Reply)
     → is_live m process_slot.by ≡ true
-    → process_slot.process.step.phase ≡ phase.Waits → process_slot.process.standing ≡ standing.Asked
+    → process_slot.process.step.phase ≡ phase.Waiting → process_slot.process.standing ≡ standing.Asked
     → process_slot.last ≡ reply.Agg a
     → readable_at m process_slot.by a ≡ Some (b ∷ bs) → job_of (b ∷ bs) ≡ None
     → ProcessSlotTurn copying worker_turns m process_slot yields r n next
@@ -174,7 +174,7 @@ skips m n a b bs process_slot next yields r live waits asked last is_readable no
 
     took : takes process_slot.process (bytes_at (readable_at m process_slot.by) a) a did.turn next.process
     took =
-        subst (λ (l : Reply). files process_slot.process phase.Waits l (readable_at m process_slot.by) did.turn
+        subst (λ (l : Reply). files process_slot.process phase.Waiting l (readable_at m process_slot.by) did.turn
         next.process) last
         (subst (λ (x : Phase). files process_slot.process x process_slot.last (readable_at m process_slot.by) did.turn
         next.process) waits filed)

@@ -69,31 +69,31 @@ module _ (why : RefusalsTellWhy) (left : RefusalsThatAreLeft) (files : FileCalls
 
   -- what it needs of the machine for a call, that it does not wait for a job, and that the file that it reads is open
   abbrev Ready : Phase → Type 0
-  Ready phase.Waits = ⊥
-  Ready (phase.Reads file u) = IsFileOpen m d file
+  Ready phase.Waiting = ⊥
+  Ready (phase.Reading file u) = IsFileOpen m d file
   Ready x = Unit {0}
 
   full_at : (job : Task) (x : Collected) (begun : ℕ) (y : Phase) → descriptor m d job.fd ≡ Some (on.WriteEnd p)
       → Ready y → Blocks (phase_call job x begun y) → Full
-  full_at job x begun phase.Waits opened h step = absurd h
-  full_at job x begun phase.Runs opened h step =
+  full_at job x begun phase.Waiting opened h step = absurd h
+  full_at job x begun phase.Interpreting opened h step =
       absurd (begin_goes job x (slice_get job.lines begun) (expected_now job x begun)
-      (left.waits m m d (phase_call job x begun phase.Runs) step))
-  full_at job x begun (phase.Reads file u) opened h step = absurd (file_goes file h step)
-  full_at job x begun (phase.Writes a) opened h step = why.pipe_is_full m m d job.fd p a opened step
+      (left.waits m m d (phase_call job x begun phase.Interpreting) step))
+  full_at job x begun (phase.Reading file u) opened h step = absurd (file_goes file h step)
+  full_at job x begun (phase.Writing a) opened h step = why.pipe_is_full m m d job.fd p a opened step
   full_at job x begun y opened h step = absurd (let e = left.waits m m d (phase_call job x begun y) step in cc (e))
 
   -- one that is at its call, and one that was told to wait
   ready_at : (x : Phase) → Needs m d x → Ready x
-  ready_at phase.Waits h = h
-  ready_at (phase.Reads file u) h = (h.number, h.place, h.open_on)
+  ready_at phase.Waiting h = h
+  ready_at (phase.Reading file u) h = (h.number, h.place, h.open_on)
   ready_at x h = tt
 
   ready_after_reply : (readable : ℕ → Option (List ℕ)) (job : Task) (step : Step) (x : Phase) → step.phase ≡ x
       → Needs m d (or_again (after_phase readable job step.piece step.begun x (reply.Refused WouldBlock)) step).phase
       → Ready x
-  ready_after_reply readable job step phase.Waits is h = subst (λ (y : Phase). Needs m d y) is h
-  ready_after_reply readable job step (phase.Reads file u) is h = h
+  ready_after_reply readable job step phase.Waiting is h = subst (λ (y : Phase). Needs m d y) is h
+  ready_after_reply readable job step (phase.Reading file u) is h = h
   ready_after_reply readable job step x is h = tt
 
   blocked_full : (w : Worker) → descriptor m d w.job.fd ≡ Some (on.WriteEnd p) → Ready w.step.phase → IsBlocked m d w
@@ -115,26 +115,26 @@ module _ (why : RefusalsTellWhy) (left : RefusalsThatAreLeft) (files : FileCalls
 
   waits_after_reply : (readable : ℕ → Option (List ℕ)) (job : Task) (step : Step) (x : Phase) → step.phase ≡ x
       → (or_again (after_phase readable job step.piece step.begun x (reply.Refused WouldBlock)) step).phase
-      ≡ phase.Waits
-      → Blocks (phase_call job step.piece step.begun x) → x ≡ phase.Waits
-  waits_after_reply readable job step phase.Waits is h step_is = refl
-  waits_after_reply readable job step phase.Runs is h step_is =
+      ≡ phase.Waiting
+      → Blocks (phase_call job step.piece step.begun x) → x ≡ phase.Waiting
+  waits_after_reply readable job step phase.Waiting is h step_is = refl
+  waits_after_reply readable job step phase.Interpreting is h step_is =
       absurd (begin_goes job step.piece (slice_get job.lines step.begun) (expected_now job step.piece step.begun)
-      (left.waits m m d (phase_call job step.piece step.begun phase.Runs) step_is))
-  waits_after_reply readable job step (phase.Reads file u) is h step_is = absurd (cc (h))
-  waits_after_reply readable job step (phase.Writes a) is h step_is = absurd (let e = sym is ∙ h in cc (e))
+      (left.waits m m d (phase_call job step.piece step.begun phase.Interpreting) step_is))
+  waits_after_reply readable job step (phase.Reading file u) is h step_is = absurd (cc (h))
+  waits_after_reply readable job step (phase.Writing a) is h step_is = absurd (let e = sym is ∙ h in cc (e))
   waits_after_reply readable job step x is h step_is =
       absurd (let e = left.waits m m d (phase_call job step.piece step.begun x) step_is in cc (e))
 
   asks_blocked : (w : Worker) (last : Reply) (s : Standing) → is_over s ≡ false
-      → (filed_step s w (readable_at m d) last).phase ≡ phase.Waits
+      → (filed_step s w (readable_at m d) last).phase ≡ phase.Waiting
       → IsStuck m d w last s → Blocks (call.IolRead 0 65536)
   asks_blocked w last standing.Over goes h stuck = absurd (cc (goes))
   asks_blocked w last standing.Asks goes h stuck =
       subst (λ (x : Phase). Blocks (phase_call w.job w.step.piece w.step.begun x)) h stuck
   asks_blocked w last standing.Asked goes h stuck =
       let after_reply_so =
-      subst (λ (l : Reply). (or_again (after_reply w.job w.step (readable_at m d) l) w.step).phase ≡ phase.Waits)
+      subst (λ (l : Reply). (or_again (after_reply w.job w.step (readable_at m d) l) w.step).phase ≡ phase.Waiting)
       stuck.1 h in
       subst (λ (x : Phase). Blocks (phase_call w.job w.step.piece w.step.begun x))
       (waits_after_reply (readable_at m d) w.job w.step w.step.phase refl after_reply_so stuck.0) stuck.0

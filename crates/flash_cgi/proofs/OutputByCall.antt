@@ -29,7 +29,7 @@ use Rattle.flash_cgi.specs.Collecting.{Collected, bytes_of_one, collected, is_ex
 use Rattle.flash_cgi.specs.Collecting.{with_next, with_text, without_next, interleaved}
 use Rattle.flash_cgi.specs.Job.{Task}
 use Rattle.flash_cgi.specs.Output.{Outcome, Found, Failed, output, by_first}
-use Rattle.flash_cgi.specs.Pieces.{Cuts, Gathers, HasPiece, HoldsAt, IsRest, Joins, IsReadable, FilesAreReadable}
+use Rattle.flash_cgi.specs.Pieces.{Gathers, HasPiece, HoldsAt, IsRest, Joins, IsReadable, FilesAreReadable}
 use Rattle.flash_cgi.specs.Pieces.{NextIsReadable}
 use Rattle.flash_cgi.specs.WorkerSteps.{said_text, line_text, counts_of, bytes_at, call_at, expected_now}
 use Rattle.flash_cgi.specs.WorkerSteps.{file_collected, after_dropping, after_joining, after_next, after_making}
@@ -59,8 +59,9 @@ module _ (steps : EachStepLeavesTheRest) (own : CallsServeTheirDomain) (files : 
   -- ---- calls whose reply does not matter
 
   drops : (m n : State) (d p : ℕ) (job : Task) (begun a : ℕ) (x : Collected) (r : Reply) (unseen : List Outcome
-      → List ℕ) → Feeds m d p job (at_step (phase.Drops a) begun x) unseen
-      → StepsTo m (event.Call d (call.AggDrop a)) r n → Comes m d p job (at_step (phase.Drops a) begun x) unseen r n
+      → List ℕ) → Feeds m d p job (at_step (phase.DroppingWritten a) begun x) unseen
+      → StepsTo m (event.Call d (call.AggDrop a)) r n
+      → Comes m d p job (at_step (phase.DroppingWritten a) begun x) unseen r n
   drops m n d p job begun a x r unseen f step = by x.next refl
     where
       stays : IsStillReadable (readable_at m d) (readable_at n d) x
@@ -73,16 +74,19 @@ module _ (steps : EachStepLeavesTheRest) (own : CallsServeTheirDomain) (files : 
       all = all_same m n d x stays f.holds.0.piece
 
       by : (o : Option ℕ) → x.next ≡ o
-          → ComesTo m d p job (at_step (phase.Drops a) begun x) unseen r n (after_dropping x o begun)
+          → ComesTo m d p job (at_step (phase.DroppingWritten a) begun x) unseen r n (after_dropping x o begun)
       by None is =
-          inl (goes steps m n d p job (at_step (phase.Drops a) begun x) (at_step phase.Runs begun x) unseen []
+          inl (goes steps m n d p job (at_step (phase.DroppingWritten a) begun x) (at_step phase.Interpreting begun x)
+          unseen []
           (call.AggDrop a) r f step refl refl refl tt rest.piece
           (λ os. ap (λ (l : List ℕ). l ++ rest_of job begun os) all))
       by (Some b) is =
           let next : NextIsReadable (readable_at n d) x.held (Some b) =
           subst (λ (o : Option ℕ). NextIsReadable (readable_at n d) x.held o) is rest.piece.next in
           let after = without_next x in
-          inl (goes steps m n d p job (at_step (phase.Drops a) begun x) (at_step (phase.Writes b) begun after) unseen []
+          inl
+          (goes steps m n d p job (at_step (phase.DroppingWritten a) begun x)
+          (at_step (phase.Writing b) begun after) unseen []
           (call.AggDrop a) r f step refl refl refl next.0 (
             record {
               piece = record { files = rest.piece.files; within = rest.piece.within; next = tt };
@@ -99,29 +103,32 @@ module _ (steps : EachStepLeavesTheRest) (own : CallsServeTheirDomain) (files : 
           ∙ (sym (rest_text (readable_at n d) x rest.no_text rest.no_places) ∙ all))))
 
   counted : (m n : State) (d p : ℕ) (job : Task) (begun file a : ℕ) (t : Said) (x : Collected) (r : Reply)
-      (unseen : List Outcome → List ℕ) → Feeds m d p job (at_step (phase.Counted file a t) begun x) unseen
+      (unseen : List Outcome → List ℕ) → Feeds m d p job (at_step (phase.DroppingCounted file a t) begun x) unseen
       → StepsTo m (event.Call d (call.AggDrop a)) r n
-      → Comes m d p job (at_step (phase.Counted file a t) begun x) unseen r n
+      → Comes m d p job (at_step (phase.DroppingCounted file a t) begun x) unseen r n
   counted m n d p job begun file a t x r unseen f step =
       let leaves : Leaves m (event.Call d (call.AggDrop a)) n =
       steps.leaves m n (event.Call d (call.AggDrop a)) r step in
       let stays = after_drop steps m n d a r x step f.holds.1 in
-      inl (goes steps m n d p job (at_step (phase.Counted file a t) begun x) (at_step (phase.ShutsToSay file t) begun x)
+      inl (goes steps m n d p job (at_step (phase.DroppingCounted file a t) begun x)
+      (at_step (phase.ClosingCounted file t) begun x)
       unseen [] (call.AggDrop a) r f step refl refl refl
       (f.needs.0.0, f.needs.0.1, leaves.fds d file (on.File f.needs.0.0 f.needs.0.1 Read) f.needs.0.2 refl)
       (gathers_still (readable_at m d) (readable_at n d) x stays f.holds.0)
       (λ os. ap (λ (l : List ℕ). l ++ (said_text t ++ rest_of job begun os)) (all_same m n d x stays f.holds.0.piece)))
 
   swaps : (m n : State) (d p : ℕ) (job : Task) (begun a b : ℕ) (x : Collected) (r : Reply) (unseen : List Outcome
-      → List ℕ) → Feeds m d p job (at_step (phase.Swaps a b) begun x) unseen
-      → StepsTo m (event.Call d (call.AggDrop a)) r n → Comes m d p job (at_step (phase.Swaps a b) begun x) unseen r n
+      → List ℕ) → Feeds m d p job (at_step (phase.DroppingTaken a b) begun x) unseen
+      → StepsTo m (event.Call d (call.AggDrop a)) r n
+      → Comes m d p job (at_step (phase.DroppingTaken a b) begun x) unseen r n
   swaps m n d p job begun a b x r unseen f step =
       let has = f.needs.0 in
       let stays = after_drop steps m n d a r x step f.holds.1 in
       let now =
       readable-stays steps m n (event.Call d (call.AggDrop a)) r step d b has.0 has.1
       (and_false (d == d) (a == b) (not-equal a b f.needs.1)) in
-      inl (goes steps m n d p job (at_step (phase.Swaps a b) begun x) (at_step (phase.Writes b) begun x) unseen []
+      inl (goes steps m n d p job (at_step (phase.DroppingTaken a b) begun x) (at_step (phase.Writing b) begun x) unseen
+      []
       (call.AggDrop a) r f step refl refl refl
       (has.0, now) (rest_still m n d x stays f.holds.0, f.holds.2)
       (λ os. ap (λ (l : List ℕ). l ++ then_rest job begun (readable_at n d) x os) (same_bytes m n d b has.0 has.1 now)
@@ -131,13 +138,13 @@ module _ (steps : EachStepLeavesTheRest) (own : CallsServeTheirDomain) (files : 
   -- ---- a file is closed
 
   shuts : (m n : State) (d p : ℕ) (job : Task) (begun file a : ℕ) (x : Collected) (r : Reply) (unseen : List Outcome
-      → List ℕ) → Feeds m d p job (at_step (phase.Shuts file a) begun x) unseen
+      → List ℕ) → Feeds m d p job (at_step (phase.ClosingFile file a) begun x) unseen
       → StepsTo m (event.Call d (call.Close file)) r n
-      → Comes m d p job (at_step (phase.Shuts file a) begun x) unseen r n
+      → Comes m d p job (at_step (phase.ClosingFile file a) begun x) unseen r n
   shuts m n d p job begun file a x r unseen f step = by_len (nat_le (length (bytes_at (readable_at n d) a)) 4096)
     where
       s : Step
-      s = at_step (phase.Shuts file a) begun x
+      s = at_step (phase.ClosingFile file a) begun x
 
       from : ℕ
       from = length (bytes_of_one (readable_at n d) x.held)
@@ -178,7 +185,7 @@ module _ (steps : EachStepLeavesTheRest) (own : CallsServeTheirDomain) (files : 
       small : (o : Option ℕ) → x.held ≡ o
           → ComesTo m d p job s unseen r n (file_collected x o from a (length (bytes_at (readable_at n d) a)) begun)
       small None is =
-          on_to (at_step phase.Runs begun (with_file x a 0 (length (bytes_at (readable_at n d) a)))) tt
+          on_to (at_step phase.Interpreting begun (with_file x a 0 (length (bytes_at (readable_at n d) a)))) tt
           (file_added (readable_at n d) x a 0 (length (bytes_at (readable_at n d) a)) gathers.piece.within
           gathers.none_next gathers.short (f.needs.1.0, now))
           (λ os. file_in (readable_at n d) (readable_at n d) x a 0 (length (bytes_at (readable_at n d) a)) []
@@ -192,16 +199,17 @@ module _ (steps : EachStepLeavesTheRest) (own : CallsServeTheirDomain) (files : 
 
       large : (t : Bool) → is_nothing x ≡ t
           → ComesTo m d p job s unseen r n
-          (if t then Some (at_step (phase.Writes a) begun x) else Some (at_step phase.Runs begun (with_next x a)))
+          (if t then Some (at_step (phase.Writing a) begun x) else Some
+          (at_step phase.Interpreting begun (with_next x a)))
       large true is =
           let empty = nothing_is x is in
           let none = nothing_collected (readable_at n d) x empty in
-          on_to (at_step (phase.Writes a) begun x) (f.needs.1.0, now)
+          on_to (at_step (phase.Writing a) begun x) (f.needs.1.0, now)
           (record { piece = gathers.piece; no_text = empty.text; no_places = empty.places }, f.holds.1)
           (λ os. ap (λ (l : List ℕ). bytes_at (readable_at n d) a ++ (l ++ rest_of job begun os)) none
           ∙ ap (λ (l : List ℕ). l ++ (bytes_at (readable_at n d) a ++ rest_of job begun os)) (sym none))
       large false is =
-          on_to (at_step phase.Runs begun (with_next x a)) tt
+          on_to (at_step phase.Interpreting begun (with_next x a)) tt
           (record {
             files = gathers.piece.files;
             within = gathers.piece.within;
@@ -220,21 +228,21 @@ module _ (steps : EachStepLeavesTheRest) (own : CallsServeTheirDomain) (files : 
       by_len : (t : Bool)
           → ComesTo m d p job s unseen r n
           (if t then file_collected x x.held from a (length (bytes_at (readable_at n d) a)) begun
-          else (if is_nothing x then Some (at_step (phase.Writes a) begun x) else Some
-          (at_step phase.Runs begun (with_next x a))))
+          else (if is_nothing x then Some (at_step (phase.Writing a) begun x) else Some
+          (at_step phase.Interpreting begun (with_next x a))))
       by_len true = small x.held refl
       by_len false = large (is_nothing x) refl
 
   shuts_to_say : (m n : State) (d p : ℕ) (job : Task) (begun file : ℕ) (t : Said) (x : Collected) (r : Reply)
-      (unseen : List Outcome → List ℕ) → Feeds m d p job (at_step (phase.ShutsToSay file t) begun x) unseen
+      (unseen : List Outcome → List ℕ) → Feeds m d p job (at_step (phase.ClosingCounted file t) begun x) unseen
       → StepsTo m (event.Call d (call.Close file)) r n
-      → Comes m d p job (at_step (phase.ShutsToSay file t) begun x) unseen r n
+      → Comes m d p job (at_step (phase.ClosingCounted file t) begun x) unseen r n
   shuts_to_say m n d p job begun file t x r unseen f step =
       let stays = still_readable steps m n d (call.Close file) r x step (λ b one. refl) in
       let gathers = gathers_still (readable_at m d) (readable_at n d) x stays f.holds in
       inl
-      (goes steps m n d p job (at_step (phase.ShutsToSay file t) begun x)
-      (at_step phase.Runs begun (with_text x (said_text t))) unseen [] (call.Close file) r f step refl
+      (goes steps m n d p job (at_step (phase.ClosingCounted file t) begun x)
+      (at_step phase.Interpreting begun (with_text x (said_text t))) unseen [] (call.Close file) r f step refl
       (and_false (d == d) (file == job.fd) (not-equal file job.fd (not_output m d file job.fd p f.needs f.open_on)))
       (no_end m d file p f.needs)
       tt (text_added (readable_at n d) x (said_text t) gathers.piece)
@@ -267,7 +275,8 @@ module _ (steps : EachStepLeavesTheRest) (own : CallsServeTheirDomain) (files : 
           (after_joining x from len begun r)
       by (reply.Agg b) step did =
           inl (goes steps m n d p job (at_step (phase.JoiningFile held a from len) begun x)
-          (at_step phase.Runs begun (with_file x b from len)) unseen [] (call.AggJoin held a) (reply.Agg b) f step refl
+          (at_step phase.Interpreting begun (with_file x b from len)) unseen [] (call.AggJoin held a) (reply.Agg b) f
+          step refl
           refl refl
           tt (file_added (readable_at n d) x b from len h.gathers.piece.within h.gathers.none_next h.gathers.short
           (there.0 ++ h.is_readable.0, did.0))
@@ -282,21 +291,22 @@ module _ (steps : EachStepLeavesTheRest) (own : CallsServeTheirDomain) (files : 
   -- ---- bytes are cut off
 
   cuts : (m n : State) (d p : ℕ) (job : Task) (begun a from to : ℕ) (x : Collected) (r : Reply) (unseen : List Outcome
-      → List ℕ) → IsOrderly m → Feeds m d p job (at_step (phase.Cuts a from to) begun x) unseen
+      → List ℕ) → IsOrderly m → Feeds m d p job (at_step (phase.CuttingRest a from to) begun x) unseen
       → StepsTo m (event.Call d (call.AggCut a from to)) r n
-      → Comes m d p job (at_step (phase.Cuts a from to) begun x) unseen r n
+      → Comes m d p job (at_step (phase.CuttingRest a from to) begun x) unseen r n
   cuts m n d p job begun a from to x r unseen order f step =
       by r step (own.cut m n d a from to f.needs.0 r order f.needs.1 step)
     where
       by : (r : Reply) → StepsTo m (event.Call d (call.AggCut a from to)) r n
           → o.Makes m d (slice_range f.needs.0 from to) r n
-          → ComesTo m d p job (at_step (phase.Cuts a from to) begun x) unseen r n (after_cutting x a begun r)
+          → ComesTo m d p job (at_step (phase.CuttingRest a from to) begun x) unseen r n (after_cutting x a begun r)
       by (reply.Agg b) step did =
           let differ : a ≢ b = λ same. (let e = ap (λ k. readable_at m d k) same in let had = f.needs.1 in let new =
           did.1 in absurd (cc (e, had, new))) in
           let text : slice_range f.needs.0 from to ≡ drop from f.needs.0 = range_to_end f.needs.0 from to f.needs.2 in
           let stays = still_readable steps m n d (call.AggCut a from to) (reply.Agg b) x step (λ c one. refl) in
-          inl (goes steps m n d p job (at_step (phase.Cuts a from to) begun x) (at_step (phase.Swaps a b) begun x)
+          inl (goes steps m n d p job (at_step (phase.CuttingRest a from to) begun x)
+          (at_step (phase.DroppingTaken a b) begun x)
           unseen [] (call.AggCut a from to) (reply.Agg b) f step refl refl refl
           ((slice_range f.needs.0 from to, did.0), differ) (
             rest_still m n d x stays f.holds.0,
@@ -314,9 +324,9 @@ module _ (steps : EachStepLeavesTheRest) (own : CallsServeTheirDomain) (files : 
   -- ---- bytes are written
 
   writes : (m n : State) (d p : ℕ) (job : Task) (begun a : ℕ) (x : Collected) (r : Reply) (unseen : List Outcome
-      → List ℕ) → IsOrderly m → Feeds m d p job (at_step (phase.Writes a) begun x) unseen
+      → List ℕ) → IsOrderly m → Feeds m d p job (at_step (phase.Writing a) begun x) unseen
       → StepsTo m (event.Call d (call.IolWrite job.fd a)) r n
-      → Comes m d p job (at_step (phase.Writes a) begun x) unseen r n
+      → Comes m d p job (at_step (phase.Writing a) begun x) unseen r n
   writes m n d p job begun a x r unseen order f step =
       by r step (own.write_pipe m n d job.fd p a f.needs.0 r order f.open_on f.needs.1 step)
     where
@@ -360,7 +370,9 @@ module _ (steps : EachStepLeavesTheRest) (own : CallsServeTheirDomain) (files : 
       counted_by : (k : ℕ) → StepsTo m (event.Call d (call.IolWrite job.fd a)) (reply.Count k) n
           → o.PutsInPipe m p f.needs.0 k n → (t : Bool) → (k == length (bytes_at (readable_at n d) a)) ≡ t
           → Feeds n d p job
-          (at_step (if t then phase.Drops a else phase.Cuts a k (length (bytes_at (readable_at n d) a))) begun x)
+          (at_step
+          (if t then phase.DroppingWritten a else phase.CuttingRest a k (length (bytes_at (readable_at n d) a)))
+          begun x)
           unseen
       counted_by k step did t test =
           by_test t test (readable-stays steps m n (event.Call d (call.IolWrite job.fd a)) (reply.Count k) step d a
@@ -373,15 +385,17 @@ module _ (steps : EachStepLeavesTheRest) (own : CallsServeTheirDomain) (files : 
 
           by_test : (t : Bool) → (k == length (bytes_at (readable_at n d) a)) ≡ t → readable_at n d a ≡ Some f.needs.0
               → Feeds n d p job
-              (at_step (if t then phase.Drops a else phase.Cuts a k (length (bytes_at (readable_at n d) a))) begun
+              (at_step
+              (if t then phase.DroppingWritten a else phase.CuttingRest a k (length (bytes_at (readable_at n d) a)))
+              begun
               x) unseen
           by_test true test now =
               let len = ap (λ (l : List ℕ). length l) (is_bytes n d a f.needs.0 now) in
               let all : k ≡ length f.needs.0 = grind (arith, nat_tests, test, len) in
-              put k step did (at_step (phase.Drops a) begun x) (f.needs.0, now) (rest, f.holds.1)
+              put k step did (at_step (phase.DroppingWritten a) begun x) (f.needs.0, now) (rest, f.holds.1)
               (λ os. sym (ap (λ (l : List ℕ). l ++ then_now os) (drop_all f.needs.0 k all)))
           by_test false test now =
-              put k step did (at_step (phase.Cuts a k (length (bytes_at (readable_at n d) a))) begun x) (
+              put k step did (at_step (phase.CuttingRest a k (length (bytes_at (readable_at n d) a))) begun x) (
                 f.needs.0,
                 now,
                 ap (λ (l : List ℕ). length l) (is_bytes n d a f.needs.0 now),
@@ -389,7 +403,7 @@ module _ (steps : EachStepLeavesTheRest) (own : CallsServeTheirDomain) (files : 
               (λ os. ap (λ (l : List ℕ). drop k l ++ then_now os) (is_bytes n d a f.needs.0 now))
 
       by : (r : Reply) → StepsTo m (event.Call d (call.IolWrite job.fd a)) r n → o.WritesPipe m p f.needs.0 r n
-          → ComesTo m d p job (at_step (phase.Writes a) begun x) unseen r n
+          → ComesTo m d p job (at_step (phase.Writing a) begun x) unseen r n
           (after_writing x a (length (bytes_at (readable_at n d) a)) begun r)
       by (reply.Count k) step did = inl (counted_by k step did (k == length (bytes_at (readable_at n d) a)) refl)
       by (reply.Refused not_so.BrokenPipe) step did =
@@ -400,9 +414,9 @@ module _ (steps : EachStepLeavesTheRest) (own : CallsServeTheirDomain) (files : 
   -- ---- a file is read
 
   reads : (m n : State) (d p : ℕ) (job : Task) (begun file : ℕ) (u : Purpose) (x : Collected) (r : Reply)
-      (unseen : List Outcome → List ℕ) → IsOrderly m → Feeds m d p job (at_step (phase.Reads file u) begun x) unseen
+      (unseen : List Outcome → List ℕ) → IsOrderly m → Feeds m d p job (at_step (phase.Reading file u) begun x) unseen
       → StepsTo m (event.Call d (call.IolRead file 16777216)) r n
-      → Comes m d p job (at_step (phase.Reads file u) begun x) unseen r n
+      → Comes m d p job (at_step (phase.Reading file u) begun x) unseen r n
   reads m n d p job begun file u x r unseen order f step =
       by u r f step (files.reads_file m n d file f.needs.number f.needs.place 16777216 Read r order f.live f.needs.may
       refl f.needs.open_on step)
@@ -422,14 +436,14 @@ module _ (steps : EachStepLeavesTheRest) (own : CallsServeTheirDomain) (files : 
           → IsStillReadable (readable_at m d) (readable_at n d) x
       stays r step = still_readable steps m n d (call.IolRead file 16777216) r x step (λ c one. refl)
 
-      by : (u : Purpose) (r : Reply) → Feeds m d p job (at_step (phase.Reads file u) begun x) unseen
+      by : (u : Purpose) (r : Reply) → Feeds m d p job (at_step (phase.Reading file u) begun x) unseen
           → StepsTo m (event.Call d (call.IolRead file 16777216)) r n
           → fl.ReadsFile m d file f.needs.number f.needs.place Read text r n
-          → ComesTo m d p job (at_step (phase.Reads file u) begun x) unseen r n
+          → ComesTo m d p job (at_step (phase.Reading file u) begun x) unseen r n
           (after_reading (readable_at n d) x file u begun r)
       by purpose.Cat (reply.Agg a) g step did =
-          inl (goes steps m n d p job (at_step (phase.Reads file purpose.Cat) begun x)
-          (at_step (phase.Shuts file a) begun x) unseen (Found (bytes_at (readable_at n d) a) ∷ [])
+          inl (goes steps m n d p job (at_step (phase.Reading file purpose.Cat) begun x)
+          (at_step (phase.ClosingFile file a) begun x) unseen (Found (bytes_at (readable_at n d) a) ∷ [])
           (call.IolRead file 16777216) (reply.Agg a) g step refl untouched (no_end m d file p opened)
           ((f.needs.number, f.needs.place + length text, did.moves), (text, did.is_readable)) (
             gathers_still (readable_at m d) (readable_at n d) x (stays (reply.Agg a) step) g.holds,
@@ -438,8 +452,9 @@ module _ (steps : EachStepLeavesTheRest) (own : CallsServeTheirDomain) (files : 
           (λ os. ap (λ (l : List ℕ). l ++ (bytes_at (readable_at n d) a ++ rest_of job begun os))
           (all_same m n d x (stays (reply.Agg a) step) g.holds.piece)))
       by purpose.Wc (reply.Agg a) g step did =
-          inl (goes steps m n d p job (at_step (phase.Reads file purpose.Wc) begun x)
-          (at_step (phase.Counted file a (said.Counted (counts_of (bytes_at (readable_at n d) a)))) begun x) unseen
+          inl (goes steps m n d p job (at_step (phase.Reading file purpose.Wc) begun x)
+          (at_step (phase.DroppingCounted file a (said.Counted (counts_of (bytes_at (readable_at n d) a)))) begun x)
+          unseen
           (Found (bytes_at (readable_at n d) a) ∷ []) (call.IolRead file 16777216) (reply.Agg a) g step refl untouched
           (no_end m d file p opened)
           ((f.needs.number, f.needs.place + length text, did.moves), (text, did.is_readable)) (
@@ -452,8 +467,9 @@ module _ (steps : EachStepLeavesTheRest) (own : CallsServeTheirDomain) (files : 
           ++ rest_of job begun os)) (all_same m n d x (stays (reply.Agg a) step) g.holds.piece)))
       by u (reply.Refused y) g step did =
           inl
-          (goes steps m n d p job (at_step (phase.Reads file u) begun x)
-          (at_step (phase.ShutsToSay file (said.Refused y)) begun x) unseen (Failed y ∷ []) (call.IolRead file 16777216)
+          (goes steps m n d p job (at_step (phase.Reading file u) begun x)
+          (at_step (phase.ClosingCounted file (said.Refused y)) begun x) unseen (Failed y ∷ [])
+          (call.IolRead file 16777216)
           (reply.Refused y) g step refl untouched (no_end m d file p opened)
           (f.needs.number, f.needs.place, ap (λ (s : State). descriptor s d file) did.1 ∙ f.needs.open_on)
           (gathers_still (readable_at m d) (readable_at n d) x (stays (reply.Refused y) step) g.holds)
@@ -483,16 +499,16 @@ module _ (steps : EachStepLeavesTheRest) (own : CallsServeTheirDomain) (files : 
 
   used_by : (job : Task) (x : Collected) (begun : ℕ) (readable : ℕ → Option (List ℕ)) (o : Option Line) (r : Reply)
       → slice_get job.lines begun ≡ o → is_expected x o ≡ false
-      → resolved job (at_step phase.Runs begun x) readable r ≡ resolved_open o r
+      → resolved job (at_step phase.Interpreting begun x) readable r ≡ resolved_open o r
   used_by job x begun readable o r is expected = ap (λ (l : Option Line). resolved_begun (is_expected x l) l r) is
       ∙ ap (λ (t : Bool). resolved_begun t o r) expected
 
   opens : (m n : State) (d p : ℕ) (job : Task) (begun : ℕ) (u : Purpose) (name : List ℕ) (x : Collected) (r : Reply)
-      (unseen : List Outcome → List ℕ) → Feeds m d p job (at_step phase.Runs begun x) unseen
+      (unseen : List Outcome → List ℕ) → Feeds m d p job (at_step phase.Interpreting begun x) unseen
       → Gathers (readable_at m d) x → StepsTo m (event.Call d (call.OpenFile name Read)) r n
       → ((os : List Outcome) → rest_of job begun os ≡ by_first (put_out u) (rest_of job (begun + 1)) os)
-      → resolved job (at_step phase.Runs begun x) (readable_at n d) r ≡ failed r
-      → ComesTo m d p job (at_step phase.Runs begun x) unseen r n (after_opening x u (begun + 1) r)
+      → resolved job (at_step phase.Interpreting begun x) (readable_at n d) r ≡ failed r
+      → ComesTo m d p job (at_step phase.Interpreting begun x) unseen r n (after_opening x u (begun + 1) r)
   opens m n d p job begun u name x r unseen f g step same used =
       by r step used (files.opens m n d name Read r f.live step)
     where
@@ -505,16 +521,19 @@ module _ (steps : EachStepLeavesTheRest) (own : CallsServeTheirDomain) (files : 
           ⊎ (Ends m d p unseen r v n ⊎ ((pipe_at n p).reading ≡ false))
 
       by : (r : Reply) → StepsTo m (event.Call d (call.OpenFile name Read)) r n
-          → resolved job (at_step phase.Runs begun x) (readable_at n d) r ≡ failed r → fl.Opening m d name Read r n
-          → ComesTo m d p job (at_step phase.Runs begun x) unseen r n (after_opening x u (begun + 1) r)
+          → resolved job (at_step phase.Interpreting begun x) (readable_at n d) r ≡ failed r
+          → fl.Opening m d name Read r n
+          → ComesTo m d p job (at_step phase.Interpreting begun x) unseen r n (after_opening x u (begun + 1) r)
       by (reply.Fd file) step used did =
           let leaves : Leaves m (event.Call d (call.OpenFile name Read)) n =
           steps.leaves m n (event.Call d (call.OpenFile name Read)) (reply.Fd file) step in
           let same_file : file_of n did.file_is ≡ file_of m did.file_is =
           file-same m n did.file_is (leaves.files refl).0 in
-          subst (λ (l : List Outcome). ComesUsing (reply.Fd file) (at_step (phase.Reads file u) (begun + 1) x) l)
+          subst (λ (l : List Outcome). ComesUsing (reply.Fd file) (at_step (phase.Reading file u) (begun + 1) x) l)
           (sym used)
-          (inl (goes steps m n d p job (at_step phase.Runs begun x) (at_step (phase.Reads file u) (begun + 1) x) unseen
+          (inl
+          (goes steps m n d p job (at_step phase.Interpreting begun x)
+          (at_step (phase.Reading file u) (begun + 1) x) unseen
           [] (call.OpenFile name Read) (reply.Fd file) f step refl refl refl
           (record {
             number = did.file_is;
@@ -532,10 +551,10 @@ module _ (steps : EachStepLeavesTheRest) (own : CallsServeTheirDomain) (files : 
           let gathers = gathers_still (readable_at m d) (readable_at n d) x (stays (reply.Refused y) step) g in
           subst
           (λ (l : List Outcome). ComesUsing (reply.Refused y)
-          (at_step phase.Runs (begun + 1) (with_text x (said_text (said.Refused y)))) l) (sym used)
+          (at_step phase.Interpreting (begun + 1) (with_text x (said_text (said.Refused y)))) l) (sym used)
           (inl
-          (goes steps m n d p job (at_step phase.Runs begun x)
-          (at_step phase.Runs (begun + 1) (with_text x (said_text (said.Refused y)))) unseen (Failed y ∷ [])
+          (goes steps m n d p job (at_step phase.Interpreting begun x)
+          (at_step phase.Interpreting (begun + 1) (with_text x (said_text (said.Refused y)))) unseen (Failed y ∷ [])
           (call.OpenFile name Read) (reply.Refused y) f step refl refl refl
           tt (text_added (readable_at n d) x (said_text (said.Refused y)) gathers.piece)
           (λ os. said_behind (readable_at n d) x (said_text (said.Refused y)) (rest_of job (begun + 1) os) gathers
@@ -547,19 +566,21 @@ module _ (steps : EachStepLeavesTheRest) (own : CallsServeTheirDomain) (files : 
 
   -- a text is collected: no call is needed, and none that is made matters
   collects : (m n : State) (d p : ℕ) (job : Task) (begun : ℕ) (said : List ℕ) (x : Collected) (r : Reply)
-      (unseen : List Outcome → List ℕ) → Feeds m d p job (at_step phase.Runs begun x) unseen
+      (unseen : List Outcome → List ℕ) → Feeds m d p job (at_step phase.Interpreting begun x) unseen
       → Gathers (readable_at m d) x → StepsTo m (event.Call d (call.SetPool 3)) r n
       → ((os : List Outcome) → rest_of job begun os ≡ said ++ rest_of job (begun + 1) os)
-      → resolved job (at_step phase.Runs begun x) (readable_at n d) r ≡ []
-      → ComesTo m d p job (at_step phase.Runs begun x) unseen r n
-      (Some (at_step phase.Runs (begun + 1) (with_text x said)))
+      → resolved job (at_step phase.Interpreting begun x) (readable_at n d) r ≡ []
+      → ComesTo m d p job (at_step phase.Interpreting begun x) unseen r n
+      (Some (at_step phase.Interpreting (begun + 1) (with_text x said)))
   collects m n d p job begun said x r unseen f g step same used =
       let stays = still_readable steps m n d (call.SetPool 3) r x step (λ c one. refl) in
       let gathers = gathers_still (readable_at m d) (readable_at n d) x stays g in
-      subst (λ (l : List Outcome). Feeds n d p job (at_step phase.Runs (begun + 1) (with_text x said))
-      (λ os. unseen (l ++ os)) ⊎ (Ends m d p unseen r (at_step phase.Runs (begun + 1) (with_text x said)) n
+      subst (λ (l : List Outcome). Feeds n d p job (at_step phase.Interpreting (begun + 1) (with_text x said))
+      (λ os. unseen (l ++ os)) ⊎ (Ends m d p unseen r (at_step phase.Interpreting (begun + 1) (with_text x said)) n
       ⊎ ((pipe_at n p).reading ≡ false))) (sym used)
-      (inl (goes steps m n d p job (at_step phase.Runs begun x) (at_step phase.Runs (begun + 1) (with_text x said))
+      (inl
+      (goes steps m n d p job (at_step phase.Interpreting begun x)
+      (at_step phase.Interpreting (begun + 1) (with_text x said))
       unseen [] (call.SetPool 3) r f step refl refl refl
       tt (text_added (readable_at n d) x said gathers.piece)
       (λ os. said_behind (readable_at n d) x said (rest_of job (begun + 1) os) gathers
@@ -567,9 +588,9 @@ module _ (steps : EachStepLeavesTheRest) (own : CallsServeTheirDomain) (files : 
       ∙ ap (λ (l : List ℕ). collected (readable_at m d) x ++ l) (sym (same os))))))
 
   begins : (m n : State) (d p : ℕ) (job : Task) (begun : ℕ) (x : Collected) (r : Reply) (unseen : List Outcome
-      → List ℕ) (l : Option Line) → IsOrderly m → Feeds m d p job (at_step phase.Runs begun x) unseen
+      → List ℕ) (l : Option Line) → IsOrderly m → Feeds m d p job (at_step phase.Interpreting begun x) unseen
       → slice_get job.lines begun ≡ l → is_expected x l ≡ false → StepsTo m (event.Call d (next_call job l)) r n
-      → ComesTo m d p job (at_step phase.Runs begun x) unseen r n (after_next job x l begun r)
+      → ComesTo m d p job (at_step phase.Interpreting begun x) unseen r n (after_next job x l begun r)
   begins m n d p job begun x r unseen None order f is expected step = inr (inl (record {
     free = refl;
     all =
@@ -607,10 +628,11 @@ module _ (steps : EachStepLeavesTheRest) (own : CallsServeTheirDomain) (files : 
       (used_by job x begun (readable_at n d) (Some (line.Wc name)) r is expected)
   begins m n d p job begun x r unseen (Some line.Pause) order f is expected step =
       let stays = still_readable steps m n d (call.SetPool 3) r x step (λ c one. refl) in
-      subst (λ (l : List Outcome). Feeds n d p job (at_step phase.Runs (begun + 1) x) (λ os. unseen (l ++ os))
-      ⊎ (Ends m d p unseen r (at_step phase.Runs (begun + 1) x) n ⊎ ((pipe_at n p).reading ≡ false)))
+      subst (λ (l : List Outcome). Feeds n d p job (at_step phase.Interpreting (begun + 1) x) (λ os. unseen (l ++ os))
+      ⊎ (Ends m d p unseen r (at_step phase.Interpreting (begun + 1) x) n ⊎ ((pipe_at n p).reading ≡ false)))
       (sym (used_by job x begun (readable_at n d) (Some line.Pause) r is expected))
-      (inl (goes steps m n d p job (at_step phase.Runs begun x) (at_step phase.Runs (begun + 1) x) unseen []
+      (inl (goes steps m n d p job (at_step phase.Interpreting begun x) (at_step phase.Interpreting (begun + 1) x)
+      unseen []
       (call.SetPool 3) r f step refl refl refl tt
       (piece_kept (readable_at m d) (readable_at n d) (length x.text) x stays f.holds)
       (λ os. ap (λ (l : List ℕ). l ++ rest_of job (begun + 1) os) (all_same m n d x stays f.holds)
@@ -619,10 +641,10 @@ module _ (steps : EachStepLeavesTheRest) (own : CallsServeTheirDomain) (files : 
 
   -- what is collected is made, where that is expected, or the next line begun
   runs : (m n : State) (d p : ℕ) (job : Task) (begun : ℕ) (x : Collected) (r : Reply) (unseen : List Outcome
-      → List ℕ) (t : Bool) → IsOrderly m → Feeds m d p job (at_step phase.Runs begun x) unseen
+      → List ℕ) (t : Bool) → IsOrderly m → Feeds m d p job (at_step phase.Interpreting begun x) unseen
       → expected_now job x begun ≡ t
       → StepsTo m (event.Call d (if t then call.AggMake x.text else next_call job (slice_get job.lines begun))) r n
-      → ComesTo m d p job (at_step phase.Runs begun x) unseen r n
+      → ComesTo m d p job (at_step phase.Interpreting begun x) unseen r n
       (if t then after_making x begun r else after_next job x (slice_get job.lines begun) begun r)
   runs m n d p job begun x r unseen true order f expected step =
       makes steps own m n d p job begun x r unseen order f
@@ -633,15 +655,15 @@ module _ (steps : EachStepLeavesTheRest) (own : CallsServeTheirDomain) (files : 
   by_phase : (m n : State) (d p : ℕ) (job : Task) (begun : ℕ) (x : Collected) (y : Phase) (r : Reply)
       (unseen : List Outcome → List ℕ) → IsOrderly m → Feeds m d p job (at_step y begun x) unseen
       → StepsTo m (event.Call d (call_at job (at_step y begun x))) r n → Comes m d p job (at_step y begun x) unseen r n
-  by_phase m n d p job begun x phase.Runs r unseen order f did =
+  by_phase m n d p job begun x phase.Interpreting r unseen order f did =
       runs m n d p job begun x r unseen (expected_now job x begun) order f refl did
-  by_phase m n d p job begun x (phase.Reads file u) r unseen order f did =
+  by_phase m n d p job begun x (phase.Reading file u) r unseen order f did =
       reads m n d p job begun file u x r unseen order f did
-  by_phase m n d p job begun x (phase.Counted file a t) r unseen order f did =
+  by_phase m n d p job begun x (phase.DroppingCounted file a t) r unseen order f did =
       counted m n d p job begun file a t x r unseen f did
-  by_phase m n d p job begun x (phase.Shuts file a) r unseen order f did =
+  by_phase m n d p job begun x (phase.ClosingFile file a) r unseen order f did =
       shuts m n d p job begun file a x r unseen f did
-  by_phase m n d p job begun x (phase.ShutsToSay file t) r unseen order f did =
+  by_phase m n d p job begun x (phase.ClosingCounted file t) r unseen order f did =
       shuts_to_say m n d p job begun file t x r unseen f did
   by_phase m n d p job begun x (phase.JoiningFile held a from len) r unseen order f did =
       joins m n d p job begun held a from len x r unseen order f did
@@ -653,11 +675,14 @@ module _ (steps : EachStepLeavesTheRest) (own : CallsServeTheirDomain) (files : 
       drops_text steps own m n d p job begun a part b x r unseen f did
   by_phase m n d p job begun x (phase.DroppingPart part b) r unseen order f did =
       drops_part steps own m n d p job begun part b x r unseen f did
-  by_phase m n d p job begun x (phase.Writes a) r unseen order f did = writes m n d p job begun a x r unseen order f did
-  by_phase m n d p job begun x (phase.Cuts a from to) r unseen order f did =
+  by_phase m n d p job begun x (phase.Writing a) r unseen order f did =
+      writes m n d p job begun a x r unseen order f did
+  by_phase m n d p job begun x (phase.CuttingRest a from to) r unseen order f did =
       cuts m n d p job begun a from to x r unseen order f did
-  by_phase m n d p job begun x (phase.Swaps a b) r unseen order f did = swaps m n d p job begun a b x r unseen f did
-  by_phase m n d p job begun x (phase.Drops a) r unseen order f did = drops m n d p job begun a x r unseen f did
+  by_phase m n d p job begun x (phase.DroppingTaken a b) r unseen order f did =
+      swaps m n d p job begun a b x r unseen f did
+  by_phase m n d p job begun x (phase.DroppingWritten a) r unseen order f did =
+      drops m n d p job begun a x r unseen f did
   by_phase m n d p job begun x y r unseen order f did = absurd f.needs
 
   pub feeds_on : FeedsOn

@@ -57,7 +57,7 @@ text_taken w (b ∷ bs) agg job is = ap (λ (o : Option Task). with_job w o agg)
 
 -- one that runs a script is given no other job
 given_none : (m : State) (d : ℕ) (x : Phase) (r : Reply) → Needs m d x → is_given x r ≡ false
-given_none m d phase.Waits r h = absurd h
+given_none m d phase.Waiting r h = absurd h
 given_none m d x r h = refl
 
 abbrev pub process_slot_at : ℕ → Worker → Reply → ProcessSlot Worker
@@ -200,7 +200,7 @@ module _ (feeds_on : FeedsOn) (taken : JobsAreTaken) (true_to : OutcomesAreTrue)
             → Feeds m d p w.job (or_again (after_reply w.job w.step (readable_at m d) l) w.step) unseen
             → files w x l (readable_at m d) t v
             → WentFrom m n d p v r unseen w.job (or_again (after_reply w.job w.step (readable_at m d) l) w.step)
-        filed phase.Waits (reply.Agg a) at g did =
+        filed phase.Waiting (reply.Agg a) at g did =
             let none : after_reply w.job w.step (readable_at m d) (reply.Agg a) ≡ None =
             ap (λ (y : Phase). after_phase (readable_at m d) w.job w.step.piece w.step.begun y (reply.Agg a)) at in
             absurd (subst (λ (y : Phase). Needs m d y) (ap (λ (o : Option Step). (or_again o w.step).phase) none ∙ at)
@@ -210,7 +210,7 @@ module _ (feeds_on : FeedsOn) (taken : JobsAreTaken) (true_to : OutcomesAreTrue)
     -- ---- it has read its job
 
     reads : (w : Worker) (last : Reply) (unseen : List Outcome → List ℕ) (job : Task) (a : ℕ)
-        → w.step.phase ≡ phase.Waits → w.standing ≡ standing.Asked
+        → w.step.phase ≡ phase.Waiting → w.standing ≡ standing.Asked
         → last ≡ reply.Agg a → Begins m d p job a unseen → works w last (readable_at m d) t v
         → Went m n d p v r unseen (outcomes_in m d job.lines) (Unit {0})
     reads w last unseen job a waits asked is begins did =
@@ -225,7 +225,7 @@ module _ (feeds_on : FeedsOn) (taken : JobsAreTaken) (true_to : OutcomesAreTrue)
 
         took : takes w (bytes_at (readable_at m d) a) a t v
         took =
-            subst (λ (l : Reply). files w phase.Waits l (readable_at m d) t v) is
+            subst (λ (l : Reply). files w phase.Waiting l (readable_at m d) t v) is
             (subst (λ (x : Phase). files w x last (readable_at m d) t v) waits filed)
 
     -- ---- its job waits
@@ -267,18 +267,18 @@ module _ (feeds_on : FeedsOn) (taken : JobsAreTaken) (true_to : OutcomesAreTrue)
         }
 
         -- a worker that was refused a job is free
-        free_of : (x : Worker) (y : Reply) → x.standing ≡ standing.Asked → x.step.phase ≡ phase.Waits
-            → is_given phase.Waits y ≡ false → r ≡ y → IsFree n (process_slot_at d x r)
+        free_of : (x : Worker) (y : Reply) → x.standing ≡ standing.Asked → x.step.phase ≡ phase.Waiting
+            → is_given phase.Waiting y ≡ false → r ≡ y → IsFree n (process_slot_at d x r)
         free_of x y asked at un is = record {
           not_over = ap (λ (s : Standing). is_over s) asked;
           waits = ap (λ (s : Standing). (filed_step s x (readable_at n d) r).phase) asked
               ∙ (ap
               (λ (z : Phase). (or_again (after_phase (readable_at n d) x.job x.step.piece x.step.begun z r)
               x.step).phase) at ∙ at);
-          not_given = λ e. ap (λ (z : Phase). is_given z r) at ∙ (ap (λ (l : Reply). is_given phase.Waits l) is ∙ un);
+          not_given = λ e. ap (λ (z : Phase). is_given z r) at ∙ (ap (λ (l : Reply). is_given phase.Waiting l) is ∙ un);
         }
 
-        read : (x : Worker) → v ≡ x → x.standing ≡ standing.Asked → x.step.phase ≡ phase.Waits → (l : Reply) → r ≡ l
+        read : (x : Worker) → v ≡ x → x.standing ≡ standing.Asked → x.step.phase ≡ phase.Waiting → (l : Reply) → r ≡ l
             → StepsTo m (event.Call d (call.IolRead 0 65536)) l n → ReadsPipe m d h.jobs 65536 l n
             → Went m n d p v r unseen (outcomes_in m d h.lines) (Unit {0})
         read x v_is asked at (reply.Agg a) is step takes =
@@ -302,14 +302,14 @@ module _ (feeds_on : FeedsOn) (taken : JobsAreTaken) (true_to : OutcomesAreTrue)
         read x v_is asked at l is step did = absurd did
 
         asks_now : (x : Worker) → t ≡ turn.Make (call_at x.job x.step) → v ≡ x → x.standing ≡ standing.Asked
-            → x.step.phase ≡ phase.Waits → Went m n d p v r unseen (outcomes_in m d h.lines) (Unit {0})
+            → x.step.phase ≡ phase.Waiting → Went m n d p v r unseen (outcomes_in m d h.lines) (Unit {0})
         asks_now x is v_is asked at =
             let make : t ≡ turn.Make (call.IolRead 0 65536) =
             is ∙ ap (λ (z : Phase). turn.Make (phase_call x.job x.step.piece x.step.begun z)) at in
             let step = (subst (λ (u : Turn). ComesOf copying worker_turns m d u yields r n) make comes).1 in
             read x v_is asked at r refl step (own.read_pipe m n d 0 h.jobs 65536 r order h.has.jobs step)
 
-        on : (o : Option Step) → w.standing ≡ standing.Asked → (or_again o w.step).phase ≡ phase.Waits
+        on : (o : Option Step) → w.standing ≡ standing.Asked → (or_again o w.step).phase ≡ phase.Waiting
             → proceeds w o t v → Went m n d p v r unseen (outcomes_in m d h.lines) (Unit {0})
         on (Some next) asked waits did = asks_now (record w { step = next }) did.0 did.1 asked waits
         on None asked waits did =
@@ -317,14 +317,14 @@ module _ (feeds_on : FeedsOn) (taken : JobsAreTaken) (true_to : OutcomesAreTrue)
             (record { not_over = refl; waits = waits; not_given = λ e. absurd (cc (e)) }) (yielded did.0)
 
         filed : (x : Phase) (l : Reply) → w.standing ≡ standing.Asked
-            → (or_again (after_reply w.job w.step (readable_at m d) l) w.step).phase ≡ phase.Waits
+            → (or_again (after_reply w.job w.step (readable_at m d) l) w.step).phase ≡ phase.Waiting
             → is_given x l ≡ false
             → files w x l (readable_at m d) t v → Went m n d p v r unseen (outcomes_in m d h.lines) (Unit {0})
-        filed phase.Waits (reply.Agg a) asked waits un did = absurd (cc (un))
+        filed phase.Waiting (reply.Agg a) asked waits un did = absurd (cc (un))
         filed x l asked waits un did = on (after_reply w.job w.step (readable_at m d) l) asked waits did
 
         by : (s : Standing) → w.standing ≡ s → is_over s ≡ false
-            → (filed_step s w (readable_at m d) last).phase ≡ phase.Waits
+            → (filed_step s w (readable_at m d) last).phase ≡ phase.Waiting
             → (s ≡ standing.Asked → is_given w.step.phase last ≡ false)
             → works_as s w last (readable_at m d) t v → Went m n d p v r unseen (outcomes_in m d h.lines) (Unit {0})
         by standing.Over is goes waits un did = absurd (cc (goes))

@@ -133,7 +133,7 @@ module _ (labels : LabelsFollow) (steps : EachStepLeavesTheRest) (files : FileCa
       by (Some held) is (Some place) = (lies, (subst (λ (o : Option ℕ). OneLies pools n d o) is lies.0, made))
 
   after_made : (x : Collected) (begun : ℕ) (r : Reply) → PieceLies pools m d x
-      → StepsTo m (event.Call d (call.AggMake x.text)) r n → LiesAfter (after_making x begun r) x phase.Runs
+      → StepsTo m (event.Call d (call.AggMake x.text)) r n → LiesAfter (after_making x begun r) x phase.Interpreting
   after_made x begun (reply.Agg a) lies step =
       interleaved_lies (without_text x) begun a
       (piece_kept (call.AggMake x.text) (reply.Agg a) x (made_here x.text) step lies)
@@ -141,7 +141,7 @@ module _ (labels : LabelsFollow) (steps : EachStepLeavesTheRest) (files : FileCa
   after_made x begun r lies step = (piece_kept (call.AggMake x.text) r x (made_here x.text) step lies, tt)
 
   opened_file : (name : List ℕ) (fd : ℕ) → own_files.OpensFile m d name Read fd n → n.files ≡ m.files
-      → PhaseLies pools n d (phase.Reads fd purpose.Cat)
+      → PhaseLies pools n d (phase.Reading fd purpose.Cat)
   opened_file name fd h same f at mode is =
       let number : f ≡ h.file_is = same_file f at mode h.file_is (sym is ∙ h.open_on) in
       ap (λ k. pools (file n k).pool) number
@@ -151,7 +151,8 @@ module _ (labels : LabelsFollow) (steps : EachStepLeavesTheRest) (files : FileCa
       same_file f at mode g e = cc
 
   after_opened : (x : Collected) (u : Purpose) (name : List ℕ) (begun : ℕ) (r : Reply) → PieceLies pools m d x
-      → StepsTo m (event.Call d (call.OpenFile name Read)) r n → LiesAfter (after_opening x u begun r) x phase.Runs
+      → StepsTo m (event.Call d (call.OpenFile name Read)) r n
+      → LiesAfter (after_opening x u begun r) x phase.Interpreting
   after_opened x u name begun (reply.Fd fd) lies step = (
     piece_kept (call.OpenFile name Read) (reply.Fd fd) x refl step lies,
     opened_file name fd (files.opens m n d name Read (reply.Fd fd) live step)
@@ -162,7 +163,7 @@ module _ (labels : LabelsFollow) (steps : EachStepLeavesTheRest) (files : FileCa
   after_opened x u name begun r lies step = (piece_kept (call.OpenFile name Read) r x refl step lies, tt)
 
   after_line : (job : Task) (x : Collected) (begun : ℕ) (l : Option Line) (r : Reply) → PieceLies pools m d x
-      → StepsTo m (event.Call d (next_call job l)) r n → LiesAfter (after_next job x l begun r) x phase.Runs
+      → StepsTo m (event.Call d (next_call job l)) r n → LiesAfter (after_next job x l begun r) x phase.Interpreting
   after_line job x begun (Some (line.Emit bytes)) r lies step = (piece_kept (call.SetPool 3) r x refl step lies, tt)
   after_line job x begun (Some line.Query) r lies step = (piece_kept (call.SetPool 3) r x refl step lies, tt)
   after_line job x begun (Some line.Pause) r lies step = (piece_kept (call.SetPool 3) r x refl step lies, tt)
@@ -172,7 +173,7 @@ module _ (labels : LabelsFollow) (steps : EachStepLeavesTheRest) (files : FileCa
 
   after_begun : (job : Task) (x : Collected) (begun : ℕ) (l : Option Line) (r : Reply) (t : Bool)
       → PieceLies pools m d x → StepsTo m (event.Call d (if t then call.AggMake x.text else next_call job l)) r n
-      → LiesAfter (if t then after_making x begun r else after_next job x l begun r) x phase.Runs
+      → LiesAfter (if t then after_making x begun r else after_next job x l begun r) x phase.Interpreting
   after_begun job x begun l r true lies step = after_made x begun r lies step
   after_begun job x begun l r false lies step = after_line job x begun l r lies step
 
@@ -183,7 +184,7 @@ module _ (labels : LabelsFollow) (steps : EachStepLeavesTheRest) (files : FileCa
 
   after_read : (x : Collected) (fd : ℕ) (u : Purpose) (begun : ℕ) (r : Reply) → FromThere (call.IolRead fd 16777216)
       → PieceLies pools m d x → StepsTo m (event.Call d (call.IolRead fd 16777216)) r n
-      → LiesAfter (after_reading (readable_at n d) x fd u begun r) x (phase.Reads fd u)
+      → LiesAfter (after_reading (readable_at n d) x fd u begun r) x (phase.Reading fd u)
   after_read x fd purpose.Cat begun (reply.Agg a) from lies step = (
     piece_kept (call.IolRead fd 16777216) (reply.Agg a) x from step lies,
     new (call.IolRead fd 16777216) (reply.Agg a) a from step (brought a),
@@ -195,7 +196,7 @@ module _ (labels : LabelsFollow) (steps : EachStepLeavesTheRest) (files : FileCa
   after_read x fd u begun r from lies step = (let e = step.1 in absurd (cc (e)))
 
   after_shut : (x : Collected) (fd a from len begun : ℕ) (r : Reply) → PieceLies pools m d x → Lie (text m d a)
-      → StepsTo m (event.Call d (call.Close fd)) r n → LiesAfter (shut_by x from a len begun) x (phase.Shuts fd a)
+      → StepsTo m (event.Call d (call.Close fd)) r n → LiesAfter (shut_by x from a len begun) x (phase.ClosingFile fd a)
   after_shut x fd a from len begun r lies made step = by x.held refl (nat_le len 4096) (is_nothing x)
     where
       piece : PieceLies pools n d x
@@ -205,8 +206,9 @@ module _ (labels : LabelsFollow) (steps : EachStepLeavesTheRest) (files : FileCa
       there = kept (call.Close fd) r a refl step made
 
       by : (o : Option ℕ) → x.held ≡ o → (t u : Bool) → LiesAfter (if t then file_collected x o from a len begun
-          else (if u then Some (at_step (phase.Writes a) begun x) else Some (at_step phase.Runs begun (with_next x a))))
-          x (phase.Shuts fd a)
+          else (if u then Some (at_step (phase.Writing a) begun x) else Some
+          (at_step phase.Interpreting begun (with_next x a))))
+          x (phase.ClosingFile fd a)
       by None is true u = ((there, piece.1), tt)
       by (Some held) is true u = (piece, (subst (λ (o : Option ℕ). OneLies pools n d o) is piece.0, there))
       by o is false true = (piece, there)
@@ -268,13 +270,14 @@ module _ (labels : LabelsFollow) (steps : EachStepLeavesTheRest) (files : FileCa
       )
 
   after_written : (x : Collected) (fd a len begun : ℕ) (r : Reply) → PieceLies pools m d x → Lie (text m d a)
-      → StepsTo m (event.Call d (call.IolWrite fd a)) r n → LiesAfter (after_writing x a len begun r) x (phase.Writes a)
+      → StepsTo m (event.Call d (call.IolWrite fd a)) r n
+      → LiesAfter (after_writing x a len begun r) x (phase.Writing a)
   after_written x fd a len begun (reply.Count k) lies made step = by (k == len)
     where
       piece : PieceLies pools n d x
       piece = piece_kept (call.IolWrite fd a) (reply.Count k) x made step lies
 
-      by : (b : Bool) → LiesIn pools n d x (if b then phase.Drops a else phase.Cuts a k len)
+      by : (b : Bool) → LiesIn pools n d x (if b then phase.DroppingWritten a else phase.CuttingRest a k len)
       by true = (piece, tt)
       by false = (piece, kept (call.IolWrite fd a) (reply.Count k) a made step made)
   after_written x fd a len begun (reply.Refused not_so.BrokenPipe) lies made step =
@@ -284,7 +287,7 @@ module _ (labels : LabelsFollow) (steps : EachStepLeavesTheRest) (files : FileCa
 
   after_cut : (x : Collected) (a from to begun : ℕ) (r : Reply) → PieceLies pools m d x → Lie (text m d a)
       → StepsTo m (event.Call d (call.AggCut a from to)) r n
-      → LiesAfter (after_cutting x a begun r) x (phase.Cuts a from to)
+      → LiesAfter (after_cutting x a begun r) x (phase.CuttingRest a from to)
   after_cut x a from to begun (reply.Agg rest) lies made step = (
     piece_kept (call.AggCut a from to) (reply.Agg rest) x made step lies,
     new (call.AggCut a from to) (reply.Agg rest) rest made step (brought rest),
@@ -293,38 +296,39 @@ module _ (labels : LabelsFollow) (steps : EachStepLeavesTheRest) (files : FileCa
       (piece_kept (call.AggCut a from to) r x made step lies, kept (call.AggCut a from to) r a made step made)
 
   after_dropped : (x : Collected) (a begun : ℕ) (r : Reply) (o : Option ℕ) → x.next ≡ o → PieceLies pools m d x
-      → StepsTo m (event.Call d (call.AggDrop a)) r n → LiesAfter (after_dropping x o begun) x (phase.Drops a)
+      → StepsTo m (event.Call d (call.AggDrop a)) r n → LiesAfter (after_dropping x o begun) x (phase.DroppingWritten a)
   after_dropped x a begun r None is lies step = (piece_kept (call.AggDrop a) r x refl step lies, tt)
   after_dropped x a begun r (Some b) is lies step =
       let piece = piece_kept (call.AggDrop a) r x refl step lies in
       ((piece.0, tt), subst (λ (o : Option ℕ). OneLies pools n d o) is piece.1)
 
   after_broken : (job : Task) (x : Collected) (a begun : ℕ) (r : Reply) (o : Option ℕ) → PieceLies pools m d x
-      → StepsTo m (event.Call d (call.AggDrop a)) r n → LiesAfter (after_breaking job x o begun) x (phase.Breaks a)
+      → StepsTo m (event.Call d (call.AggDrop a)) r n → LiesAfter (after_breaking job x o begun) x (phase.Aborting a)
   after_broken job x a begun r None lies step = (piece_kept (call.AggDrop a) r x refl step lies, tt)
   after_broken job x a begun r (Some b) lies step =
       (let piece = piece_kept (call.AggDrop a) r x refl step lies in ((piece.0, tt), tt))
 
   -- the file that it reads is open
   abbrev FileOpen : Phase → Type 0
-  FileOpen (phase.Reads fd u) = IsFileOpen m d fd
+  FileOpen (phase.Reading fd u) = IsFileOpen m d fd
   FileOpen x = Unit {0}
 
   -- what lies there of a step lies there after its call, the reply taken as filed
   after : (job : Task) (x : Collected) (begun : ℕ) (y : Phase) (r : Reply) → FileOpen y → LiesIn pools m d x y
       → StepsTo m (event.Call d (phase_call job x begun y)) r n
       → LiesAfter (after_phase (readable_at n d) job x begun y r) x y
-  after job x begun phase.Waits r h lies step = tt
-  after job x begun (phase.Skips a) r h lies step = tt
-  after job x begun phase.Runs r h lies step =
+  after job x begun phase.Waiting r h lies step = tt
+  after job x begun (phase.DroppingOther a) r h lies step = tt
+  after job x begun phase.Interpreting r h lies step =
       after_begun job x begun (slice_get job.lines begun) r (expected_now job x begun) lies.0 step
-  after job x begun (phase.Reads fd u) r h lies step =
+  after job x begun (phase.Reading fd u) r h lies step =
       after_read x fd u begun r (file_there fd h.0 h.1 Read h.2 (lies.1 h.0 h.1 Read h.2)) lies.0 step
-  after job x begun (phase.Counted fd a s) r h lies step = (piece_kept (call.AggDrop a) r x refl step lies.0, tt)
-  after job x begun (phase.Shuts fd a) r h lies step =
+  after job x begun (phase.DroppingCounted fd a s) r h lies step =
+      (piece_kept (call.AggDrop a) r x refl step lies.0, tt)
+  after job x begun (phase.ClosingFile fd a) r h lies step =
       after_shut x fd a (length (bytes_of_one (readable_at n d) x.held)) (length (bytes_at (readable_at n d) a)) begun r
       lies.0 lies.1 step
-  after job x begun (phase.ShutsToSay fd s) r h lies step = (piece_kept (call.Close fd) r x refl step lies.0, tt)
+  after job x begun (phase.ClosingCounted fd s) r h lies step = (piece_kept (call.Close fd) r x refl step lies.0, tt)
   after job x begun (phase.JoiningFile held a from len) r h lies step =
       after_joined x held a from len begun r lies.0 lies.1.0 lies.1.1 step
   after job x begun (phase.CuttingPart held a from) r h lies step =
@@ -336,12 +340,12 @@ module _ (labels : LabelsFollow) (steps : EachStepLeavesTheRest) (files : FileCa
   after job x begun (phase.DroppingPart part made) r h lies step =
       interleaved_lies x begun made (piece_kept (call.AggDrop part) r x refl step lies.0)
       (kept (call.AggDrop part) r made refl step lies.1)
-  after job x begun (phase.Writes a) r h lies step = after_written x job.fd a _ begun r lies.0 lies.1 step
-  after job x begun (phase.Cuts a from to) r h lies step = after_cut x a from to begun r lies.0 lies.1 step
-  after job x begun (phase.Swaps a rest) r h lies step =
+  after job x begun (phase.Writing a) r h lies step = after_written x job.fd a _ begun r lies.0 lies.1 step
+  after job x begun (phase.CuttingRest a from to) r h lies step = after_cut x a from to begun r lies.0 lies.1 step
+  after job x begun (phase.DroppingTaken a rest) r h lies step =
       (piece_kept (call.AggDrop a) r x refl step lies.0, kept (call.AggDrop a) r rest refl step lies.1)
-  after job x begun (phase.Drops a) r h lies step = after_dropped x a begun r x.next refl lies.0 step
-  after job x begun (phase.Breaks a) r h lies step = after_broken job x a begun r x.next lies.0 step
+  after job x begun (phase.DroppingWritten a) r h lies step = after_dropped x a begun r x.next refl lies.0 step
+  after job x begun (phase.Aborting a) r h lies step = after_broken job x a begun r x.next lies.0 step
 
   -- ---- its default pool
 
@@ -376,7 +380,7 @@ module _ (labels : LabelsFollow) (steps : EachStepLeavesTheRest) (files : FileCa
 
   default_after : (job : Task) (x : Collected) (begun : ℕ) (y : Phase) (r : Reply)
       → StepsTo m (event.Call d (phase_call job x begun y)) r n → pools (default_pool n d) ≡ true
-  default_after job x begun phase.Runs r step =
+  default_after job x begun phase.Interpreting r step =
       default_begun job x (slice_get job.lines begun) r (expected_now job x begun) step
   default_after job x begun y r step = default_kept (phase_call job x begun y) r refl step
 
@@ -392,9 +396,9 @@ module _ (labels : LabelsFollow) (steps : EachStepLeavesTheRest) (files : FileCa
 
   from_there : (p : ℕ) (job : Task) (x : Collected) (begun : ℕ) (y : Phase) → LiesIn pools m d x y
       → writes_pipe m (event.Call d (phase_call job x begun y)) p ≡ true → FromThere (phase_call job x begun y)
-  from_there p job x begun phase.Runs lies is =
+  from_there p job x begun phase.Interpreting lies is =
       absurd (let e = line_written p job x (slice_get job.lines begun) (expected_now job x begun) in cc (e, is))
-  from_there p job x begun (phase.Writes a) lies is = lies.1
+  from_there p job x begun (phase.Writing a) lies is = lies.1
   from_there p job x begun y lies is = absurd (cc (is))
 
   output_after : (p : ℕ) (job : Task) (x : Collected) (begun : ℕ) (y : Phase) (r : Reply) → LiesIn pools m d x y
@@ -443,7 +447,7 @@ file_open : (labels : LabelsFollow) (steps : EachStepLeavesTheRest) (files : Fil
     (pools : ℕ → Bool) (m n : State) (d : ℕ) (order : IsOrderly m) (live : is_live m d ≡ true)
     (holds : HoldFiles pools m d) (default : pools (default_pool m d) ≡ true)
     (x : Phase) → Needs m d x → FileOpen labels steps files pools_come pools m n d order live holds default x
-file_open labels steps files pools_come pools m n d order live holds default (phase.Reads fd u) h =
+file_open labels steps files pools_come pools m n d order live holds default (phase.Reading fd u) h =
     (h.number, h.place, h.open_on)
 file_open labels steps files pools_come pools m n d order live holds default x h = tt
 
@@ -461,7 +465,7 @@ yields_at w v l readable standing.Asked goes un did = filed w.step.phase l (un r
 
     filed : (x : Phase) (y : Reply) → is_given x y ≡ false → files_reply w x y readable turn.Yield v
         → (v.step ≡ or_again (after_reply w.job w.step readable y) w.step) × (v.standing ≡ standing.Asks)
-    filed phase.Waits (reply.Agg a) given did = absurd (cc (given))
+    filed phase.Waiting (reply.Agg a) given did = absurd (cc (given))
     filed x y given did = on (after_reply w.job w.step readable y) did
 
 module _ (labels : LabelsFollow) (steps : EachStepLeavesTheRest) (files : FileCallsServeTheirDomain)
@@ -501,7 +505,7 @@ module _ (labels : LabelsFollow) (steps : EachStepLeavesTheRest) (files : FileCa
       → v ≡ with_job w (Some job) a
       → ComesOf copying worker_turns m d t yields r n → IsShown pools n p (process_slot_at d v r)
   takes_job t job a asked is v_is comes =
-      let step : Step = record { phase = phase.Drops a; begun = 0; piece = nothing } in
+      let step : Step = record { phase = phase.DroppingWritten a; begun = 0; piece = nothing } in
       shown_after labels steps files pools_come pools m n d order live holds shown.default p v r job step
       (call.AggDrop a)
       (ap (λ (y : Worker). y.job) v_is) (ap (λ (y : Worker). y.step) v_is) (ap (λ (y : Worker). y.standing) v_is
@@ -546,7 +550,7 @@ turns labels steps files pools_come pools m n p process_slot next yields r unsee
         subst (λ (s : Standing). works_as s w process_slot.last (readable_at m process_slot.by) did.turn
         next.process) h.asked goes in
         let took =
-        subst (λ (l : Reply). files_reply w phase.Waits l (readable_at m process_slot.by) did.turn next.process)
+        subst (λ (l : Reply). files_reply w phase.Waiting l (readable_at m process_slot.by) did.turn next.process)
         h.last
         (subst (λ (x : Phase). files_reply w x process_slot.last (readable_at m process_slot.by) did.turn next.process)
         h.waits filed) in
@@ -579,8 +583,8 @@ module _ (labels : LabelsFollow) (steps : EachStepLeavesTheRest) (pools : ℕ �
   lies_still : (a : ℕ) → HasBytes m d a → lie_in pools (text m d a) ≡ true → lie_in pools (text n d a) ≡ true
   lies_still a h lies = subst (λ (t : Text). lie_in pools t ≡ true) (sym (text_stays a h)) lies
 
-  file_still : (fd : ℕ) → IsFileOpen m d fd → PhaseLies pools m d (phase.Reads fd purpose.Cat)
-      → PhaseLies pools n d (phase.Reads fd purpose.Cat)
+  file_still : (fd : ℕ) → IsFileOpen m d fd → PhaseLies pools m d (phase.Reading fd purpose.Cat)
+      → PhaseLies pools n d (phase.Reading fd purpose.Cat)
   file_still fd h lies f at mode is =
       let left = others_leave steps m n d e r placed step other in
       let number : f ≡ h.0 = same_file f at mode h.0 h.1 (sym is ∙ left.fds fd (on.File h.0 h.1 Read) h.2) in
@@ -611,15 +615,16 @@ module _ (labels : LabelsFollow) (steps : EachStepLeavesTheRest) (pools : ℕ �
 
   lies_stay : (x : Collected) (y : Phase) → Needs m d y → HoldsAt (readable_at m d) x y → LiesIn pools m d x y
       → LiesIn pools n d x y
-  lies_stay x phase.Waits h k lies = tt
-  lies_stay x (phase.Skips a) h k lies = absurd h
-  lies_stay x (phase.Breaks a) h k lies = absurd h
-  lies_stay x phase.Runs h k lies = (piece_still (length x.text) x k lies.0, tt)
-  lies_stay x (phase.Reads fd u) h k lies =
+  lies_stay x phase.Waiting h k lies = tt
+  lies_stay x (phase.DroppingOther a) h k lies = absurd h
+  lies_stay x (phase.Aborting a) h k lies = absurd h
+  lies_stay x phase.Interpreting h k lies = (piece_still (length x.text) x k lies.0, tt)
+  lies_stay x (phase.Reading fd u) h k lies =
       (piece_still (length x.text) x k.piece lies.0, file_still fd (h.number, h.place, h.open_on) lies.1)
-  lies_stay x (phase.Counted fd a s) h k lies = (piece_still (length x.text) x k.0.piece lies.0, tt)
-  lies_stay x (phase.ShutsToSay fd s) h k lies = (piece_still (length x.text) x k.piece lies.0, tt)
-  lies_stay x (phase.Shuts fd a) h k lies = (piece_still (length x.text) x k.0.piece lies.0, lies_still a h.1 lies.1)
+  lies_stay x (phase.DroppingCounted fd a s) h k lies = (piece_still (length x.text) x k.0.piece lies.0, tt)
+  lies_stay x (phase.ClosingCounted fd s) h k lies = (piece_still (length x.text) x k.piece lies.0, tt)
+  lies_stay x (phase.ClosingFile fd a) h k lies =
+      (piece_still (length x.text) x k.0.piece lies.0, lies_still a h.1 lies.1)
   lies_stay x (phase.JoiningFile held a from len) h k lies = (
     piece_still (length x.text) x k.gathers.piece lies.0,
     (held_still x held k.gathers.piece.files k.held_is lies.1.0, lies_still a k.is_readable lies.1.1),
@@ -638,20 +643,20 @@ module _ (labels : LabelsFollow) (steps : EachStepLeavesTheRest) (pools : ℕ �
   )
   lies_stay x (phase.DroppingPart part made) h k lies =
       (piece_still (length (bytes_at (readable_at m d) made)) x k.piece lies.0, lies_still made k.is_readable lies.1)
-  lies_stay x (phase.Drops a) h k lies = (piece_still (length x.text) x k.0.piece lies.0, tt)
-  lies_stay x (phase.Writes a) h k lies = (piece_still (length x.text) x k.0.piece lies.0, lies_still a h lies.1)
-  lies_stay x (phase.Cuts a from to) h k lies =
+  lies_stay x (phase.DroppingWritten a) h k lies = (piece_still (length x.text) x k.0.piece lies.0, tt)
+  lies_stay x (phase.Writing a) h k lies = (piece_still (length x.text) x k.0.piece lies.0, lies_still a h lies.1)
+  lies_stay x (phase.CuttingRest a from to) h k lies =
       (piece_still (length x.text) x k.0.piece lies.0, lies_still a (h.0, h.1) lies.1)
-  lies_stay x (phase.Swaps a rest) h k lies =
+  lies_stay x (phase.DroppingTaken a rest) h k lies =
       (piece_still (length x.text) x k.0.piece lies.0, lies_still rest h.0 lies.1)
 
 -- a worker without a step of its own has nothing there
-nothing_lies : (pools : ℕ → Bool) (n : State) (d : ℕ) (x : Collected) (y : Phase) → y ≡ phase.Waits
+nothing_lies : (pools : ℕ → Bool) (n : State) (d : ℕ) (x : Collected) (y : Phase) → y ≡ phase.Waiting
     → LiesIn pools n d x y
 nothing_lies pools n d x y is = subst (λ (z : Phase). LiesIn pools n d x z) (sym is) tt
 
-given_at : (n : State) (d : ℕ) (w : Worker) (last : Reply) → w.standing ≡ standing.Asked → w.step.phase ≡ phase.Waits
-    → (filed_step w.standing w (readable_at n d) last).phase ≡ phase.Waits
+given_at : (n : State) (d : ℕ) (w : Worker) (last : Reply) → w.standing ≡ standing.Asked → w.step.phase ≡ phase.Waiting
+    → (filed_step w.standing w (readable_at n d) last).phase ≡ phase.Waiting
 given_at n d w last asked waits =
     ap (λ (s : Standing). (filed_step s w (readable_at n d) last).phase) asked
     ∙ (ap

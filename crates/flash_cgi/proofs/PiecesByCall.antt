@@ -127,18 +127,19 @@ module _ (steps : EachStepLeavesTheRest) (own : CallsServeTheirDomain) where
       )
 
   pub makes : (m n : State) (d p : ℕ) (job : Task) (begun : ℕ) (x : Collected) (r : Reply) (unseen : List Outcome
-      → List ℕ) → IsOrderly m → (f : Feeds m d p job (at_step phase.Runs begun x) unseen)
-      → resolved job (at_step phase.Runs begun x) (readable_at n d) r ≡ []
+      → List ℕ) → IsOrderly m → (f : Feeds m d p job (at_step phase.Interpreting begun x) unseen)
+      → resolved job (at_step phase.Interpreting begun x) (readable_at n d) r ≡ []
       → StepsTo m (event.Call d (call.AggMake x.text)) r n
-      → ComesTo m d p job (at_step phase.Runs begun x) unseen r n (after_making x begun r)
+      → ComesTo m d p job (at_step phase.Interpreting begun x) unseen r n (after_making x begun r)
   makes m n d p job begun x r unseen order f none step = by r none step (own.make m n d x.text r order step)
     where
-      by : (r : Reply) → resolved job (at_step phase.Runs begun x) (readable_at n d) r ≡ []
+      by : (r : Reply) → resolved job (at_step phase.Interpreting begun x) (readable_at n d) r ≡ []
           → StepsTo m (event.Call d (call.AggMake x.text)) r n → o.Makes m d x.text r n
-          → ComesTo m d p job (at_step phase.Runs begun x) unseen r n (after_making x begun r)
+          → ComesTo m d p job (at_step phase.Interpreting begun x) unseen r n (after_making x begun r)
       by (reply.Agg a) none step did =
           subst (λ (used : List Outcome). ComesUsing used) (sym none)
-          (inl (goes steps m n d p job (at_step phase.Runs begun x) v unseen [] (call.AggMake x.text) (reply.Agg a) f
+          (inl (goes steps m n d p job (at_step phase.Interpreting begun x) v unseen [] (call.AggMake x.text)
+          (reply.Agg a) f
           step refl refl refl
           ready.0 ready.1 (λ os. ready.2 os ∙ ap (λ (l : List ℕ). l ++ rest_of job begun os)
           (ap (λ (l : List ℕ). collected_in (readable_at n d) l x) (is_bytes n d a x.text did.0)

@@ -47,7 +47,7 @@ ends w v last readable t is did = (took.0, ap (λ (x : Worker). x.standing) took
 
     after_reply_agg : takes w (bytes_at readable is.agg) is.agg t v
     after_reply_agg =
-        subst (λ (l : Reply). files w phase.Waits l readable t v) is.read
+        subst (λ (l : Reply). files w phase.Waiting l readable t v) is.read
         (subst (λ (x : Phase). files w x last readable t v) is.waited filed)
 
     took : takes w [] is.agg t v
@@ -70,7 +70,7 @@ only w v last readable t goes did over = by w.standing refl goes did
     with_one (Some job) agg is same = clash (with_job w (Some job) agg) same (ap (λ (s : Standing). is_over s) is)
     with_one None agg is same = clash (with_job w None agg) same (ap (λ (s : Standing). is_over s) is)
 
-    took : (agg : ℕ) (text : List ℕ) → w.step.phase ≡ phase.Waits → w.standing ≡ standing.Asked → last ≡ reply.Agg agg
+    took : (agg : ℕ) (text : List ℕ) → w.step.phase ≡ phase.Waiting → w.standing ≡ standing.Asked → last ≡ reply.Agg agg
         → bytes_at readable agg ≡ text → v ≡ with_text w text agg → ReadNothing w last readable
     took agg [] waits asked is none same =
         record { agg = agg; waited = waits; asked = asked; read = is; nothing = none }
@@ -78,7 +78,7 @@ only w v last readable t goes did over = by w.standing refl goes did
 
     filed : (x : Phase) (l : Reply) → w.step.phase ≡ x → last ≡ l → w.standing ≡ standing.Asked
         → files w x l readable t v → ReadNothing w last readable
-    filed phase.Waits (reply.Agg agg) at is asked did = took agg (bytes_at readable agg) at asked is refl did.1
+    filed phase.Waiting (reply.Agg agg) at is asked did = took agg (bytes_at readable agg) at asked is refl did.1
     filed x l at is asked did = proceeds_so (after_reply w.job w.step readable l) asked did
 
     by : (s : Standing) → w.standing ≡ s → is_over s ≡ false → works_as s w last readable t v

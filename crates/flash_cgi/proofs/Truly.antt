@@ -109,15 +109,15 @@ module _ (steps : EachStepLeavesTheRest) (files : FileCallsServeTheirDomain) whe
 
   made : (m n : State) (d : ℕ) (job : Task) (begun : ℕ) (x : Collected) (r : Reply)
       → outcomes_in m d (drop begun job.lines) ≡ outcomes_in n d (drop begun job.lines)
-      → resolved job (at_step phase.Runs begun x) (readable_at n d) r ≡ []
-      → TrulyTo m d job (at_step phase.Runs begun x) r n (after_making x begun r)
+      → resolved job (at_step phase.Interpreting begun x) (readable_at n d) r ≡ []
+      → TrulyTo m d job (at_step phase.Interpreting begun x) r n (after_making x begun r)
   made m n d job begun x (reply.Agg a) same none =
-      interleaved_truly m n d job begun a (at_step phase.Runs begun x) (reply.Agg a) (without_text x) same none
+      interleaved_truly m n d job begun a (at_step phase.Interpreting begun x) (reply.Agg a) (without_text x) same none
   made m n d job begun x r same none = tt
 
   cut : (m n : State) (d : ℕ) (job : Task) (begun a from to : ℕ) (x : Collected) (r : Reply)
       → outcomes_in m d (drop begun job.lines) ≡ outcomes_in n d (drop begun job.lines)
-      → TrulyTo m d job (at_step (phase.Cuts a from to) begun x) r n (after_cutting x a begun r)
+      → TrulyTo m d job (at_step (phase.CuttingRest a from to) begun x) r n (after_cutting x a begun r)
   cut m n d job begun a from to x (reply.Agg b) same = inl (record { same = same; reads = tt })
   cut m n d job begun a from to x r same = tt
 
@@ -141,18 +141,20 @@ module _ (steps : EachStepLeavesTheRest) (files : FileCallsServeTheirDomain) whe
 
   dropped : (m n : State) (d : ℕ) (job : Task) (begun a : ℕ) (x : Collected) (r : Reply) (o : Option ℕ)
       → outcomes_in m d (drop begun job.lines) ≡ outcomes_in n d (drop begun job.lines)
-      → TrulyTo m d job (at_step (phase.Drops a) begun x) r n (after_dropping x o begun)
+      → TrulyTo m d job (at_step (phase.DroppingWritten a) begun x) r n (after_dropping x o begun)
   dropped m n d job begun a x r (Some b) same = inl (record { same = same; reads = tt })
   dropped m n d job begun a x r None same = inl (record { same = same; reads = tt })
 
   shut : (m n : State) (d : ℕ) (job : Task) (begun file a from len : ℕ) (x : Collected) (r : Reply)
       → outcomes_in m d (drop begun job.lines) ≡ outcomes_in n d (drop begun job.lines)
-      → TrulyTo m d job (at_step (phase.Shuts file a) begun x) r n (shut_by x from a len begun)
+      → TrulyTo m d job (at_step (phase.ClosingFile file a) begun x) r n (shut_by x from a len begun)
   shut m n d job begun file a from len x r same = by x.held (nat_le len 4096) (is_nothing x)
     where
       by : (o : Option ℕ) (t u : Bool)
-          → TrulyTo m d job (at_step (phase.Shuts file a) begun x) r n (if t then file_collected x o from a len begun
-          else (if u then Some (at_step (phase.Writes a) begun x) else Some (at_step phase.Runs begun (with_next x a))))
+          → TrulyTo m d job (at_step (phase.ClosingFile file a) begun x) r n
+          (if t then file_collected x o from a len begun
+          else (if u then Some (at_step (phase.Writing a) begun x) else Some
+          (at_step phase.Interpreting begun (with_next x a))))
       by None true u = inl (record { same = same; reads = tt })
       by (Some held) true u = inl (record { same = same; reads = tt })
       by o false true = inl (record { same = same; reads = tt })
@@ -160,13 +162,16 @@ module _ (steps : EachStepLeavesTheRest) (files : FileCallsServeTheirDomain) whe
 
   written : (m n : State) (d : ℕ) (job : Task) (begun a : ℕ) (x : Collected) (r : Reply)
       → outcomes_in m d (drop begun job.lines) ≡ outcomes_in n d (drop begun job.lines)
-      → TrulyTo m d job (at_step (phase.Writes a) begun x) r n
+      → TrulyTo m d job (at_step (phase.Writing a) begun x) r n
       (after_writing x a (length (bytes_at (readable_at n d) a)) begun r)
   written m n d job begun a x (reply.Count k) same = by (k == length (bytes_at (readable_at n d) a))
     where
       by : (t : Bool)
-          → TrulyTo m d job (at_step (phase.Writes a) begun x) (reply.Count k) n
-          (Some (at_step (if t then phase.Drops a else phase.Cuts a k (length (bytes_at (readable_at n d) a))) begun x))
+          → TrulyTo m d job (at_step (phase.Writing a) begun x) (reply.Count k) n
+          (Some
+          (at_step
+          (if t then phase.DroppingWritten a else phase.CuttingRest a k (length (bytes_at (readable_at n d) a)))
+          begun x))
       by true = inl (record { same = same; reads = tt })
       by false = inl (record { same = same; reads = tt })
   written m n d job begun a x (reply.Refused not_so.BrokenPipe) same = inl (record { same = same; reads = tt })
@@ -178,8 +183,8 @@ module _ (steps : EachStepLeavesTheRest) (files : FileCallsServeTheirDomain) whe
       → outcomes_in m d (drop begun job.lines) ≡ outcome_in m d name ∷ outcomes_in m d (drop (begun + 1) job.lines)
       → ((k : ℕ) → outcomes_in m d (drop k job.lines) ≡ outcomes_in n d (drop k job.lines))
       → ((f : ℕ) → content n f ≡ content m f)
-      → resolved job (at_step phase.Runs begun x) (readable_at n d) r ≡ failed r → fl.Opening m d name Read r n
-      → TrulyTo m d job (at_step phase.Runs begun x) r n (after_opening x u (begun + 1) r)
+      → resolved job (at_step phase.Interpreting begun x) (readable_at n d) r ≡ failed r → fl.Opening m d name Read r n
+      → TrulyTo m d job (at_step phase.Interpreting begun x) r n (after_opening x u (begun + 1) r)
   opens m n d job begun u name x (reply.Fd g) line same contents used did =
       let back : begun + 1 - 1 ≡ begun = omega arith in
       let found : outcome_in m d name ≡ Found (content n did.file_is) =
@@ -238,7 +243,7 @@ module _ (steps : EachStepLeavesTheRest) (files : FileCallsServeTheirDomain) whe
       → ((k : ℕ) → outcomes_in m d (drop k job.lines) ≡ outcomes_in n d (drop k job.lines))
       → length (content m g.number) ≤ 16777216
       → fl.ReadsFile m d fd g.number 0 Read (take 16777216 (drop 0 (content m g.number))) r n
-      → TrulyTo m d job (at_step (phase.Reads fd u) begun x) r n (after_reading (readable_at n d) x fd u begun r)
+      → TrulyTo m d job (at_step (phase.Reading fd u) begun x) r n (after_reading (readable_at n d) x fd u begun r)
   reads m n d job begun fd u x (reply.Agg a) g same short did = by u
     where
       text : bytes_at (readable_at n d) a ≡ content m g.number
@@ -250,7 +255,7 @@ module _ (steps : EachStepLeavesTheRest) (files : FileCallsServeTheirDomain) whe
           ∙ ap (λ (os : List Outcome). Found (bytes_at (readable_at n d) a) ∷ os) (same begun))
 
       by : (u : Purpose)
-          → TrulyTo m d job (at_step (phase.Reads fd u) begun x) (reply.Agg a) n
+          → TrulyTo m d job (at_step (phase.Reading fd u) begun x) (reply.Agg a) n
           (after_reading (readable_at n d) x fd u begun (reply.Agg a))
       by purpose.Cat = inl (record { same = all; reads = tt })
       by purpose.Wc = inl (record { same = all; reads = tt })
@@ -271,15 +276,15 @@ module _ (steps : EachStepLeavesTheRest) (files : FileCallsServeTheirDomain) whe
 
   used_by : (job : Task) (x : Collected) (begun : ℕ) (readable : ℕ → Option (List ℕ)) (o : Option Line) (r : Reply)
       → slice_get job.lines begun ≡ o → is_expected x o ≡ false
-      → resolved job (at_step phase.Runs begun x) readable r ≡ resolved_open o r
+      → resolved job (at_step phase.Interpreting begun x) readable r ≡ resolved_open o r
   used_by job x begun readable o r is expected = ap (λ (l : Option Line). resolved_begun (is_expected x l) l r) is
       ∙ ap (λ (t : Bool). resolved_begun t o r) expected
 
   -- a line that names no file
   passes : (m n : State) (d : ℕ) (job : Task) (begun : ℕ) (x y : Collected) (r : Reply)
       → outcomes_in m d (drop begun job.lines) ≡ outcomes_in n d (drop (begun + 1) job.lines)
-      → resolved job (at_step phase.Runs begun x) (readable_at n d) r ≡ []
-      → TrulyTo m d job (at_step phase.Runs begun x) r n (Some (at_step phase.Runs (begun + 1) y))
+      → resolved job (at_step phase.Interpreting begun x) (readable_at n d) r ≡ []
+      → TrulyTo m d job (at_step phase.Interpreting begun x) r n (Some (at_step phase.Interpreting (begun + 1) y))
   passes m n d job begun x y r same none =
       inl
       (record {
@@ -289,10 +294,10 @@ module _ (steps : EachStepLeavesTheRest) (files : FileCallsServeTheirDomain) whe
       })
 
   begins : (m n : State) (d p : ℕ) (job : Task) (begun : ℕ) (x : Collected) (r : Reply) (unseen : List Outcome
-      → List ℕ) (l : Option Line) → AreFiles m → Feeds m d p job (at_step phase.Runs begun x) unseen
+      → List ℕ) (l : Option Line) → AreFiles m → Feeds m d p job (at_step phase.Interpreting begun x) unseen
       → slice_get job.lines begun ≡ l → is_expected x l ≡ false
       → StepsTo m (event.Call d (next_call job l)) r n
-      → TrulyTo m d job (at_step phase.Runs begun x) r n (after_next job x l begun r)
+      → TrulyTo m d job (at_step phase.Interpreting begun x) r n (after_next job x l begun r)
   begins m n d p job begun x r unseen None good f is expected step =
       inl (record {
         same = ap (λ (ls : List Line). outcomes_in m d ls) (rest-nil job.lines begun is)
@@ -331,10 +336,10 @@ module _ (steps : EachStepLeavesTheRest) (files : FileCallsServeTheirDomain) whe
       (files.opens m n d name Read r f.live step)
 
   runs : (m n : State) (d p : ℕ) (job : Task) (begun : ℕ) (x : Collected) (r : Reply) (unseen : List Outcome
-      → List ℕ) (t : Bool) → AreFiles m → Feeds m d p job (at_step phase.Runs begun x) unseen
+      → List ℕ) (t : Bool) → AreFiles m → Feeds m d p job (at_step phase.Interpreting begun x) unseen
       → expected_now job x begun ≡ t
       → StepsTo m (event.Call d (if t then call.AggMake x.text else next_call job (slice_get job.lines begun))) r n
-      → TrulyTo m d job (at_step phase.Runs begun x) r n
+      → TrulyTo m d job (at_step phase.Interpreting begun x) r n
       (if t then after_making x begun r else after_next job x (slice_get job.lines begun) begun r)
   runs m n d p job begun x r unseen true good f expected step =
       made m n d job begun x r (plain steps m n d job (call.AggMake x.text) r step good refl (λ q. refl) begun)
@@ -347,9 +352,9 @@ module _ (steps : EachStepLeavesTheRest) (files : FileCallsServeTheirDomain) whe
       → Feeds m d p job (at_step y begun x) unseen → ReadsNamed m d job begun y
       → StepsTo m (event.Call d (call_at job (at_step y begun x))) r n
       → TrulyTo m d job (at_step y begun x) r n (after_reply job (at_step y begun x) (readable_at n d) r)
-  by_phase m n d p job begun x phase.Runs r unseen order placed good f g did =
+  by_phase m n d p job begun x phase.Interpreting r unseen order placed good f g did =
       runs m n d p job begun x r unseen (expected_now job x begun) good f refl did
-  by_phase m n d p job begun x (phase.Reads fd u) r unseen order placed good f g did =
+  by_phase m n d p job begun x (phase.Reading fd u) r unseen order placed good f g did =
       reads m n d job begun fd u x r g (plain steps m n d job (call.IolRead fd 16777216) r did good refl (λ q. refl))
       (good.lengths g.number (placed.each d fd g.number 0 Read g.open_on).0)
       (files.reads_file m n d fd g.number 0 16777216 Read r order f.live may refl g.open_on did)
@@ -359,12 +364,12 @@ module _ (steps : EachStepLeavesTheRest) (files : FileCallsServeTheirDomain) whe
 
       may : may_read m d (file m g.number).pool ≡ true
       may = subst (λ k. may_read m d (file m k).pool ≡ true) number f.needs.may
-  by_phase m n d p job begun x (phase.Counted fd a t) r unseen order placed good f g did =
+  by_phase m n d p job begun x (phase.DroppingCounted fd a t) r unseen order placed good f g did =
       inl (record { same = plain steps m n d job (call.AggDrop a) r did good refl (λ q. refl) begun; reads = tt })
-  by_phase m n d p job begun x (phase.Shuts fd a) r unseen order placed good f g did =
+  by_phase m n d p job begun x (phase.ClosingFile fd a) r unseen order placed good f g did =
       shut m n d job begun fd a (length (bytes_of_one (readable_at n d) x.held)) (length (bytes_at (readable_at n d) a))
       x r (plain steps m n d job (call.Close fd) r did good refl (λ q. refl) begun)
-  by_phase m n d p job begun x (phase.ShutsToSay fd t) r unseen order placed good f g did =
+  by_phase m n d p job begun x (phase.ClosingCounted fd t) r unseen order placed good f g did =
       inl (record { same = plain steps m n d job (call.Close fd) r did good refl (λ q. refl) begun; reads = tt })
   by_phase m n d p job begun x (phase.JoiningFile held a from len) r unseen order placed good f g did =
       joined m n d job begun held a from len x r
@@ -380,16 +385,16 @@ module _ (steps : EachStepLeavesTheRest) (files : FileCallsServeTheirDomain) whe
   by_phase m n d p job begun x (phase.DroppingPart part b) r unseen order placed good f g did =
       interleaved_truly m n d job begun b (at_step (phase.DroppingPart part b) begun x) r x
       (plain steps m n d job (call.AggDrop part) r did good refl (λ q. refl) begun) refl
-  by_phase m n d p job begun x (phase.Writes a) r unseen order placed good f g did =
+  by_phase m n d p job begun x (phase.Writing a) r unseen order placed good f g did =
       written m n d job begun a x r
       (plain steps m n d job (call.IolWrite job.fd a) r did good (ap (λ (o : Option Descriptor). is_file o) f.open_on)
       (λ q. refl) begun)
-  by_phase m n d p job begun x (phase.Cuts a from to) r unseen order placed good f g did =
+  by_phase m n d p job begun x (phase.CuttingRest a from to) r unseen order placed good f g did =
       cut m n d job begun a from to x r (plain steps m n d job (call.AggCut a from to) r did good refl (λ q. refl)
       begun)
-  by_phase m n d p job begun x (phase.Swaps a b) r unseen order placed good f g did =
+  by_phase m n d p job begun x (phase.DroppingTaken a b) r unseen order placed good f g did =
       inl (record { same = plain steps m n d job (call.AggDrop a) r did good refl (λ q. refl) begun; reads = tt })
-  by_phase m n d p job begun x (phase.Drops a) r unseen order placed good f g did =
+  by_phase m n d p job begun x (phase.DroppingWritten a) r unseen order placed good f g did =
       dropped m n d job begun a x r x.next (plain steps m n d job (call.AggDrop a) r did good refl (λ q. refl) begun)
   by_phase m n d p job begun x y r unseen order placed good f g did = absurd f.needs
 

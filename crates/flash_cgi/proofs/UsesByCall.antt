@@ -244,10 +244,11 @@ module _ (own : CallsServeTheirDomain) (why : RefusalsTellWhy) (come : Aggregate
             none b given l.0 (ap (λ (o : Option ℕ). is_one o b) is ∙ k.0) l.1);
       }
 
-  made : (begun : ℕ) (x : Collected) (r : Reply) → Had x phase.Runs → StepsTo m (event.Call d (call.AggMake x.text)) r n
+  made : (begun : ℕ) (x : Collected) (r : Reply) → Had x phase.Interpreting
+      → StepsTo m (event.Call d (call.AggMake x.text)) r n
       → HasTo (after_making x begun r)
   made begun x (reply.Agg a) h step =
-      interleaves phase.Runs begun (without_text x) a
+      interleaves phase.Interpreting begun (without_text x) a
       (λ f given un. free_make m n d f x.text (reply.Agg a) step (h.no_fd f given un))
       (λ b given new held next. absent (call.AggMake x.text) (reply.Agg a) b step (both_false (d == d) (a == b) new)
       (h.no_agg b given (either_false (is_one x.held b) (is_one x.next b) held next)))
@@ -291,7 +292,7 @@ module _ (own : CallsServeTheirDomain) (why : RefusalsTellWhy) (come : Aggregate
   }
   joined x held a from len begun r h step = tt
 
-  cuts : (x : Collected) (a from to begun : ℕ) (r : Reply) → Had x (phase.Cuts a from to)
+  cuts : (x : Collected) (a from to begun : ℕ) (r : Reply) → Had x (phase.CuttingRest a from to)
       → StepsTo m (event.Call d (call.AggCut a from to)) r n → HasTo (after_cutting x a begun r)
   cuts x a from to begun (reply.Agg c) h step = record {
     no_fd = λ f given un. free_cut m n d f a from to (reply.Agg c) step (h.no_fd f given un);
@@ -302,11 +303,11 @@ module _ (own : CallsServeTheirDomain) (why : RefusalsTellWhy) (come : Aggregate
   }
   cuts x a from to begun r h step = tt
 
-  writes : (x : Collected) (a len begun : ℕ) (r : Reply) → Had x (phase.Writes a)
+  writes : (x : Collected) (a len begun : ℕ) (r : Reply) → Had x (phase.Writing a)
       → StepsTo m (event.Call d (call.IolWrite job.fd a)) r n → HasTo (after_writing x a len begun r)
   writes x a len begun (reply.Count k) h step = by (k == len)
     where
-      by : (t : Bool) → HasJust n d fds aggs job x (if t then phase.Drops a else phase.Cuts a k len)
+      by : (t : Bool) → HasJust n d fds aggs job x (if t then phase.DroppingWritten a else phase.CuttingRest a k len)
       by true = record {
         no_fd = λ f given un. free_write m n d job.fd f a (reply.Count k) step (h.no_fd f given un);
         no_agg = λ b given un. absent (call.IolWrite job.fd a) (reply.Count k) b step refl (h.no_agg b given un);
@@ -316,10 +317,10 @@ module _ (own : CallsServeTheirDomain) (why : RefusalsTellWhy) (come : Aggregate
         no_agg = λ b given un. absent (call.IolWrite job.fd a) (reply.Count k) b step refl (h.no_agg b given un);
       }
   writes x a len begun (reply.Refused not_so.BrokenPipe) h step =
-      unchanged x x (phase.Writes a) (phase.Breaks a) (λ f un. un) (λ b un. un) step.1 h
+      unchanged x x (phase.Writing a) (phase.Aborting a) (λ f un. un) (λ b un. un) step.1 h
   writes x a len begun r h step = tt
 
-  reads : (x : Collected) (file : ℕ) (u : Purpose) (begun : ℕ) (r : Reply) → Had x (phase.Reads file u)
+  reads : (x : Collected) (file : ℕ) (u : Purpose) (begun : ℕ) (r : Reply) → Had x (phase.Reading file u)
       → StepsTo m (event.Call d (call.IolRead file 16777216)) r n
       → HasTo (after_reading (readable_at n d) x file u begun r)
   reads x file u begun (reply.Agg a) h step = by u
@@ -342,14 +343,14 @@ module _ (own : CallsServeTheirDomain) (why : RefusalsTellWhy) (come : Aggregate
             no_agg = none;
           }
   reads x file u begun (reply.Refused y) h step =
-      unchanged x x (phase.Reads file u) _ (λ f un. un) (λ b un. un) step.1 h
+      unchanged x x (phase.Reading file u) _ (λ f un. un) (λ b un. un) step.1 h
   reads x file u begun r h step = tt
 
   -- a line is begun: no file waits behind what is collected
   abbrev NoNext : Collected → Type 0
   NoNext x = x.next ≡ None
 
-  opens : (x : Collected) (u : Purpose) (name : List ℕ) (begun : ℕ) (r : Reply) → NoNext x → Had x phase.Runs
+  opens : (x : Collected) (u : Purpose) (name : List ℕ) (begun : ℕ) (r : Reply) → NoNext x → Had x phase.Interpreting
       → StepsTo m (event.Call d (call.OpenFile name Read)) r n → HasTo (after_opening x u begun r)
   opens x u name begun (reply.Fd g) none h step = record {
     no_fd = λ f given un. free_open m n d f g name Read step (apart g f (right_of (job.fd == f) (g == f) un))
@@ -360,19 +361,21 @@ module _ (own : CallsServeTheirDomain) (why : RefusalsTellWhy) (come : Aggregate
         (either_false (is_one x.held b) (is_one x.next b) un (ap (λ (o : Option ℕ). is_one o b) none)));
   }
   opens x u name begun (reply.Refused y) none h step =
-      unchanged x _ phase.Runs phase.Runs (λ f un. un) (λ b un. un) step.1 h
+      unchanged x _ phase.Interpreting phase.Interpreting (λ f un. un) (λ b un. un) step.1 h
   opens x u name begun r none h step = tt
 
-  collects : (x : Collected) (said : List ℕ) (begun : ℕ) (r : Reply) → Had x phase.Runs
-      → StepsTo m (event.Call d (call.SetPool 3)) r n → HasTo (Some (at_step phase.Runs begun (with_text x said)))
+  collects : (x : Collected) (said : List ℕ) (begun : ℕ) (r : Reply) → Had x phase.Interpreting
+      → StepsTo m (event.Call d (call.SetPool 3)) r n
+      → HasTo (Some (at_step phase.Interpreting begun (with_text x said)))
   collects x said begun r h step = record {
     no_fd = λ f given un. free_set_pool m n d f 3 r step (h.no_fd f given un);
     no_agg = λ b given un. after_set_pool 3 b r step (h.no_agg b given un);
   }
 
-  begins : (x : Collected) (begun : ℕ) (l : Option Line) (r : Reply) → is_expected x l ≡ false → Had x phase.Runs
+  begins : (x : Collected) (begun : ℕ) (l : Option Line) (r : Reply) → is_expected x l ≡ false
+      → Had x phase.Interpreting
       → StepsTo m (event.Call d (next_call job l)) r n → HasTo (after_next job x l begun r)
-  begins x begun None r expected h step = closes x x phase.Runs phase.Waits job.fd r (λ f differ un. differ)
+  begins x begun None r expected h step = closes x x phase.Interpreting phase.Waiting job.fd r (λ f differ un. differ)
       (λ b un. (let empty = nothing_is x (not_not (is_nothing x) expected) in
       either_false (is_one x.held b) (is_one x.next b) (ap (λ (o : Option ℕ). is_one o b) empty.held)
       (ap (λ (o : Option ℕ). is_one o b) empty.next))) h step
@@ -387,34 +390,35 @@ module _ (own : CallsServeTheirDomain) (why : RefusalsTellWhy) (come : Aggregate
     no_agg = λ b given un. after_set_pool 3 b r step (h.no_agg b given un);
   }
 
-  runs : (x : Collected) (begun : ℕ) (r : Reply) (t : Bool) → expected_now job x begun ≡ t → Had x phase.Runs
+  runs : (x : Collected) (begun : ℕ) (r : Reply) (t : Bool) → expected_now job x begun ≡ t → Had x phase.Interpreting
       → StepsTo m (event.Call d (if t then call.AggMake x.text else next_call job (slice_get job.lines begun))) r n
       → HasTo (if t then after_making x begun r else after_next job x (slice_get job.lines begun) begun r)
   runs x begun r true expected h step = made begun x r h step
   runs x begun r false expected h step = begins x begun (slice_get job.lines begun) r expected h step
 
-  shuts : (x : Collected) (file a from len begun : ℕ) (r : Reply) → Had x (phase.Shuts file a)
+  shuts : (x : Collected) (file a from len begun : ℕ) (r : Reply) → Had x (phase.ClosingFile file a)
       → StepsTo m (event.Call d (call.Close file)) r n → HasTo (shut_by x from a len begun)
   shuts x file a from len begun r h step = by x.held refl (nat_le len 4096) (is_nothing x)
     where
       to : (z : Collected) (v : Phase) → ((f : ℕ) → uses_fd job v f ≡ false → (job.fd == f) ≡ false)
           → ((b : ℕ) → uses_agg z v b ≡ false → ((a == b) || is_one x.held b) ≡ false) → HasJust n d fds aggs job z v
       to z v fewer_fds fewer =
-          closes x z (phase.Shuts file a) v file r
+          closes x z (phase.ClosingFile file a) v file r
           (λ f differ un. either_false (job.fd == f) (file == f) (fewer_fds f un) differ) fewer h step
 
       by : (o : Option ℕ) → x.held ≡ o → (t u : Bool) → HasTo (if t then file_collected x o from a len begun
-          else (if u then Some (at_step (phase.Writes a) begun x) else Some (at_step phase.Runs begun (with_next x a))))
-      by None is true u = to (with_file x a 0 len) phase.Runs (λ f un. un)
+          else (if u then Some (at_step (phase.Writing a) begun x) else Some
+          (at_step phase.Interpreting begun (with_next x a))))
+      by None is true u = to (with_file x a 0 len) phase.Interpreting (λ f un. un)
           (λ b un. (let k = or_parts (a == b) (is_one x.next b) un in
           either_false (a == b) (is_one x.held b) k.0 (ap (λ (o : Option ℕ). is_one o b) is)))
       by (Some held) is true u = to x (phase.JoiningFile held a from len) (λ f un. un)
           (λ b un. (let k = or_parts (held == b) (a == b) un in
           either_false (a == b) (is_one x.held b) k.1 (ap (λ (o : Option ℕ). is_one o b) is ∙ k.0)))
-      by o is false true = to x (phase.Writes a) (λ f un. un)
+      by o is false true = to x (phase.Writing a) (λ f un. un)
           (λ b un. (let k = or_parts (a == b) (is_one x.held b || is_one x.next b) un in
           either_false (a == b) (is_one x.held b) k.0 (or_parts (is_one x.held b) (is_one x.next b) k.1).0))
-      by o is false false = to (with_next x a) phase.Runs (λ f un. un)
+      by o is false false = to (with_next x a) phase.Interpreting (λ f un. un)
           (λ b un. (let k = or_parts (is_one x.held b) (a == b) un in either_false (a == b) (is_one x.held b) k.1 k.0))
 
   -- of what waits behind it
@@ -423,22 +427,24 @@ module _ (own : CallsServeTheirDomain) (why : RefusalsTellWhy) (come : Aggregate
   next_used x o a b is held next =
       either_false (is_one x.held b) (is_one x.next b) held (ap (λ (p : Option ℕ). is_one p b) is ∙ next)
 
-  dropped_on : (x : Collected) (a begun : ℕ) (r : Reply) (o : Option ℕ) → x.next ≡ o → Had x (phase.Drops a)
+  dropped_on : (x : Collected) (a begun : ℕ) (r : Reply) (o : Option ℕ) → x.next ≡ o → Had x (phase.DroppingWritten a)
       → StepsTo m (event.Call d (call.AggDrop a)) r n → HasTo (after_dropping x o begun)
   dropped_on x a begun r None is h step =
-      drops x x (phase.Drops a) phase.Runs a r (λ f un. un)
+      drops x x (phase.DroppingWritten a) phase.Interpreting a r (λ f un. un)
       (λ b differ un. either_false (a == b) (is_one x.held b || is_one x.next b) differ un) h step
-  dropped_on x a begun r (Some c) is h step = drops x (without_next x) (phase.Drops a) (phase.Writes c) a r (λ f un. un)
+  dropped_on x a begun r (Some c) is h step =
+      drops x (without_next x) (phase.DroppingWritten a) (phase.Writing c) a r (λ f un. un)
       (λ b differ un. (let k = or_parts (c == b) (is_one x.held b || false) un in
       either_false (a == b) (is_one x.held b || is_one x.next b) differ
       (next_used x (Some c) a b is (or_parts (is_one x.held b) false k.1).0 k.0))) h step
 
-  broken_on : (x : Collected) (a begun : ℕ) (r : Reply) (o : Option ℕ) → x.next ≡ o → Had x (phase.Breaks a)
+  broken_on : (x : Collected) (a begun : ℕ) (r : Reply) (o : Option ℕ) → x.next ≡ o → Had x (phase.Aborting a)
       → StepsTo m (event.Call d (call.AggDrop a)) r n → HasTo (after_breaking job x o begun)
   broken_on x a begun r None is h step =
-      drops x x (phase.Breaks a) phase.Runs a r (λ f un. un)
+      drops x x (phase.Aborting a) phase.Interpreting a r (λ f un. un)
       (λ b differ un. either_false (a == b) (is_one x.held b || is_one x.next b) differ un) h step
-  broken_on x a begun r (Some c) is h step = drops x (without_next x) (phase.Breaks a) (phase.Breaks c) a r (λ f un. un)
+  broken_on x a begun r (Some c) is h step =
+      drops x (without_next x) (phase.Aborting a) (phase.Aborting c) a r (λ f un. un)
       (λ b differ un. (let k = or_parts (c == b) (is_one x.held b || false) un in
       either_false (a == b) (is_one x.held b || is_one x.next b) differ
       (next_used x (Some c) a b is (or_parts (is_one x.held b) false k.1).0 k.0))) h step
@@ -446,9 +452,9 @@ module _ (own : CallsServeTheirDomain) (why : RefusalsTellWhy) (come : Aggregate
   by_phase : (begun : ℕ) (x : Collected) (y : Phase) (r : Reply) → Had x y
       → StepsTo m (event.Call d (call_at job (at_step y begun x))) r n
       → HasTo (after_reply job (at_step y begun x) (readable_at n d) r)
-  by_phase begun x phase.Waits r h step = tt
-  by_phase begun x phase.Runs r h step = runs x begun r (expected_now job x begun) refl h step
-  by_phase begun x (phase.Reads file u) r h step = reads x file u begun r h step
+  by_phase begun x phase.Waiting r h step = tt
+  by_phase begun x phase.Interpreting r h step = runs x begun r (expected_now job x begun) refl h step
+  by_phase begun x (phase.Reading file u) r h step = reads x file u begun r h step
   by_phase begun x (phase.JoiningFile held a from len) r h step = joined x held a from len begun r h step
   by_phase begun x (phase.CuttingPart held a from) r h step = parted x held a from begun r h step
   by_phase begun x (phase.ReplacingPart a part at) r h step = replaced x a part at begun r h step
@@ -464,23 +470,23 @@ module _ (own : CallsServeTheirDomain) (why : RefusalsTellWhy) (come : Aggregate
       differ
       (either_false (made == b) (is_one x.held b || is_one x.next b) new
       (either_false (is_one x.held b) (is_one x.next b) held next)))))
-  by_phase begun x (phase.Writes a) r h step = writes x a (length (bytes_at (readable_at n d) a)) begun r h step
-  by_phase begun x (phase.Cuts a from to) r h step = cuts x a from to begun r h step
-  by_phase begun x (phase.Skips a) r h step =
-      drops x x (phase.Skips a) phase.Waits a r (λ f un. un) (λ b differ un. differ) h step
-  by_phase begun x (phase.Counted file a s) r h step =
-      drops x x (phase.Counted file a s) (phase.ShutsToSay file s) a r (λ f un. un)
+  by_phase begun x (phase.Writing a) r h step = writes x a (length (bytes_at (readable_at n d) a)) begun r h step
+  by_phase begun x (phase.CuttingRest a from to) r h step = cuts x a from to begun r h step
+  by_phase begun x (phase.DroppingOther a) r h step =
+      drops x x (phase.DroppingOther a) phase.Waiting a r (λ f un. un) (λ b differ un. differ) h step
+  by_phase begun x (phase.DroppingCounted file a s) r h step =
+      drops x x (phase.DroppingCounted file a s) (phase.ClosingCounted file s) a r (λ f un. un)
       (λ b differ un. either_false (a == b) (is_one x.held b) differ un) h step
-  by_phase begun x (phase.Drops a) r h step = dropped_on x a begun r x.next refl h step
-  by_phase begun x (phase.Breaks a) r h step = broken_on x a begun r x.next refl h step
-  by_phase begun x (phase.Swaps a c) r h step =
-      drops x x (phase.Swaps a c) (phase.Writes c) a r (λ f un. un)
+  by_phase begun x (phase.DroppingWritten a) r h step = dropped_on x a begun r x.next refl h step
+  by_phase begun x (phase.Aborting a) r h step = broken_on x a begun r x.next refl h step
+  by_phase begun x (phase.DroppingTaken a c) r h step =
+      drops x x (phase.DroppingTaken a c) (phase.Writing c) a r (λ f un. un)
       (λ b differ un. either_false (a == b) ((c == b) || (is_one x.held b || is_one x.next b)) differ un) h step
-  by_phase begun x (phase.Shuts file a) r h step =
+  by_phase begun x (phase.ClosingFile file a) r h step =
       shuts x file a (length (bytes_of_one (readable_at n d) x.held)) (length (bytes_at (readable_at n d) a)) begun r h
       step
-  by_phase begun x (phase.ShutsToSay file s) r h step =
-      closes x _ (phase.ShutsToSay file s) phase.Runs file r
+  by_phase begun x (phase.ClosingCounted file s) r h step =
+      closes x _ (phase.ClosingCounted file s) phase.Interpreting file r
       (λ f differ un. either_false (job.fd == f) (file == f) un differ)
       (λ b un. (or_parts (is_one x.held b) (is_one x.next b) un).0) h step
 

@@ -92,7 +92,8 @@ module _ (m n : State) (d : ℕ) where
   replaced_again x a part at begun (reply.Refused y) step none = step.1
   replaced_again x a part at begun r step none = (let e = step.1 in absurd (cc (e)))
 
-  job_again : (r : Reply) → StepsTo m (event.Call d (call.IolRead 0 65536)) r n → is_given phase.Waits r ≡ false → n ≡ m
+  job_again : (r : Reply) → StepsTo m (event.Call d (call.IolRead 0 65536)) r n → is_given phase.Waiting r ≡ false
+      → n ≡ m
   job_again (reply.Agg a) step un = absurd (cc (un))
   job_again (reply.Refused x) step un = step.1
   job_again r step un = (let e = step.1 in absurd (cc (e)))
@@ -114,7 +115,8 @@ module _ (m n : State) (d : ℕ) where
   shut_again x from a len begun none = by x.held (nat_le len 4096) (is_nothing x) none
     where
       by : (o : Option ℕ) (t u : Bool) → (if t then file_collected x o from a len begun
-          else (if u then Some (at_step (phase.Writes a) begun x) else Some (at_step phase.Runs begun (with_next x a))))
+          else (if u then Some (at_step (phase.Writing a) begun x) else Some
+          (at_step phase.Interpreting begun (with_next x a))))
           ≡ None → ⊥
       by None true u e = cc (e)
       by (Some held) true u e = cc (e)
@@ -132,11 +134,11 @@ module _ (m n : State) (d : ℕ) where
   same_again : (readable : ℕ → Option (List ℕ)) (job : Task) (x : Collected) (begun : ℕ) (y : Phase) (r : Reply)
       → StepsTo m (event.Call d (phase_call job x begun y)) r n
       → is_given y r ≡ false → after_phase readable job x begun y r ≡ None → n ≡ m
-  same_again readable job x begun phase.Waits r step un none = job_again r step un
-  same_again readable job x begun phase.Runs r step un none =
+  same_again readable job x begun phase.Waiting r step un none = job_again r step un
+  same_again readable job x begun phase.Interpreting r step un none =
       runs_again job x begun (slice_get job.lines begun) r (expected_now job x begun) step none
-  same_again readable job x begun (phase.Reads file u) r step un none = read_again readable x file u begun r step none
-  same_again readable job x begun (phase.Shuts file a) r step un none =
+  same_again readable job x begun (phase.Reading file u) r step un none = read_again readable x file u begun r step none
+  same_again readable job x begun (phase.ClosingFile file a) r step un none =
       absurd (shut_again x (length (bytes_of_one readable x.held)) a (length (bytes_at readable a)) begun none)
   same_again readable job x begun (phase.JoiningFile held a from len) r step un none =
       joined_again x held a from len begun r step none
@@ -144,10 +146,10 @@ module _ (m n : State) (d : ℕ) where
       parted_again x held a from begun r step none
   same_again readable job x begun (phase.ReplacingPart a part at) r step un none =
       replaced_again x a part at begun r step none
-  same_again readable job x begun (phase.Writes a) r step un none = written_again x job.fd a _ begun r step none
-  same_again readable job x begun (phase.Cuts a from to) r step un none = cut_again x a from to begun r step none
-  same_again readable job x begun (phase.Drops a) r step un none = absurd (dropped_again x x.next begun none)
-  same_again readable job x begun (phase.Breaks a) r step un none = absurd (broken_again job x x.next begun none)
+  same_again readable job x begun (phase.Writing a) r step un none = written_again x job.fd a _ begun r step none
+  same_again readable job x begun (phase.CuttingRest a from to) r step un none = cut_again x a from to begun r step none
+  same_again readable job x begun (phase.DroppingWritten a) r step un none = absurd (dropped_again x x.next begun none)
+  same_again readable job x begun (phase.Aborting a) r step un none = absurd (broken_again job x x.next begun none)
   same_again readable job x begun y r step un none = absurd (cc (none))
 
 module _ (own : CallsServeTheirDomain) (why : RefusalsTellWhy) (come : AggregatesComeAndGo)
@@ -175,7 +177,7 @@ module _ (own : CallsServeTheirDomain) (why : RefusalsTellWhy) (come : Aggregate
 
   after : (job : Task) (x : Collected) (begun : ℕ) (y : Phase) (r : Reply) → HasJust m d fds aggs job x y
       → StepsTo m (event.Call d (phase_call job x begun y)) r n → Held job x begun y r
-  after job x begun phase.Waits (reply.Agg a) h step = record {
+  after job x begun phase.Waiting (reply.Agg a) h step = record {
     no_fd = λ f given un. free_read m n d 0 f 65536 (reply.Agg a) step (h.no_fd f given refl);
     no_agg = λ b given un. absent own why come m n d fds aggs job order live (call.IolRead 0 65536) (reply.Agg a) b step
         (both_false (d == d) (a == b) un) (h.no_agg b given refl);
@@ -228,11 +230,12 @@ module _ (own : CallsServeTheirDomain) (why : RefusalsTellWhy) (come : Aggregate
 
       -- it was given a text: what it had collected is nothing
       text : (w : Worker) (x : Collected) (bytes : List ℕ) (a : ℕ) → w.standing ≡ standing.Asked
-          → w.step.phase ≡ phase.Waits → HasJust m d fds aggs w.job x (phase.Skips a) → takes w bytes a t v → Keeps v
+          → w.step.phase ≡ phase.Waiting → HasJust m d fds aggs w.job x (phase.DroppingOther a) → takes w bytes a t v
+          → Keeps v
       text w x [] a asked at h did =
           subst (λ (y : Worker). Keeps y) (sym did.1) (ended (record w { standing = standing.Over }) r refl
           (subst (λ (y : Phase). HasJust n d fds aggs w.job w.step.piece y) (sym at)
-          (drops own why come m n d fds aggs w.job order live x w.step.piece (phase.Skips a) phase.Waits a r
+          (drops own why come m n d fds aggs w.job order live x w.step.piece (phase.DroppingOther a) phase.Waiting a r
           (λ f un. refl) (λ b differ un. differ) h
           (subst (λ (u : Turn). ComesOf copying worker_turns m d u yields r n) did.0 comes).1)))
       text w x (b ∷ bs) a asked at h did = by (job_of (b ∷ bs)) did.0 did.1
@@ -259,7 +262,7 @@ module _ (own : CallsServeTheirDomain) (why : RefusalsTellWhy) (come : Aggregate
           → HasJust m d fds aggs w.job (or_again (after_reply w.job w.step (readable_at m d) l) w.step).piece
           (held_phase standing.Asked x l (or_again (after_reply w.job w.step (readable_at m d) l) w.step))
           → files w x l (readable_at m d) t v → Keeps v
-      filed w phase.Waits (reply.Agg a) at asked h did =
+      filed w phase.Waiting (reply.Agg a) at asked h did =
           text w (or_again (after_reply w.job w.step (readable_at m d) (reply.Agg a)) w.step).piece
           (bytes_at (readable_at m d) a) a asked at h did
       filed w x l at asked h did = on w (after_reply w.job w.step (readable_at m d) l) asked h did

@@ -58,7 +58,7 @@ call_is w v c l readable did = by w.standing did
     took (b ∷ bs) agg did = with_one (job_of (b ∷ bs)) agg did.0 did.1
 
     filed : (d : Phase) (l : Reply) → files w d l readable (turn.Make c) v → IsCallOf c v v.standing
-    filed phase.Waits (reply.Agg agg) did = took (bytes_at readable agg) agg did
+    filed phase.Waiting (reply.Agg agg) did = took (bytes_at readable agg) agg did
     filed d m did = goes (after_reply w.job w.step readable m) did
 
     by : (s : Standing) → works_as s w l readable (turn.Make c) v → IsCallOf c v v.standing
@@ -81,7 +81,7 @@ yield_is w v l readable did = by w.standing did
     goes None did = did.1
 
     filed : (d : Phase) (l : Reply) → files w d l readable turn.Yield v → v ≡ record w { standing = standing.Asks }
-    filed phase.Waits (reply.Agg agg) did = (let e = did.0 in absurd (cc))
+    filed phase.Waiting (reply.Agg agg) did = (let e = did.0 in absurd (cc))
     filed d m did = goes (after_reply w.job w.step readable m) did
 
     by : (s : Standing) → works_as s w l readable turn.Yield v → Yields w v s

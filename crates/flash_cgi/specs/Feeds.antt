@@ -44,18 +44,18 @@ abbrev pub set_in : (text : List ℕ) → (at : ℕ) → (bytes : List ℕ) → 
 set_in text at bytes = take at text ++ (bytes ++ drop at text)
 
 abbrev pub still_phase : Task → (begun : ℕ) → (ℕ → Option (List ℕ)) → Collected → Phase → List Outcome → List ℕ
-still_phase job begun readable x phase.Waits os = []
-still_phase job begun readable x (phase.Skips agg) os = []
-still_phase job begun readable x (phase.Breaks agg) os = []
-still_phase job begun readable x phase.Runs os = then_rest job begun readable x os
-still_phase job begun readable x (phase.Drops agg) os = then_rest job begun readable x os
-still_phase job begun readable x (phase.Reads file p) os =
+still_phase job begun readable x phase.Waiting os = []
+still_phase job begun readable x (phase.DroppingOther agg) os = []
+still_phase job begun readable x (phase.Aborting agg) os = []
+still_phase job begun readable x phase.Interpreting os = then_rest job begun readable x os
+still_phase job begun readable x (phase.DroppingWritten agg) os = then_rest job begun readable x os
+still_phase job begun readable x (phase.Reading file p) os =
     collected readable x ++ by_first (put_out p) (rest_of job begun) os
-still_phase job begun readable x (phase.Counted file agg s) os =
+still_phase job begun readable x (phase.DroppingCounted file agg s) os =
     collected readable x ++ (said_text s ++ rest_of job begun os)
-still_phase job begun readable x (phase.ShutsToSay file s) os =
+still_phase job begun readable x (phase.ClosingCounted file s) os =
     collected readable x ++ (said_text s ++ rest_of job begun os)
-still_phase job begun readable x (phase.Shuts file agg) os =
+still_phase job begun readable x (phase.ClosingFile file agg) os =
     collected readable x ++ (bytes_at readable agg ++ rest_of job begun os)
 still_phase job begun readable x (phase.JoiningFile held agg from len) os =
     collected readable x ++ (bytes_at readable agg ++ rest_of job begun os)
@@ -68,9 +68,10 @@ still_phase job begun readable x (phase.DroppingText agg part made) os =
     collected_in readable (bytes_at readable made) x ++ rest_of job begun os
 still_phase job begun readable x (phase.DroppingPart part made) os =
     collected_in readable (bytes_at readable made) x ++ rest_of job begun os
-still_phase job begun readable x (phase.Writes agg) os = bytes_at readable agg ++ then_rest job begun readable x os
-still_phase job begun readable x (phase.Cuts agg from to) os = drop from (bytes_at readable agg) ++ then_rest job begun readable x os
-still_phase job begun readable x (phase.Swaps agg rest) os = bytes_at readable rest ++ then_rest job begun readable x os
+still_phase job begun readable x (phase.Writing agg) os = bytes_at readable agg ++ then_rest job begun readable x os
+still_phase job begun readable x (phase.CuttingRest agg from to) os = drop from (bytes_at readable agg) ++ then_rest job begun readable x os
+still_phase job begun readable x (phase.DroppingTaken agg rest) os =
+    bytes_at readable rest ++ then_rest job begun readable x os
 
 -- the bytes still to be written, with these outcomes of the files still to be read
 abbrev pub still : Task → (ℕ → Option (List ℕ)) → Step → List Outcome → List ℕ
@@ -93,23 +94,23 @@ abbrev pub IsFileOpen : State → (d fd : ℕ) → Type 0
 IsFileOpen m d fd = (number : ℕ) × (place : ℕ) × (descriptor m d fd ≡ Some (on.File number place Read))
 
 abbrev pub Needs : State → (d : ℕ) → Phase → Type 0
-Needs m d phase.Waits = ⊥
-Needs m d (phase.Skips agg) = ⊥
-Needs m d (phase.Breaks agg) = ⊥
-Needs m d phase.Runs = ⊤
+Needs m d phase.Waiting = ⊥
+Needs m d (phase.DroppingOther agg) = ⊥
+Needs m d (phase.Aborting agg) = ⊥
+Needs m d phase.Interpreting = ⊤
 Needs m d (phase.JoiningFile held agg from len) = ⊤
 Needs m d (phase.CuttingPart held agg from) = ⊤
 Needs m d (phase.ReplacingPart agg part at) = ⊤
 Needs m d (phase.DroppingText agg part made) = ⊤
 Needs m d (phase.DroppingPart part made) = ⊤
-Needs m d (phase.Drops agg) = HasBytes m d agg
-Needs m d (phase.Reads file p) = IsOpenFile m d file
-Needs m d (phase.ShutsToSay file s) = IsFileOpen m d file
-Needs m d (phase.Counted file agg s) = IsFileOpen m d file × HasBytes m d agg
-Needs m d (phase.Shuts file agg) = IsFileOpen m d file × HasBytes m d agg
-Needs m d (phase.Writes agg) = HasBytes m d agg
-Needs m d (phase.Cuts agg from to) = (bytes : List ℕ) × (readable_at m d agg ≡ Some bytes) × (to ≡ length bytes)
-Needs m d (phase.Swaps agg rest) = HasBytes m d rest × (agg ≢ rest)
+Needs m d (phase.DroppingWritten agg) = HasBytes m d agg
+Needs m d (phase.Reading file p) = IsOpenFile m d file
+Needs m d (phase.ClosingCounted file s) = IsFileOpen m d file
+Needs m d (phase.DroppingCounted file agg s) = IsFileOpen m d file × HasBytes m d agg
+Needs m d (phase.ClosingFile file agg) = IsFileOpen m d file × HasBytes m d agg
+Needs m d (phase.Writing agg) = HasBytes m d agg
+Needs m d (phase.CuttingRest agg from to) = (bytes : List ℕ) × (readable_at m d agg ≡ Some bytes) × (to ≡ length bytes)
+Needs m d (phase.DroppingTaken agg rest) = HasBytes m d rest × (agg ≢ rest)
 
 -- The worker in domain d runs a job with its output to pipe p: for all outcomes to come, the pending output is the
 -- bytes in the pipe, followed by the bytes still to be written.
@@ -141,9 +142,9 @@ resolved_begun true l r = []
 resolved_begun false l r = resolved_open l r
 
 abbrev pub resolved_phase : Task → Collected → (begun : ℕ) → (ℕ → Option (List ℕ)) → Phase → Reply → List Outcome
-resolved_phase job x begun readable phase.Runs r =
+resolved_phase job x begun readable phase.Interpreting r =
     resolved_begun (expected_now job x begun) (slice_get job.lines begun) r
-resolved_phase job x begun readable (phase.Reads file p) r = resolved_read readable r
+resolved_phase job x begun readable (phase.Reading file p) r = resolved_read readable r
 resolved_phase job x begun readable d r = []
 
 -- the outcome that a reply settles, if any
@@ -153,7 +154,7 @@ resolved job step readable r = resolved_phase job step.piece step.begun readable
 -- the script is over: all of its output was written, and the pipe's write end is closed
 pub record Ends (m : State) (d p : ℕ) (unseen : List Outcome → List ℕ) (r : Reply) (next : Step) (n : State) :
     Type 0 where
-  pub free : next.phase ≡ phase.Waits
+  pub free : next.phase ≡ phase.Waiting
   pub all : (os : List Outcome) → unseen os ≡ bytes_of (pipe_at m p).queue
   pub done : r ≡ reply.Done
   pub closes : ClosesWriteEnd m p r n

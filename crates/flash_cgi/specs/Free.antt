@@ -38,7 +38,7 @@ pub record WorkersStayFree : Type 0 where
   pub skips : (m n : State) (agg b : ℕ) (bs : List ℕ) (process_slot next : ProcessSlot Worker) (yields : Bool)
       (r : Reply)
       → IsTrue (is_live m process_slot.by)
-      → process_slot.process.step.phase ≡ phase.Waits → process_slot.process.standing ≡ standing.Asked
+      → process_slot.process.step.phase ≡ phase.Waiting → process_slot.process.standing ≡ standing.Asked
       → process_slot.last ≡ reply.Agg agg
       → readable_at m process_slot.by agg ≡ Some (b ∷ bs) → job_of (b ∷ bs) ≡ None
       → ProcessSlotTurn copying worker_turns m process_slot yields r n next

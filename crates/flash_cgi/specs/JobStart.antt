@@ -34,7 +34,7 @@ pub record Begins (m : State) (d p : ℕ) (job : Task) (agg : ℕ) (unseen : Lis
   pub bytes : List ℕ
   pub is_readable : readable_at m d agg ≡ Some bytes
   pub is_job : job_of bytes ≡ Some job
-  pub feeds : Feeds m d p job (record { phase = phase.Drops agg; begun = 0; piece = nothing }) unseen
+  pub feeds : Feeds m d p job (record { phase = phase.DroppingWritten agg; begun = 0; piece = nothing }) unseen
 
 -- Reading a waiting job gives exactly this job, and all of the output of its lines is pending.
 abbrev pub JobsAreTaken : Type 0

@@ -45,8 +45,8 @@ outcomes_in m d (line.Pause ∷ lines) = outcomes_in m d lines
 
 -- the outcomes of the lines with files still to be opened, and of the file that is being read
 abbrev pub to_come_phase : State → (d : ℕ) → Task → (begun : ℕ) → Phase → List Outcome
-to_come_phase m d job begun (phase.Reads file u) = outcomes_in m d (drop (begun - 1) job.lines)
-to_come_phase m d job begun phase.Waits = []
+to_come_phase m d job begun (phase.Reading file u) = outcomes_in m d (drop (begun - 1) job.lines)
+to_come_phase m d job begun phase.Waiting = []
 to_come_phase m d job begun x = outcomes_in m d (drop begun job.lines)
 
 abbrev pub to_come : State → (d : ℕ) → Task → Step → List Outcome
@@ -60,7 +60,7 @@ pub record IsReading (m : State) (d : ℕ) (job : Task) (begun fd : ℕ) : Type 
       ∷ outcomes_in m d (drop begun job.lines)
 
 abbrev pub ReadsNamed : State → (d : ℕ) → Task → (begun : ℕ) → Phase → Type 0
-ReadsNamed m d job begun (phase.Reads file u) = IsReading m d job begun file
+ReadsNamed m d job begun (phase.Reading file u) = IsReading m d job begun file
 ReadsNamed m d job begun x = ⊤
 
 -- the settled outcome is the one that was to come

@@ -41,9 +41,9 @@ PieceLies pools m d x = OneLies pools m d x.held × OneLies pools m d x.next
 
 -- the same for the file that it reads, and the bytes that it writes
 abbrev pub PhaseLies : (pools : ℕ → Bool) → State → (d : ℕ) → Phase → Type 0
-PhaseLies pools m d (phase.Reads fd u) =
+PhaseLies pools m d (phase.Reading fd u) =
     (f at : ℕ) (mode : Mode) → descriptor m d fd ≡ Some (on.File f at mode) → IsTrue (pools (file m f).pool)
-PhaseLies pools m d (phase.Shuts fd a) = IsTrue (lie_in pools (text m d a))
+PhaseLies pools m d (phase.ClosingFile fd a) = IsTrue (lie_in pools (text m d a))
 PhaseLies pools m d (phase.JoiningFile held a from len) =
     IsTrue (lie_in pools (text m d held)) × IsTrue (lie_in pools (text m d a))
 PhaseLies pools m d (phase.CuttingPart held a from) = IsTrue (lie_in pools (text m d held))
@@ -52,14 +52,14 @@ PhaseLies pools m d (phase.ReplacingPart a part at) = IsTrue (lie_in pools (text
     × IsTrue (lie_in pools (text m d part))
 PhaseLies pools m d (phase.DroppingText a part made) = IsTrue (lie_in pools (text m d made))
 PhaseLies pools m d (phase.DroppingPart part made) = IsTrue (lie_in pools (text m d made))
-PhaseLies pools m d (phase.Writes a) = IsTrue (lie_in pools (text m d a))
-PhaseLies pools m d (phase.Cuts a from to) = IsTrue (lie_in pools (text m d a))
-PhaseLies pools m d (phase.Swaps a rest) = IsTrue (lie_in pools (text m d rest))
+PhaseLies pools m d (phase.Writing a) = IsTrue (lie_in pools (text m d a))
+PhaseLies pools m d (phase.CuttingRest a from to) = IsTrue (lie_in pools (text m d a))
+PhaseLies pools m d (phase.DroppingTaken a rest) = IsTrue (lie_in pools (text m d rest))
 PhaseLies pools m d x = ⊤
 
 -- for a worker with a job
 abbrev pub LiesIn : (pools : ℕ → Bool) → State → (d : ℕ) → Collected → Phase → Type 0
-LiesIn pools m d x phase.Waits = ⊤
+LiesIn pools m d x phase.Waiting = ⊤
 LiesIn pools m d x y = PieceLies pools m d x × PhaseLies pools m d y
 
 -- the bytes that it wrote to pipe p, and those that it will make, are in these pools

@@ -88,20 +88,20 @@ pub record DropsText (readable : ℕ → Option (List ℕ)) (x : Collected) (agg
   pub differ : agg ≢ made
 
 abbrev pub HoldsAt : (ℕ → Option (List ℕ)) → Collected → Phase → Type 0
-HoldsAt readable x phase.Waits = ⊤
-HoldsAt readable x (phase.Skips agg) = ⊤
-HoldsAt readable x (phase.Breaks agg) = ⊤
-HoldsAt readable x phase.Runs = HasPiece readable (length x.text) x
-HoldsAt readable x (phase.Reads file p) = Gathers readable x
-HoldsAt readable x (phase.ShutsToSay file s) = Gathers readable x
-HoldsAt readable x (phase.Counted file agg s) = Gathers readable x × IsApart x agg
-HoldsAt readable x (phase.Shuts file agg) = Gathers readable x × IsApart x agg
+HoldsAt readable x phase.Waiting = ⊤
+HoldsAt readable x (phase.DroppingOther agg) = ⊤
+HoldsAt readable x (phase.Aborting agg) = ⊤
+HoldsAt readable x phase.Interpreting = HasPiece readable (length x.text) x
+HoldsAt readable x (phase.Reading file p) = Gathers readable x
+HoldsAt readable x (phase.ClosingCounted file s) = Gathers readable x
+HoldsAt readable x (phase.DroppingCounted file agg s) = Gathers readable x × IsApart x agg
+HoldsAt readable x (phase.ClosingFile file agg) = Gathers readable x × IsApart x agg
 HoldsAt readable x (phase.JoiningFile held agg from len) = Joins readable x held agg from
 HoldsAt readable x (phase.CuttingPart held agg from) = Cuts readable x held agg from
 HoldsAt readable x (phase.ReplacingPart agg part at) = Replaces readable x agg part at
 HoldsAt readable x (phase.DroppingText agg part made) = DropsText readable x agg part made
 HoldsAt readable x (phase.DroppingPart part made) = DropsPart readable x part made
-HoldsAt readable x (phase.Drops agg) = IsRest readable x × IsApart x agg
-HoldsAt readable x (phase.Writes agg) = IsRest readable x × IsApart x agg
-HoldsAt readable x (phase.Cuts agg from to) = IsRest readable x × IsApart x agg
-HoldsAt readable x (phase.Swaps agg rest) = IsRest readable x × IsApart x agg × IsApart x rest
+HoldsAt readable x (phase.DroppingWritten agg) = IsRest readable x × IsApart x agg
+HoldsAt readable x (phase.Writing agg) = IsRest readable x × IsApart x agg
+HoldsAt readable x (phase.CuttingRest agg from to) = IsRest readable x × IsApart x agg
+HoldsAt readable x (phase.DroppingTaken agg rest) = IsRest readable x × IsApart x agg × IsApart x rest

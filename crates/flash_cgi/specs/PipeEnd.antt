@@ -21,7 +21,7 @@ use Rattle.flash_cgi.specs.declared.worker.Worker.{Worker}
 -- it waited for a job, and read no bytes
 pub record ReadNothing (w : Worker) (last : Reply) (readable : ℕ → Option (List ℕ)) : Type 0 where
   pub agg : ℕ
-  pub waited : w.step.phase ≡ phase.Waits
+  pub waited : w.step.phase ≡ phase.Waiting
   pub asked : w.standing ≡ standing.Asked
   pub read : last ≡ reply.Agg agg
   pub nothing : bytes_at readable agg ≡ []

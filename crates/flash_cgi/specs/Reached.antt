@@ -26,14 +26,15 @@ reached x None = None
 -- the steps after which the buffered output is unchanged
 abbrev pub read_after : (ℕ → Option (List ℕ)) → (file : ℕ) → Purpose → (begun : ℕ) → Reply → Option After
 read_after readable file p begun (reply.Agg agg) = after_of (got readable file agg p) begun None
-read_after readable file p begun (reply.Refused why) = after_of (phase.ShutsToSay file (said.Refused why)) begun None
+read_after readable file p begun (reply.Refused why) =
+    after_of (phase.ClosingCounted file (said.Refused why)) begun None
 read_after readable file p begun r = None
 
 abbrev pub written_after : (agg len begun : ℕ) → Reply → Option After
 written_after agg len begun (reply.Count taken) = after_of (taken_of agg taken len) begun None
-written_after agg len begun (reply.Refused BrokenPipe) = after_of (phase.Breaks agg) begun None
+written_after agg len begun (reply.Refused BrokenPipe) = after_of (phase.Aborting agg) begun None
 written_after agg len begun r = None
 
 abbrev pub cut_after : (agg begun : ℕ) → Reply → Option After
-cut_after agg begun (reply.Agg rest) = after_of (phase.Swaps agg rest) begun None
+cut_after agg begun (reply.Agg rest) = after_of (phase.DroppingTaken agg rest) begun None
 cut_after agg begun r = None

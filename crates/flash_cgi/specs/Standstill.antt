@@ -40,5 +40,5 @@ is_over s = false
 -- If a worker waits for a job when all are idle, its job pipe is empty and has a writer.
 abbrev pub WaitingIsEmpty : Type 0
 WaitingIsEmpty = (m : State) (by j : ℕ) (w : Worker) (last : Reply) → HasWaited 2 by w last m
-    → w.step.phase ≡ phase.Waits → IsFalse (is_over w.standing) → descriptor m by 0 ≡ Some (on.ReadEnd j)
+    → w.step.phase ≡ phase.Waiting → IsFalse (is_over w.standing) → descriptor m by 0 ≡ Some (on.ReadEnd j)
     → ((pipe_at m j).queue ≡ []) × IsTrue (pipe_at m j).writing

@@ -44,13 +44,13 @@ step_of m process_slot = filed_step process_slot.process.standing process_slot.p
 
 -- whether a reply gives it a text from its job pipe
 abbrev pub is_given : Phase → Reply → Bool
-is_given phase.Waits (reply.Agg agg) = true
+is_given phase.Waiting (reply.Agg agg) = true
 is_given x r = false
 
 -- The worker in this process slot has no job: its next call reads one.
 pub record IsFree (m : State) (process_slot : ProcessSlot Worker) : Type 0 where
   pub not_over : IsFalse (is_over process_slot.process.standing)
-  pub waits : (step_of m process_slot).phase ≡ phase.Waits
+  pub waits : (step_of m process_slot).phase ≡ phase.Waiting
   pub not_given : process_slot.process.standing ≡ standing.Asked
       → IsFalse (is_given process_slot.process.step.phase process_slot.last)
 
@@ -71,7 +71,7 @@ pub record HasRead (m : State) (p : ℕ) (process_slot : ProcessSlot Worker) (un
     Type 0 where
   pub job : Task
   pub agg : ℕ
-  pub waits : process_slot.process.step.phase ≡ phase.Waits
+  pub waits : process_slot.process.step.phase ≡ phase.Waiting
   pub asked : process_slot.process.standing ≡ standing.Asked
   pub last : process_slot.last ≡ reply.Agg agg
   pub begins : Begins m process_slot.by p job agg unseen

@@ -24,12 +24,12 @@ use Rattle.flash_cgi.specs.declared.worker.Worker.{Worker}
 
 -- whether it uses this descriptor: that of the output, while it has a job, or of an open file
 abbrev pub uses_fd : Task → Phase → (fd : ℕ) → Bool
-uses_fd job phase.Waits fd = false
-uses_fd job (phase.Skips agg) fd = false
-uses_fd job (phase.Reads file p) fd = (job.fd == fd) || (file == fd)
-uses_fd job (phase.Counted file agg s) fd = (job.fd == fd) || (file == fd)
-uses_fd job (phase.Shuts file agg) fd = (job.fd == fd) || (file == fd)
-uses_fd job (phase.ShutsToSay file s) fd = (job.fd == fd) || (file == fd)
+uses_fd job phase.Waiting fd = false
+uses_fd job (phase.DroppingOther agg) fd = false
+uses_fd job (phase.Reading file p) fd = (job.fd == fd) || (file == fd)
+uses_fd job (phase.DroppingCounted file agg s) fd = (job.fd == fd) || (file == fd)
+uses_fd job (phase.ClosingFile file agg) fd = (job.fd == fd) || (file == fd)
+uses_fd job (phase.ClosingCounted file s) fd = (job.fd == fd) || (file == fd)
 uses_fd job x fd = job.fd == fd
 
 abbrev pub is_one : Option ℕ → (agg : ℕ) → Bool
@@ -42,23 +42,23 @@ has_collected x a = is_one x.held a || is_one x.next a
 
 -- whether it uses this aggregate
 abbrev pub uses_agg : Collected → Phase → (agg : ℕ) → Bool
-uses_agg x phase.Waits a = false
-uses_agg x (phase.Skips agg) a = agg == a
-uses_agg x phase.Runs a = has_collected x a
-uses_agg x (phase.Reads file p) a = is_one x.held a
-uses_agg x (phase.ShutsToSay file s) a = is_one x.held a
-uses_agg x (phase.Counted file agg s) a = (agg == a) || is_one x.held a
-uses_agg x (phase.Shuts file agg) a = (agg == a) || is_one x.held a
+uses_agg x phase.Waiting a = false
+uses_agg x (phase.DroppingOther agg) a = agg == a
+uses_agg x phase.Interpreting a = has_collected x a
+uses_agg x (phase.Reading file p) a = is_one x.held a
+uses_agg x (phase.ClosingCounted file s) a = is_one x.held a
+uses_agg x (phase.DroppingCounted file agg s) a = (agg == a) || is_one x.held a
+uses_agg x (phase.ClosingFile file agg) a = (agg == a) || is_one x.held a
 uses_agg x (phase.JoiningFile held agg from len) a = (held == a) || (agg == a)
 uses_agg x (phase.CuttingPart held agg from) a = (held == a) || ((agg == a) || is_one x.next a)
 uses_agg x (phase.ReplacingPart agg part at) a = (agg == a) || ((part == a) || has_collected x a)
 uses_agg x (phase.DroppingText agg part made) a = (agg == a) || ((part == a) || ((made == a) || has_collected x a))
 uses_agg x (phase.DroppingPart part made) a = (part == a) || ((made == a) || has_collected x a)
-uses_agg x (phase.Writes agg) a = (agg == a) || has_collected x a
-uses_agg x (phase.Cuts agg from to) a = (agg == a) || has_collected x a
-uses_agg x (phase.Drops agg) a = (agg == a) || has_collected x a
-uses_agg x (phase.Breaks agg) a = (agg == a) || has_collected x a
-uses_agg x (phase.Swaps agg rest) a = (agg == a) || ((rest == a) || has_collected x a)
+uses_agg x (phase.Writing agg) a = (agg == a) || has_collected x a
+uses_agg x (phase.CuttingRest agg from to) a = (agg == a) || has_collected x a
+uses_agg x (phase.DroppingWritten agg) a = (agg == a) || has_collected x a
+uses_agg x (phase.Aborting agg) a = (agg == a) || has_collected x a
+uses_agg x (phase.DroppingTaken agg rest) a = (agg == a) || ((rest == a) || has_collected x a)
 
 -- in addition to the descriptors and aggregates of these numbers, it has only those that it uses
 pub record HasJust (m : State) (d : ℕ) (fds aggs : ℕ → Bool) (job : Task) (x : Collected) (phase : Phase) : Type 0 where
@@ -70,7 +70,7 @@ pub record HasJust (m : State) (d : ℕ) (fds aggs : ℕ → Bool) (job : Task) 
 -- its phase after its last reply is processed, for the question of what it has: a text just read does not yet count as
 -- a job
 abbrev pub held_phase : Standing → Phase → Reply → Step → Phase
-held_phase standing.Asked phase.Waits (reply.Agg agg) step = phase.Skips agg
+held_phase standing.Asked phase.Waiting (reply.Agg agg) step = phase.DroppingOther agg
 held_phase s x r step = step.phase
 
 abbrev pub KeepsJust : State → (fds aggs : ℕ → Bool) → ProcessSlot Worker → Type 0

@@ -30,7 +30,7 @@ abbrev pub begins_with_bytes : Task → Collected → (begun : ℕ) → Bool
 begins_with_bytes job x begun = if expected_now job x begun then true else next_has_bytes (slice_get job.lines begun)
 
 abbrev pub phase_has_bytes : Task → Collected → (begun : ℕ) → Phase → Bool
-phase_has_bytes job x begun phase.Runs = begins_with_bytes job x begun
+phase_has_bytes job x begun phase.Interpreting = begins_with_bytes job x begun
 phase_has_bytes job x begun d = false
 
 -- whether the call of a step has bytes
@@ -39,15 +39,15 @@ has_bytes job step = phase_has_bytes job step.piece step.begun step.phase
 
 -- whether the buffered output may change after the reply, and is copied
 abbrev pub may_copy : Collected → Phase → Bool
-may_copy x phase.Runs = true
-may_copy x (phase.Shuts file agg) = true
-may_copy x (phase.ShutsToSay file s) = true
+may_copy x phase.Interpreting = true
+may_copy x (phase.ClosingFile file agg) = true
+may_copy x (phase.ClosingCounted file s) = true
 may_copy x (phase.JoiningFile held agg from len) = true
 may_copy x (phase.CuttingPart held agg from) = true
 may_copy x (phase.ReplacingPart agg part place) = true
 may_copy x (phase.DroppingPart part made) = true
-may_copy x (phase.Drops agg) = is_some x.next
-may_copy x (phase.Breaks agg) = is_some x.next
+may_copy x (phase.DroppingWritten agg) = is_some x.next
+may_copy x (phase.Aborting agg) = is_some x.next
 may_copy x d = false
 
 -- it continues with a call that has bytes, or makes its call again
@@ -62,7 +62,7 @@ WantsByReply w last readable = IsFalse (may_copy w.step.piece w.step.phase)
 
 -- it processes a reply: a text of at least one byte is parsed as a job
 abbrev pub WantsToFile : Worker → Phase → Reply → (ℕ → Option (List ℕ)) → Type 0
-WantsToFile w phase.Waits (reply.Agg agg) readable = 0 < length (bytes_at readable agg)
+WantsToFile w phase.Waiting (reply.Agg agg) readable = 0 < length (bytes_at readable agg)
 WantsToFile w d last readable = WantsByReply w last readable
 
 abbrev pub WantsAs : Standing → Worker → Reply → (ℕ → Option (List ℕ)) → Type 0

@@ -20,7 +20,7 @@ use Rattle.flash_cgi.specs.declared.worker.Worker.{Worker}
 -- it waits for a job, and has not yet made the call
 pub record IsNew (w : Worker) : Type 0 where
   pub job : w.job ≡ no_task
-  pub step : w.step ≡ record { phase = phase.Waits; begun = 0; piece = nothing }
+  pub step : w.step ≡ record { phase = phase.Waiting; begun = 0; piece = nothing }
   pub standing : w.standing ≡ standing.Asks
 
 -- it makes the call of its step
@@ -35,8 +35,9 @@ proceeds w None t v = (t ≡ turn.Yield) × (v ≡ record w { standing = standin
 -- the worker with this job, if any, read as the aggregate of this number
 abbrev pub with_job : Worker → Option Task → (agg : ℕ) → Worker
 with_job w (Some job) agg =
-    record w { job = job; step = record { phase = phase.Drops agg; begun = 0; piece = nothing } }
-with_job w None agg = record w { step = record { phase = phase.Skips agg; begun = w.step.begun; piece = w.step.piece } }
+    record w { job = job; step = record { phase = phase.DroppingWritten agg; begun = 0; piece = nothing } }
+with_job w None agg =
+    record w { step = record { phase = phase.DroppingOther agg; begun = w.step.begun; piece = w.step.piece } }
 
 -- the worker that has read this text from its job pipe; an empty text is the pipe's end
 abbrev pub with_text : Worker → (text : List ℕ) → (agg : ℕ) → Worker
@@ -48,7 +49,7 @@ takes w text agg t v = (t ≡ turn.Make (call.AggDrop agg)) × (v ≡ with_text 
 
 -- it processes the reply to its call
 abbrev pub files : Worker → Phase → Reply → (ℕ → Option (List ℕ)) → Turn → Worker → Type 0
-files w phase.Waits (reply.Agg agg) readable t v = takes w (bytes_at readable agg) agg t v
+files w phase.Waiting (reply.Agg agg) readable t v = takes w (bytes_at readable agg) agg t v
 files w d last readable t v = proceeds w (after_reply w.job w.step readable last) t v
 
 abbrev pub works_as : Standing → Worker → Reply → (ℕ → Option (List ℕ)) → Turn → Worker → Type 0

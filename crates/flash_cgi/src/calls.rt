@@ -94,17 +94,17 @@ pub(crate) fn call_of(
 {
     let phase = *phase;
     match phase {
-        Phase::Waits => Ok(Call::IolRead {
+        Phase::Waiting => Ok(Call::IolRead {
             fd: Fd::new(JOBS),
             count: MAX_JOB_BYTES,
         }),
-        Phase::Runs => begin_call(alloc, job, piece, begun),
-        Phase::Reads { file, .. } => Ok(Call::IolRead {
+        Phase::Interpreting => begin_call(alloc, job, piece, begun),
+        Phase::Reading { file, .. } => Ok(Call::IolRead {
             fd: file,
             count: MAX_FILE_BYTES,
         }),
-        Phase::Shuts { file, .. } => Ok(Call::Close { fd: file }),
-        Phase::ShutsToSay { file, .. } => Ok(Call::Close { fd: file }),
+        Phase::ClosingFile { file, .. } => Ok(Call::Close { fd: file }),
+        Phase::ClosingCounted { file, .. } => Ok(Call::Close { fd: file }),
         Phase::JoiningFile { held, agg, .. } => Ok(Call::AggJoin {
             first: held,
             second: agg,
@@ -121,12 +121,12 @@ pub(crate) fn call_of(
         }),
         Phase::DroppingText { agg, .. } => Ok(Call::AggDrop { agg }),
         Phase::DroppingPart { part, .. } => Ok(Call::AggDrop { agg: part }),
-        Phase::Writes { agg } => Ok(Call::IolWrite { fd: job.fd, agg }),
-        Phase::Cuts { agg, from, to } => Ok(Call::AggCut { agg, from, to }),
-        Phase::Skips { agg } => Ok(Call::AggDrop { agg }),
-        Phase::Counted { agg, .. } => Ok(Call::AggDrop { agg }),
-        Phase::Swaps { agg, .. } => Ok(Call::AggDrop { agg }),
-        Phase::Drops { agg } => Ok(Call::AggDrop { agg }),
-        Phase::Breaks { agg } => Ok(Call::AggDrop { agg }),
+        Phase::Writing { agg } => Ok(Call::IolWrite { fd: job.fd, agg }),
+        Phase::CuttingRest { agg, from, to } => Ok(Call::AggCut { agg, from, to }),
+        Phase::DroppingOther { agg } => Ok(Call::AggDrop { agg }),
+        Phase::DroppingCounted { agg, .. } => Ok(Call::AggDrop { agg }),
+        Phase::DroppingTaken { agg, .. } => Ok(Call::AggDrop { agg }),
+        Phase::DroppingWritten { agg } => Ok(Call::AggDrop { agg }),
+        Phase::Aborting { agg } => Ok(Call::AggDrop { agg }),
     }
 }

@@ -14,38 +14,38 @@ pub enum Purpose {
 #[derive(Clone, Copy, Debug)]
 pub enum Phase {
     /// Waits for a job.
-    Waits,
+    Waiting,
 
     /// Drops the aggregate of a text that is no job.
-    Skips {
+    DroppingOther {
         agg: AggId,
     },
 
     /// Makes an aggregate of the buffered text, if it is expected. Otherwise begins the next line,
     /// or closes the output after the last line.
-    Runs,
+    Interpreting,
 
     /// Reads an open file.
-    Reads {
+    Reading {
         file: Fd,
         purpose: Purpose,
     },
 
     /// Drops the bytes of a file, after they were counted.
-    Counted {
+    DroppingCounted {
         file: Fd,
         agg: AggId,
         said: Said,
     },
 
     /// Closes a file whose bytes were read.
-    Shuts {
+    ClosingFile {
         file: Fd,
         agg: AggId,
     },
 
     /// Closes a file, with this result of its `wc` line.
-    ShutsToSay {
+    ClosingCounted {
         file: Fd,
         said: Said,
     },
@@ -86,30 +86,30 @@ pub enum Phase {
     },
 
     /// Writes an aggregate.
-    Writes {
+    Writing {
         agg: AggId,
     },
 
     /// Cuts off the part of an aggregate that was not taken.
-    Cuts {
+    CuttingRest {
         agg: AggId,
         from: u32,
         to: u32,
     },
 
     /// Drops an aggregate after its rest was cut off, to be written.
-    Swaps {
+    DroppingTaken {
         agg: AggId,
         rest: AggId,
     },
 
     /// Drops an aggregate, and continues the script.
-    Drops {
+    DroppingWritten {
         agg: AggId,
     },
 
     /// Drops an aggregate without a reader, and ends the script.
-    Breaks {
+    Aborting {
         agg: AggId,
     },
 }

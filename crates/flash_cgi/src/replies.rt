@@ -61,7 +61,7 @@ fn collect_said(alloc: Global, piece: &Piece, said: Said, begun: usize) -> After
 {
     let text = said.text(alloc)?;
     let piece = piece.with_text(alloc, text.as_slice())?;
-    Ok(with(Phase::Runs, begun, piece))
+    Ok(with(Phase::Interpreting, begun, piece))
 }
 
 // After opening a file, or its refusal.
@@ -77,7 +77,7 @@ fn after_opening(
 {
     match last {
         Reply::Fd(file) => Ok(at(
-            Phase::Reads {
+            Phase::Reading {
                 file: *file,
                 purpose,
             },
@@ -90,10 +90,10 @@ fn after_opening(
 
 // Buffers a text, as a line.
 fn collect_line(alloc: Global, piece: &Piece, text: &[u8], begun: usize) -> AfterReply
-    ensures { IfOk result (λ after. reached piece.now after ≡ spec.at phase.Runs begun (with_line piece.now text.now)) }
+    ensures { IfOk result (λ after. reached piece.now after ≡ spec.at phase.Interpreting begun (with_line piece.now text.now)) }
 {
     let piece = piece.with_line(alloc, text)?;
-    Ok(with(Phase::Runs, begun, piece))
+    Ok(with(Phase::Interpreting, begun, piece))
 }
 
 // After the call that begins a line; `begun` includes this line.
@@ -112,7 +112,7 @@ fn after_line(
         Line::Query => collect_line(alloc, piece, job.query.as_slice(), begun),
         Line::Cat { .. } => after_opening(alloc, piece, Purpose::Cat, begun, last),
         Line::Wc { .. } => after_opening(alloc, piece, Purpose::Wc, begun, last),
-        Line::Pause => Ok(at(Phase::Runs, begun)),
+        Line::Pause => Ok(at(Phase::Interpreting, begun)),
     }
 }
 
@@ -122,7 +122,7 @@ fn interleave(alloc: Global, piece: Piece, agg: AggId, begun: usize) -> Result<S
     ensures { IfOk result (λ step. step ≡ spec.interleave_on begun piece agg) }
 {
     let Some(held) = piece.held else {
-        let phase = Phase::Writes { agg };
+        let phase = Phase::Writing { agg };
         return Ok(Step {
             phase,
             begun,
@@ -132,7 +132,7 @@ fn interleave(alloc: Global, piece: Piece, agg: AggId, begun: usize) -> Result<S
     match piece.last() {
         None => {
             let piece = piece.without_files(alloc)?;
-            let phase = Phase::Swaps {
+            let phase = Phase::DroppingTaken {
                 agg: held,
                 rest: agg,
             };
@@ -180,7 +180,7 @@ fn after_begin(alloc: Global, job: &Job, piece: &Piece, begun: usize, last: &Rep
     }
     match job.script.lines.get(begun) {
         Some(line) => after_line(alloc, job, piece, line, begun + 1, last),
-        None => Ok(at(Phase::Waits, 0)),
+        None => Ok(at(Phase::Waiting, 0)),
     }
 }
 
@@ -189,8 +189,8 @@ fn got(file: Fd, agg: AggId, purpose: Purpose, look: &Look<'_>) -> Phase
     ensures { result ≡ spec.got (readable look.now) file agg purpose }
 {
     match purpose {
-        Purpose::Cat => Phase::Shuts { file, agg },
-        Purpose::Wc => Phase::Counted {
+        Purpose::Cat => Phase::ClosingFile { file, agg },
+        Purpose::Wc => Phase::DroppingCounted {
             file,
             agg,
             said: Said::Counted(counts(look, agg)),
@@ -211,7 +211,7 @@ fn after_reading(
     match last {
         Reply::Agg(agg) => at(got(file, *agg, purpose, look), begun),
         Reply::Refused(refusal) => at(
-            Phase::ShutsToSay {
+            Phase::ClosingCounted {
                 file,
                 said: Said::Refused(*refusal),
             },
@@ -245,7 +245,7 @@ fn collect_file(
         )),
         None => {
             let piece = piece.with_file(alloc, agg, 0, len)?;
-            Ok(with(Phase::Runs, begun, piece))
+            Ok(with(Phase::Interpreting, begun, piece))
         }
     }
 }
@@ -275,10 +275,10 @@ fn after_closing(
         return collect_file(alloc, piece, held_bytes(piece, look), agg, len, begun);
     }
     if piece.is_nothing() {
-        return Ok(at(Phase::Writes { agg }, begun));
+        return Ok(at(Phase::Writing { agg }, begun));
     }
     let piece = piece.with_next(alloc, agg)?;
-    Ok(with(Phase::Runs, begun, piece))
+    Ok(with(Phase::Interpreting, begun, piece))
 }
 
 // After joining the bytes of a file to those of the earlier files.
@@ -296,7 +296,7 @@ fn after_joining(
     match last {
         Reply::Agg(held) => {
             let piece = piece.with_file(alloc, *held, from, len)?;
-            Ok(with(Phase::Runs, begun, piece))
+            Ok(with(Phase::Interpreting, begun, piece))
         }
         _ => Ok(None),
     }
@@ -363,9 +363,9 @@ fn taken_of(agg: AggId, taken: u32, to: u32) -> Phase
     ensures { result ≡ spec.taken_of agg taken to }
 {
     if taken == to {
-        Phase::Drops { agg }
+        Phase::DroppingWritten { agg }
     } else {
-        Phase::Cuts {
+        Phase::CuttingRest {
             agg,
             from: taken,
             to,
@@ -379,7 +379,7 @@ fn after_writing(agg: AggId, len: u32, begun: usize, last: &Reply) -> Option<Aft
 {
     match last {
         Reply::Count(taken) => at(taken_of(agg, *taken, len), begun),
-        Reply::Refused(Refusal::BrokenPipe) => at(Phase::Breaks { agg }, begun),
+        Reply::Refused(Refusal::BrokenPipe) => at(Phase::Aborting { agg }, begun),
         _ => None,
     }
 }
@@ -389,7 +389,7 @@ fn after_cutting(agg: AggId, begun: usize, last: &Reply) -> Option<After>
     ensures { result ≡ cut_after agg begun last.now }
 {
     match last {
-        Reply::Agg(rest) => at(Phase::Swaps { agg, rest: *rest }, begun),
+        Reply::Agg(rest) => at(Phase::DroppingTaken { agg, rest: *rest }, begun),
         _ => None,
     }
 }
@@ -403,9 +403,9 @@ fn after_dropping(alloc: Global, piece: &Piece, begun: usize) -> AfterReply
     match piece.next {
         Some(agg) => {
             let piece = piece.without_next(alloc)?;
-            Ok(with(Phase::Writes { agg }, begun, piece))
+            Ok(with(Phase::Writing { agg }, begun, piece))
         }
-        None => Ok(at(Phase::Runs, begun)),
+        None => Ok(at(Phase::Interpreting, begun)),
     }
 }
 
@@ -418,9 +418,9 @@ fn after_breaking(alloc: Global, job: &Job, piece: &Piece, begun: usize) -> Afte
     match piece.next {
         Some(agg) => {
             let piece = piece.without_next(alloc)?;
-            Ok(with(Phase::Breaks { agg }, begun, piece))
+            Ok(with(Phase::Aborting { agg }, begun, piece))
         }
-        None => Ok(at(Phase::Runs, job.script.lines.len())),
+        None => Ok(at(Phase::Interpreting, job.script.lines.len())),
     }
 }
 
@@ -439,13 +439,13 @@ pub(crate) fn after_reply(
     ensures wants { OnErr result (may_copy piece.now phase ≡ true) }
 {
     let next = match phase {
-        Phase::Waits => return Ok(None),
-        Phase::Runs => return after_begin(alloc, job, piece, begun, last),
-        Phase::Reads { file, purpose } => return Ok(after_reading(
+        Phase::Waiting => return Ok(None),
+        Phase::Interpreting => return after_begin(alloc, job, piece, begun, last),
+        Phase::Reading { file, purpose } => return Ok(after_reading(
             file, purpose, begun, last, look,
         )),
-        Phase::Shuts { agg, .. } => return after_closing(alloc, piece, agg, begun, look),
-        Phase::ShutsToSay { said, .. } => return collect_said(alloc, piece, said, begun),
+        Phase::ClosingFile { agg, .. } => return after_closing(alloc, piece, agg, begun, look),
+        Phase::ClosingCounted { said, .. } => return collect_said(alloc, piece, said, begun),
         Phase::JoiningFile { from, len, .. } => {
             return after_joining(alloc, piece, from, len, begun, last);
         }
@@ -454,14 +454,14 @@ pub(crate) fn after_reply(
             return after_replacing(alloc, piece, agg, part, begun, last);
         }
         Phase::DroppingPart { made, .. } => return after_dropping_part(alloc, piece, made, begun),
-        Phase::Writes { agg } => return Ok(after_writing(agg, len_of(look, agg), begun, last)),
-        Phase::Cuts { agg, .. } => return Ok(after_cutting(agg, begun, last)),
-        Phase::Drops { .. } => return after_dropping(alloc, piece, begun),
-        Phase::Breaks { .. } => return after_breaking(alloc, job, piece, begun),
-        Phase::Skips { .. } => Phase::Waits,
-        Phase::Counted { file, said, .. } => Phase::ShutsToSay { file, said },
+        Phase::Writing { agg } => return Ok(after_writing(agg, len_of(look, agg), begun, last)),
+        Phase::CuttingRest { agg, .. } => return Ok(after_cutting(agg, begun, last)),
+        Phase::DroppingWritten { .. } => return after_dropping(alloc, piece, begun),
+        Phase::Aborting { .. } => return after_breaking(alloc, job, piece, begun),
+        Phase::DroppingOther { .. } => Phase::Waiting,
+        Phase::DroppingCounted { file, said, .. } => Phase::ClosingCounted { file, said },
         Phase::DroppingText { part, made, .. } => Phase::DroppingPart { part, made },
-        Phase::Swaps { rest, .. } => Phase::Writes { agg: rest },
+        Phase::DroppingTaken { rest, .. } => Phase::Writing { agg: rest },
     };
     Ok(at(next, begun))
 }

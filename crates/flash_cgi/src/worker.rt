@@ -39,7 +39,7 @@ impl Worker {
             alloc,
             job: Job::nothing(alloc),
             step: Step {
-                phase: Phase::Waits,
+                phase: Phase::Waiting,
                 begun: 0,
                 piece: Piece::nothing(alloc),
             },
@@ -133,12 +133,12 @@ impl Worker {
             Some(job) => {
                 self.job = job;
                 self.step = Step {
-                    phase: Phase::Drops { agg },
+                    phase: Phase::DroppingWritten { agg },
                     begun: 0,
                     piece: Piece::nothing(self.alloc),
                 };
             }
-            None => self.step.phase = Phase::Skips { agg },
+            None => self.step.phase = Phase::DroppingOther { agg },
         }
         Ok(())
     }
@@ -158,7 +158,7 @@ impl Worker {
     {
         let phase = self.step.phase;
         match (phase, last) {
-            (Phase::Waits, Reply::Agg(agg)) => self.take(*agg, look),
+            (Phase::Waiting, Reply::Agg(agg)) => self.take(*agg, look),
             _ => self.advance_by(last, look),
         }
     }

@@ -11,10 +11,12 @@ use Rattle.flash_laws.specs.Run.OfferedBytes.{past_of, taken_by, is_stopping}
 use Rattle.flash_laws.specs.Conn.OfferedBytes.{taken_of}
 use Rattle.flash_laws.specs.declared.script_run.Run.{Run}
 use Rattle.flash_laws.specs.declared.script_run.Step.{Step}
-use Rattle.flash_laws.specs.declared.script_run.Step.TheVariants.{Gives, Makes, Hands, Lets, Heads, Sending, Receives}
-use Rattle.flash_laws.specs.declared.script_run.Step.TheVariants.{Spills, Gathers, Frames, Wraps, Trims, Returns}
-use Rattle.flash_laws.specs.declared.script_run.Step.TheVariants.{Lapses, Fails}
-use Rattle.flash_laws.specs.declared.script_run.Running.TheVariants.{Runs}
+use Rattle.flash_laws.specs.declared.script_run.Step.TheVariants.{GivingPipe, MakingJob, WritingJob, DroppingJob}
+use Rattle.flash_laws.specs.declared.script_run.Step.TheVariants.{MakingHead, SendingPart, ReadingOutput}
+use Rattle.flash_laws.specs.declared.script_run.Step.TheVariants.{DroppingOutput, JoiningOutput, MakingFrame}
+use Rattle.flash_laws.specs.declared.script_run.Step.TheVariants.{FillingFrame, DroppingHeld, ClosingPipe}
+use Rattle.flash_laws.specs.declared.script_run.Step.TheVariants.{DiscardingJob, Failing}
+use Rattle.flash_laws.specs.declared.script_run.Running.TheVariants.{InProgress}
 
 -- the first of what begins alike is the same
 alike : (k : ℕ) (before a b x y : List ℕ) → k ≤ length before → a ≡ before ++ x → b ≡ before ++ y → take k a ≡ take k b
@@ -53,22 +55,22 @@ module _ (w : Wanted) (received past one other : List ℕ) (ended : Bool) where
       none l e = absurd (omega (arith, e))
 
   -- at each step until the end of the output is seen
-  pub given-same : (job : ℕ → List ℕ) (m : State) (run : Run) (step : Step) → is_stopping (Runs run step) ≡ false
+  pub given-same : (job : ℕ → List ℕ) (m : State) (run : Run) (step : Step) → is_stopping (InProgress run step) ≡ false
       → HasStep job m w (Ran received ended past) run step
-      → Same (taken_by (Runs run step))
-  given-same job m run (Gives write) on has = fresh-same has.1.1
-  given-same job m run (Makes f) on has = fresh-same has.1.1
-  given-same job m run (Hands j f) on has = fresh-same has.2.1
-  given-same job m run (Lets j) on has = fresh-same has.2.1
-  given-same job m run Heads on has = fresh-same has.1.1
-  given-same job m run (Sending d frame) on has = part-same (taken_of d) has.part has.within has.continues
-  given-same job m run (Receives held frame) on has = goes-same run.broken has.bytes has.goes
-  given-same job m run (Spills a frame) on has = goes-same run.broken has.1.bytes has.1.goes
-  given-same job m run (Gathers held size piece len frame) on has = held-same (has.bytes ++ has.more) has.goes
-  given-same job m run (Frames held) on has = held-same has.bytes has.goes
-  given-same job m run (Wraps held frame) on has = held-same has.0.bytes has.0.goes
-  given-same job m run (Trims held chunk len frame) on has = part-same 0 has.1.part (omega arith) has.1.continues
-  given-same job m run (Returns write) on has = fresh-same has.1.1
-  given-same job m run (Lapses j) on has = fresh-same has.2.1
-  given-same job m run Fails on has = fresh-same has.1.1
+      → Same (taken_by (InProgress run step))
+  given-same job m run (GivingPipe write) on has = fresh-same has.1.1
+  given-same job m run (MakingJob f) on has = fresh-same has.1.1
+  given-same job m run (WritingJob j f) on has = fresh-same has.2.1
+  given-same job m run (DroppingJob j) on has = fresh-same has.2.1
+  given-same job m run MakingHead on has = fresh-same has.1.1
+  given-same job m run (SendingPart d frame) on has = part-same (taken_of d) has.part has.within has.continues
+  given-same job m run (ReadingOutput held frame) on has = goes-same run.broken has.bytes has.goes
+  given-same job m run (DroppingOutput a frame) on has = goes-same run.broken has.1.bytes has.1.goes
+  given-same job m run (JoiningOutput held size piece len frame) on has = held-same (has.bytes ++ has.more) has.goes
+  given-same job m run (MakingFrame held) on has = held-same has.bytes has.goes
+  given-same job m run (FillingFrame held frame) on has = held-same has.0.bytes has.0.goes
+  given-same job m run (DroppingHeld held chunk len frame) on has = part-same 0 has.1.part (omega arith) has.1.continues
+  given-same job m run (ClosingPipe write) on has = fresh-same has.1.1
+  given-same job m run (DiscardingJob j) on has = fresh-same has.2.1
+  given-same job m run Failing on has = fresh-same has.1.1
   given-same job m run step on has = absurd (cc (on))

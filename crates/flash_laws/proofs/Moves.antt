@@ -15,7 +15,7 @@ use Rattle.flash_laws.specs.Conn.{next_piece}
 use Rattle.flash_laws.specs.Conn.Fits.{Names}
 use Rattle.flash_laws.specs.declared.phase.Sending.{Sending}
 use Rattle.flash_laws.specs.declared.phase.Phase.{Phase}
-use Rattle.flash_laws.specs.declared.phase.Phase.TheVariants.{Cuts, Sent}
+use Rattle.flash_laws.specs.declared.phase.Phase.TheVariants.{CuttingPiece, DroppingSent}
 use Rattle.flash_laws.specs.Site.{server}
 use Rattle.flash_laws.proofs.Conn.Responses.{some-inj}
 
@@ -66,7 +66,8 @@ pub either-way : {A : Type 0} (P : A → Type 0) (b : Bool) {d e : A} → P d �
 either-way P true one two = one
 either-way P false one two = two
 
-pub either-next : (P : Phase → Type 0) (s : Sending) → P (Cuts s) → P (Sent s.agg s.taken s.more) → P (next_piece s)
+pub either-next : (P : Phase → Type 0) (s : Sending) → P (CuttingPiece s) → P (DroppingSent s.agg s.taken s.more)
+    → P (next_piece s)
 either-next P s cuts sent = either-way P (nat_lt s.from s.len) cuts sent
 
 pub either-of : {A : Type 0} (P : A → Type 0) (b : Bool) (d e : A) → P d → P e → P (if b then d else e)

@@ -26,9 +26,9 @@ use Rattle.flash_laws.specs.declared.phase.FileResult.TheVariants.{Text}
 use Rattle.flash_laws.specs.declared.phase.Payload.TheVariants.{Script}
 use Rattle.flash_laws.specs.declared.phase.Phase.{Phase}
 use Rattle.flash_laws.specs.declared.phase.Phase.TheVariants as phase
-use Rattle.flash_laws.specs.declared.script_run.Step.TheVariants.{Gives, Makes}
+use Rattle.flash_laws.specs.declared.script_run.Step.TheVariants.{GivingPipe, MakingJob}
 use Rattle.flash_laws.specs.declared.script_run.Running.{Running}
-use Rattle.flash_laws.specs.declared.script_run.Running.TheVariants.{Awaits, Runs, Leaves}
+use Rattle.flash_laws.specs.declared.script_run.Running.TheVariants.{AwaitingWorker, InProgress, Finishing}
 
 pub record Client : Type 0 where
   -- its connection; while a script runs, its phase does not change
@@ -69,7 +69,7 @@ abbrev pub script_wants : (fd : ℕ) → Conn → Call
 script_wants fd x = by x.phase
   where
     by : Phase → Call
-    by (phase.Reads f) = call.IolRead f most_read
+    by (phase.Reading f) = call.IolRead f most_read
     by d = conn.wants fd x
 
 abbrev pub conn_wants : (script : Bool) → (fd : ℕ) → Conn → Call
@@ -116,7 +116,7 @@ abbrev pub can_run : List ℕ → Bool
 can_run text = is_some (script_of text)
 
 abbrev pub after_text : (file : ℕ) → Reply → (received : List ℕ) → Phase
-after_text f (reply.Agg n) received = phase.Shuts f (Text n (can_run received))
+after_text f (reply.Agg n) received = phase.ClosingFile f (Text n (can_run received))
 after_text f r received = conn.after_read f r received
 
 -- the text that is kept: that of a script that will run
@@ -130,7 +130,7 @@ kept_text head_only was r received = was
 
 -- the aggregate of the script is dropped: the run begins, unless the request is HEAD
 abbrev pub after_drop_whole : (head_only : Bool) → Reply → Option Running
-after_drop_whole false reply.Done = Some Awaits
+after_drop_whole false reply.Done = Some AwaitingWorker
 after_drop_whole head_only r = None
 
 abbrev pub conn_after_reply : Client → Reply → (received : List ℕ) → Client
@@ -140,12 +140,12 @@ abbrev pub script_after_reply : Client → Reply → (received : List ℕ) → C
 script_after_reply x r received = by x.conn.phase
   where
     by : Phase → Client
-    by (phase.Reads f) = record {
+    by (phase.Reading f) = record {
       conn = record x.conn { phase = after_text f r received };
       run = None;
       script = kept_text (is_head_only x.conn.q) x.script r received;
     }
-    by (phase.Spares a Script) = record {
+    by (phase.DroppingWhole a Script) = record {
       conn = conn.after_reply x.conn r received;
       run = after_drop_whole (is_head_only x.conn.q) r;
       script = x.script;
@@ -158,9 +158,9 @@ file_after_reply true x r received = script_after_reply x r received
 
 -- whether the job is still to be made
 abbrev pub keeps_text : Running → Bool
-keeps_text Awaits = true
-keeps_text (Runs run (Gives write)) = true
-keeps_text (Runs run (Makes f)) = true
+keeps_text AwaitingWorker = true
+keeps_text (InProgress run (GivingPipe write)) = true
+keeps_text (InProgress run (MakingJob f)) = true
 keeps_text y = false
 
 -- after that the text is not kept any more
@@ -170,8 +170,8 @@ text_on was now text = text
 
 -- the phase of the connection once the run is over
 abbrev pub after_run : Running → Phase
-after_run (Leaves d) = d
-after_run y = phase.Closes
+after_run (Finishing d) = d
+after_run y = phase.Disconnecting
 
 -- the run advances from y to z, or is over with it
 abbrev pub proceeds : (was over : Bool) → Client → (y z : Running) → Client
@@ -210,7 +210,7 @@ awaits x = by x.run
   where
     by : Option Running → Bool
     by None = false
-    by (Some Awaits) = true
+    by (Some AwaitingWorker) = true
     by (Some y) = false
 
 -- whether it is idle and has no buffered input
@@ -227,5 +227,5 @@ has_answered x = by x.run
   where
     by : Option Running → Bool
     by None = policy.has_answered x.conn
-    by (Some (Leaves d)) = policy.has_answered (record x.conn { phase = d })
+    by (Some (Finishing d)) = policy.has_answered (record x.conn { phase = d })
     by (Some y) = false

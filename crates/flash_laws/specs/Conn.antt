@@ -28,9 +28,11 @@ use Rattle.flash_laws.specs.declared.phase.Payload.{Payload}
 use Rattle.flash_laws.specs.declared.phase.Payload.TheVariants.{Body, Bare, Error, Script}
 use Rattle.flash_laws.specs.declared.phase.Sending.{Sending}
 use Rattle.flash_laws.specs.declared.phase.Phase.{Phase}
-use Rattle.flash_laws.specs.declared.phase.Phase.TheVariants.{Rests, Got, Opens, Reads, Shuts, Picks, Spares, Heads}
-use Rattle.flash_laws.specs.declared.phase.Phase.TheVariants.{Joins, Sends, Cuts, Offers, Swaps, Sent, Breaks, Drops}
-use Rattle.flash_laws.specs.declared.phase.Phase.TheVariants.{Closes, Over}
+use Rattle.flash_laws.specs.declared.phase.Phase.TheVariants.{Receiving, DroppingInput, Opening, Reading, ClosingFile}
+use Rattle.flash_laws.specs.declared.phase.Phase.TheVariants.{Slicing, DroppingWhole, MakingHead}
+use Rattle.flash_laws.specs.declared.phase.Phase.TheVariants.{Joining, SendingWhole, CuttingPiece, SendingPiece}
+use Rattle.flash_laws.specs.declared.phase.Phase.TheVariants.{DroppingPiece, DroppingSent, AbortingPiece, Aborting}
+use Rattle.flash_laws.specs.declared.phase.Phase.TheVariants.{Disconnecting, Closed}
 use Rattle.flash_laws.specs.Moves.{or_stay, or_else, on_done, on_agg, on_count, on_fd, on_refused, unless_blocked}
 use Rattle.flash_laws.specs.Moves.{if_broken}
 use Rattle.flash_laws.specs.Answers.{keeps, body_unless, file_text, script_text, error_text, unsatisfiable, Next}
@@ -48,7 +50,7 @@ pub record Conn : Type 0 where
 
 -- a newly accepted connection; `q` is no request until one begins
 abbrev pub new_connection : Conn
-new_connection = record { kept = []; q = refuse 431 false true; phase = Rests }
+new_connection = record { kept = []; q = refuse 431 false true; phase = Receiving }
 
 -- ---- the aggregates that it has
 
@@ -102,8 +104,8 @@ piece_end s = min (s.from + MAX_QUEUE_BYTES) s.len
 -- ---- the beginning of a response
 
 abbrev pub begins : Answer → Phase
-begins (serve w) = Opens
-begins (refuse status head_only close) = Heads (Error status)
+begins (serve w) = Opening
+begins (refuse status head_only close) = MakingHead (Error status)
 
 -- An idle connection begins its first buffered request, if there is one: from x to y.
 abbrev pub Starts : Conn → Conn → Type 0
@@ -116,7 +118,7 @@ abbrev pub Readies : Conn → Conn → Type 0
 Readies x y = by x.phase
   where
     by : Phase → Type 0
-    by Rests = Starts x y
+    by Receiving = Starts x y
     by d = y ≡ x
 
 -- whether a reading connection has no request that could begin
@@ -124,7 +126,7 @@ abbrev pub IsAwaiting : Conn → Type 0
 IsAwaiting x = by x.phase
   where
     by : Phase → Type 0
-    by Rests = window_in x.kept ≡ Wait
+    by Receiving = window_in x.kept ≡ Wait
     by d = ⊤
 
 -- ---- the replies that move a phase; `received` is the contents of the aggregate in the reply
@@ -137,27 +139,27 @@ status_of (no.Fault f) = 500
 status_of x = 503
 
 abbrev pub received_of_client : List ℕ → Answer → (agg : ℕ) → (received : List ℕ) → Conn
-received_of_client kept q n [] = record { kept = kept; q = q; phase = Drops n None }
-received_of_client kept q n (b ∷ received) = record { kept = kept ++ (b ∷ received); q = q; phase = Got n }
+received_of_client kept q n [] = record { kept = kept; q = q; phase = Aborting n None }
+received_of_client kept q n (b ∷ received) = record { kept = kept ++ (b ∷ received); q = q; phase = DroppingInput n }
 
 abbrev pub after_receive : List ℕ → Answer → Reply → (received : List ℕ) → Conn
 after_receive kept q r received =
-    or_stay (record { kept = kept; q = q; phase = Rests }) (on_agg r (λ n. received_of_client kept q n received))
+    or_stay (record { kept = kept; q = q; phase = Receiving }) (on_agg r (λ n. received_of_client kept q n received))
 
 abbrev pub after_open : Reply → Phase
-after_open r = or_stay Opens
-    (or_else (on_fd r Reads) (on_refused r (λ x. unless_blocked (Heads (Error (status_of x))) x)))
+after_open r = or_stay Opening
+    (or_else (on_fd r Reading) (on_refused r (λ x. unless_blocked (MakingHead (Error (status_of x))) x)))
 
 abbrev pub after_read : (file : ℕ) → Reply → (received : List ℕ) → Phase
-after_read f r received = or_stay (Reads f) (or_else (on_agg r (λ n. Shuts f (File n (count_of received))))
-    (or_else (on_count r (λ n. Shuts f (Length n)))
-    (on_refused r (λ x. unless_blocked (Shuts f (Fails (status_of x))) x))))
+after_read f r received = or_stay (Reading f) (or_else (on_agg r (λ n. ClosingFile f (File n (count_of received))))
+    (or_else (on_count r (λ n. ClosingFile f (Length n)))
+    (on_refused r (λ x. unless_blocked (ClosingFile f (Fails (status_of x))) x))))
 
 -- the phase that sends the selected part of a file that was read
 abbrev pub sends_of : Selection → (agg len : ℕ) → Phase
-sends_of Whole a len = Heads (Body a len len)
-sends_of (Bytes first last) a len = Picks a first (last + 1) len
-sends_of Unsatisfiable a len = Spares a (Bare len)
+sends_of Whole a len = MakingHead (Body a len len)
+sends_of (Bytes first last) a len = Slicing a first (last + 1) len
+sends_of Unsatisfiable a len = DroppingWhole a (Bare len)
 
 -- a text that is no script cannot run
 abbrev pub put_out : (runs : Bool) → Payload
@@ -166,19 +168,19 @@ put_out false = Error 500
 
 abbrev pub resolved : Answer → FileResult → Phase
 resolved (serve w) (File a len) = sends_of (selected w.range len) a len
-resolved (refuse status head_only close) (File a len) = Heads (Body a len len)
-resolved q (Length len) = Heads (Bare len)
-resolved q (Fails status) = Heads (Error status)
-resolved q (Text a runs) = Spares a (put_out runs)
+resolved (refuse status head_only close) (File a len) = MakingHead (Body a len len)
+resolved q (Length len) = MakingHead (Bare len)
+resolved q (Fails status) = MakingHead (Error status)
+resolved q (Text a runs) = DroppingWhole a (put_out runs)
 
 abbrev pub after_close_file : Answer → (file : ℕ) → FileResult → Reply → Phase
-after_close_file q f k r = or_stay (Shuts f k) (on_done r (resolved q k))
+after_close_file q f k r = or_stay (ClosingFile f k) (on_done r (resolved q k))
 
 abbrev pub after_slice : (agg from to len : ℕ) → Reply → Phase
-after_slice a from to len r = or_stay (Picks a from to len) (on_agg r (λ n. Spares a (Body n (to - from) len)))
+after_slice a from to len r = or_stay (Slicing a from to len) (on_agg r (λ n. DroppingWhole a (Body n (to - from) len)))
 
 abbrev pub after_drop_whole : (agg : ℕ) → Payload → Reply → Phase
-after_drop_whole a k r = or_stay (Spares a k) (on_done r (Heads k))
+after_drop_whole a k r = or_stay (DroppingWhole a k) (on_done r (MakingHead k))
 
 abbrev pub following : Payload → Following
 following (Body b size len) = Some (b, size)
@@ -190,15 +192,16 @@ whole a len taken more = record { agg = a; from = 0; len = len; taken = taken; m
 
 -- a head of head bytes is joined with its body, if both fit into an aggregate
 abbrev pub headed : (head size : ℕ) → Following → Phase
-headed a size None = Sends (whole a size 0 None)
+headed a size None = SendingWhole (whole a size 0 None)
 headed a size (Some x) =
-    if nat_le (size + x.1) MAX_AGGREGATE_BYTES then Joins a size x.0 x.1 else Sends (whole a size 0 (Some x))
+    if nat_le (size + x.1) MAX_AGGREGATE_BYTES then Joining a size x.0 x.1 else SendingWhole (whole a size 0 (Some x))
 
 abbrev pub after_head : Payload → Reply → (received : List ℕ) → Phase
-after_head k r received = or_stay (Heads k) (on_agg r (λ n. headed n (count_of received) (following k)))
+after_head k r received = or_stay (MakingHead k) (on_agg r (λ n. headed n (count_of received) (following k)))
 
 abbrev pub after_join : (head size body len : ℕ) → Reply → Phase
-after_join a size body len r = or_stay (Joins a size body len) (on_agg r (λ n. Sends (whole n (size + len) 0 None)))
+after_join a size body len r =
+    or_stay (Joining a size body len) (on_agg r (λ n. SendingWhole (whole n (size + len) 0 None)))
 
 -- count more bytes are taken, or all that are left
 abbrev pub after_taking : Sending → (count : ℕ) → Sending
@@ -209,46 +212,47 @@ after_taking s count = record s {
 
 -- the next piece is cut, or all is taken
 abbrev pub next_piece : Sending → Phase
-next_piece s = if nat_lt s.from s.len then Cuts s else Sent s.agg s.taken s.more
+next_piece s = if nat_lt s.from s.len then CuttingPiece s else DroppingSent s.agg s.taken s.more
 
 -- what is not taken of an aggregate that was offered whole is sent in pieces
 abbrev pub after_send : Sending → Reply → Phase
-after_send s r = or_stay (Sends s)
-    (or_else (on_count r (λ n. next_piece (after_taking s n))) (on_refused r (if_broken (Drops s.agg s.more))))
+after_send s r = or_stay (SendingWhole s)
+    (or_else (on_count r (λ n. next_piece (after_taking s n))) (on_refused r (if_broken (Aborting s.agg s.more))))
 
 abbrev pub after_cut : Sending → Reply → Phase
-after_cut s r = or_stay (Cuts s) (on_agg r (λ n. Offers s n))
+after_cut s r = or_stay (CuttingPiece s) (on_agg r (λ n. SendingPiece s n))
 
 abbrev pub after_offer : Sending → (piece : ℕ) → Reply → Phase
-after_offer s piece r = or_stay (Offers s piece)
-    (or_else (on_count r (λ n. Swaps (after_taking s n) piece)) (on_refused r (if_broken (Breaks piece s.agg s.more))))
+after_offer s piece r = or_stay (SendingPiece s piece)
+    (or_else (on_count r (λ n. DroppingPiece (after_taking s n) piece))
+    (on_refused r (if_broken (AbortingPiece piece s.agg s.more))))
 
 abbrev pub after_swap : Sending → (piece : ℕ) → Reply → Phase
-after_swap s piece r = or_stay (Swaps s piece) (on_done r (next_piece s))
+after_swap s piece r = or_stay (DroppingPiece s piece) (on_done r (next_piece s))
 
 -- the aggregate after it, or the end of the response
 abbrev pub proceeds : Answer → (taken : ℕ) → Following → Phase
-proceeds q taken (Some x) = Sends (whole x.0 x.1 taken None)
-proceeds q taken None = if keeps q then Rests else Closes
+proceeds q taken (Some x) = SendingWhole (whole x.0 x.1 taken None)
+proceeds q taken None = if keeps q then Receiving else Disconnecting
 
 abbrev pub after_taken : Answer → (agg taken : ℕ) → Following → Reply → Phase
-after_taken q a taken more r = or_stay (Sent a taken more) (on_done r (proceeds q taken more))
+after_taken q a taken more r = or_stay (DroppingSent a taken more) (on_done r (proceeds q taken more))
 
 abbrev pub after_break : (piece agg : ℕ) → Following → Reply → Phase
-after_break piece a more r = or_stay (Breaks piece a more) (on_done r (Drops a more))
+after_break piece a more r = or_stay (AbortingPiece piece a more) (on_done r (Aborting a more))
 
 abbrev pub drops_next : Following → Phase
-drops_next (Some x) = Drops x.0 None
-drops_next None = Closes
+drops_next (Some x) = Aborting x.0 None
+drops_next None = Disconnecting
 
 abbrev pub after_drop : (agg : ℕ) → Following → Reply → Phase
-after_drop a more r = or_stay (Drops a more) (on_done r (drops_next more))
+after_drop a more r = or_stay (Aborting a more) (on_done r (drops_next more))
 
 abbrev pub after_discard : (agg : ℕ) → Reply → Phase
-after_discard a r = or_stay (Got a) (on_done r Rests)
+after_discard a r = or_stay (DroppingInput a) (on_done r Receiving)
 
 abbrev pub after_disconnect : Reply → Phase
-after_disconnect r = or_stay Closes (on_done r Over)
+after_disconnect r = or_stay Disconnecting (on_done r Closed)
 
 -- ---- the phases
 
@@ -274,109 +278,109 @@ abbrev goes : (Reply → Phase) → Conn → Reply → (received : List ℕ) →
 goes next x r received = record x { phase = next r }
 
 abbrev pub phase_of : Phase → PhaseOf
-phase_of Rests = record {
+phase_of Receiving = record {
   call = λ fd x. call.IolRead fd (most_kept - length x.kept);
   agg = none;
   file = none;
   after = λ x r received. after_receive x.kept x.q r received;
 }
-phase_of (Got read) = record {
+phase_of (DroppingInput read) = record {
   call = λ fd x. call.AggDrop read;
   agg = one read;
   file = none;
   after = goes (after_discard read);
 }
-phase_of Opens = record {
+phase_of Opening = record {
   call = λ fd x. call.OpenFile (name_of x.q) modes.Read;
   agg = none;
   file = none;
   after = goes after_open;
 }
-phase_of (Reads f) = record {
+phase_of (Reading f) = record {
   call = λ fd x. if is_head_only x.q then call.Length f else call.IolRead f most_read;
   agg = none;
   file = one f;
   after = λ x r received. record x { phase = after_read f r received };
 }
-phase_of (Shuts f k) = record {
+phase_of (ClosingFile f k) = record {
   call = λ fd x. call.Close f;
   agg = file_result_agg k;
   file = one f;
   after = λ x r received. record x { phase = after_close_file x.q f k r };
 }
-phase_of (Picks b from to len) = record {
+phase_of (Slicing b from to len) = record {
   call = λ fd x. call.AggCut b from to;
   agg = one b;
   file = none;
   after = goes (after_slice b from to len);
 }
-phase_of (Spares spared k) = record {
+phase_of (DroppingWhole spared k) = record {
   call = λ fd x. call.AggDrop spared;
   agg = λ a. (spared == a) || content_agg k a;
   file = none;
   after = goes (after_drop_whole spared k);
 }
-phase_of (Heads k) = record {
+phase_of (MakingHead k) = record {
   call = λ fd x. call.AggMake (text_of x.q k);
   agg = content_agg k;
   file = none;
   after = λ x r received. record x { phase = after_head k r received };
 }
-phase_of (Joins b size body len) = record {
+phase_of (Joining b size body len) = record {
   call = λ fd x. call.AggJoin b body;
   agg = λ a. (b == a) || (body == a);
   file = none;
   after = goes (after_join b size body len);
 }
-phase_of (Sends s) = record {
+phase_of (SendingWhole s) = record {
   call = λ fd x. call.IolWrite fd s.agg;
   agg = λ a. (s.agg == a) || has_followed s.more a;
   file = none;
   after = goes (after_send s);
 }
-phase_of (Cuts s) = record {
+phase_of (CuttingPiece s) = record {
   call = λ fd x. call.AggCut s.agg s.from (piece_end s);
   agg = λ a. (s.agg == a) || has_followed s.more a;
   file = none;
   after = goes (after_cut s);
 }
-phase_of (Offers s piece) = record {
+phase_of (SendingPiece s piece) = record {
   call = λ fd x. call.IolWrite fd piece;
   agg = λ a. (piece == a) || ((s.agg == a) || has_followed s.more a);
   file = none;
   after = goes (after_offer s piece);
 }
-phase_of (Swaps s offered) = record {
+phase_of (DroppingPiece s offered) = record {
   call = λ fd x. call.AggDrop offered;
   agg = λ a. (offered == a) || ((s.agg == a) || has_followed s.more a);
   file = none;
   after = goes (after_swap s offered);
 }
-phase_of (Sent sent taken more) = record {
+phase_of (DroppingSent sent taken more) = record {
   call = λ fd x. call.AggDrop sent;
   agg = λ a. (sent == a) || has_followed more a;
   file = none;
   after = λ x r received. record x { phase = after_taken x.q sent taken more r };
 }
-phase_of (Breaks piece rest more) = record {
+phase_of (AbortingPiece piece rest more) = record {
   call = λ fd x. call.AggDrop piece;
   agg = λ a. (piece == a) || ((rest == a) || has_followed more a);
   file = none;
   after = goes (after_break piece rest more);
 }
-phase_of (Drops rest more) = record {
+phase_of (Aborting rest more) = record {
   call = λ fd x. call.AggDrop rest;
   agg = λ a. (rest == a) || has_followed more a;
   file = none;
   after = goes (after_drop rest more);
 }
-phase_of Closes = record {
+phase_of Disconnecting = record {
   call = λ fd x. call.Close fd;
   agg = none;
   file = none;
   after = goes after_disconnect;
 }
-phase_of Over = record {
+phase_of Closed = record {
   call = λ closed x. call.Close closed;
   agg = none;
   file = none;

@@ -26,12 +26,17 @@ use Rattle.flash_laws.specs.declared.phase.Phase.TheVariants as phase
 use Rattle.flash_laws.specs.declared.script_run.TheConstants.{CHUNK_BYTES}
 use Rattle.flash_laws.specs.declared.script_run.Run.{Run}
 use Rattle.flash_laws.specs.declared.script_run.Step.{Step}
-use Rattle.flash_laws.specs.declared.script_run.Step.TheVariants.{Gives, Makes, Hands, Lets, Heads, Sending, Receives}
-use Rattle.flash_laws.specs.declared.script_run.Step.TheVariants.{Spills, Gathers, Frames, Wraps, Trims, Ended, Unholds}
-use Rattle.flash_laws.specs.declared.script_run.Step.TheVariants.{Stops, Unframes, Lasts, WrapsLast, TrimsLast, Unwraps}
-use Rattle.flash_laws.specs.declared.script_run.Step.TheVariants.{Returns, Lapses, Fails}
+use Rattle.flash_laws.specs.declared.script_run.Step.TheVariants.{GivingPipe, MakingJob, WritingJob, DroppingJob}
+use Rattle.flash_laws.specs.declared.script_run.Step.TheVariants.{MakingHead, SendingPart, ReadingOutput}
+use Rattle.flash_laws.specs.declared.script_run.Step.TheVariants.{DroppingOutput, JoiningOutput, MakingFrame}
+use Rattle.flash_laws.specs.declared.script_run.Step.TheVariants.{FillingFrame, DroppingHeld, DroppingEnd}
+use Rattle.flash_laws.specs.declared.script_run.Step.TheVariants.{DiscardingHeld}
+use Rattle.flash_laws.specs.declared.script_run.Step.TheVariants.{ClosingOutput, DroppingFrame, MakingEnd, FillingEnd}
+use Rattle.flash_laws.specs.declared.script_run.Step.TheVariants.{DroppingLast, DroppingLastFrame}
+use Rattle.flash_laws.specs.declared.script_run.Step.TheVariants.{ClosingPipe, DiscardingJob, Failing}
 use Rattle.flash_laws.specs.declared.script_run.Running.{Running}
-use Rattle.flash_laws.specs.declared.script_run.Running.TheVariants.{Awaits, Runs, Leaves, Closes}
+use Rattle.flash_laws.specs.declared.script_run.Running.TheVariants.{AwaitingWorker, InProgress, Finishing}
+use Rattle.flash_laws.specs.declared.script_run.Running.TheVariants.{Disconnecting}
 
 -- ---- what it uses
 
@@ -44,20 +49,20 @@ job_pipe worker = worker + 1
 
 -- whether the rest of a response is still to be made, or to be sent
 abbrev pub is_left : Phase → Bool
-is_left (phase.Heads k) = true
-is_left (phase.Sends s) = true
-is_left (phase.Cuts s) = true
-is_left (phase.Offers s piece) = true
-is_left (phase.Swaps s piece) = true
-is_left (phase.Sent a taken more) = true
-is_left (phase.Breaks piece a more) = true
-is_left (phase.Drops a more) = true
+is_left (phase.MakingHead k) = true
+is_left (phase.SendingWhole s) = true
+is_left (phase.CuttingPiece s) = true
+is_left (phase.SendingPiece s piece) = true
+is_left (phase.DroppingPiece s piece) = true
+is_left (phase.DroppingSent a taken more) = true
+is_left (phase.AbortingPiece piece a more) = true
+is_left (phase.Aborting a more) = true
 is_left d = false
 
 -- whether it makes no more calls
 abbrev pub is_over : Running → Bool
-is_over (Leaves d) = not (is_left d)
-is_over Closes = true
+is_over (Finishing d) = not (is_left d)
+is_over Disconnecting = true
 is_over x = false
 
 abbrev pub has_frame : Option ℕ → (a : ℕ) → Bool
@@ -88,78 +93,79 @@ broken run = record run { broken = true }
 
 -- a free worker runs it
 abbrev pub after_wait : (worker : ℕ) → Reply → Running
-after_wait worker r = or_stay Awaits
-    (on_fds r (λ from write. Runs (record { worker = worker; from = from; broken = false }) (Gives write)))
+after_wait worker r = or_stay AwaitingWorker
+    (on_fds r (λ from write. InProgress (record { worker = worker; from = from; broken = false }) (GivingPipe write)))
 
 abbrev pub after_give : (write : ℕ) → Reply → Step
-after_give write r = or_stay (Gives write)
-    (or_else (on_fd r Makes) (on_refused r (λ x. Some (if is_again x then Gives write else Returns write))))
+after_give write r = or_stay (GivingPipe write)
+    (or_else (on_fd r MakingJob) (on_refused r (λ x. Some (if is_again x then GivingPipe write else ClosingPipe write))))
 
 abbrev pub after_make : (fd : ℕ) → Reply → Step
-after_make f r = or_stay (Makes f) (on_agg r (λ n. Hands n f))
+after_make f r = or_stay (MakingJob f) (on_agg r (λ n. WritingJob n f))
 
 abbrev pub after_hand : (job fd : ℕ) → Reply → Step
-after_hand j f r = or_stay (Hands j f)
-    (or_else (on_count r (λ n. Lets j)) (on_refused r (λ x. Some (if is_again x then Hands j f else Lapses j))))
+after_hand j f r = or_stay (WritingJob j f)
+    (or_else (on_count r (λ n. DroppingJob j))
+    (on_refused r (λ x. Some (if is_again x then WritingJob j f else DiscardingJob j))))
 
 abbrev pub after_release_job : (job : ℕ) → Reply → Step
-after_release_job j r = or_stay (Lets j) (on_done r Heads)
+after_release_job j r = or_stay (DroppingJob j) (on_done r MakingHead)
 
 -- a part, which is offered whole
 abbrev pub sends_part : (agg len : ℕ) → Phase
-sends_part a len = phase.Sends (conn.whole a len 0 None)
+sends_part a len = phase.SendingWhole (conn.whole a len 0 None)
 
 abbrev pub after_head : Reply → (received : List ℕ) → Step
-after_head r received = or_stay Heads (on_agg r (λ n. Sending (sends_part n (count_of received)) None))
+after_head r received = or_stay MakingHead (on_agg r (λ n. SendingPart (sends_part n (count_of received)) None))
 
 -- a part is sent by the same phases as the response of a file
 abbrev pub after_part : Phase → Reply → Phase
-after_part (phase.Sends s) r = conn.after_send s r
-after_part (phase.Cuts s) r = conn.after_cut s r
-after_part (phase.Offers s piece) r = conn.after_offer s piece r
-after_part (phase.Swaps s piece) r = conn.after_swap s piece r
-after_part (phase.Breaks piece a more) r = conn.after_break piece a more r
+after_part (phase.SendingWhole s) r = conn.after_send s r
+after_part (phase.CuttingPiece s) r = conn.after_cut s r
+after_part (phase.SendingPiece s piece) r = conn.after_offer s piece r
+after_part (phase.DroppingPiece s piece) r = conn.after_swap s piece r
+after_part (phase.AbortingPiece piece a more) r = conn.after_break piece a more r
 after_part d r = d
 
 -- after it was sent, or aborted, output is read
 abbrev pub after_sending : Run → Phase → (frame : Option ℕ) → Reply → Running
-after_sending run (phase.Sent a taken None) frame reply.Done = Runs run (Receives None frame)
-after_sending run (phase.Drops a None) frame reply.Done = Runs (broken run) (Receives None frame)
-after_sending run d frame r = Runs run (Sending (after_part d r) frame)
+after_sending run (phase.DroppingSent a taken None) frame reply.Done = InProgress run (ReadingOutput None frame)
+after_sending run (phase.Aborting a None) frame reply.Done = InProgress (broken run) (ReadingOutput None frame)
+after_sending run d frame r = InProgress run (SendingPart (after_part d r) frame)
 
 abbrev pub filled : (held : ℕ) → (frame : Option ℕ) → Step
-filled held None = Frames held
-filled held (Some f) = Wraps held f
+filled held None = MakingFrame held
+filled held (Some f) = FillingFrame held f
 
 -- held bytes are buffered: if they are those of a chunk, it is made
 abbrev pub holding : (held size : ℕ) → (frame : Option ℕ) → Step
-holding held size frame = if nat_lt size CHUNK_BYTES then Receives (Some (held, size)) frame else filled held frame
+holding held size frame = if nat_lt size CHUNK_BYTES then ReadingOutput (Some (held, size)) frame else filled held frame
 
 -- some output was read
 abbrev pub hearing : (broken chunked : Bool) → Following → (frame : Option ℕ) → (agg len : ℕ) → Step
-hearing true chunked held frame a len = Spills a frame
-hearing false false held frame a len = Sending (sends_part a len) frame
+hearing true chunked held frame a len = DroppingOutput a frame
+hearing false false held frame a len = SendingPart (sends_part a len) frame
 hearing false true None frame a len = holding a len frame
-hearing false true (Some x) frame a len = Gathers x.0 x.1 a len frame
+hearing false true (Some x) frame a len = JoiningOutput x.0 x.1 a len frame
 
 -- the output may not be read
 abbrev pub unread : Following → (frame : Option ℕ) → Step
-unread None frame = Stops None frame
-unread (Some x) frame = Unholds x.0 frame
+unread None frame = ClosingOutput None frame
+unread (Some x) frame = DiscardingHeld x.0 frame
 
 -- no output is its end
 abbrev pub received_of_script : Wanted → Run → Following → (frame : Option ℕ) → (agg : ℕ) → (received : List ℕ) → Step
-received_of_script w run held frame n [] = Ended n held frame
+received_of_script w run held frame n [] = DroppingEnd n held frame
 received_of_script w run held frame n (b ∷ received) =
     hearing run.broken w.chunked held frame n (count_of (b ∷ received))
 
 abbrev pub after_output : Wanted → Run → Following → (frame : Option ℕ) → Reply → (received : List ℕ) → Running
-after_output w run held frame r received = or_stay (Runs run (Receives held frame))
-    (or_else (on_agg r (λ n. Runs run (received_of_script w run held frame n received)))
-    (on_refused r (if_denied (Runs (broken run) (unread held frame)))))
+after_output w run held frame r received = or_stay (InProgress run (ReadingOutput held frame))
+    (or_else (on_agg r (λ n. InProgress run (received_of_script w run held frame n received)))
+    (on_refused r (if_denied (InProgress (broken run) (unread held frame)))))
 
 abbrev pub after_spill : (agg : ℕ) → (frame : Option ℕ) → Reply → Step
-after_spill a frame r = or_stay (Spills a frame) (on_done r (Receives None frame))
+after_spill a frame r = or_stay (DroppingOutput a frame) (on_done r (ReadingOutput None frame))
 
 -- the total length of two aggregates, as a 32-bit number
 abbrev pub both : (size len : ℕ) → ℕ
@@ -167,68 +173,72 @@ both size len = min (size + len) 4294967295
 
 abbrev pub after_gather : (held size piece len : ℕ) → (frame : Option ℕ) → Reply → Step
 after_gather held size piece len frame r =
-    or_stay (Gathers held size piece len frame) (on_agg r (λ n. holding n (both size len) frame))
+    or_stay (JoiningOutput held size piece len frame) (on_agg r (λ n. holding n (both size len) frame))
 
 abbrev pub after_frame : (held : ℕ) → Reply → Step
-after_frame held r = or_stay (Frames held) (on_agg r (λ n. Wraps held n))
+after_frame held r = or_stay (MakingFrame held) (on_agg r (λ n. FillingFrame held n))
 
 abbrev pub after_wrap : (held frame : ℕ) → Reply → (received : List ℕ) → Step
-after_wrap held frame r received = or_stay (Wraps held frame) (on_agg r (λ n. Trims held n (count_of received) frame))
+after_wrap held frame r received =
+    or_stay (FillingFrame held frame) (on_agg r (λ n. DroppingHeld held n (count_of received) frame))
 
 abbrev pub after_trim : (held chunk len frame : ℕ) → Reply → Step
 after_trim held chunk len frame r =
-    or_stay (Trims held chunk len frame) (on_done r (Sending (sends_part chunk len) (Some frame)))
+    or_stay (DroppingHeld held chunk len frame) (on_done r (SendingPart (sends_part chunk len) (Some frame)))
 
 abbrev pub after_ended : (agg : ℕ) → Following → (frame : Option ℕ) → Reply → Step
-after_ended a held frame r = or_stay (Ended a held frame) (on_done r (Stops held frame))
+after_ended a held frame r = or_stay (DroppingEnd a held frame) (on_done r (ClosingOutput held frame))
 
 abbrev pub after_release_held : (held : ℕ) → (frame : Option ℕ) → Reply → Step
-after_release_held held frame r = or_stay (Unholds held frame) (on_done r (Stops None frame))
+after_release_held held frame r = or_stay (DiscardingHeld held frame) (on_done r (ClosingOutput None frame))
 
 -- the end of the body is made, if the body is in chunks and is still sent
 abbrev pub finishing : (broken chunked : Bool) → Run → Following → Running
-finishing false true run held = Runs run (Lasts held)
-finishing b c run held = Closes
+finishing false true run held = InProgress run (MakingEnd held)
+finishing b c run held = Disconnecting
 
 abbrev pub stopped : Wanted → Run → Following → (frame : Option ℕ) → Running
-stopped w run held (Some f) = Runs run (Unframes f held)
+stopped w run held (Some f) = InProgress run (DroppingFrame f held)
 stopped w run held None = finishing run.broken w.chunked run held
 
 abbrev pub after_stop : Wanted → Run → Following → (frame : Option ℕ) → Reply → Running
-after_stop w run held frame r = or_stay (Runs run (Stops held frame)) (on_done r (stopped w run held frame))
+after_stop w run held frame r =
+    or_stay (InProgress run (ClosingOutput held frame)) (on_done r (stopped w run held frame))
 
 abbrev pub after_release_frame : Wanted → Run → (frame : ℕ) → Following → Reply → Running
 after_release_frame w run f held r =
-    or_stay (Runs run (Unframes f held)) (on_done r (finishing run.broken w.chunked run held))
+    or_stay (InProgress run (DroppingFrame f held)) (on_done r (finishing run.broken w.chunked run held))
 
 -- the end of the body is sent by itself, or is set around the buffered output
 abbrev pub ending : Run → Following → (agg len : ℕ) → Running
-ending run None a len = Leaves (sends_part a len)
-ending run (Some x) a len = Runs run (WrapsLast x.0 x.1 a)
+ending run None a len = Finishing (sends_part a len)
+ending run (Some x) a len = InProgress run (FillingEnd x.0 x.1 a)
 
 abbrev pub after_last : Run → Following → Reply → (received : List ℕ) → Running
-after_last run held r received = or_stay (Runs run (Lasts held)) (on_agg r (λ n. ending run held n (count_of received)))
+after_last run held r received =
+    or_stay (InProgress run (MakingEnd held)) (on_agg r (λ n. ending run held n (count_of received)))
 
 abbrev pub after_wrap_last : (held size frame : ℕ) → Reply → (received : List ℕ) → Step
 after_wrap_last held size frame r received =
-    or_stay (WrapsLast held size frame) (on_agg r (λ n. TrimsLast held n (count_of received) frame))
+    or_stay (FillingEnd held size frame) (on_agg r (λ n. DroppingLast held n (count_of received) frame))
 
 abbrev pub after_trim_last : (held chunk len frame : ℕ) → Reply → Step
-after_trim_last held chunk len frame r = or_stay (TrimsLast held chunk len frame) (on_done r (Unwraps frame chunk len))
+after_trim_last held chunk len frame r =
+    or_stay (DroppingLast held chunk len frame) (on_done r (DroppingLastFrame frame chunk len))
 
 abbrev pub after_unwrap : Run → (frame chunk len : ℕ) → Reply → Running
 after_unwrap run frame chunk len r =
-    or_stay (Runs run (Unwraps frame chunk len)) (on_done r (Leaves (sends_part chunk len)))
+    or_stay (InProgress run (DroppingLastFrame frame chunk len)) (on_done r (Finishing (sends_part chunk len)))
 
 abbrev pub after_return : (write : ℕ) → Reply → Step
-after_return write r = or_stay (Returns write) (on_done r Fails)
+after_return write r = or_stay (ClosingPipe write) (on_done r Failing)
 
 abbrev pub after_lapse : (job : ℕ) → Reply → Step
-after_lapse j r = or_stay (Lapses j) (on_done r Fails)
+after_lapse j r = or_stay (DiscardingJob j) (on_done r Failing)
 
 -- a script that cannot run now gets an error response (RFC 9110, section 15.6.4)
 abbrev pub after_fail : Run → Reply → Running
-after_fail run r = or_stay (Runs run Fails) (on_done r (Leaves (phase.Heads (Error 503))))
+after_fail run r = or_stay (InProgress run Failing) (on_done r (Finishing (phase.MakingHead (Error 503))))
 
 -- ---- the steps
 
@@ -251,167 +261,167 @@ calls k job fd w run = k
 
 -- the next step of the same run
 abbrev goes : (Reply → Step) → Wanted → Run → Reply → (received : List ℕ) → Running
-goes next w run r received = Runs run (next r)
+goes next w run r received = InProgress run (next r)
 
 abbrev goes_by : (Reply → (received : List ℕ) → Step) → Wanted → Run → Reply → (received : List ℕ) → Running
-goes_by next w run r received = Runs run (next r received)
+goes_by next w run r received = InProgress run (next r received)
 
 abbrev pub step_of : Step → StepOf
-step_of (Gives write) = record {
+step_of (GivingPipe write) = record {
   call = λ job fd w run. call.GiveFd write (worker_domain run.worker);
   agg = none;
   write_end = one write;
   is_reading = true;
   after = goes (after_give write);
 }
-step_of (Makes f) = record {
+step_of (MakingJob f) = record {
   call = λ job fd w run. call.AggMake (job f);
   agg = none;
   write_end = none;
   is_reading = true;
   after = goes (after_make f);
 }
-step_of (Hands handed f) = record {
+step_of (WritingJob handed f) = record {
   call = λ job fd w run. call.IolWrite (job_pipe run.worker) handed;
   agg = one handed;
   write_end = none;
   is_reading = true;
   after = goes (after_hand handed f);
 }
-step_of (Lets job) = record {
+step_of (DroppingJob job) = record {
   call = calls (call.AggDrop job);
   agg = one job;
   write_end = none;
   is_reading = true;
   after = goes (after_release_job job);
 }
-step_of Heads = record {
+step_of MakingHead = record {
   call = λ job fd w run. call.AggMake (script_text w);
   agg = none;
   write_end = none;
   is_reading = true;
   after = goes_by after_head;
 }
-step_of (Sending d frame) = record {
+step_of (SendingPart d frame) = record {
   call = λ job fd w run. conn.wants fd (in_phase w d);
   agg = λ a. conn.uses_agg d a || has_frame frame a;
   write_end = none;
   is_reading = true;
   after = λ w run r received. after_sending run d frame r;
 }
-step_of (Receives held frame) = record {
+step_of (ReadingOutput held frame) = record {
   call = λ job fd w run. call.IolRead run.from (CHUNK_BYTES - held_size held);
   agg = λ a. has_followed held a || has_frame frame a;
   write_end = none;
   is_reading = true;
   after = λ w run r received. after_output w run held frame r received;
 }
-step_of (Spills spilt frame) = record {
+step_of (DroppingOutput spilt frame) = record {
   call = calls (call.AggDrop spilt);
   agg = λ a. (spilt == a) || has_frame frame a;
   write_end = none;
   is_reading = true;
   after = goes (after_spill spilt frame);
 }
-step_of (Gathers held size piece len frame) = record {
+step_of (JoiningOutput held size piece len frame) = record {
   call = calls (call.AggJoin held piece);
   agg = λ a. (held == a) || ((piece == a) || has_frame frame a);
   write_end = none;
   is_reading = true;
   after = goes (after_gather held size piece len frame);
 }
-step_of (Frames held) = record {
+step_of (MakingFrame held) = record {
   call = calls (call.AggMake (frame_of CHUNK_BYTES));
   agg = one held;
   write_end = none;
   is_reading = true;
   after = goes (after_frame held);
 }
-step_of (Wraps held frame) = record {
+step_of (FillingFrame held frame) = record {
   call = calls (call.AggReplace frame (place_in_frame CHUNK_BYTES) (place_in_frame CHUNK_BYTES) held);
   agg = λ a. (held == a) || (frame == a);
   write_end = none;
   is_reading = true;
   after = goes_by (after_wrap held frame);
 }
-step_of (Trims chunked chunk len frame) = record {
+step_of (DroppingHeld chunked chunk len frame) = record {
   call = calls (call.AggDrop chunked);
   agg = λ a. (chunked == a) || ((chunk == a) || (frame == a));
   write_end = none;
   is_reading = true;
   after = goes (after_trim chunked chunk len frame);
 }
-step_of (Ended empty held frame) = record {
+step_of (DroppingEnd empty held frame) = record {
   call = calls (call.AggDrop empty);
   agg = λ a. (empty == a) || (has_followed held a || has_frame frame a);
   write_end = none;
   is_reading = true;
   after = goes (after_ended empty held frame);
 }
-step_of (Unholds dropped frame) = record {
+step_of (DiscardingHeld dropped frame) = record {
   call = calls (call.AggDrop dropped);
   agg = λ a. (dropped == a) || has_frame frame a;
   write_end = none;
   is_reading = true;
   after = goes (after_release_held dropped frame);
 }
-step_of (Stops held frame) = record {
+step_of (ClosingOutput held frame) = record {
   call = λ job fd w run. call.Close run.from;
   agg = λ a. has_followed held a || has_frame frame a;
   write_end = none;
   is_reading = true;
   after = λ w run r received. after_stop w run held frame r;
 }
-step_of (Unframes frame held) = record {
+step_of (DroppingFrame frame held) = record {
   call = calls (call.AggDrop frame);
   agg = λ a. (frame == a) || has_followed held a;
   write_end = none;
   is_reading = false;
   after = λ w run r received. after_release_frame w run frame held r;
 }
-step_of (Lasts held) = record {
+step_of (MakingEnd held) = record {
   call = calls (call.AggMake (end_around held));
   agg = has_followed held;
   write_end = none;
   is_reading = false;
   after = λ w run r received. after_last run held r received;
 }
-step_of (WrapsLast held size frame) = record {
+step_of (FillingEnd held size frame) = record {
   call = calls (call.AggReplace frame (place_in_frame size) (place_in_frame size) held);
   agg = λ a. (held == a) || (frame == a);
   write_end = none;
   is_reading = false;
   after = goes_by (after_wrap_last held size frame);
 }
-step_of (TrimsLast last chunk len frame) = record {
+step_of (DroppingLast last chunk len frame) = record {
   call = calls (call.AggDrop last);
   agg = λ a. (last == a) || ((chunk == a) || (frame == a));
   write_end = none;
   is_reading = false;
   after = goes (after_trim_last last chunk len frame);
 }
-step_of (Unwraps end chunk len) = record {
+step_of (DroppingLastFrame end chunk len) = record {
   call = calls (call.AggDrop end);
   agg = λ a. (end == a) || (chunk == a);
   write_end = none;
   is_reading = false;
   after = λ w run r received. after_unwrap run end chunk len r;
 }
-step_of (Returns write) = record {
+step_of (ClosingPipe write) = record {
   call = calls (call.Close write);
   agg = none;
   write_end = one write;
   is_reading = true;
   after = goes (after_return write);
 }
-step_of (Lapses lapsed) = record {
+step_of (DiscardingJob lapsed) = record {
   call = calls (call.AggDrop lapsed);
   agg = one lapsed;
   write_end = none;
   is_reading = true;
   after = goes (after_lapse lapsed);
 }
-step_of Fails = record {
+step_of Failing = record {
   call = λ job fd w failed. call.Close failed.from;
   agg = none;
   write_end = none;
@@ -438,16 +448,16 @@ abbrev pub ends_of : Run → Step → (g : ℕ) → Bool
 ends_of run step g = (is_reading step && (run.from == g)) || step_fd step g
 
 abbrev pub uses_agg : Running → (a : ℕ) → Bool
-uses_agg Awaits a = false
-uses_agg (Runs run step) a = step_agg step a
-uses_agg (Leaves d) a = conn.uses_agg d a
-uses_agg Closes a = false
+uses_agg AwaitingWorker a = false
+uses_agg (InProgress run step) a = step_agg step a
+uses_agg (Finishing d) a = conn.uses_agg d a
+uses_agg Disconnecting a = false
 
 abbrev pub uses_fd : Running → (g : ℕ) → Bool
-uses_fd Awaits g = false
-uses_fd (Runs run step) g = (job_pipe run.worker == g) || ends_of run step g
-uses_fd (Leaves d) g = conn.uses_fd d g
-uses_fd Closes g = false
+uses_fd AwaitingWorker g = false
+uses_fd (InProgress run step) g = (job_pipe run.worker == g) || ends_of run step g
+uses_fd (Finishing d) g = conn.uses_fd d g
+uses_fd Disconnecting g = false
 
 module _ (job : (fd : ℕ) → List ℕ) where
   abbrev pub step_wants : (fd : ℕ) → Wanted → Run → Step → Call
@@ -455,14 +465,14 @@ module _ (job : (fd : ℕ) → List ℕ) where
 
   -- its next call; fd is the descriptor of its connection
   abbrev pub wants : (fd : ℕ) → Wanted → Running → Call
-  wants fd w Awaits = call.Pipe
-  wants fd w (Runs run step) = step_wants fd w run step
-  wants fd w (Leaves d) = conn.wants fd (in_phase w d)
-  wants fd w Closes = call.Close fd
+  wants fd w AwaitingWorker = call.Pipe
+  wants fd w (InProgress run step) = step_wants fd w run step
+  wants fd w (Finishing d) = conn.wants fd (in_phase w d)
+  wants fd w Disconnecting = call.Close fd
 
 -- Its state after the reply to its call; `worker` is a free worker.
 abbrev pub after_reply : (worker : ℕ) → Wanted → Running → Reply → (received : List ℕ) → Running
-after_reply worker w Awaits r received = after_wait worker r
-after_reply worker w (Runs run step) r received = after_step w run step r received
-after_reply worker w (Leaves d) r received = Leaves (conn.after_reply (in_phase w d) r received).phase
-after_reply worker w Closes r received = Closes
+after_reply worker w AwaitingWorker r received = after_wait worker r
+after_reply worker w (InProgress run step) r received = after_step w run step r received
+after_reply worker w (Finishing d) r received = Finishing (conn.after_reply (in_phase w d) r received).phase
+after_reply worker w Disconnecting r received = Disconnecting

@@ -82,29 +82,29 @@ impl Sending {
 #[derive(Clone, Copy, Debug, PartialEq, Eq)]
 pub enum Phase {
     /// Idle: begins the first buffered request, or reads more of the stream.
-    Rests,
+    Receiving,
 
     /// Drops the aggregate of a read, whose bytes are buffered.
-    Got {
+    DroppingInput {
         agg: AggId,
     },
 
     /// Opens the file.
-    Opens,
+    Opening,
 
     /// Reads the file, or asks for its length.
-    Reads {
+    Reading {
         file: Fd,
     },
 
     /// Closes the file.
-    Shuts {
+    ClosingFile {
         file: Fd,
         file_result: FileResult,
     },
 
     /// Cuts a part of the bytes read.
-    Picks {
+    Slicing {
         agg: AggId,
         first: u32,
         last: u32,
@@ -112,18 +112,18 @@ pub enum Phase {
     },
 
     /// Drops the whole of the bytes read.
-    Spares {
+    DroppingWhole {
         agg: AggId,
         content: Payload,
     },
 
     /// Makes the head.
-    Heads {
+    MakingHead {
         content: Payload,
     },
 
     /// Joins a head of `size` bytes and a body of `len` bytes.
-    Joins {
+    Joining {
         head: AggId,
         size: u32,
         body: AggId,
@@ -131,52 +131,52 @@ pub enum Phase {
     },
 
     /// Offers the whole aggregate: `from` is 0.
-    Sends {
+    SendingWhole {
         sending: Sending,
     },
 
     /// Cuts the next piece.
-    Cuts {
+    CuttingPiece {
         sending: Sending,
     },
 
     /// Offers the piece.
-    Offers {
+    SendingPiece {
         sending: Sending,
         piece: AggId,
     },
 
     /// Drops the piece: those of its bytes that are taken are before `from`.
-    Swaps {
+    DroppingPiece {
         sending: Sending,
         piece: AggId,
     },
 
     /// Drops the aggregate, all of which was taken.
-    Sent {
+    DroppingSent {
         agg: AggId,
         taken: u64,
         more: Option<(AggId, u32)>,
     },
 
     /// Stops sending: drops the piece, and then the rest.
-    Breaks {
+    AbortingPiece {
         piece: AggId,
         agg: AggId,
         more: Option<(AggId, u32)>,
     },
 
     /// Stops sending: drops the aggregate, and then closes the connection.
-    Drops {
+    Aborting {
         agg: AggId,
         more: Option<(AggId, u32)>,
     },
 
     /// Closes the connection.
-    Closes,
+    Disconnecting,
 
     /// Closed.
-    Over,
+    Closed,
 }
 
 /// The pending call: none, an accept, or one for the connection of a descriptor.

@@ -26,49 +26,49 @@ pub struct Run {
 #[derive(Clone, Copy, Debug, PartialEq, Eq)]
 pub enum Step {
     /// Gives the pipe's write end to the worker.
-    Gives {
+    GivingPipe {
         write: Fd,
     },
 
     /// Makes the job. The worker has the write end at its descriptor `fd`.
-    Makes {
+    MakingJob {
         fd: Fd,
     },
 
     /// Writes the job into the worker's job pipe. It names the descriptor `fd`.
-    Hands {
+    WritingJob {
         job: AggId,
         fd: Fd,
     },
 
     /// Drops the job.
-    Lets {
+    DroppingJob {
         job: AggId,
     },
 
     /// Makes the head of the response.
-    Heads,
+    MakingHead,
 
     /// Sends a part of the response, by the phases of any response.
-    Sending {
+    SendingPart {
         phase: Phase,
         frame: Option<AggId>,
     },
 
     /// Reads output.
-    Receives {
+    ReadingOutput {
         held: Option<(AggId, u32)>,
         frame: Option<AggId>,
     },
 
     /// Drops output that is not sent.
-    Spills {
+    DroppingOutput {
         agg: AggId,
         frame: Option<AggId>,
     },
 
     /// Joins a piece of output, of `len` bytes, to the buffered output.
-    Gathers {
+    JoiningOutput {
         held: AggId,
         size: u32,
         piece: AggId,
@@ -77,18 +77,18 @@ pub enum Step {
     },
 
     /// Makes the frame: the bytes of a whole chunk are buffered.
-    Frames {
+    MakingFrame {
         held: AggId,
     },
 
     /// Inserts them into the frame.
-    Wraps {
+    FillingFrame {
         held: AggId,
         frame: AggId,
     },
 
     /// Drops the buffered output, which is in the chunk, of `len` bytes.
-    Trims {
+    DroppingHeld {
         held: AggId,
         chunk: AggId,
         len: u32,
@@ -96,44 +96,44 @@ pub enum Step {
     },
 
     /// Drops the empty aggregate of the last read, after the end of the output.
-    Ended {
+    DroppingEnd {
         agg: AggId,
         held: Option<(AggId, u32)>,
         frame: Option<AggId>,
     },
 
     /// Stops sending: drops the buffered output.
-    Unholds {
+    DiscardingHeld {
         held: AggId,
         frame: Option<AggId>,
     },
 
     /// Stops reading: closes the read end.
-    Stops {
+    ClosingOutput {
         held: Option<(AggId, u32)>,
         frame: Option<AggId>,
     },
 
     /// Drops the frame, after the close.
-    Unframes {
+    DroppingFrame {
         frame: AggId,
         held: Option<(AggId, u32)>,
     },
 
     /// Makes the end of the body, around the buffered output.
-    Lasts {
+    MakingEnd {
         held: Option<(AggId, u32)>,
     },
 
     /// Inserts the buffered output into that end.
-    WrapsLast {
+    FillingEnd {
         held: AggId,
         size: u32,
         frame: AggId,
     },
 
     /// Drops the buffered output.
-    TrimsLast {
+    DroppingLast {
         held: AggId,
         chunk: AggId,
         len: u32,
@@ -141,39 +141,39 @@ pub enum Step {
     },
 
     /// Drops the end, which is not needed without buffered output.
-    Unwraps {
+    DroppingLastFrame {
         frame: AggId,
         chunk: AggId,
         len: u32,
     },
 
     /// Closes the write end, which could not be given to the worker.
-    Returns {
+    ClosingPipe {
         write: Fd,
     },
 
     /// Drops the job, which could not be written.
-    Lapses {
+    DiscardingJob {
         job: AggId,
     },
 
     /// Closes the read end: the script cannot run.
-    Fails,
+    Failing,
 }
 
 /// A run of a script.
 #[derive(Clone, Copy, Debug, PartialEq, Eq)]
 pub enum Running {
     /// Waits for a free worker; then makes a pipe for the output.
-    Awaits,
+    AwaitingWorker,
 
     /// Has a worker and a pipe.
-    Runs { run: Run, step: Step },
+    InProgress { run: Run, step: Step },
 
     /// The worker is free, and the rest of the response, or an error, is sent as for a file.
-    Leaves { phase: Phase },
+    Finishing { phase: Phase },
 
     /// The worker is free, and the connection is to be closed: all of the response is taken, or it
     /// is not sent any more.
-    Closes,
+    Disconnecting,
 }

@@ -20,13 +20,15 @@ use Rattle.flash_laws.specs.Serves.Rounds.{next_in}
 use Rattle.flash_laws.specs.Serves.{Picks}
 use Rattle.flash_laws.specs.Site.OtherConns.{with_at, left_by}
 use Rattle.flash_laws.specs.declared.phase.Phase.{Phase}
-use Rattle.flash_laws.specs.declared.phase.Phase.TheVariants.{Rests, Got, Opens, Reads, Shuts, Picks as Picking, Spares}
-use Rattle.flash_laws.specs.declared.phase.Phase.TheVariants.{Heads, Joins, Sends, Cuts, Offers, Swaps, Sent, Breaks}
-use Rattle.flash_laws.specs.declared.phase.Phase.TheVariants.{Drops, Closes, Over}
+use Rattle.flash_laws.specs.declared.phase.Phase.TheVariants.{Receiving, DroppingInput, Opening, Reading, ClosingFile}
+use Rattle.flash_laws.specs.declared.phase.Phase.TheVariants.{Slicing as Picking, DroppingWhole}
+use Rattle.flash_laws.specs.declared.phase.Phase.TheVariants.{MakingHead, Joining, SendingWhole, CuttingPiece}
+use Rattle.flash_laws.specs.declared.phase.Phase.TheVariants.{SendingPiece, DroppingPiece, DroppingSent, AbortingPiece}
+use Rattle.flash_laws.specs.declared.phase.Phase.TheVariants.{Aborting, Disconnecting, Closed}
 use Rattle.flash_laws.specs.declared.phase.PendingCall.{PendingCall}
 use Rattle.flash_laws.specs.declared.phase.PendingCall.TheVariants.{Nothing, Accepting, At}
 use Rattle.flash_lite.specs.Course.{left_with, remains}
-use Rattle.flash_lite.specs.ServerTurn.{AtAcceptStep, Makes, PicksFrom, accept_step_to, ends, pending_call_by, left_as}
+use Rattle.flash_lite.specs.ServerTurn.{AtAcceptStep, Makes, PicksFrom, accept_step_to, pending_call_by, left_as}
 use Rattle.flash_lite.specs.ServerTurn.{left_at, most_with}
 use Rattle.flash_lite.specs.declared.client.Left.{Left}
 use Rattle.flash_lite.specs.declared.client.Left.TheVariants as left
@@ -263,27 +265,27 @@ accept_step_left clients fd x l there =
 
     going : (d : Phase) (z : Client)
         → accept_step_to clients (most_with (left.Goes d)) ≡ accept_step (slice_set clients fd (left_by d z))
-    going Over z = gone
-    going Rests z = kept z
-    going (Got a) z = kept z
-    going Opens z = kept z
-    going (Reads f) z = kept z
-    going (Shuts f k) z = kept z
+    going Closed z = gone
+    going Receiving z = kept z
+    going (DroppingInput a) z = kept z
+    going Opening z = kept z
+    going (Reading f) z = kept z
+    going (ClosingFile f k) z = kept z
     going (Picking a from to len) z = kept z
-    going (Spares a k) z = kept z
-    going (Heads k) z = kept z
-    going (Joins a size body len) z = kept z
-    going (Sends s) z = kept z
-    going (Cuts s) z = kept z
-    going (Offers s piece) z = kept z
-    going (Swaps s piece) z = kept z
-    going (Sent a taken more) z = kept z
-    going (Breaks piece a more) z = kept z
-    going (Drops a more) z = kept z
-    going Closes z = kept z
+    going (DroppingWhole a k) z = kept z
+    going (MakingHead k) z = kept z
+    going (Joining a size body len) z = kept z
+    going (SendingWhole s) z = kept z
+    going (CuttingPiece s) z = kept z
+    going (SendingPiece s piece) z = kept z
+    going (DroppingPiece s piece) z = kept z
+    going (DroppingSent a taken more) z = kept z
+    going (AbortingPiece piece a more) z = kept z
+    going (Aborting a more) z = kept z
+    going Disconnecting z = kept z
 
     same : (d : Phase) → most_with (left.Ends d) ≡ most_with (left.Goes d)
-    same Over = refl
+    same Closed = refl
     same d = refl
 
     by : (l : Left)

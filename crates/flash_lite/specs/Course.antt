@@ -21,9 +21,9 @@ use Rattle.flash_laws.specs.declared.phase.Payload.{Payload}
 use Rattle.flash_laws.specs.declared.phase.Payload.TheVariants.{Script}
 use Rattle.flash_laws.specs.declared.phase.FileResult.TheVariants.{Text}
 use Rattle.flash_laws.specs.declared.phase.Phase.{Phase}
-use Rattle.flash_laws.specs.declared.phase.Phase.TheVariants.{Reads, Shuts, Spares, Heads}
+use Rattle.flash_laws.specs.declared.phase.Phase.TheVariants.{Reading, ClosingFile, DroppingWhole, MakingHead}
 use Rattle.flash_laws.specs.declared.script_run.Running.{Running}
-use Rattle.flash_laws.specs.declared.script_run.Running.TheVariants.{Awaits, Leaves as Parts}
+use Rattle.flash_laws.specs.declared.script_run.Running.TheVariants.{AwaitingWorker, Finishing as Parts}
 use Rattle.flash_lite.specs.Onward as conn
 use Rattle.flash_lite.specs.Runs.{IsSmallRunning, run_worker}
 use Rattle.flash_lite.specs.declared.client.Course.{Course}
@@ -57,13 +57,13 @@ spared k r head_only = reports.AsFile
 
 -- the result of a reply for a script: its text is read, it runs, or the same as for any file
 abbrev pub found : (script : Bool) → Phase → Reply → (head_only : Bool) → Found
-found true (Reads f) r head_only = read f r
-found true (Spares a k) r head_only = spared k r head_only
+found true (Reading f) r head_only = read f r
+found true (DroppingWhole a k) r head_only = spared k r head_only
 found script d r head_only = reports.AsFile
 
 -- the call for a script, given that for a file: a script is read whole
 abbrev pub whole : (script : Bool) → Phase → Call → Call
-whole true (Reads f) k = call.IolRead f most_read
+whole true (Reading f) k = call.IolRead f most_read
 whole script d k = k
 
 -- the text that is kept: all of it, if it is a script that will run
@@ -73,7 +73,7 @@ kept_script head_only text = kept_if head_only (can_run text) text
 -- the text of a script was read
 abbrev pub text_received : Client → (file agg : ℕ) → (received : List ℕ) → Client
 text_received x f n received = record {
-  conn = record x.conn { phase = Shuts f (Text n (can_run received)) };
+  conn = record x.conn { phase = ClosingFile f (Text n (can_run received)) };
   run = None;
   script = kept_script (is_head_only x.conn.q) received;
 }
@@ -108,7 +108,12 @@ ended x d = record { conn = record x.conn { phase = d }; run = None; script = []
 abbrev pub left_with : Client → Left → Client
 left_with x (Goes d) = record { conn = record x.conn { phase = d }; run = x.run; script = x.script }
 left_with x (Ends d) = ended x d
-left_with x Begins = record { conn = record x.conn { phase = Heads Script }; run = Some Awaits; script = x.script }
+left_with x Begins = record {
+  conn = record x.conn { phase = MakingHead Script };
+  run = Some AwaitingWorker;
+  script =
+      x.script;
+}
 left_with x (Continues d) = with_run x (Parts d) x.script
 left_with x Stays = x
 

@@ -9,13 +9,13 @@ use Rattle.flash_laws.specs.Conn.Policy.{has_answered, is_later, is_bare, leaves
 use Rattle.flash_laws.specs.Conn.Wants.{can_begin}
 use Rattle.flash_laws.specs.Site.OtherConns.{left_over}
 use Rattle.flash_laws.specs.declared.phase.Phase.{Phase}
-use Rattle.flash_laws.specs.declared.phase.Phase.TheVariants.{Rests, Over}
+use Rattle.flash_laws.specs.declared.phase.Phase.TheVariants.{Receiving, Closed}
 use Rattle.flash_lite.specs.Small.{IsSmall}
 use Rattle.flash_lite.specs.declared.conn.Onward.{Onward}
 use Rattle.flash_lite.specs.declared.conn.Onward.TheVariants.{Asks, Leaves}
 
 abbrev pub is_over : Phase → Bool
-is_over Over = true
+is_over Closed = true
 is_over d = false
 
 -- a connection in this phase
@@ -55,14 +55,14 @@ IsOnward fd x r received (Leaves d) y = IsLeft x r received d y
 -- From a phase that becomes idle: the first buffered request begins, or there is none.
 abbrev pub Frees : (fd : ℕ) → Conn → Onward → Conn → Type 0
 Frees fd x (Asks call) y =
-    IsFalse (is_bare (record x { phase = Rests }))
-    × Starts (record x { phase = Rests }) y
+    IsFalse (is_bare (record x { phase = Receiving }))
+    × Starts (record x { phase = Receiving }) y
     × (call ≡ wants fd y)
-Frees fd x (Leaves d) y = (d ≡ Rests) × (x.kept ≡ []) × (y ≡ x)
+Frees fd x (Leaves d) y = (d ≡ Receiving) × (x.kept ≡ []) × (y ≡ x)
 
 -- an idle connection has buffered input, and a request can begin
 abbrev pub WantsToStart : Conn → Type 0
-WantsToStart x = IsFalse (is_bare (record x { phase = Rests })) × IsTrue (can_begin (window_in x.kept))
+WantsToStart x = IsFalse (is_bare (record x { phase = Receiving })) × IsTrue (can_begin (window_in x.kept))
 
 -- whether its turn passes in this phase: its call is to be retried later, or its response is taken whole and more input
 -- is buffered

@@ -11,10 +11,11 @@ use Rattle.flash_laws.specs.declared.phase.Phase.{Phase}
 use Rattle.flash_laws.specs.declared.script_run.TheConstants.{CHUNK_BYTES}
 use Rattle.flash_laws.specs.declared.script_run.Run.{Run}
 use Rattle.flash_laws.specs.declared.script_run.Step.{Step}
-use Rattle.flash_laws.specs.declared.script_run.Step.TheVariants.{Sending, Receives, Gathers, Ended, Stops, Unframes}
-use Rattle.flash_laws.specs.declared.script_run.Step.TheVariants.{Lasts, WrapsLast}
+use Rattle.flash_laws.specs.declared.script_run.Step.TheVariants.{SendingPart, ReadingOutput, JoiningOutput}
+use Rattle.flash_laws.specs.declared.script_run.Step.TheVariants.{DroppingEnd, ClosingOutput, DroppingFrame}
+use Rattle.flash_laws.specs.declared.script_run.Step.TheVariants.{MakingEnd, FillingEnd}
 use Rattle.flash_laws.specs.declared.script_run.Running.{Running}
-use Rattle.flash_laws.specs.declared.script_run.Running.TheVariants.{Awaits, Runs, Leaves}
+use Rattle.flash_laws.specs.declared.script_run.Running.TheVariants.{AwaitingWorker, InProgress, Finishing}
 use Rattle.flash_lite.specs.Small.{IsSmall}
 use Rattle.flash_lite.specs.declared.site.TheConstants.{MAX_WORKERS}
 
@@ -29,32 +30,32 @@ pub record IsGoing (d : Phase) : Type 0 where
   pub left : IsTrue (is_left d)
 
 abbrev pub IsSmallStep : Step → Type 0
-IsSmallStep (Sending d frame) = IsGoing d
-IsSmallStep (Receives held frame) = IsPiece held
-IsSmallStep (Gathers held size piece len frame) = IsPiece (Some (held, size))
-IsSmallStep (Ended a held frame) = IsPiece held
-IsSmallStep (Stops held frame) = IsPiece held
-IsSmallStep (Unframes frame held) = IsPiece held
-IsSmallStep (Lasts held) = IsPiece held
-IsSmallStep (WrapsLast held size frame) = IsPiece (Some (held, size))
+IsSmallStep (SendingPart d frame) = IsGoing d
+IsSmallStep (ReadingOutput held frame) = IsPiece held
+IsSmallStep (JoiningOutput held size piece len frame) = IsPiece (Some (held, size))
+IsSmallStep (DroppingEnd a held frame) = IsPiece held
+IsSmallStep (ClosingOutput held frame) = IsPiece held
+IsSmallStep (DroppingFrame frame held) = IsPiece held
+IsSmallStep (MakingEnd held) = IsPiece held
+IsSmallStep (FillingEnd held size frame) = IsPiece (Some (held, size))
 IsSmallStep s = ⊤
 
 abbrev pub IsSmallRun : Run → Type 0
 IsSmallRun run = run.worker < MAX_WORKERS
 
 abbrev pub IsSmallRunning : Running → Type 0
-IsSmallRunning (Runs run step) = IsSmallRun run × IsSmallStep step
-IsSmallRunning (Leaves d) = IsSmall d
+IsSmallRunning (InProgress run step) = IsSmallRun run × IsSmallStep step
+IsSmallRunning (Finishing d) = IsSmall d
 IsSmallRunning x = ⊤
 
 -- whether it waits for a worker
 abbrev pub waits : Running → Bool
-waits Awaits = true
+waits AwaitingWorker = true
 waits y = false
 
 -- the worker that runs it
 abbrev pub run_worker : Running → Option ℕ
-run_worker (Runs run step) = Some run.worker
+run_worker (InProgress run step) = Some run.worker
 run_worker y = None
 
 -- the text of the job for a request
@@ -80,4 +81,4 @@ after_reply_left w d r received = (conn.after_reply (in_phase w d) r received).p
 -- len bytes of output were read, or its end
 abbrev pub reading : (broken chunked : Bool) → (held : Following) → (frame : Option ℕ) → (agg len : ℕ) → Step
 reading broken chunked held frame a len =
-    if len == 0 then Ended a held frame else hearing broken chunked held frame a len
+    if len == 0 then DroppingEnd a held frame else hearing broken chunked held frame a len

@@ -14,7 +14,7 @@ use Rattle.flash_laws.specs.Site.Places.{filed, runs_scripts}
 use Rattle.flash_laws.specs.Serves.Rounds.{in_rounds, next_in}
 use Rattle.flash_laws.specs.Serves.Wants.{MayWant, WantsFrom, WantsHere, wants_there}
 use Rattle.flash_laws.specs.Serves.{Picks}
-use Rattle.flash_laws.specs.declared.phase.Phase.TheVariants.{Over}
+use Rattle.flash_laws.specs.declared.phase.Phase.TheVariants.{Closed}
 use Rattle.flash_laws.specs.declared.phase.PendingCall.{PendingCall}
 use Rattle.flash_laws.specs.declared.phase.PendingCall.TheVariants.{Nothing, Accepting, At}
 use Rattle.flash_lite.specs.Course.{CanRest, IsCourse, left_with, remains, worker_of}
@@ -127,8 +127,8 @@ pub record PicksFrom (scripts free : Bool) (clients : List (Option Client)) (fro
 
 -- whether its connection is over
 abbrev pub ends : Left → Bool
-ends (Goes Over) = true
-ends (Ends Over) = true
+ends (Goes Closed) = true
+ends (Ends Closed) = true
 ends l = false
 
 -- the maximum number of connections, and one more if a connection is over

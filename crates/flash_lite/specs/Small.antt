@@ -9,7 +9,8 @@ use Rattle.flash_laws.specs.Conn.{Following, is_head_only, most_read, text_of}
 use Rattle.flash_laws.specs.declared.phase.Payload.TheVariants.{Error}
 use Rattle.flash_laws.specs.declared.phase.Sending.{Sending}
 use Rattle.flash_laws.specs.declared.phase.Phase.{Phase}
-use Rattle.flash_laws.specs.declared.phase.Phase.TheVariants.{Joins, Sends, Cuts, Offers, Swaps, Sent}
+use Rattle.flash_laws.specs.declared.phase.Phase.TheVariants.{Joining, SendingWhole, CuttingPiece, SendingPiece}
+use Rattle.flash_laws.specs.declared.phase.Phase.TheVariants.{DroppingPiece, DroppingSent}
 
 abbrev pub size_of : Following → ℕ
 size_of None = 0
@@ -20,15 +21,15 @@ abbrev pub reach_of : Sending → ℕ
 reach_of s = s.taken + (s.len - s.from) + size_of s.more
 
 abbrev pub reach : Phase → ℕ
-reach (Sends s) = reach_of s
-reach (Cuts s) = reach_of s
-reach (Offers s piece) = reach_of s
-reach (Swaps s piece) = reach_of s
-reach (Sent a taken more) = taken + size_of more
+reach (SendingWhole s) = reach_of s
+reach (CuttingPiece s) = reach_of s
+reach (SendingPiece s piece) = reach_of s
+reach (DroppingPiece s piece) = reach_of s
+reach (DroppingSent a taken more) = taken + size_of more
 reach d = 0
 
 abbrev pub IsSmall : Phase → Type 0
-IsSmall (Joins a size body len) = size + len ≤ MAX_AGGREGATE_BYTES
+IsSmall (Joining a size body len) = size + len ≤ MAX_AGGREGATE_BYTES
 IsSmall d = reach d ≤ 2 ^ 40
 
 -- the first call for a request

@@ -6,8 +6,8 @@ ghost use Rattle.flash_laws.specs.Client as spec;
 ghost use Rattle.flash_laws.specs.Prelude.{has_bytes, makes_bytes, makes_any, is_over};
 ghost use Rattle.flash_laws.specs.Conn as conn;
 ghost use Rattle.flash_laws.specs.Run.{is_left};
-ghost use Rattle.flash_laws.specs.declared.phase.Phase.TheVariants.{Rests, Over};
-ghost use Rattle.flash_laws.specs.declared.script_run.Running.TheVariants.{Leaves};
+ghost use Rattle.flash_laws.specs.declared.phase.Phase.TheVariants.{Receiving, Closed};
+ghost use Rattle.flash_laws.specs.declared.script_run.Running.TheVariants.{Finishing};
 ghost use Rattle.flash_lite.specs.Course.{CanRest, EndsRun, ProceedsAlone, ProceedsFile, ProceedsAfterReply, ReceivesText, RunsOn, WantsToEnd};
 ghost use Rattle.flash_lite.specs.Course.{call_of_run, has_answered_by, left_with, run_after, with_run, worker_of};
 ghost use Rattle.flash_lite.specs.ReceivedBytes.{received};
@@ -153,7 +153,7 @@ impl Client {
         let file_result = FileResult::Text { agg, runs };
         let call = self
             .conn
-            .proceed(context.fd, Phase::Shuts { file, file_result })?;
+            .proceed(context.fd, Phase::ClosingFile { file, file_result })?;
         self.script = text;
         Ok(Course::Asks(self.file_call(context.scripts, context.fd, call)))
     }
@@ -265,7 +265,7 @@ impl Client {
     // The run is over, and all is sent: continues with the buffered stream.
     #[tactic(auto, using(crate::proofs::Responses::Clients::rest_rules))]
     fn end_free(&mut self, context: Context) -> Result<Course, AllocError>
-        ensures { EndsRun context.scripts context.fd Rests self.old (WantsToEnd self.old Rests)
+        ensures { EndsRun context.scripts context.fd Receiving self.old (WantsToEnd self.old Receiving)
             result self.new }
     {
         match self.conn.advance_free(context.fd)? {
@@ -281,7 +281,7 @@ impl Client {
     // The run is over, and the connection continues in this phase.
     #[tactic(auto, using(crate::proofs::Responses::Clients::ends_asks, crate::proofs::Responses::Clients::ends_wants))]
     fn end_with(&mut self, context: Context, phase: Phase) -> Result<Course, AllocError>
-        requires { (phase ≢ Rests) × (phase ≢ Over) × IsSmall phase × (is_left phase ≡ false) }
+        requires { (phase ≢ Receiving) × (phase ≢ Closed) × IsSmall phase × (is_left phase ≡ false) }
         ensures { EndsRun context.scripts context.fd phase self.old (has_bytes phase ≡ true) result
             self.new }
     {
@@ -299,11 +299,11 @@ impl Client {
             result self.new }
     {
         match phase {
-            Phase::Rests => {
+            Phase::Receiving => {
                 let course = self.end_free(context)?;
                 Ok(course)
             }
-            Phase::Over => Ok(Course::Leaves(Left::Ends { phase })),
+            Phase::Closed => Ok(Course::Leaves(Left::Ends { phase })),
             _ => {
                 let course = self.end_with(context, phase)?;
                 Ok(course)
@@ -315,10 +315,10 @@ impl Client {
     fn answered(&self, running: &Running) -> Option<Phase>
         ensures none { IfNone result (has_answered_by self.now.conn running.now ≡ false) }
         ensures some { OnSome result (has_answered_by self.now.conn running.now ≡ true) }
-        ensures phase { IfSome result (λ phase. running.now ≡ Leaves phase) }
+        ensures phase { IfSome result (λ phase. running.now ≡ Finishing phase) }
     {
         match *running {
-            Running::Leaves { phase } => {
+            Running::Finishing { phase } => {
                 if self.conn.has_answered(&phase) {
                     Some(phase)
                 } else {
@@ -418,12 +418,12 @@ impl Client {
                 self.script = Vec::new(self.alloc);
             }
             Left::Begins => {
-                self.conn.leave(Phase::Heads {
+                self.conn.leave(Phase::MakingHead {
                     content: Payload::Script,
                 });
-                self.run = Some(Running::Awaits);
+                self.run = Some(Running::AwaitingWorker);
             }
-            Left::Continues { phase } => self.run = Some(Running::Leaves { phase }),
+            Left::Continues { phase } => self.run = Some(Running::Finishing { phase }),
             Left::Stays => {}
         }
     }

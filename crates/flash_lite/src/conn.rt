@@ -6,7 +6,7 @@ ghost use Rattle.flash_laws.specs.Conn as spec;
 ghost use Rattle.flash_laws.specs.Prelude.{is_later, can_begin, has_bytes};
 ghost use Rattle.flash_laws.specs.Conn.Policy.{has_answered};
 ghost use Rattle.flash_laws.specs.Conn.Wants.{WantsOn};
-ghost use Rattle.flash_laws.specs.declared.phase.Phase.TheVariants.{Rests};
+ghost use Rattle.flash_laws.specs.declared.phase.Phase.TheVariants.{Receiving};
 ghost use Rattle.flash_lite.specs.ReceivedBytes.{received};
 ghost use Rattle.flash_lite.specs.Onward.{IsOnward, Frees, GoesWith, CanRest, WantsToStart, begun_with, in_phase, is_over, with_received};
 ghost use Rattle.flash_lite.specs.Small.{IsSmall};
@@ -112,7 +112,7 @@ impl Conn {
             alloc,
             kept: Vec::new(alloc),
             asked: no_request(),
-            phase: Phase::Rests,
+            phase: Phase::Receiving,
         }
     }
 
@@ -143,55 +143,61 @@ impl Conn {
         let len = self.kept.len();
         append(&mut self.kept, parts)?;
         self.phase = if self.kept.len() == len {
-            Phase::Drops { agg, more: None }
+            Phase::Aborting { agg, more: None }
         } else {
-            Phase::Got { agg }
+            Phase::DroppingInput { agg }
         };
         Ok(Call::AggDrop { agg })
     }
 
     // The phase after the reply to the call of a phase that is not idle.
     fn next_phase(&self, reply: Received<'_>) -> Phase
-        requires { self.now.phase ≢ Rests }
+        requires { self.now.phase ≢ Receiving }
         ensures after_reply { spec.after_reply self.now reply.entry.last.now
             (received reply.entry.parts) ≡ in_phase self.now result }
         ensures small { IsSmall result }
     {
         let Received { last, parts } = reply;
         match self.phase {
-            Phase::Rests => Phase::Rests,
-            Phase::Got { agg } => after_discard(agg, last),
-            Phase::Opens => after_open(last),
-            Phase::Reads { file } => after_read(file, last, parts),
-            Phase::Shuts { file, file_result } => after_close_file(
+            Phase::Receiving => Phase::Receiving,
+            Phase::DroppingInput { agg } => after_discard(agg, last),
+            Phase::Opening => after_open(last),
+            Phase::Reading { file } => after_read(file, last, parts),
+            Phase::ClosingFile { file, file_result } => after_close_file(
                 &self.asked,
                 file,
                 file_result,
                 last,
             ),
-            Phase::Picks {
+            Phase::Slicing {
                 agg,
                 first,
                 last: to,
                 len,
             } => after_slice(agg, first, to, len, last),
-            Phase::Spares { agg, content } => after_drop_whole(agg, content, last),
-            Phase::Heads { content } => after_head(content, last, parts),
-            Phase::Joins {
+            Phase::DroppingWhole { agg, content } => after_drop_whole(agg, content, last),
+            Phase::MakingHead { content } => after_head(content, last, parts),
+            Phase::Joining {
                 head,
                 size,
                 body,
                 len,
             } => after_join(head, size, body, len, last),
-            Phase::Sends { .. }
-            | Phase::Cuts { .. }
-            | Phase::Offers { .. }
-            | Phase::Swaps { .. }
-            | Phase::Breaks { .. } => after_part(self.phase, last),
-            Phase::Sent { agg, taken, more } => after_taken(&self.asked, agg, taken, more, last),
-            Phase::Drops { agg, more } => after_drop(agg, more, last),
-            Phase::Closes => after_disconnect(last),
-            Phase::Over => Phase::Over,
+            Phase::SendingWhole { .. }
+            | Phase::CuttingPiece { .. }
+            | Phase::SendingPiece { .. }
+            | Phase::DroppingPiece { .. }
+            | Phase::AbortingPiece { .. } => after_part(self.phase, last),
+            Phase::DroppingSent { agg, taken, more } => after_taken(
+                &self.asked,
+                agg,
+                taken,
+                more,
+                last,
+            ),
+            Phase::Aborting { agg, more } => after_drop(agg, more, last),
+            Phase::Disconnecting => after_disconnect(last),
+            Phase::Closed => Phase::Closed,
         }
     }
 
@@ -220,14 +226,14 @@ impl Conn {
     // From an idle phase, begins the first buffered request, or reads more of the stream.
     fn start(&mut self, fd: Fd) -> Result<Call, AllocError>
         ensures starts { IfOk result
-            (λ _. spec.Starts (record self.old { phase = Rests }) self.new) }
+            (λ _. spec.Starts (record self.old { phase = Receiving }) self.new) }
         ensures call { IfOk result (λ call. call ≡ spec.wants fd self.new) }
         ensures err { OnErr result (self.new ≡ self.old) }
         ensures wants { OnErr result (can_begin (window_in self.old.kept) ≡ true) }
     {
         match window_of(self.kept.as_slice()) {
             Window::Wait => {
-                self.phase = Phase::Rests;
+                self.phase = Phase::Receiving;
                 Ok(self.read(fd))
             }
             Window::TooLarge => self.begin(fd, no_request(), 0),
@@ -245,38 +251,42 @@ impl Conn {
         ensures wants { OnErr result (has_bytes phase.now ≡ true) }
     {
         Ok(match *phase {
-            Phase::Rests => self.read(fd),
-            Phase::Opens => open_call(self.alloc, &self.asked)?,
-            Phase::Reads { file } => read_call(&self.asked, file),
-            Phase::Shuts { file, .. } => Call::Close { fd: file },
-            Phase::Picks {
+            Phase::Receiving => self.read(fd),
+            Phase::Opening => open_call(self.alloc, &self.asked)?,
+            Phase::Reading { file } => read_call(&self.asked, file),
+            Phase::ClosingFile { file, .. } => Call::Close { fd: file },
+            Phase::Slicing {
                 agg,
                 first,
                 last,
                 ..
             } => cut_call(agg, first, last),
-            Phase::Heads { content } => make_call(self.alloc, &self.asked, &content)?,
-            Phase::Joins { head, body, .. } => join_call(head, body),
-            Phase::Sends { sending } => Call::IolWrite {
+            Phase::MakingHead { content } => make_call(self.alloc, &self.asked, &content)?,
+            Phase::Joining { head, body, .. } => join_call(head, body),
+            Phase::SendingWhole { sending } => Call::IolWrite {
                 fd,
                 agg: sending.agg,
             },
-            Phase::Cuts { sending } => cut_call(sending.agg, sending.from, sending.piece_end()),
-            Phase::Offers { piece, .. } => Call::IolWrite { fd, agg: piece },
-            Phase::Got { agg } => Call::AggDrop { agg },
-            Phase::Spares { agg, .. } => Call::AggDrop { agg },
-            Phase::Swaps { piece, .. } => Call::AggDrop { agg: piece },
-            Phase::Sent { agg, .. } => Call::AggDrop { agg },
-            Phase::Breaks { piece, .. } => Call::AggDrop { agg: piece },
-            Phase::Drops { agg, .. } => Call::AggDrop { agg },
-            Phase::Closes | Phase::Over => Call::Close { fd },
+            Phase::CuttingPiece { sending } => cut_call(
+                sending.agg,
+                sending.from,
+                sending.piece_end(),
+            ),
+            Phase::SendingPiece { piece, .. } => Call::IolWrite { fd, agg: piece },
+            Phase::DroppingInput { agg } => Call::AggDrop { agg },
+            Phase::DroppingWhole { agg, .. } => Call::AggDrop { agg },
+            Phase::DroppingPiece { piece, .. } => Call::AggDrop { agg: piece },
+            Phase::DroppingSent { agg, .. } => Call::AggDrop { agg },
+            Phase::AbortingPiece { piece, .. } => Call::AggDrop { agg: piece },
+            Phase::Aborting { agg, .. } => Call::AggDrop { agg },
+            Phase::Disconnecting | Phase::Closed => Call::Close { fd },
         })
     }
 
     /// Continues with a phase that is not idle.
     #[tactic(auto, using(crate::proofs::Responses::Waits::busy_awaits))]
     pub(crate) fn proceed(&mut self, fd: Fd, phase: Phase) -> Result<Call, AllocError>
-        requires { (phase ≢ Rests) × IsSmall phase }
+        requires { (phase ≢ Receiving) × IsSmall phase }
         ensures phase { IfOk result (λ _. self.new ≡ record self.old { phase = phase }) }
         ensures call { IfOk result (λ call. call ≡ spec.wants fd self.new) }
         ensures err { OnErr result (self.new ≡ self.old) }
@@ -291,13 +301,13 @@ impl Conn {
     pub(crate) fn has_answered(&self, phase: &Phase) -> bool
         ensures { result ≡ has_answered (in_phase self.now phase.now) }
     {
-        matches!(*phase, Phase::Sent { more: None, .. }) && !self.kept.is_empty()
+        matches!(*phase, Phase::DroppingSent { more: None, .. }) && !self.kept.is_empty()
     }
 
     // Continues with a phase that is not idle, unless its call is retried later, or the response is
     // taken whole and more input is buffered.
     fn advance_with(&mut self, fd: Fd, phase: Phase, last: &Reply) -> Result<Onward, AllocError>
-        requires { (phase ≢ Rests) × IsSmall phase }
+        requires { (phase ≢ Receiving) × IsSmall phase }
         ensures goes { IfOk result (λ o. GoesWith fd self.old last.now phase o self.new) }
         ensures err { OnErr result (self.new ≡ self.old) }
         ensures wants { OnErr result ((is_later last.now ≡ false) × (has_bytes phase ≡ true)) }
@@ -316,7 +326,7 @@ impl Conn {
         ensures wants { OnErr result (WantsToStart self.old) }
     {
         if self.kept.is_empty() {
-            return Ok(Onward::Leaves(Phase::Rests));
+            return Ok(Onward::Leaves(Phase::Receiving));
         }
         let call = self.start(fd)?;
         Ok(Onward::Asks(call))
@@ -324,7 +334,7 @@ impl Conn {
 
     // After the reply to a call of a phase that was not idle.
     fn advance_busy(&mut self, fd: Fd, reply: Received<'_>) -> Result<Onward, AllocError>
-        requires { self.old.phase ≢ Rests }
+        requires { self.old.phase ≢ Receiving }
         ensures onward { IfOk result (λ o. IsOnward fd self.old reply.entry.last.now
             (received reply.entry.parts) o self.new) }
         ensures err { OnErr result (self.new ≡ self.old) }
@@ -334,15 +344,15 @@ impl Conn {
         let last = reply.last;
         let phase = self.next_phase(reply);
         match phase {
-            Phase::Rests => self.advance_free(fd),
-            Phase::Over => Ok(Onward::Leaves(phase)),
+            Phase::Receiving => self.advance_free(fd),
+            Phase::Closed => Ok(Onward::Leaves(phase)),
             _ => self.advance_with(fd, phase, last),
         }
     }
 
     // After reading the stream, or its refusal.
     fn advance_resting(&mut self, fd: Fd, reply: Received<'_>) -> Result<Onward, AllocError>
-        requires { self.old.phase ≡ Rests }
+        requires { self.old.phase ≡ Receiving }
         ensures onward { IfOk result (λ o. IsOnward fd self.old reply.entry.last.now
             (received reply.entry.parts) o self.new) }
         ensures err { OnErr result (self.new ≡ self.old) }
@@ -357,7 +367,7 @@ impl Conn {
             }
             _ => {
                 if is_later(reply.last) {
-                    return Ok(Onward::Leaves(Phase::Rests));
+                    return Ok(Onward::Leaves(Phase::Receiving));
                 }
                 self.advance_free(fd)
             }
@@ -376,7 +386,7 @@ impl Conn {
             (received reply.entry.parts)) }
     {
         match self.phase {
-            Phase::Rests => self.advance_resting(fd, reply),
+            Phase::Receiving => self.advance_resting(fd, reply),
             _ => self.advance_busy(fd, reply),
         }
     }

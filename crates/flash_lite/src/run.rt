@@ -49,51 +49,53 @@ fn after_step(request: &Request, run: Run, step: Step, reply: Received<'_>) -> R
 {
     let Received { last, parts } = reply;
     let step = match step {
-        Step::Gives { write } => after_give(write, last),
-        Step::Makes { fd } => after_make(fd, last),
-        Step::Hands { job, fd } => after_hand(job, fd, last),
-        Step::Lets { job } => after_release_job(job, last),
-        Step::Heads => after_head(last, parts),
-        Step::Sending { phase, frame } => return after_sending(run, phase, frame, last),
-        Step::Receives { held, frame } => {
+        Step::GivingPipe { write } => after_give(write, last),
+        Step::MakingJob { fd } => after_make(fd, last),
+        Step::WritingJob { job, fd } => after_hand(job, fd, last),
+        Step::DroppingJob { job } => after_release_job(job, last),
+        Step::MakingHead => after_head(last, parts),
+        Step::SendingPart { phase, frame } => return after_sending(run, phase, frame, last),
+        Step::ReadingOutput { held, frame } => {
             return after_output(request, run, held, frame, last, parts);
         }
-        Step::Spills { agg, frame } => after_spill(agg, frame, last),
-        Step::Gathers {
+        Step::DroppingOutput { agg, frame } => after_spill(agg, frame, last),
+        Step::JoiningOutput {
             held,
             size,
             piece,
             len,
             frame,
         } => after_gather(held, size, piece, len, frame, last),
-        Step::Frames { held } => after_frame(held, last),
-        Step::Wraps { held, frame } => after_wrap(held, frame, last, parts),
-        Step::Trims {
+        Step::MakingFrame { held } => after_frame(held, last),
+        Step::FillingFrame { held, frame } => after_wrap(held, frame, last, parts),
+        Step::DroppingHeld {
             held,
             chunk,
             len,
             frame,
         } => after_trim(held, chunk, len, frame, last),
-        Step::Ended { agg, held, frame } => after_ended(agg, held, frame, last),
-        Step::Unholds { held, frame } => after_release_held(held, frame, last),
-        Step::Stops { held, frame } => return after_stop(request, run, held, frame, last),
-        Step::Unframes { frame, held } => return after_release_frame(
+        Step::DroppingEnd { agg, held, frame } => after_ended(agg, held, frame, last),
+        Step::DiscardingHeld { held, frame } => after_release_held(held, frame, last),
+        Step::ClosingOutput { held, frame } => return after_stop(request, run, held, frame, last),
+        Step::DroppingFrame { frame, held } => return after_release_frame(
             request, run, frame, held, last,
         ),
-        Step::Lasts { held } => return after_last(run, held, last, parts),
-        Step::WrapsLast { held, size, frame } => after_wrap_last(held, size, frame, last, parts),
-        Step::TrimsLast {
+        Step::MakingEnd { held } => return after_last(run, held, last, parts),
+        Step::FillingEnd { held, size, frame } => after_wrap_last(held, size, frame, last, parts),
+        Step::DroppingLast {
             held,
             chunk,
             len,
             frame,
         } => after_trim_last(held, chunk, len, frame, last),
-        Step::Unwraps { frame, chunk, len } => return after_unwrap(run, frame, chunk, len, last),
-        Step::Returns { write } => after_return(write, last),
-        Step::Lapses { job } => after_lapse(job, last),
-        Step::Fails => return after_fail(run, last),
+        Step::DroppingLastFrame { frame, chunk, len } => return after_unwrap(
+            run, frame, chunk, len, last,
+        ),
+        Step::ClosingPipe { write } => after_return(write, last),
+        Step::DiscardingJob { job } => after_lapse(job, last),
+        Step::Failing => return after_fail(run, last),
     };
-    Running::Runs { run, step }
+    Running::InProgress { run, step }
 }
 
 /// The state of a run after the reply to its call. `worker` is a free worker.
@@ -111,12 +113,12 @@ pub(crate) fn after_reply(
     ensures small { IsSmallRunning result }
 {
     match running {
-        Running::Awaits => after_wait(worker, reply.last),
-        Running::Runs { run, step } => after_step(request, run, step, reply),
-        Running::Leaves { phase } => Running::Leaves {
+        Running::AwaitingWorker => after_wait(worker, reply.last),
+        Running::InProgress { run, step } => after_step(request, run, step, reply),
+        Running::Finishing { phase } => Running::Finishing {
             phase: after_reply_left(request, phase, reply.last, reply.parts),
         },
-        Running::Closes => Running::Closes,
+        Running::Disconnecting => Running::Disconnecting,
     }
 }
 
@@ -136,10 +138,10 @@ pub(crate) fn next_call(
     ensures wants { OnErr result (makes_any running ≡ true) }
 {
     match running {
-        Running::Awaits => Ok(Call::Pipe),
-        Running::Runs { run, step } => step_call(alloc, fd, request, script, run, step),
-        Running::Leaves { phase } => part_call(alloc, fd, request, phase),
-        Running::Closes => Ok(Call::Close { fd }),
+        Running::AwaitingWorker => Ok(Call::Pipe),
+        Running::InProgress { run, step } => step_call(alloc, fd, request, script, run, step),
+        Running::Finishing { phase } => part_call(alloc, fd, request, phase),
+        Running::Disconnecting => Ok(Call::Close { fd }),
     }
 }
 
@@ -149,14 +151,14 @@ fn is_left(phase: &Phase) -> bool
 {
     matches!(
         *phase,
-        Phase::Heads { .. }
-            | Phase::Sends { .. }
-            | Phase::Cuts { .. }
-            | Phase::Offers { .. }
-            | Phase::Swaps { .. }
-            | Phase::Sent { .. }
-            | Phase::Breaks { .. }
-            | Phase::Drops { .. }
+        Phase::MakingHead { .. }
+            | Phase::SendingWhole { .. }
+            | Phase::CuttingPiece { .. }
+            | Phase::SendingPiece { .. }
+            | Phase::DroppingPiece { .. }
+            | Phase::DroppingSent { .. }
+            | Phase::AbortingPiece { .. }
+            | Phase::Aborting { .. }
     )
 }
 
@@ -170,9 +172,9 @@ pub(crate) fn after_run(running: &Running) -> Option<Phase>
     ensures small { IfSome result IsSmall }
 {
     match *running {
-        Running::Leaves { phase } => { if is_left(&phase) { None } else { Some(phase) } }
-        Running::Closes => Some(Phase::Closes),
-        Running::Awaits | Running::Runs { .. } => None,
+        Running::Finishing { phase } => { if is_left(&phase) { None } else { Some(phase) } }
+        Running::Disconnecting => Some(Phase::Disconnecting),
+        Running::AwaitingWorker | Running::InProgress { .. } => None,
     }
 }
 
@@ -181,8 +183,11 @@ pub(crate) fn keeps_text(running: &Running) -> bool
     ensures { result ≡ client.keeps_text running.now }
 {
     match *running {
-        Running::Awaits => true,
-        Running::Runs { run: _, step } => matches!(step, Step::Gives { .. } | Step::Makes { .. }),
+        Running::AwaitingWorker => true,
+        Running::InProgress { run: _, step } => matches!(
+            step,
+            Step::GivingPipe { .. } | Step::MakingJob { .. }
+        ),
         _ => false,
     }
 }
@@ -191,7 +196,7 @@ pub(crate) fn keeps_text(running: &Running) -> bool
 pub(crate) fn waits(running: &Running) -> bool
     ensures { result ≡ waits running.now }
 {
-    matches!(*running, Running::Awaits)
+    matches!(*running, Running::AwaitingWorker)
 }
 
 /// The worker that runs it, if any.
@@ -201,7 +206,7 @@ pub(crate) fn run_worker(running: &Running) -> Option<u32>
     ensures within { IfSome result (λ worker. worker < MAX_WORKERS) }
 {
     match *running {
-        Running::Runs { run, step: _ } => Some(run.worker),
+        Running::InProgress { run, step: _ } => Some(run.worker),
         _ => None,
     }
 }

@@ -16,9 +16,11 @@ use Rattle.flash_laws.specs.Site.Past.{Past}
 use Rattle.flash_laws.specs.Workers.WorkerSet.{WorkerSet}
 use Rattle.flash_laws.specs.declared.phase.Sending.{Sending}
 use Rattle.flash_laws.specs.declared.phase.Phase.{Phase}
-use Rattle.flash_laws.specs.declared.phase.Phase.TheVariants.{Rests, Got, Opens, Reads as Reading, Shuts, Picks, Spares}
-use Rattle.flash_laws.specs.declared.phase.Phase.TheVariants.{Heads, Joins, Sends, Cuts, Offers, Swaps, Sent, Breaks}
-use Rattle.flash_laws.specs.declared.phase.Phase.TheVariants.{Drops, Closes, Over}
+use Rattle.flash_laws.specs.declared.phase.Phase.TheVariants.{Receiving, DroppingInput, Opening, Reading as Reading}
+use Rattle.flash_laws.specs.declared.phase.Phase.TheVariants.{ClosingFile, Slicing, DroppingWhole}
+use Rattle.flash_laws.specs.declared.phase.Phase.TheVariants.{MakingHead, Joining, SendingWhole, CuttingPiece}
+use Rattle.flash_laws.specs.declared.phase.Phase.TheVariants.{SendingPiece, DroppingPiece, DroppingSent, AbortingPiece}
+use Rattle.flash_laws.specs.declared.phase.Phase.TheVariants.{Aborting, Disconnecting, Closed}
 use Rattle.flash_laws.specs.declared.script_run.Running.{Running}
 use Rattle.flash_laws.proofs.Conn.Progress.{sent_after}
 use Rattle.flash_laws.proofs.Lists.{clash}
@@ -54,40 +56,40 @@ from-long m expected s h =
 
 pub ahead-short : (m : State) (q : Answer) (expected : List ℕ) (longest : ℕ) (d : Phase) → Has m q expected d
     → length expected ≤ longest → ahead longest q d ≤ 3 * longest + 21
-ahead-short m q expected longest Rests has short = omega arith
-ahead-short m q expected longest (Got a) has short = omega arith
-ahead-short m q expected longest Opens has short = omega arith
+ahead-short m q expected longest Receiving has short = omega arith
+ahead-short m q expected longest (DroppingInput a) has short = omega arith
+ahead-short m q expected longest Opening has short = omega arith
 ahead-short m q expected longest (Reading f) has short = omega arith
-ahead-short m q expected longest (Shuts f k) has short = omega arith
-ahead-short m q expected longest (Picks a from to len) has short = let few =
-    made-short m q expected longest (Picks a from to len) refl has short in omega (arith, few)
-ahead-short m q expected longest (Spares a k) has short = let few =
-    made-short m q expected longest (Spares a k) refl has short in omega (arith, few)
-ahead-short m q expected longest (Heads k) has short = let few =
-    made-short m q expected longest (Heads k) refl has short in omega (arith, few)
-ahead-short m q expected longest (Joins a size body len) has short =
+ahead-short m q expected longest (ClosingFile f k) has short = omega arith
+ahead-short m q expected longest (Slicing a from to len) has short = let few =
+    made-short m q expected longest (Slicing a from to len) refl has short in omega (arith, few)
+ahead-short m q expected longest (DroppingWhole a k) has short = let few =
+    made-short m q expected longest (DroppingWhole a k) refl has short in omega (arith, few)
+ahead-short m q expected longest (MakingHead k) has short = let few =
+    made-short m q expected longest (MakingHead k) refl has short in omega (arith, few)
+ahead-short m q expected longest (Joining a size body len) has short =
     let h : HoldsRestFrom m expected (whole a size 0 (Some (body, len))) = has.0 in
     let long = rest-long expected h.bytes h.after 0 h.next in
     let one = h.size in
     let two = h.follows.1 in
     omega (arith, long, one, two, short)
-ahead-short m q expected longest (Sends s) has short =
+ahead-short m q expected longest (SendingWhole s) has short =
     let few = from-long m expected s has.0 in omega (arith, few, short)
-ahead-short m q expected longest (Cuts s) has short =
+ahead-short m q expected longest (CuttingPiece s) has short =
     let few = from-long m expected s has.0 in omega (arith, few, short)
-ahead-short m q expected longest (Offers s piece) has short =
+ahead-short m q expected longest (SendingPiece s piece) has short =
     let few = from-long m expected s has.whole in omega (arith, few, short)
-ahead-short m q expected longest (Swaps s piece) has short =
+ahead-short m q expected longest (DroppingPiece s piece) has short =
     let few = from-long m expected s has.2 in omega (arith, few, short)
-ahead-short m q expected longest (Sent a taken more) has short =
+ahead-short m q expected longest (DroppingSent a taken more) has short =
     let calls = more-calls m more has.after has.follows in
     let rest = ap (λ (l : List ℕ). length l) has.next in
     let part = length-drop taken expected in
     omega (arith, calls, rest, part, short)
-ahead-short m q expected longest (Breaks piece a more) has short = omega arith
-ahead-short m q expected longest (Drops a more) has short = let few = few-drops q a more in omega (arith, few)
-ahead-short m q expected longest Closes has short = omega arith
-ahead-short m q expected longest Over has short = omega arith
+ahead-short m q expected longest (AbortingPiece piece a more) has short = omega arith
+ahead-short m q expected longest (Aborting a more) has short = let few = few-drops q a more in omega (arith, few)
+ahead-short m q expected longest Disconnecting has short = omega arith
+ahead-short m q expected longest Closed has short = omega arith
 
 -- ---- a connection
 

@@ -4,8 +4,9 @@ use Rattle.std.specs.Prelude.{ℕ, ◌+◌, ◌*◌, Bool, true, false, List, le
 use Rattle.flash_http.specs.Request.{Answer}
 use Rattle.flash_laws.specs.Answers.{keeps}
 use Rattle.flash_laws.specs.declared.phase.Phase.{Phase}
-use Rattle.flash_laws.specs.declared.phase.Phase.TheVariants.{Rests, Got, Opens, Reads, Shuts, Breaks, Drops, Closes}
-use Rattle.flash_laws.specs.declared.phase.Phase.TheVariants.{Over}
+use Rattle.flash_laws.specs.declared.phase.Phase.TheVariants.{Receiving, DroppingInput, Opening, Reading, ClosingFile}
+use Rattle.flash_laws.specs.declared.phase.Phase.TheVariants.{AbortingPiece, Aborting, Disconnecting}
+use Rattle.flash_laws.specs.declared.phase.Phase.TheVariants.{Closed}
 use Rattle.flash_laws.proofs.Conn.Progress.{calls_left}
 
 -- the most turns that one request takes: three per byte of its response, and a constant
@@ -14,24 +15,24 @@ request_turns longest = 3 * longest + 16
 
 -- for the request in progress, and the end of the connection
 abbrev pub ahead : (longest : ℕ) → Answer → Phase → ℕ
-ahead longest q Rests = 6
-ahead longest q Opens = 3 * longest + 21
-ahead longest q (Reads f) = 3 * longest + 20
-ahead longest q (Shuts f k) = 3 * longest + 19
-ahead longest q (Breaks piece a more) = 5
-ahead longest q (Drops a more) = calls_left q (Drops a more) + 2
-ahead longest q Closes = 1
-ahead longest q Over = 0
+ahead longest q Receiving = 6
+ahead longest q Opening = 3 * longest + 21
+ahead longest q (Reading f) = 3 * longest + 20
+ahead longest q (ClosingFile f k) = 3 * longest + 19
+ahead longest q (AbortingPiece piece a more) = 5
+ahead longest q (Aborting a more) = calls_left q (Aborting a more) + 2
+ahead longest q Disconnecting = 1
+ahead longest q Closed = 0
 ahead longest q d = calls_left q d + 6
 
 -- whether the stream is read on after the request in progress
 abbrev pub reads_on : Answer → Phase → Bool
-reads_on q Rests = true
-reads_on q (Got a) = true
-reads_on q (Breaks piece a more) = false
-reads_on q (Drops a more) = false
-reads_on q Closes = false
-reads_on q Over = false
+reads_on q Receiving = true
+reads_on q (DroppingInput a) = true
+reads_on q (AbortingPiece piece a more) = false
+reads_on q (Aborting a more) = false
+reads_on q Disconnecting = false
+reads_on q Closed = false
 reads_on q d = keeps q
 
 -- for the requests that are kept: each has at least one byte

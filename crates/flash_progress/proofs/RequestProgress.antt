@@ -40,9 +40,11 @@ use Rattle.flash_laws.specs.declared.phase.FileResult.TheVariants.{File}
 use Rattle.flash_laws.specs.declared.phase.Payload.{Payload}
 use Rattle.flash_laws.specs.declared.phase.Payload.TheVariants.{Body, Error}
 use Rattle.flash_laws.specs.declared.phase.Phase.{Phase}
-use Rattle.flash_laws.specs.declared.phase.Phase.TheVariants.{Rests, Got, Opens, Reads as Reading, Shuts, Picks, Spares}
-use Rattle.flash_laws.specs.declared.phase.Phase.TheVariants.{Heads, Joins, Sends, Cuts, Offers, Swaps, Sent, Breaks}
-use Rattle.flash_laws.specs.declared.phase.Phase.TheVariants.{Drops, Closes, Over}
+use Rattle.flash_laws.specs.declared.phase.Phase.TheVariants.{Receiving, DroppingInput, Opening, Reading as Reading}
+use Rattle.flash_laws.specs.declared.phase.Phase.TheVariants.{ClosingFile, Slicing, DroppingWhole}
+use Rattle.flash_laws.specs.declared.phase.Phase.TheVariants.{MakingHead, Joining, SendingWhole, CuttingPiece}
+use Rattle.flash_laws.specs.declared.phase.Phase.TheVariants.{SendingPiece, DroppingPiece, DroppingSent, AbortingPiece}
+use Rattle.flash_laws.specs.declared.phase.Phase.TheVariants.{Aborting, Disconnecting, Closed}
 use Rattle.flash_laws.proofs.Forms.{at}
 use Rattle.flash_laws.proofs.Lists.{clash}
 use Rattle.flash_laws.proofs.Conn.Progress.{near, rank, stage, calls_left, head_calls, ready}
@@ -56,9 +58,9 @@ use Rattle.flash_laws.proofs.Moves.{either-way, either-next}
 
 -- whether a response is about to be made
 abbrev is_made : Phase → Bool
-is_made (Picks a from to len) = true
-is_made (Spares a k) = true
-is_made (Heads k) = true
+is_made (Slicing a from to len) = true
+is_made (DroppingWhole a k) = true
+is_made (MakingHead k) = true
 is_made d = false
 
 content-short : (m : State) (q : Answer) (expected : List ℕ) (k : Payload) → HasContent m q expected k
@@ -73,15 +75,15 @@ content-short m q expected k has = let e = ap (λ (l : List ℕ). length l) has 
 pub made-short : (m : State) (q : Answer) (expected : List ℕ) (longest : ℕ) (d : Phase) → is_made d ≡ true
     → Has m q expected d → length expected ≤ longest
     → ahead longest q d ≤ 3 * longest + 15
-made-short m q expected longest (Picks a from to len) is has short =
+made-short m q expected longest (Slicing a from to len) is has short =
     let e = ap (λ (l : List ℕ). length l) has.expected_is in
     let both = length-append (text_of q (Body a 0 len)) (slice_range has.bytes from to) in
     let size = has.count in
     let same = ap (λ (l : List ℕ). length l) (text-same q a a (to - from) 0 len) in
     omega (arith, e, both, size, same, short)
-made-short m q expected longest (Spares a k) is has short = let few = content-short m q expected k has.2 in
+made-short m q expected longest (DroppingWhole a k) is has short = let few = content-short m q expected k has.2 in
     omega (arith, few, short)
-made-short m q expected longest (Heads k) is has short = let few = content-short m q expected k has in
+made-short m q expected longest (MakingHead k) is has short = let few = content-short m q expected k has in
     omega (arith, few, short)
 made-short m q expected longest d is has short = absurd (cc (is))
 
@@ -98,48 +100,48 @@ resolved-made q k = refl
 
 -- whether its file is still to be opened, read or closed
 abbrev is_early : Phase → Bool
-is_early Opens = true
+is_early Opening = true
 is_early (Reading f) = true
-is_early (Shuts f k) = true
+is_early (ClosingFile f k) = true
 is_early d = false
 
 -- whether it is being answered: what is expected is known, and not broken off; or what was read of the stream is let go
 abbrev is_answering : Phase → Bool
-is_answering Rests = false
-is_answering Opens = false
+is_answering Receiving = false
+is_answering Opening = false
 is_answering (Reading f) = false
-is_answering (Shuts f k) = false
-is_answering (Breaks piece a more) = false
-is_answering (Drops a more) = false
-is_answering Closes = false
-is_answering Over = false
+is_answering (ClosingFile f k) = false
+is_answering (AbortingPiece piece a more) = false
+is_answering (Aborting a more) = false
+is_answering Disconnecting = false
+is_answering Closed = false
 is_answering d = true
 
-pub few-drops : (q : Answer) (a : ℕ) (more : Following) → calls_left q (Drops a more) ≤ 2
+pub few-drops : (q : Answer) (a : ℕ) (more : Following) → calls_left q (Aborting a more) ≤ 2
 few-drops q a None = omega arith
 few-drops q a (Some x) = omega arith
 
 ahead-most : (longest : ℕ) (q : Answer) (e : Phase) → is_early e ≡ false → ahead longest q e ≤ calls_left q e + 6
-ahead-most longest q Opens late = absurd (cc (late))
+ahead-most longest q Opening late = absurd (cc (late))
 ahead-most longest q (Reading g) late = absurd (cc (late))
-ahead-most longest q (Shuts g k) late = absurd (cc (late))
-ahead-most longest q Rests late = omega arith
-ahead-most longest q (Breaks piece a more) late = omega arith
-ahead-most longest q (Drops a more) late = omega arith
-ahead-most longest q Closes late = omega arith
-ahead-most longest q Over late = omega arith
+ahead-most longest q (ClosingFile g k) late = absurd (cc (late))
+ahead-most longest q Receiving late = omega arith
+ahead-most longest q (AbortingPiece piece a more) late = omega arith
+ahead-most longest q (Aborting a more) late = omega arith
+ahead-most longest q Disconnecting late = omega arith
+ahead-most longest q Closed late = omega arith
 ahead-most longest q d late = omega arith
 
 ahead-is : (longest : ℕ) (q : Answer) (d : Phase) → is_answering d ≡ true → (ahead longest q d ≡ calls_left q d + 6)
     × (stage d ≡ 0)
-ahead-is longest q Rests is = absurd (cc (is))
-ahead-is longest q Opens is = absurd (cc (is))
+ahead-is longest q Receiving is = absurd (cc (is))
+ahead-is longest q Opening is = absurd (cc (is))
 ahead-is longest q (Reading f) is = absurd (cc (is))
-ahead-is longest q (Shuts f k) is = absurd (cc (is))
-ahead-is longest q (Breaks piece a more) is = absurd (cc (is))
-ahead-is longest q (Drops a more) is = absurd (cc (is))
-ahead-is longest q Closes is = absurd (cc (is))
-ahead-is longest q Over is = absurd (cc (is))
+ahead-is longest q (ClosingFile f k) is = absurd (cc (is))
+ahead-is longest q (AbortingPiece piece a more) is = absurd (cc (is))
+ahead-is longest q (Aborting a more) is = absurd (cc (is))
+ahead-is longest q Disconnecting is = absurd (cc (is))
+ahead-is longest q Closed is = absurd (cc (is))
 ahead-is longest q d is = (refl, refl)
 
 -- ---- what it is after the reply
@@ -148,46 +150,46 @@ ahead-is longest q d is = (refl, refl)
 abbrev Goes : Answer → (d e : Phase) → Type 0
 Goes q d e = (is_early e ≡ false) × (reads_on q d ≡ false → reads_on q e ≡ false)
 
-headed-goes : (q : Answer) (k : Payload) (a size : ℕ) (more : Following) → Goes q (Heads k) (headed a size more)
+headed-goes : (q : Answer) (k : Payload) (a size : ℕ) (more : Following) → Goes q (MakingHead k) (headed a size more)
 headed-goes q k a size None = (refl, λ is. is)
 headed-goes q k a size (Some x) =
-    either-way (λ (e : Phase). Goes q (Heads k) e) (nat_le (size + x.1) MAX_AGGREGATE_BYTES) (refl, λ is. is)
+    either-way (λ (e : Phase). Goes q (MakingHead k) e) (nat_le (size + x.1) MAX_AGGREGATE_BYTES) (refl, λ is. is)
     (refl, λ is. is)
 
-ends-goes : (q : Answer) (a taken : ℕ) (more : Following) → Goes q (Sent a taken more) (proceeds q taken more)
+ends-goes : (q : Answer) (a taken : ℕ) (more : Following) → Goes q (DroppingSent a taken more) (proceeds q taken more)
 ends-goes q a taken (Some x) = (refl, λ is. is)
 ends-goes q a taken None = by (keeps q) refl
   where
-    by : (b : Bool) → keeps q ≡ b → Goes q (Sent a taken None) (if b then Rests else Closes)
+    by : (b : Bool) → keeps q ≡ b → Goes q (DroppingSent a taken None) (if b then Receiving else Disconnecting)
     by true on = (refl, λ is. absurd (let e = sym on ∙ is in cc (e)))
     by false off = (refl, λ is. refl)
 
 goes : (kept : List ℕ) (q : Answer) (d : Phase) (r : Reply) (received : List ℕ) → is_answering d ≡ true
     → Goes q d (after_reply (at kept q d) r received).phase
-goes kept q (Got a) reply.Done received is = (refl, λ no. absurd (cc (no)))
-goes kept q (Got a) r received is = (refl, λ no. no)
-goes kept q (Picks a from to len) (reply.Agg n) received is = (refl, λ no. no)
-goes kept q (Picks a from to len) r received is = (refl, λ no. no)
-goes kept q (Spares a k) reply.Done received is = (refl, λ no. no)
-goes kept q (Spares a k) r received is = (refl, λ no. no)
-goes kept q (Heads k) (reply.Agg n) received is = headed-goes q k n (count_of received) (following k)
-goes kept q (Heads k) r received is = (refl, λ no. no)
-goes kept q (Joins a size body len) (reply.Agg n) received is = (refl, λ no. no)
-goes kept q (Joins a size body len) r received is = (refl, λ no. no)
-goes kept q (Sends s) (reply.Count n) received is =
-    either-next (λ (e : Phase). Goes q (Sends s) e) (after_taking s n) (refl, λ no. no) (refl, λ no. no)
-goes kept q (Sends s) (reply.Refused no.BrokenPipe) received is = (refl, λ no. refl)
-goes kept q (Sends s) r received is = (refl, λ no. no)
-goes kept q (Cuts s) (reply.Agg n) received is = (refl, λ no. no)
-goes kept q (Cuts s) r received is = (refl, λ no. no)
-goes kept q (Offers s piece) (reply.Count n) received is = (refl, λ no. no)
-goes kept q (Offers s piece) (reply.Refused no.BrokenPipe) received is = (refl, λ no. refl)
-goes kept q (Offers s piece) r received is = (refl, λ no. no)
-goes kept q (Swaps s piece) reply.Done received is =
-    either-next (λ (e : Phase). Goes q (Swaps s piece) e) s (refl, λ no. no) (refl, λ no. no)
-goes kept q (Swaps s piece) r received is = (refl, λ no. no)
-goes kept q (Sent a taken more) reply.Done received is = ends-goes q a taken more
-goes kept q (Sent a taken more) r received is = (refl, λ no. no)
+goes kept q (DroppingInput a) reply.Done received is = (refl, λ no. absurd (cc (no)))
+goes kept q (DroppingInput a) r received is = (refl, λ no. no)
+goes kept q (Slicing a from to len) (reply.Agg n) received is = (refl, λ no. no)
+goes kept q (Slicing a from to len) r received is = (refl, λ no. no)
+goes kept q (DroppingWhole a k) reply.Done received is = (refl, λ no. no)
+goes kept q (DroppingWhole a k) r received is = (refl, λ no. no)
+goes kept q (MakingHead k) (reply.Agg n) received is = headed-goes q k n (count_of received) (following k)
+goes kept q (MakingHead k) r received is = (refl, λ no. no)
+goes kept q (Joining a size body len) (reply.Agg n) received is = (refl, λ no. no)
+goes kept q (Joining a size body len) r received is = (refl, λ no. no)
+goes kept q (SendingWhole s) (reply.Count n) received is =
+    either-next (λ (e : Phase). Goes q (SendingWhole s) e) (after_taking s n) (refl, λ no. no) (refl, λ no. no)
+goes kept q (SendingWhole s) (reply.Refused no.BrokenPipe) received is = (refl, λ no. refl)
+goes kept q (SendingWhole s) r received is = (refl, λ no. no)
+goes kept q (CuttingPiece s) (reply.Agg n) received is = (refl, λ no. no)
+goes kept q (CuttingPiece s) r received is = (refl, λ no. no)
+goes kept q (SendingPiece s piece) (reply.Count n) received is = (refl, λ no. no)
+goes kept q (SendingPiece s piece) (reply.Refused no.BrokenPipe) received is = (refl, λ no. refl)
+goes kept q (SendingPiece s piece) r received is = (refl, λ no. no)
+goes kept q (DroppingPiece s piece) reply.Done received is =
+    either-next (λ (e : Phase). Goes q (DroppingPiece s piece) e) s (refl, λ no. no) (refl, λ no. no)
+goes kept q (DroppingPiece s piece) r received is = (refl, λ no. no)
+goes kept q (DroppingSent a taken more) reply.Done received is = ends-goes q a taken more
+goes kept q (DroppingSent a taken more) r received is = (refl, λ no. no)
 goes kept q d r received is = absurd (cc (is))
 
 -- one that is as it was is to be made again later
@@ -197,9 +199,9 @@ not-same q d r (inl (inr fewer)) on = let less = fewer.1 in omega (arith, less)
 not-same q d r (inr same) on = clash (is_later r) same.1 on
 
 made-on : (q : Answer) (e : Phase) → is_made e ≡ true → reads_on q e ≡ keeps q
-made-on q (Picks a from to len) is = refl
-made-on q (Spares a k) is = refl
-made-on q (Heads k) is = refl
+made-on q (Slicing a from to len) is = refl
+made-on q (DroppingWhole a k) is = refl
+made-on q (MakingHead k) is = refl
 made-on q d is = absurd (cc (is))
 
 module _ (n : State) (longest : ℕ) (kept : List ℕ) (q : Answer) (expected : List ℕ) (short : length expected ≤ longest)
@@ -236,12 +238,12 @@ module _ (n : State) (longest : ℕ) (kept : List ℕ) (q : Answer) (expected : 
         let few = made-short n q expected longest e is has short in
         (omega (arith, few, much), λ no. made-on q e is ∙ (sym on ∙ no))
 
-    opens : (r : Reply) → Nears (rank q) Opens r (after_open r) → is_later r ≡ false → Has n q expected (after_open r)
-        → Falls Opens (after_open r)
+    opens : (r : Reply) → Nears (rank q) Opening r (after_open r) → is_later r ≡ false → Has n q expected (after_open r)
+        → Falls Opening (after_open r)
     opens (reply.Fd f) near on has = (omega arith, λ no. no)
     opens (reply.Refused no.WouldBlock) near on has = absurd (cc (on))
-    opens (reply.Refused z) near on has = made Opens (after_open (reply.Refused z)) 5 refl has (omega arith) refl
-    opens r near on has = absurd (not-same q Opens r near on)
+    opens (reply.Refused z) near on has = made Opening (after_open (reply.Refused z)) 5 refl has (omega arith) refl
+    opens r near on has = absurd (not-same q Opening r near on)
 
     reads : (f : ℕ) (r : Reply) (received : List ℕ) → Nears (rank q) (Reading f) r (after_read f r received)
         → is_later r ≡ false
@@ -252,38 +254,39 @@ module _ (n : State) (longest : ℕ) (kept : List ℕ) (q : Answer) (expected : 
     reads f (reply.Refused z) received near on = (omega arith, λ no. no)
     reads f r received near on = absurd (not-same q (Reading f) r near on)
 
-    shuts : (f : ℕ) (k : FileResult) (r : Reply) → Nears (rank q) (Shuts f k) r (after_close_file q f k r)
+    shuts : (f : ℕ) (k : FileResult) (r : Reply) → Nears (rank q) (ClosingFile f k) r (after_close_file q f k r)
         → is_later r ≡ false
-        → Has n q expected (after_close_file q f k r) → Falls (Shuts f k) (after_close_file q f k r)
-    shuts f k reply.Done near on has = made (Shuts f k) (resolved q k) 3 (resolved-made q k) has (omega arith) refl
-    shuts f k r near on has = absurd (not-same q (Shuts f k) r near on)
+        → Has n q expected (after_close_file q f k r) → Falls (ClosingFile f k) (after_close_file q f k r)
+    shuts f k reply.Done near on has =
+        made (ClosingFile f k) (resolved q k) 3 (resolved-made q k) has (omega arith) refl
+    shuts f k r near on has = absurd (not-same q (ClosingFile f k) r near on)
 
     breaks : (piece a : ℕ) (more : Following) (r : Reply)
-        → Nears (rank q) (Breaks piece a more) r (after_break piece a more r) → is_later r ≡ false
-        → Falls (Breaks piece a more) (after_break piece a more r)
+        → Nears (rank q) (AbortingPiece piece a more) r (after_break piece a more r) → is_later r ≡ false
+        → Falls (AbortingPiece piece a more) (after_break piece a more r)
     breaks piece a more reply.Done near on = (let few = few-drops q a more in omega (arith, few), λ no. refl)
-    breaks piece a more r near on = absurd (not-same q (Breaks piece a more) r near on)
+    breaks piece a more r near on = absurd (not-same q (AbortingPiece piece a more) r near on)
 
-    drops : (a : ℕ) (more : Following) (r : Reply) → Nears (rank q) (Drops a more) r (after_drop a more r)
+    drops : (a : ℕ) (more : Following) (r : Reply) → Nears (rank q) (Aborting a more) r (after_drop a more r)
         → is_later r ≡ false
-        → Falls (Drops a more) (after_drop a more r)
+        → Falls (Aborting a more) (after_drop a more r)
     drops a None reply.Done near on = (omega arith, λ no. refl)
     drops a (Some x) reply.Done near on = (omega arith, λ no. refl)
-    drops a more r near on = absurd (not-same q (Drops a more) r near on)
+    drops a more r near on = absurd (not-same q (Aborting a more) r near on)
 
     -- each busy phase
     pub busy-falls : (d : Phase) (r : Reply) (received : List ℕ) → is_busy d ≡ true
         → Nears (rank q) d r (after_reply (at kept q d) r received).phase
         → is_later r ≡ false → Has n q expected (after_reply (at kept q d) r received).phase
         → Falls d (after_reply (at kept q d) r received).phase
-    busy-falls Rests r received busy near on has = absurd (cc (busy))
-    busy-falls Closes r received busy near on has = absurd (cc (busy))
-    busy-falls Over r received busy near on has = absurd (cc (busy))
-    busy-falls Opens r received busy near on has = opens r near on has
+    busy-falls Receiving r received busy near on has = absurd (cc (busy))
+    busy-falls Disconnecting r received busy near on has = absurd (cc (busy))
+    busy-falls Closed r received busy near on has = absurd (cc (busy))
+    busy-falls Opening r received busy near on has = opens r near on has
     busy-falls (Reading f) r received busy near on has = reads f r received near on
-    busy-falls (Shuts f k) r received busy near on has = shuts f k r near on has
-    busy-falls (Breaks piece a more) r received busy near on has = breaks piece a more r near on
-    busy-falls (Drops a more) r received busy near on has = drops a more r near on
+    busy-falls (ClosingFile f k) r received busy near on has = shuts f k r near on has
+    busy-falls (AbortingPiece piece a more) r received busy near on has = breaks piece a more r near on
+    busy-falls (Aborting a more) r received busy near on has = drops a more r near on
     busy-falls d r received busy near on has = answering d r received refl near on
 
 -- ---- with what is kept and unread
@@ -310,14 +313,14 @@ progress-falls n longest unread kept q d expected r received short busy near on 
 
 -- The end of a connection.
 pub closes-falls : (longest unread : ℕ) (kept : List ℕ) (q : Answer)
-    → turns_left longest unread kept q Over < turns_left longest unread kept q Closes
+    → turns_left longest unread kept q Closed < turns_left longest unread kept q Disconnecting
 closes-falls longest unread kept q = omega arith
 
 -- What is read of the stream.
 pub reads-falls : (longest unread later : ℕ) (kept : List ℕ) (q : Answer) (a : ℕ) (received : List ℕ)
     → unread ≡ length received + later
     → turns_left longest later (after_receive kept q (reply.Agg a) received).kept q
-    (after_receive kept q (reply.Agg a) received).phase < turns_left longest unread kept q Rests
+    (after_receive kept q (reply.Agg a) received).phase < turns_left longest unread kept q Receiving
 reads-falls longest unread later kept q a [] all =
     let same : unread_turns longest unread ≡ unread_turns longest later =
     ap (λ (k : ℕ). unread_turns longest k) (none all) in
@@ -367,14 +370,14 @@ begins-short : (m : State) (longest : ℕ) (q : Answer)
 begins-short m longest (serve w) short = omega arith
 begins-short m longest (refuse status head_only close) short =
     let few = made-short m (refuse status head_only close) (text_of (refuse status head_only close) (Error status))
-    longest (Heads (Error status)) refl refl (short status head_only close refl) in omega (arith, few)
+    longest (MakingHead (Error status)) refl refl (short status head_only close refl) in omega (arith, few)
 
 -- Where the first request that is kept begins, less is left, too.
 pub begins-falls : (laws : WindowLaws) (m : State) (longest unread : ℕ) (kept : List ℕ) (was q : Answer) (rest : List ℕ)
     → Next kept q rest
     → ((status : ℕ) (head_only close : Bool) → q ≡ refuse status head_only close
     → length (text_of q (Error status)) ≤ longest)
-    → turns_left longest unread rest q (begins q) < turns_left longest unread kept was Rests
+    → turns_left longest unread rest q (begins q) < turns_left longest unread kept was Receiving
 begins-falls laws m longest unread kept was q rest next short = by (keeps q) refl
   where
     shorter : (1 ≤ length kept) × (keeps q ≡ true → suc (length rest) ≤ length kept)
@@ -387,7 +390,7 @@ begins-falls laws m longest unread kept was q rest next short = by (keeps q) ref
     on b is = ap (λ (x : Bool). kept_turns longest x rest) (begins-on q ∙ is)
 
     by : (b : Bool) → keeps q ≡ b
-        → turns_left longest unread rest q (begins q) < turns_left longest unread kept was Rests
+        → turns_left longest unread rest q (begins q) < turns_left longest unread kept was Receiving
     by true is =
         let now = on true is in
         let step : request_turns longest * suc (length rest) ≤ request_turns longest * length kept =
@@ -441,8 +444,8 @@ module _ (own : CallsServeTheirDomain) (may : RefusalsThatAreLeft) (why : Refusa
 
         by : (d : Phase) → was.phase ≡ d → Readies (record was { phase = d }) ready
             → conn_turns longest before ready ≤ conn_turns longest before was
-        by Rests is (inl waits) = stays (waits.1 ∙ ap (λ (d : Phase). record was { phase = d }) (sym is))
-        by Rests is (inr some) =
+        by Receiving is (inl waits) = stays (waits.1 ∙ ap (λ (d : Phase). record was { phase = d }) (sym is))
+        by Receiving is (inr some) =
             let less =
             begins-falls laws m longest before was.kept was.q some.0 some.1 some.2
             (short was.kept some.1 some.0 some.2) in
@@ -459,17 +462,17 @@ module _ (own : CallsServeTheirDomain) (may : RefusalsThatAreLeft) (why : Refusa
         → ((p : ℕ) → IsHidden m server p (conn_at m c).incoming → ⊥)
         → StepsTo m (event.Call server (call.IolRead fd (most_kept - length kept))) r n → Names n r received
         → is_later r ≡ false
-        → conn_turns longest now (after_receive kept q r received) < turns_left longest before kept q Rests
+        → conn_turns longest now (after_receive kept q r received) < turns_left longest before kept q Receiving
     rests kept q r received seen step names sure =
         by r (own.read_conn m n server fd c (most_kept - length kept) r order open_on step) step names sure
       where
         by : (r : Reply) → o.ReadsConn m server c (most_kept - length kept) r n
             → StepsTo m (event.Call server (call.IolRead fd (most_kept - length kept))) r n → Names n r received
             → is_later r ≡ false
-            → conn_turns longest now (after_receive kept q r received) < turns_left longest before kept q Rests
+            → conn_turns longest now (after_receive kept q r received) < turns_left longest before kept q Receiving
         by (reply.Agg a) takes step names sure =
             subst (λ (k : ℕ). conn_turns longest k (after_receive kept q (reply.Agg a) received) < turns_left longest
-            before kept q Rests) (sym later)
+            before kept q Receiving) (sym later)
             (after_reply-q received (reads-falls longest before (length takes.incoming) kept q a received all))
           where
             later : now ≡ length takes.incoming
@@ -486,9 +489,9 @@ module _ (own : CallsServeTheirDomain) (may : RefusalsThatAreLeft) (why : Refusa
 
             after_reply-q : (l : List ℕ)
                 → turns_left longest (length takes.incoming) (after_receive kept q (reply.Agg a) l).kept q
-                (after_receive kept q (reply.Agg a) l).phase < turns_left longest before kept q Rests
+                (after_receive kept q (reply.Agg a) l).phase < turns_left longest before kept q Receiving
                 → conn_turns longest (length takes.incoming) (after_receive kept q (reply.Agg a) l) < turns_left longest
-                before kept q Rests
+                before kept q Receiving
             after_reply-q [] less = less
             after_reply-q (b ∷ l) less = less
         by (reply.Refused z) did step names sure =
@@ -510,11 +513,11 @@ module _ (own : CallsServeTheirDomain) (may : RefusalsThatAreLeft) (why : Refusa
     -- it is closed
     closes : (kept : List ℕ) (q : Answer) (r : Reply) → now ≤ before → StepsTo m (event.Call server (call.Close fd)) r n
         → is_later r ≡ false
-        → turns_left longest now kept q (after_disconnect r) < turns_left longest before kept q Closes
+        → turns_left longest now kept q (after_disconnect r) < turns_left longest before kept q Disconnecting
     closes kept q r few step sure = by r (own.closes_conn m n server fd c r order open_on step) step
       where
         by : (r : Reply) → o.ClosesConn m c r n → StepsTo m (event.Call server (call.Close fd)) r n
-            → turns_left longest now kept q (after_disconnect r) < turns_left longest before kept q Closes
+            → turns_left longest now kept q (after_disconnect r) < turns_left longest before kept q Disconnecting
         by reply.Done did step = (let less = unread-less longest now before few in omega (arith, less))
         by (reply.Refused z) did step = absurd (may.closes m n server fd (on.Connection c) z lives open_on step)
         by r did step = absurd did
@@ -527,11 +530,11 @@ module _ (own : CallsServeTheirDomain) (may : RefusalsThatAreLeft) (why : Refusa
         → CanMake m (wants fd (at kept q d))
         → StepsTo m (event.Call server (wants fd (at kept q d))) r n → Names n r received → is_later r ≡ false
         → conn_turns longest now (after_reply (at kept q d) r received) < conn_turns longest before (at kept q d)
-    turn-falls kept q Rests was expected r received short few seen has later can step names sure =
+    turn-falls kept q Receiving was expected r received short few seen has later can step names sure =
         rests kept q r received seen step names sure
-    turn-falls kept q Closes was expected r received short few seen has later can step names sure =
+    turn-falls kept q Disconnecting was expected r received short few seen has later can step names sure =
         closes kept q r few step sure
-    turn-falls kept q Over was expected r received short few seen has later can step names sure = absurd has
+    turn-falls kept q Closed was expected r received short few seen has later can step names sure = absurd has
     turn-falls kept q d was expected r received short few seen has later can step names sure =
         let less =
         progress-falls n longest before kept q d expected r received short refl

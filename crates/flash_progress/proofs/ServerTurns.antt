@@ -75,7 +75,7 @@ made-call turn.Yield = call.Accept
 -- a connection's call closes no pool
 closes-none : (fd : ℕ) (kept : List ℕ) (q : Answer) (d : Phase) (p : ℕ)
     → closes_pool (event.Call server (conn.wants fd (conn-at kept q d))) p ≡ false
-closes-none fd kept q (phase.Reads f) p =
+closes-none fd kept q (phase.Reading f) p =
     either-way (λ (k : Call). closes_pool (event.Call server k) p ≡ false) (conn.is_head_only q) refl refl
 closes-none fd kept q d p = refl
 
@@ -244,7 +244,7 @@ module _ (site_contents : SiteContents) (worker_set : WorkerSet) (laws : AllLaws
     -- where it would block as much is left
     after_reply-blocked : (kept : List ℕ) (q : Answer) (d : Phase) (l : List ℕ)
         → conn.after_reply (conn-at kept q d) (reply.Refused no.WouldBlock) l ≡ conn-at kept q d
-    after_reply-blocked kept q phase.Rests l = refl
+    after_reply-blocked kept q phase.Receiving l = refl
     after_reply-blocked kept q d l = refl
 
     blocked : r ≡ reply.Refused no.WouldBlock → n ≡ m

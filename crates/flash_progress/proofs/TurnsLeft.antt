@@ -135,8 +135,8 @@ HasRoom m = (q : Answer) (k : Payload) → IsProper q → ContentIsShort k → H
 pub can-make : (site_contents : SiteContents) (m : State) (fd : ℕ) (kept : List ℕ) (q : Answer) (script : List ℕ)
     (d : Phase) → IsProper q → Finds site_contents m q script d
     → HasRoom m → CanMake m (conn.wants fd (at kept q d))
-can-make site_contents m fd kept q script (phase.Heads k) fine finds room = room q k fine finds
-can-make site_contents m fd kept q script (phase.Reads f) fine finds room =
+can-make site_contents m fd kept q script (phase.MakingHead k) fine finds room = room q k fine finds
+can-make site_contents m fd kept q script (phase.Reading f) fine finds room =
     either-way (λ (k : Call). CanMake m k) (conn.is_head_only q) tt tt
 can-make site_contents m fd kept q script d fine finds room = tt
 
@@ -152,15 +152,15 @@ expected-short site_contents longest q expected d fine short may = by (is_read d
 -- the request stays
 same-request : (kept : List ℕ) (q : Answer) (d : Phase) (r : Reply) (received : List ℕ)
     → (conn.after_reply (at kept q d) r received).q ≡ q
-same-request kept q phase.Rests (reply.Agg a) [] = refl
-same-request kept q phase.Rests (reply.Agg a) (b ∷ received) = refl
-same-request kept q phase.Rests r received = refl
+same-request kept q phase.Receiving (reply.Agg a) [] = refl
+same-request kept q phase.Receiving (reply.Agg a) (b ∷ received) = refl
+same-request kept q phase.Receiving r received = refl
 same-request kept q d r received = refl
 
 -- one that is over is forgotten
 pub left-most : (longest unread : ℕ) (d : Phase) (x : Client)
     → of_place longest unread (left_by d x) ≤ conn_turns longest unread x.conn
-left-most longest unread phase.Over x = omega arith
+left-most longest unread phase.Closed x = omega arith
 left-most longest unread d x = omega arith
 
 -- ---- the server's own call for a client
@@ -213,7 +213,7 @@ module _ (site_contents : SiteContents) (worker_set : WorkerSet) (laws : AllLaws
   later = with_at clients fd (left_over after)
 
   -- where its connection is closed nothing is left there
-  closed : cn.phase ≡ phase.Closes → (conn.after_reply cn r received).phase ≡ phase.Over
+  closed : cn.phase ≡ phase.Disconnecting → (conn.after_reply cn r received).phase ≡ phase.Closed
   closed is = ap (λ (d : Phase). (conn.after_reply (record cn { phase = d }) r received).phase) is
       ∙ by r (laws.the.own.closes_conn m n server fd c r order open_on did) did
     where
@@ -222,7 +222,7 @@ module _ (site_contents : SiteContents) (worker_set : WorkerSet) (laws : AllLaws
           step_is
 
       by : (r : Reply) → o.ClosesConn m c r n → StepsTo m (event.Call server (call.Close fd)) r n
-          → conn.after_disconnect r ≡ phase.Over
+          → conn.after_disconnect r ≡ phase.Closed
       by reply.Done did step = refl
       by (reply.Refused z) did step =
           absurd (laws.left.closes m n server fd (on.Connection c) z fixed.site.lives open_on step)
@@ -305,7 +305,7 @@ module _ (site_contents : SiteContents) (worker_set : WorkerSet) (laws : AllLaws
         (conn.after_reply cn r received)) (sym (at-same clients fd (left_over after)))
         (which (is_closing cn.phase) refl)
       where
-        gone : (d : Phase) → (conn.after_reply cn r received).phase ≡ d → d ≡ phase.Over
+        gone : (d : Phase) → (conn.after_reply cn r received).phase ≡ d → d ≡ phase.Closed
             → of_place longest (unread_at n fd) (left_by (conn.after_reply cn r received).phase after)
             ≤ conn_turns longest now (conn.after_reply cn r received)
         gone d is over =
@@ -315,8 +315,8 @@ module _ (site_contents : SiteContents) (worker_set : WorkerSet) (laws : AllLaws
         closes : (d : Phase) → cn.phase ≡ d → is_closing d ≡ true
             → of_place longest (unread_at n fd) (left_over after) ≤ conn_turns longest now
             (conn.after_reply cn r received)
-        closes phase.Closes is closing = gone (conn.after_reply cn r received).phase refl (closed is)
-        closes phase.Over is closing =
+        closes phase.Disconnecting is closing = gone (conn.after_reply cn r received).phase refl (closed is)
+        closes phase.Closed is closing =
             absurd (subst (λ (d : Phase). Has m cn.q (expected_in f.expected cn.q d) d) is f.has)
         closes d is closing = absurd (cc (closing))
 

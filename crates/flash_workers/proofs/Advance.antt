@@ -23,9 +23,9 @@ ready : (m : State) (d p : ℕ) (job : Task) (step : Step) (unseen : List Outcom
 ready m d p job step unseen feeds = by step.phase feeds.needs
   where
     by : (e : Phase) → Needs m d e → IsReady m d p job e
-    by (phase.Writes agg) needs = (feeds.open_on, needs)
-    by (phase.Cuts agg from to) needs = (needs.0, needs.1)
-    by (phase.Swaps agg rest) needs = (needs.0, needs.1)
+    by (phase.Writing agg) needs = (feeds.open_on, needs)
+    by (phase.CuttingRest agg from to) needs = (needs.0, needs.1)
+    by (phase.DroppingTaken agg rest) needs = (needs.0, needs.1)
     by e needs = tt
 
 nears : EachStepLeavesTheRest → CallsServeTheirDomain

@@ -89,10 +89,10 @@ below-one a b le = by (nat_lt a b) refl
 -- ---- what a reply says of the aggregates that are written
 
 abbrev pub Facts : (readable now : ℕ → Option (List ℕ)) → Phase → Reply → Type 0
-Facts readable now (phase.Writes agg) (reply.Count k) = (length (bytes_at now agg) ≡ length (bytes_at readable agg))
+Facts readable now (phase.Writing agg) (reply.Count k) = (length (bytes_at now agg) ≡ length (bytes_at readable agg))
     × (0 < length (bytes_at readable agg) → 0 < k) × (k ≤ length (bytes_at readable agg))
-Facts readable now (phase.Cuts agg from to) (reply.Agg k) = length (bytes_at now k) ≤ to - from
-Facts readable now (phase.Swaps agg rest) r = length (bytes_at now rest) ≤ length (bytes_at readable rest)
+Facts readable now (phase.CuttingRest agg from to) (reply.Agg k) = length (bytes_at now k) ≤ to - from
+Facts readable now (phase.DroppingTaken agg rest) r = length (bytes_at now rest) ≤ length (bytes_at readable rest)
 Facts readable now d r = Unit {0}
 
 -- ---- the steps
@@ -100,7 +100,7 @@ Facts readable now d r = Unit {0}
 module _ (job : Task) (readable now : ℕ → Option (List ℕ)) (begun : ℕ) where
   -- it is tidy, and at the end or below a rank
   abbrev Good : Rank → Step → Type 0
-  Good was next = IsTidy next × ((next.phase ≡ phase.Waits) ⊎ IsBelow (rank job now next) was)
+  Good was next = IsTidy next × ((next.phase ≡ phase.Waiting) ⊎ IsBelow (rank job now next) was)
 
   abbrev left : ℕ
   left = length job.lines - begun
@@ -146,14 +146,15 @@ module _ (job : Task) (readable now : ℕ → Option (List ℕ)) (begun : ℕ) w
   begins-at d y more tidy low = (tidy, inr (inl (omega (arith, more, low))))
 
   runs-at : (y : Collected) → begun < length job.lines → IsWhole y
-      → Good (8 * left + 0, 0) (step_with phase.Runs (begun + 1) y)
-  runs-at y more whole = begins-at phase.Runs y more whole (let three = three-of (expected_now job y (begun + 1)) in
+      → Good (8 * left + 0, 0) (step_with phase.Interpreting (begun + 1) y)
+  runs-at y more whole =
+      begins-at phase.Interpreting y more whole (let three = three-of (expected_now job y (begun + 1)) in
       omega (arith, three))
 
   opened : (x : Collected) (p : Purpose) (r : Reply) (next : Step) → begun < length job.lines → IsWhole x
       → after_opening x p (begun + 1) r ≡ Some next → Good (8 * left + 0, 0) next
   opened x p (reply.Fd file) next more whole e =
-      reached _ _ next e (begins-at (phase.Reads file p) x more whole (omega arith))
+      reached _ _ next e (begins-at (phase.Reading file p) x more whole (omega arith))
   opened x p (reply.Refused why) next more whole e = reached _ _ next e (runs-at _ more whole)
   opened x p r next more whole e = absurd (cc (e))
 
@@ -184,8 +185,9 @@ module _ (job : Task) (readable now : ℕ → Option (List ℕ)) (begun : ℕ) w
 
   -- ---- within a line
 
-  ran : (was k : ℕ) (y : Collected) → 3 < k → IsWhole y → Good (8 * left + k, was) (step_with phase.Runs begun y)
-  ran was k y more whole = lower was k y phase.Runs whole (let three = three-of (expected_now job y begun) in
+  ran : (was k : ℕ) (y : Collected) → 3 < k → IsWhole y
+      → Good (8 * left + k, was) (step_with phase.Interpreting begun y)
+  ran was k y more whole = lower was k y phase.Interpreting whole (let three = three-of (expected_now job y begun) in
       omega (arith, three, more))
 
   read : (x : Collected) (file : ℕ) (p : Purpose) (r : Reply) (next : Step) → IsWhole x
@@ -196,7 +198,7 @@ module _ (job : Task) (readable now : ℕ → Option (List ℕ)) (begun : ℕ) w
   read x file purpose.Wc (reply.Agg agg) next whole e =
       reached _ _ next e (lower 0 7 x (got now file agg purpose.Wc) whole (omega arith))
   read x file p (reply.Refused why) next whole e =
-      reached _ _ next e (lower 0 7 x (phase.ShutsToSay file _) whole (omega arith))
+      reached _ _ next e (lower 0 7 x (phase.ClosingCounted file _) whole (omega arith))
   read x file p r next whole e = absurd (cc (e))
 
   collected-file : (x : Collected) (o : Option ℕ) (from agg len : ℕ) (next : Step) → IsWhole x
@@ -208,16 +210,17 @@ module _ (job : Task) (readable now : ℕ → Option (List ℕ)) (begun : ℕ) w
       reached _ _ next e (lower 0 5 x (phase.JoiningFile held agg from len) whole (omega arith))
 
   written-alone : (x : Collected) (agg : ℕ) (next : Step) (b : Bool) → IsWhole x → is_nothing x ≡ b
-      → (if b then at (phase.Writes agg) begun x else at phase.Runs begun (with_next x agg)) ≡ Some next
+      → (if b then at (phase.Writing agg) begun x else at phase.Interpreting begun (with_next x agg)) ≡ Some next
       → Good (8 * left + 5, 0) next
   written-alone x agg next true whole is e =
-      reached _ _ next e (lower 0 5 x (phase.Writes agg) (made-of x whole is) (let one = one-of (is_some x.next) in
+      reached _ _ next e (lower 0 5 x (phase.Writing agg) (made-of x whole is) (let one = one-of (is_some x.next) in
       omega (arith, one)))
   written-alone x agg next false whole is e = reached _ _ next e (ran 0 5 (with_next x agg) (omega arith) whole)
 
   shut : (x : Collected) (from agg len : ℕ) (next : Step) (b : Bool) → IsWhole x
       → (if b then file_collected x x.held from agg len begun
-      else (if is_nothing x then at (phase.Writes agg) begun x else at phase.Runs begun (with_next x agg))) ≡ Some next
+      else (if is_nothing x then at (phase.Writing agg) begun x else at phase.Interpreting begun (with_next x agg)))
+      ≡ Some next
       → Good (8 * left + 5, 0) next
   shut x from agg len next true whole e = collected-file x x.held from agg len next whole e
   shut x from agg len next false whole e = written-alone x agg next (is_nothing x) whole refl e
@@ -254,8 +257,8 @@ module _ (job : Task) (readable now : ℕ → Option (List ℕ)) (begun : ℕ) w
 
   taken : (x : Collected) (agg k len : ℕ) (b : Bool) → (k == len) ≡ b → IsMade x → len ≡ length (bytes_at readable agg)
       → (0 < length (bytes_at readable agg) → 0 < k) → k ≤ length (bytes_at readable agg)
-      → Good (8 * left + stage job x begun (phase.Writes agg), 3 * length (bytes_at readable agg) + 2)
-      (step_with (if b then phase.Drops agg else phase.Cuts agg k len) begun x)
+      → Good (8 * left + stage job x begun (phase.Writing agg), 3 * length (bytes_at readable agg) + 2)
+      (step_with (if b then phase.DroppingWritten agg else phase.CuttingRest agg k len) begun x)
   taken x agg k len true is tidy same some within = (tidy, inr (inr (refl, omega arith)))
   taken x agg k len false is tidy same some within =
       let differ : k ≢ len = λ e. absurd (grind (arith, nat_tests, is, e)) in
@@ -266,9 +269,9 @@ module _ (job : Task) (readable now : ℕ → Option (List ℕ)) (begun : ℕ) w
       fewer : (k len l : ℕ) → k ≢ len → len ≡ l → k ≤ l → k < l
       fewer k len l differ same within = grind (arith, differ, same, within)
 
-  written : (x : Collected) (agg : ℕ) (r : Reply) (next : Step) → IsMade x → Facts readable now (phase.Writes agg) r
+  written : (x : Collected) (agg : ℕ) (r : Reply) (next : Step) → IsMade x → Facts readable now (phase.Writing agg) r
       → after_writing x agg (length (bytes_at now agg)) begun r ≡ Some next
-      → Good (8 * left + stage job x begun (phase.Writes agg), 3 * length (bytes_at readable agg) + 2) next
+      → Good (8 * left + stage job x begun (phase.Writing agg), 3 * length (bytes_at readable agg) + 2) next
   written x agg (reply.Count k) next tidy facts e =
       reached _ _ next e (taken x agg k (length (bytes_at now agg)) (k == length (bytes_at now agg)) refl tidy facts.0
       facts.1 facts.2)
@@ -277,9 +280,9 @@ module _ (job : Task) (readable now : ℕ → Option (List ℕ)) (begun : ℕ) w
   written x agg r next tidy facts e = absurd (cc (e))
 
   cut : (x : Collected) (agg from to : ℕ) (r : Reply) (next : Step) → IsMade x
-      → Facts readable now (phase.Cuts agg from to) r
-      → after_phase now job x begun (phase.Cuts agg from to) r ≡ Some next
-      → Good (8 * left + stage job x begun (phase.Cuts agg from to), 3 * (to - from) + 4) next
+      → Facts readable now (phase.CuttingRest agg from to) r
+      → after_phase now job x begun (phase.CuttingRest agg from to) r ≡ Some next
+      → Good (8 * left + stage job x begun (phase.CuttingRest agg from to), 3 * (to - from) + 4) next
   cut x agg from to (reply.Agg rest) next tidy facts e =
       reached _ _ next e (tidy, inr (inr (refl, omega (arith, facts))))
   cut x agg from to r next tidy facts e = absurd (cc (e))
@@ -327,13 +330,13 @@ module _ (job : Task) (readable now : ℕ → Option (List ℕ)) (begun : ℕ) w
   pub falls : (x : Collected) (d : Phase) (r : Reply) (next : Step) → Facts readable now d r → IsTidyIn x d
       → after_phase now job x begun d r ≡ Some next
       → Good (rank job readable (step_with d begun x)) next
-  falls x phase.Waits r next facts tidy e = absurd (cc (e))
-  falls x phase.Runs r next facts tidy e = runs x r next (expected_now job x begun) tidy e
-  falls x (phase.Reads file p) r next facts tidy e = read x file p r next tidy e
-  falls x (phase.Shuts file agg) r next facts tidy e =
+  falls x phase.Waiting r next facts tidy e = absurd (cc (e))
+  falls x phase.Interpreting r next facts tidy e = runs x r next (expected_now job x begun) tidy e
+  falls x (phase.Reading file p) r next facts tidy e = read x file p r next tidy e
+  falls x (phase.ClosingFile file agg) r next facts tidy e =
       shut x (length (bytes_of_one now x.held)) agg (length (bytes_at now agg)) next
       (nat_le (length (bytes_at now agg)) MAX_COLLECTED_BYTES) tidy e
-  falls x (phase.ShutsToSay file s) r next facts tidy e =
+  falls x (phase.ClosingCounted file s) r next facts tidy e =
       reached _ _ next e (ran 0 5 (with_text x (said_text s)) (omega arith) tidy)
   falls x (phase.JoiningFile held agg from len) r next facts tidy e = joined x from len held agg r next tidy e
   falls x (phase.CuttingPart held agg from) r next facts tidy e = parted x held agg from r next tidy e
@@ -343,11 +346,12 @@ module _ (job : Task) (readable now : ℕ → Option (List ℕ)) (begun : ℕ) w
   falls x (phase.DroppingPart part new) r next facts tidy e = reached _ _ next e
       (inserts (4 * length x.places + 1) 2 x.held (last_place x.places) x new refl refl tidy.0 tidy.1
       (inr (refl, omega arith)))
-  falls x (phase.Writes agg) r next facts tidy e = written x agg r next tidy facts e
-  falls x (phase.Cuts agg from to) r next facts tidy e = cut x agg from to r next tidy facts e
-  falls x (phase.Skips agg) r next facts tidy e = reached _ _ next e (tidy, inl refl)
-  falls x (phase.Counted file agg s) r next facts tidy e =
-      reached _ _ next e (lower 0 6 x (phase.ShutsToSay file s) tidy (omega arith))
-  falls x (phase.Swaps agg rest) r next facts tidy e = reached _ _ next e (tidy, inr (inr (refl, omega (arith, facts))))
-  falls x (phase.Drops agg) r next facts tidy e = dropped x x.next next refl tidy e
-  falls x (phase.Breaks agg) r next facts tidy e = broken x x.next next refl tidy e
+  falls x (phase.Writing agg) r next facts tidy e = written x agg r next tidy facts e
+  falls x (phase.CuttingRest agg from to) r next facts tidy e = cut x agg from to r next tidy facts e
+  falls x (phase.DroppingOther agg) r next facts tidy e = reached _ _ next e (tidy, inl refl)
+  falls x (phase.DroppingCounted file agg s) r next facts tidy e =
+      reached _ _ next e (lower 0 6 x (phase.ClosingCounted file s) tidy (omega arith))
+  falls x (phase.DroppingTaken agg rest) r next facts tidy e =
+      reached _ _ next e (tidy, inr (inr (refl, omega (arith, facts))))
+  falls x (phase.DroppingWritten agg) r next facts tidy e = dropped x x.next next refl tidy e
+  falls x (phase.Aborting agg) r next facts tidy e = broken x x.next next refl tidy e

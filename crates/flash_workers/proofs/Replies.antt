@@ -80,9 +80,9 @@ module _ (steps : EachStepLeavesTheRest) (own : CallsServeTheirDomain) (m n : St
       → length (bytes_at (readable_at n d) a) ≡ length (bytes_at (readable_at m d) a)
   same-length e r a bytes is now = ap (λ (l : List ℕ). length l) (same_bytes m n d a bytes is now)
 
-  writes : (agg : ℕ) (r : Reply) → IsReady m d p job (phase.Writes agg)
+  writes : (agg : ℕ) (r : Reply) → IsReady m d p job (phase.Writing agg)
       → StepsTo m (event.Call d (call.IolWrite job.fd agg)) r n
-      → Facts (readable_at m d) (readable_at n d) (phase.Writes agg) r
+      → Facts (readable_at m d) (readable_at n d) (phase.Writing agg) r
   writes agg (reply.Count k) ready step =
       let bytes = ready.1.0 in
       let readable : readable_at m d agg ≡ Some bytes = ready.1.1 in
@@ -99,7 +99,7 @@ module _ (steps : EachStepLeavesTheRest) (own : CallsServeTheirDomain) (m n : St
   writes agg r ready step = tt
 
   cuts : (agg from to : ℕ) (r : Reply) → HasBytes m d agg → StepsTo m (event.Call d (call.AggCut agg from to)) r n
-      → Facts (readable_at m d) (readable_at n d) (phase.Cuts agg from to) r
+      → Facts (readable_at m d) (readable_at n d) (phase.CuttingRest agg from to) r
   cuts agg from to (reply.Agg k) has step =
       let makes : Makes m d (slice_range has.0 from to) (reply.Agg k) n =
       own.cut m n d agg from to has.0 (reply.Agg k) order has.1 step in
@@ -108,7 +108,7 @@ module _ (steps : EachStepLeavesTheRest) (own : CallsServeTheirDomain) (m n : St
   cuts agg from to r has step = tt
 
   swaps : (agg rest : ℕ) (r : Reply) → HasBytes m d rest → agg ≢ rest → StepsTo m (event.Call d (call.AggDrop agg)) r n
-      → Facts (readable_at m d) (readable_at n d) (phase.Swaps agg rest) r
+      → Facts (readable_at m d) (readable_at n d) (phase.DroppingTaken agg rest) r
   swaps agg rest r has differ step =
       let now =
       values_stay m n (event.Call d (call.AggDrop agg)) d rest has.0
@@ -120,9 +120,9 @@ module _ (steps : EachStepLeavesTheRest) (own : CallsServeTheirDomain) (m n : St
   pub facts : (x : Collected) (begun : ℕ) (e : Phase) (r : Reply) → IsReady m d p job e
       → StepsTo m (event.Call d (phase_call job x begun e)) r n
       → Facts (readable_at m d) (readable_at n d) e r
-  facts x begun (phase.Writes agg) r ready step = writes agg r ready step
-  facts x begun (phase.Cuts agg from to) r ready step = cuts agg from to r ready step
-  facts x begun (phase.Swaps agg rest) r ready step = swaps agg rest r ready.0 ready.1 step
+  facts x begun (phase.Writing agg) r ready step = writes agg r ready step
+  facts x begun (phase.CuttingRest agg from to) r ready step = cuts agg from to r ready step
+  facts x begun (phase.DroppingTaken agg rest) r ready step = swaps agg rest r ready.0 ready.1 step
   facts x begun e r ready step = tt
 
 -- ---- when a call is retried
@@ -165,13 +165,15 @@ module _ (m n : State) (d : ℕ) (job : Task) (readable : ℕ → Option (List �
   collects None from agg len e = cc (e)
   collects (Some held) from agg len e = cc (e)
 
-  alone : (agg : ℕ) (b : Bool) → (if b then at (phase.Writes agg) begun x else at phase.Runs begun (with_next x agg))
+  alone : (agg : ℕ) (b : Bool)
+      → (if b then at (phase.Writing agg) begun x else at phase.Interpreting begun (with_next x agg))
       ≡ None → ⊥
   alone agg true e = cc (e)
   alone agg false e = cc (e)
 
   shuts : (from agg len : ℕ) (b : Bool) → (if b then file_collected x x.held from agg len begun
-      else (if is_nothing x then at (phase.Writes agg) begun x else at phase.Runs begun (with_next x agg))) ≡ None → ⊥
+      else (if is_nothing x then at (phase.Writing agg) begun x else at phase.Interpreting begun (with_next x agg)))
+      ≡ None → ⊥
   shuts from agg len true e = collects x.held from agg len e
   shuts from agg len false e = alone agg (is_nothing x) e
 
@@ -183,18 +185,18 @@ module _ (m n : State) (d : ℕ) (job : Task) (readable : ℕ → Option (List �
   breaks (Some agg) e = cc (e)
   breaks None e = cc (e)
 
-  pub again : (e : Phase) (r : Reply) → e ≢ phase.Waits → StepsTo m (event.Call d (phase_call job x begun e)) r n
+  pub again : (e : Phase) (r : Reply) → e ≢ phase.Waiting → StepsTo m (event.Call d (phase_call job x begun e)) r n
       → after_phase readable job x begun e r ≡ None
       → Refuses r m n
-  again phase.Waits r other step e = absurd (other refl)
-  again phase.Runs r other step e = runs-again (expected_now job x begun) r step e
-  again (phase.Reads file p) (reply.Agg a) other step e = absurd (cc (e))
-  again (phase.Reads file p) (reply.Refused y) other step e = absurd (cc (e))
-  again (phase.Reads file p) r other step e = absurd (let is = step.1 in cc (is))
-  again (phase.Shuts file agg) r other step e =
+  again phase.Waiting r other step e = absurd (other refl)
+  again phase.Interpreting r other step e = runs-again (expected_now job x begun) r step e
+  again (phase.Reading file p) (reply.Agg a) other step e = absurd (cc (e))
+  again (phase.Reading file p) (reply.Refused y) other step e = absurd (cc (e))
+  again (phase.Reading file p) r other step e = absurd (let is = step.1 in cc (is))
+  again (phase.ClosingFile file agg) r other step e =
       absurd (shuts (length (bytes_of_one readable x.held)) agg (length (bytes_at readable agg))
       (nat_le (length (bytes_at readable agg)) MAX_COLLECTED_BYTES) e)
-  again (phase.ShutsToSay file s) r other step e = absurd (cc (e))
+  again (phase.ClosingCounted file s) r other step e = absurd (cc (e))
   again (phase.JoiningFile held agg from len) (reply.Agg a) other step e = absurd (cc (e))
   again (phase.JoiningFile held agg from len) (reply.Refused y) other step e = (y, refl, step.1)
   again (phase.JoiningFile held agg from len) r other step e = absurd (let is = step.1 in cc (is))
@@ -206,18 +208,18 @@ module _ (m n : State) (d : ℕ) (job : Task) (readable : ℕ → Option (List �
   again (phase.ReplacingPart agg part place) r other step e = absurd (let is = step.1 in cc (is))
   again (phase.DroppingText agg part new) r other step e = absurd (cc (e))
   again (phase.DroppingPart part new) r other step e = absurd (cc (e))
-  again (phase.Writes agg) (reply.Count k) other step e = absurd (cc (e))
-  again (phase.Writes agg) (reply.Refused refuse.BrokenPipe) other step e = absurd (cc (e))
-  again (phase.Writes agg) (reply.Refused y) other step e = (y, refl, step.1)
-  again (phase.Writes agg) r other step e = absurd (let is = step.1 in cc (is))
-  again (phase.Cuts agg from to) (reply.Agg a) other step e = absurd (cc (e))
-  again (phase.Cuts agg from to) (reply.Refused y) other step e = (y, refl, step.1)
-  again (phase.Cuts agg from to) r other step e = absurd (let is = step.1 in cc (is))
-  again (phase.Skips agg) r other step e = absurd (cc (e))
-  again (phase.Counted file agg s) r other step e = absurd (cc (e))
-  again (phase.Swaps agg rest) r other step e = absurd (cc (e))
-  again (phase.Drops agg) r other step e = absurd (drops x.next e)
-  again (phase.Breaks agg) r other step e = absurd (breaks x.next e)
+  again (phase.Writing agg) (reply.Count k) other step e = absurd (cc (e))
+  again (phase.Writing agg) (reply.Refused refuse.BrokenPipe) other step e = absurd (cc (e))
+  again (phase.Writing agg) (reply.Refused y) other step e = (y, refl, step.1)
+  again (phase.Writing agg) r other step e = absurd (let is = step.1 in cc (is))
+  again (phase.CuttingRest agg from to) (reply.Agg a) other step e = absurd (cc (e))
+  again (phase.CuttingRest agg from to) (reply.Refused y) other step e = (y, refl, step.1)
+  again (phase.CuttingRest agg from to) r other step e = absurd (let is = step.1 in cc (is))
+  again (phase.DroppingOther agg) r other step e = absurd (cc (e))
+  again (phase.DroppingCounted file agg s) r other step e = absurd (cc (e))
+  again (phase.DroppingTaken agg rest) r other step e = absurd (cc (e))
+  again (phase.DroppingWritten agg) r other step e = absurd (drops x.next e)
+  again (phase.Aborting agg) r other step e = absurd (breaks x.next e)
 
 -- ---- events of others
 
@@ -231,9 +233,9 @@ module _ (steps : EachStepLeavesTheRest) (m n : State) (d p : ℕ) (job : Task) 
   calls-same : (x : Collected) (y : Phase) (e : Event) (r : Reply) → IsReady m d p job y → StepsTo m e r n
       → is_call_of e d ≡ false
       → calls_left (readable_at n d) x y ≡ calls_left (readable_at m d) x y
-  calls-same x (phase.Writes agg) e r ready step other =
+  calls-same x (phase.Writing agg) e r ready step other =
       ap (λ (l : List ℕ). 3 * length l + 2) (bytes-same e r agg ready.1 step other)
-  calls-same x (phase.Swaps agg rest) e r ready step other =
+  calls-same x (phase.DroppingTaken agg rest) e r ready step other =
       ap (λ (l : List ℕ). 3 * length l + 3) (bytes-same e r rest ready.0 step other)
   calls-same x y e r ready step other = refl
 

@@ -32,12 +32,12 @@ IsBelow s t = (s.0 < t.0) ⊎ ((s.0 ≡ t.0) × (s.1 < t.1))
 -- The stages of a line that is begun: its file is read, counted, closed and joined to earlier files; then the buffered
 -- output is made, its files are inserted, and it is written, followed by a file of its own.
 abbrev pub stage : Task → Collected → (begun : ℕ) → Phase → ℕ
-stage job x begun (phase.Reads file p) = 7
-stage job x begun (phase.Counted file agg s) = 6
-stage job x begun (phase.Shuts file agg) = 5
-stage job x begun (phase.ShutsToSay file s) = 5
+stage job x begun (phase.Reading file p) = 7
+stage job x begun (phase.DroppingCounted file agg s) = 6
+stage job x begun (phase.ClosingFile file agg) = 5
+stage job x begun (phase.ClosingCounted file s) = 5
 stage job x begun (phase.JoiningFile held agg from len) = 4
-stage job x begun phase.Runs = if expected_now job x begun then 3 else 0
+stage job x begun phase.Interpreting = if expected_now job x begun then 3 else 0
 stage job x begun (phase.CuttingPart held agg from) = 2
 stage job x begun (phase.ReplacingPart agg part place) = 2
 stage job x begun (phase.DroppingText agg part made) = 2
@@ -50,11 +50,11 @@ calls_left readable x (phase.CuttingPart held agg from) = 4 * length x.places
 calls_left readable x (phase.ReplacingPart agg part place) = 4 * length (but_last x.places) + 3
 calls_left readable x (phase.DroppingText agg part made) = 4 * length x.places + 2
 calls_left readable x (phase.DroppingPart part made) = 4 * length x.places + 1
-calls_left readable x (phase.Writes agg) = 3 * length (bytes_at readable agg) + 2
-calls_left readable x (phase.Cuts agg from to) = 3 * (to - from) + 4
-calls_left readable x (phase.Swaps agg rest) = 3 * length (bytes_at readable rest) + 3
-calls_left readable x (phase.Drops agg) = 1
-calls_left readable x (phase.Breaks agg) = 1
+calls_left readable x (phase.Writing agg) = 3 * length (bytes_at readable agg) + 2
+calls_left readable x (phase.CuttingRest agg from to) = 3 * (to - from) + 4
+calls_left readable x (phase.DroppingTaken agg rest) = 3 * length (bytes_at readable rest) + 3
+calls_left readable x (phase.DroppingWritten agg) = 1
+calls_left readable x (phase.Aborting agg) = 1
 calls_left readable x d = 0
 
 -- the lines that are not begun, each with all stages, and the stages of the line that is; then the calls of a stage
@@ -79,11 +79,11 @@ IsTidyIn x (phase.CuttingPart held agg from) = (x.text ≡ []) × IsWhole x × (
 IsTidyIn x (phase.ReplacingPart agg part place) = (x.text ≡ []) × IsWhole x
 IsTidyIn x (phase.DroppingText agg part made) = (x.text ≡ []) × IsWhole x
 IsTidyIn x (phase.DroppingPart part made) = (x.text ≡ []) × IsWhole x
-IsTidyIn x (phase.Writes agg) = IsMade x
-IsTidyIn x (phase.Cuts agg from to) = IsMade x
-IsTidyIn x (phase.Swaps agg rest) = IsMade x
-IsTidyIn x (phase.Drops agg) = IsMade x
-IsTidyIn x (phase.Breaks agg) = IsMade x
+IsTidyIn x (phase.Writing agg) = IsMade x
+IsTidyIn x (phase.CuttingRest agg from to) = IsMade x
+IsTidyIn x (phase.DroppingTaken agg rest) = IsMade x
+IsTidyIn x (phase.DroppingWritten agg) = IsMade x
+IsTidyIn x (phase.Aborting agg) = IsMade x
 IsTidyIn x d = IsWhole x
 
 abbrev pub IsTidy : Step → Type 0
@@ -94,18 +94,18 @@ IsTidy step = IsTidyIn step.piece step.phase
 -- the aggregate that it writes is there, and it writes to pipe p; nothing else is required, also once the pipe has no
 -- reader
 abbrev pub IsReady : State → (d p : ℕ) → Task → Phase → Type 0
-IsReady m d p job (phase.Writes agg) = (descriptor m d job.fd ≡ Some (on.WriteEnd p)) × HasBytes m d agg
-IsReady m d p job (phase.Cuts agg from to) = HasBytes m d agg
-IsReady m d p job (phase.Swaps agg rest) = HasBytes m d rest × (agg ≢ rest)
+IsReady m d p job (phase.Writing agg) = (descriptor m d job.fd ≡ Some (on.WriteEnd p)) × HasBytes m d agg
+IsReady m d p job (phase.CuttingRest agg from to) = HasBytes m d agg
+IsReady m d p job (phase.DroppingTaken agg rest) = HasBytes m d rest × (agg ≢ rest)
 IsReady m d p job x = ⊤
 
 -- its output is at its end, or it is nearer to that
 abbrev pub IsNearer : Task → (was now : ℕ → Option (List ℕ)) → (step next : Step) → Type 0
-IsNearer job was now step next = (next.phase ≡ phase.Waits) ⊎ IsBelow (rank job now next) (rank job was step)
+IsNearer job was now step next = (next.phase ≡ phase.Waiting) ⊎ IsBelow (rank job now next) (rank job was step)
 
 pub record WorkersAdvance : Type 0 where
   -- a job begins tidy, with the drop of the aggregate that it was read as
-  pub begins : (agg : ℕ) → IsTidy (record { phase = phase.Drops agg; begun = 0; piece = nothing })
+  pub begins : (agg : ℕ) → IsTidy (record { phase = phase.DroppingWritten agg; begun = 0; piece = nothing })
   -- a worker that runs a script is ready
   pub ready : (m : State) (d p : ℕ) (job : Task) (step : Step) (unseen : List Outcome → List ℕ)
       → Feeds m d p job step unseen
@@ -117,7 +117,7 @@ pub record WorkersAdvance : Type 0 where
       → after_reply job step (readable_at n d) r ≡ Some next
       → IsTidy next × IsNearer job (readable_at m d) (readable_at n d) step next
   -- the call is retried only if it was refused, and then nothing changed
-  pub stays : (m n : State) (d : ℕ) (job : Task) (step : Step) (r : Reply) → step.phase ≢ phase.Waits
+  pub stays : (m n : State) (d : ℕ) (job : Task) (step : Step) (r : Reply) → step.phase ≢ phase.Waiting
       → StepsTo m (event.Call d (call_at job step)) r n → after_reply job step (readable_at n d) r ≡ None
       → (x : Refusal) × (r ≡ reply.Refused x) × (n ≡ m)
   -- events of others leave the rank

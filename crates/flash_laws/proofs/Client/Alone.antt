@@ -27,8 +27,9 @@ use Rattle.flash_laws.specs.Conn.{Conn, most_read, status_of}
 use Rattle.flash_laws.specs.declared.phase.FileResult.TheVariants.{Text as TextOf}
 use Rattle.flash_laws.specs.declared.phase.Payload.TheVariants.{Script}
 use Rattle.flash_laws.specs.declared.phase.Phase.{Phase}
-use Rattle.flash_laws.specs.declared.phase.Phase.TheVariants.{Rests, Got, Opens, Reads as Reading, Shuts, Spares, Heads}
-use Rattle.flash_laws.specs.declared.phase.Phase.TheVariants.{Breaks, Drops, Closes}
+use Rattle.flash_laws.specs.declared.phase.Phase.TheVariants.{Receiving, DroppingInput, Opening, Reading as Reading}
+use Rattle.flash_laws.specs.declared.phase.Phase.TheVariants.{ClosingFile, DroppingWhole, MakingHead}
+use Rattle.flash_laws.specs.declared.phase.Phase.TheVariants.{AbortingPiece, Aborting, Disconnecting}
 use Rattle.flash_laws.specs.Conn.Fits.{IsFile, Has, is_closing, Names}
 use Rattle.flash_laws.specs.Client.ResponseState as known
 use Rattle.flash_laws.specs.Client.ResponseState.{Known, OfFile, OfScript, is_read, is_silent, IsAfter, ReadsOn}
@@ -51,38 +52,38 @@ untrue false never = refl
 silent-after_reply : (kept : List ℕ) (q : Answer) (d : Phase) (r : Reply) (received : List ℕ) → is_silent d ≡ true
     → is_read d ≡ false → is_closing d ≡ false
     → is_silent (conn.after_reply (at kept q d) r received).phase ≡ true
-silent-after_reply kept q Rests (reply.Agg n) [] silent unread busy = refl
-silent-after_reply kept q Rests (reply.Agg n) (b ∷ received) silent unread busy = refl
-silent-after_reply kept q Rests r received silent unread busy = refl
-silent-after_reply kept q (Got a) reply.Done received silent unread busy = refl
-silent-after_reply kept q (Got a) r received silent unread busy = refl
-silent-after_reply kept q (Breaks piece a more) reply.Done received silent unread busy = refl
-silent-after_reply kept q (Breaks piece a more) r received silent unread busy = refl
-silent-after_reply kept q (Drops a None) reply.Done received silent unread busy = refl
-silent-after_reply kept q (Drops a (Some x)) reply.Done received silent unread busy = refl
-silent-after_reply kept q (Drops a more) r received silent unread busy = refl
-silent-after_reply kept q (Shuts f (TextOf a true)) r received silent unread busy = absurd (cc (unread))
-silent-after_reply kept q (Spares a Script) r received silent unread busy = absurd (cc (unread))
-silent-after_reply kept q Closes r received silent unread busy = absurd (cc (busy))
+silent-after_reply kept q Receiving (reply.Agg n) [] silent unread busy = refl
+silent-after_reply kept q Receiving (reply.Agg n) (b ∷ received) silent unread busy = refl
+silent-after_reply kept q Receiving r received silent unread busy = refl
+silent-after_reply kept q (DroppingInput a) reply.Done received silent unread busy = refl
+silent-after_reply kept q (DroppingInput a) r received silent unread busy = refl
+silent-after_reply kept q (AbortingPiece piece a more) reply.Done received silent unread busy = refl
+silent-after_reply kept q (AbortingPiece piece a more) r received silent unread busy = refl
+silent-after_reply kept q (Aborting a None) reply.Done received silent unread busy = refl
+silent-after_reply kept q (Aborting a (Some x)) reply.Done received silent unread busy = refl
+silent-after_reply kept q (Aborting a more) r received silent unread busy = refl
+silent-after_reply kept q (ClosingFile f (TextOf a true)) r received silent unread busy = absurd (cc (unread))
+silent-after_reply kept q (DroppingWhole a Script) r received silent unread busy = absurd (cc (unread))
+silent-after_reply kept q Disconnecting r received silent unread busy = absurd (cc (busy))
 silent-after_reply kept q d r received silent unread busy = absurd (cc (silent))
 
 -- after a run nothing more is taken of its response
 after-after_reply : (w : Wanted) (o : Progress) (kept : List ℕ) (d : Phase) (r : Reply) (received : List ℕ)
     → is_silent d ≡ true → is_read d ≡ false → is_closing d ≡ false
     → IsAfter w o d → IsAfter w o (conn.after_reply (at kept (serve w) d) r received).phase
-after-after_reply w o kept Rests (reply.Agg n) [] silent unread busy after = all-taken w o after.0
-after-after_reply w o kept Rests (reply.Agg n) (b ∷ received) silent unread busy after = after
-after-after_reply w o kept Rests r received silent unread busy after = after
-after-after_reply w o kept (Got a) reply.Done received silent unread busy after = after
-after-after_reply w o kept (Got a) r received silent unread busy after = after
-after-after_reply w o kept (Breaks piece a more) reply.Done received silent unread busy after = after
-after-after_reply w o kept (Breaks piece a more) r received silent unread busy after = after
-after-after_reply w o kept (Drops a None) reply.Done received silent unread busy after = after
-after-after_reply w o kept (Drops a (Some x)) reply.Done received silent unread busy after = after
-after-after_reply w o kept (Drops a more) r received silent unread busy after = after
-after-after_reply w o kept (Shuts f (TextOf a true)) r received silent unread busy after = absurd (cc (unread))
-after-after_reply w o kept (Spares a Script) r received silent unread busy after = absurd (cc (unread))
-after-after_reply w o kept Closes r received silent unread busy after = absurd (cc (busy))
+after-after_reply w o kept Receiving (reply.Agg n) [] silent unread busy after = all-taken w o after.0
+after-after_reply w o kept Receiving (reply.Agg n) (b ∷ received) silent unread busy after = after
+after-after_reply w o kept Receiving r received silent unread busy after = after
+after-after_reply w o kept (DroppingInput a) reply.Done received silent unread busy after = after
+after-after_reply w o kept (DroppingInput a) r received silent unread busy after = after
+after-after_reply w o kept (AbortingPiece piece a more) reply.Done received silent unread busy after = after
+after-after_reply w o kept (AbortingPiece piece a more) r received silent unread busy after = after
+after-after_reply w o kept (Aborting a None) reply.Done received silent unread busy after = after
+after-after_reply w o kept (Aborting a (Some x)) reply.Done received silent unread busy after = after
+after-after_reply w o kept (Aborting a more) r received silent unread busy after = after
+after-after_reply w o kept (ClosingFile f (TextOf a true)) r received silent unread busy after = absurd (cc (unread))
+after-after_reply w o kept (DroppingWhole a Script) r received silent unread busy after = absurd (cc (unread))
+after-after_reply w o kept Disconnecting r received silent unread busy after = absurd (cc (busy))
 after-after_reply w o kept d r received silent unread busy after = absurd (cc (silent))
 
 -- the text of a script has run
@@ -136,13 +137,13 @@ module _ (steps : EachStepLeavesTheRest) (own : CallsServeTheirDomain) (files : 
           (i, pos, subst (λ (s : State). descriptor s server g ≡ Some (on.File i pos modes.Read)) (sym same) opened)
 
       sends : (a : ℕ) (h : Bool)
-          → known.Sends h w (record { conn = at kept (serve w) (Shuts g (TextOf a true)); run = None; script = kept_if h true received }) received nothing_yet
+          → known.Sends h w (record { conn = at kept (serve w) (ClosingFile g (TextOf a true)); run = None; script = kept_if h true received }) received nothing_yet
       sends a true = refl
       sends a false = (refl, record { kept = refl; fresh = refl })
 
       text : (a : ℕ) → IsFile n g → readable_at n server a ≡ Some received → (b : Bool)
           → (after : Known) × (after ≡ (if b then OfScript received nothing_yet else OfFile (Failed 500)))
-          × HasKnown scripts n (record { conn = at kept (serve w) (Shuts g (TextOf a b)); run = None; script = kept_if w.head_only b received }) after
+          × HasKnown scripts n (record { conn = at kept (serve w) (ClosingFile g (TextOf a b)); run = None; script = kept_if w.head_only b received }) after
       text a is is_readable true = (
         OfScript received nothing_yet,
         refl,
@@ -202,7 +203,7 @@ module _ (steps : EachStepLeavesTheRest) (own : CallsServeTheirDomain) (files : 
   script-on (serve w) (Reading g) r received before for_script busy has step names =
       text-read w g has.has.1.0 has.has.1.1 r received before for_script has.has.1.2
       (access.fds server g has.has.1.0 has.has.1.1 modes.Read has.has.1.2) step names
-  script-on (serve w) (Spares a Script) r received before for_script busy has step names =
+  script-on (serve w) (DroppingWhole a Script) r received before for_script busy has step names =
       absurd (let read = has.unread in cc (read))
   script-on (serve w) d r received before for_script busy has step names =
       (let got = file-on (serve w) d r received before busy has step names in
@@ -260,26 +261,26 @@ module _ (steps : EachStepLeavesTheRest) (own : CallsServeTheirDomain) (files : 
         )
 
     -- the descriptor of a script that was read is closed
-    shut-on : (g a : ℕ) → is_for_script scripts (serve w) ≡ true → Was (Shuts g (TextOf a true))
-        → StepsTo m (event.Call server (call.Close g)) r n → Names n r received → Goes (Shuts g (TextOf a true))
+    shut-on : (g a : ℕ) → is_for_script scripts (serve w) ≡ true → Was (ClosingFile g (TextOf a true))
+        → StepsTo m (event.Call server (call.Close g)) r n → Names n r received → Goes (ClosingFile g (TextOf a true))
     shut-on g a for_script has step names = record {
       script = λ read. for_script;
-      read = read-after_reply kept (serve w) (Shuts g (TextOf a true)) r received refl;
-      has = phase (Shuts g (TextOf a true)) has refl step names;
+      read = read-after_reply kept (serve w) (ClosingFile g (TextOf a true)) r received refl;
+      has = phase (ClosingFile g (TextOf a true)) has refl step names;
       sends = sends w.head_only r has.sends;
     }
       where
-        sends : (h : Bool) (r : Reply) → known.Sends h w (of_phase (serve w) (Shuts g (TextOf a true))) text o
-            → known.Sends h w (conn_after_reply (of_phase (serve w) (Shuts g (TextOf a true))) r received) text o
+        sends : (h : Bool) (r : Reply) → known.Sends h w (of_phase (serve w) (ClosingFile g (TextOf a true))) text o
+            → known.Sends h w (conn_after_reply (of_phase (serve w) (ClosingFile g (TextOf a true))) r received) text o
         sends true r fresh = fresh
         sends false reply.Done was = (refl, record { kept = was.1.kept; fresh = was.1.fresh })
         sends false r was = (refl, record { kept = was.1.kept; fresh = was.1.fresh })
 
     -- its aggregate is dropped: for GET the run begins
-    spared-on : (a : ℕ) → is_for_script scripts (serve w) ≡ true → Was (Spares a Script)
+    spared-on : (a : ℕ) → is_for_script scripts (serve w) ≡ true → Was (DroppingWhole a Script)
         → StepsTo m (event.Call server (call.AggDrop a)) r n
         → HasKnown scripts n (record {
-          conn = conn.after_reply (at kept (serve w) (Spares a Script)) r received;
+          conn = conn.after_reply (at kept (serve w) (DroppingWhole a Script)) r received;
           run =
               after_drop_whole w.head_only r;
           script = script;
@@ -287,9 +288,9 @@ module _ (steps : EachStepLeavesTheRest) (own : CallsServeTheirDomain) (files : 
     spared-on a for_script has step = by r (own.drops m n server a r order step) w.head_only refl has.sends
       where
         by : (r : Reply) → caller.Drops m server a r n → (h : Bool) → w.head_only ≡ h
-            → known.Sends h w (of_phase (serve w) (Spares a Script)) text o
+            → known.Sends h w (of_phase (serve w) (DroppingWhole a Script)) text o
             → HasKnown scripts n (record {
-              conn = conn.after_reply (at kept (serve w) (Spares a Script)) r received;
+              conn = conn.after_reply (at kept (serve w) (DroppingWhole a Script)) r received;
               run = after_drop_whole h r;
               script = script;
             }) (OfScript text o)
@@ -298,14 +299,16 @@ module _ (steps : EachStepLeavesTheRest) (own : CallsServeTheirDomain) (files : 
           read = refl;
           has = refl;
           sends =
-              subst (λ h. known.Sends h w (client (at kept (serve w) (Heads Script)) None script) text o) (sym is)
+              subst (λ h. known.Sends h w (client (at kept (serve w) (MakingHead Script)) None script) text o) (sym is)
               sends;
         }
         by reply.Done did false is sends = record { answers = is; has = sends.1.fresh; kept = λ keeps. sends.1.kept }
         by (reply.Refused y) did true is sends =
-            subst (λ (s : State). HasNoRun scripts s w (of_phase (serve w) (Spares a Script)) text o) (sym did) has
+            subst (λ (s : State). HasNoRun scripts s w (of_phase (serve w) (DroppingWhole a Script)) text o) (sym did)
+            has
         by (reply.Refused y) did false is sends =
-            subst (λ (s : State). HasNoRun scripts s w (of_phase (serve w) (Spares a Script)) text o) (sym did) has
+            subst (λ (s : State). HasNoRun scripts s w (of_phase (serve w) (DroppingWhole a Script)) text o) (sym did)
+            has
         by r did h is sends = absurd did
 
     known-on : (d : Phase) → Goes d
@@ -322,11 +325,11 @@ module _ (steps : EachStepLeavesTheRest) (own : CallsServeTheirDomain) (files : 
         → AfterReply b (serve w) d r received (OfScript text o)
     of-script d false for_script busy has step names =
         (OfScript text o, refl, known-on d (plain-on d has (unread-or d has for_script) busy step names))
-    of-script Opens true for_script busy has step names = absurd (let read = has.read in cc (read))
+    of-script Opening true for_script busy has step names = absurd (let read = has.read in cc (read))
     of-script (Reading f) true for_script busy has step names = absurd (let read = has.read in cc (read))
-    of-script (Shuts g (TextOf a true)) true for_script busy has step names =
+    of-script (ClosingFile g (TextOf a true)) true for_script busy has step names =
         (OfScript text o, refl, shut-on g a for_script has step names)
-    of-script (Spares a Script) true for_script busy has step names =
+    of-script (DroppingWhole a Script) true for_script busy has step names =
         (OfScript text o, refl, spared-on a for_script has step)
     of-script d true for_script busy has step names =
         (OfScript text o, refl, known-on d (plain-on d has refl busy step names))

@@ -15,9 +15,9 @@ use Rattle.flash_laws.specs.Client.OfferedBytes.{is_ending}
 use Rattle.flash_laws.specs.Conn.{most_read}
 use Rattle.flash_laws.specs.declared.phase.Payload.TheVariants.{Script}
 use Rattle.flash_laws.specs.declared.phase.Phase.{Phase}
-use Rattle.flash_laws.specs.declared.phase.Phase.TheVariants.{Opens, Reads as Reading, Spares}
+use Rattle.flash_laws.specs.declared.phase.Phase.TheVariants.{Opening, Reading as Reading, DroppingWhole}
 use Rattle.flash_laws.specs.declared.script_run.Running.{Running}
-use Rattle.flash_laws.specs.declared.script_run.Running.TheVariants.{Awaits}
+use Rattle.flash_laws.specs.declared.script_run.Running.TheVariants.{AwaitingWorker}
 use Rattle.flash_laws.specs.Conn.Fits.{is_closing}
 use Rattle.flash_laws.specs.Client.ResponseState.{Known, OfFile, OfScript, HasKnown}
 use Rattle.flash_laws.specs.Conn.OfferedBytes.{may_repeat}
@@ -38,8 +38,8 @@ module _ (m n : State) (fd : ℕ) (kept : List ℕ) (q : Answer) (script : List 
       → may_repeat (conn_wants b fd (at kept q d)) r ≡ true
   moved true (Reading f) r received going step same =
       repeats.reads m n (Reading f) (λ z. after_text f z received) f most_read r step (λ k e. cc (e)) same
-  moved true (Spares b Script) r received going step same =
-      moving.moved m n fd kept q (Spares b Script) r received going step same
+  moved true (DroppingWhole b Script) r received going step same =
+      moving.moved m n fd kept q (DroppingWhole b Script) r received going step same
   moved other d r received going step same = moving.moved m n fd kept q d r received going step same
 
   -- a descriptor comes by opening the file
@@ -47,8 +47,8 @@ module _ (m n : State) (fd : ℕ) (kept : List ℕ) (q : Answer) (script : List 
       → StepsTo m (event.Call server (conn_wants b fd (at kept q d))) (reply.Fd f) n
       → has_fd (file_after_reply b (client (at kept q d) None script) (reply.Fd f) received) f ≡ true
   opened false d f received step = moving.opened m n fd kept q d f received step
-  opened true Opens f received step = moving.opened m n fd kept q Opens f received step
-  opened true (Spares b Script) f received step = (let e = step.1 in absurd (cc (e)))
+  opened true Opening f received step = moving.opened m n fd kept q Opening f received step
+  opened true (DroppingWhole b Script) f received step = (let e = step.1 in absurd (cc (e)))
   opened true d f received step = (let e = step.1 in absurd (cc (e)))
 
 -- a run that goes on as it was has not moved
@@ -102,10 +102,12 @@ pub client-piped : (scripts : Bool) (m : State) (worker from write : ℕ) (kept 
     → awaits (client (at kept q d) run script) ≡ true → HasKnown scripts m (client (at kept q d) run script) known
     → ((from == g) || (write == g)) ≡ true
     → has_fd (after_reply scripts worker (client (at kept q d) run script) (reply.Fds from write) received) g ≡ true
-client-piped scripts m worker from write kept q d (Some Awaits) script (OfFile o) received g waits has u =
+client-piped scripts m worker from write kept q d (Some AwaitingWorker) script (OfFile o) received g waits has u =
     absurd (let none = has.none in cc (none))
-client-piped scripts m worker from write kept (refuse status head_only close) d (Some Awaits) script (OfScript text o)
+client-piped scripts m worker from write kept (refuse status head_only close) d (Some AwaitingWorker) script
+    (OfScript text o)
     received g waits has u = absurd has
-client-piped scripts m worker from write kept (serve w) d (Some Awaits) script (OfScript text o) received g waits has
+client-piped scripts m worker from write kept (serve w) d (Some AwaitingWorker) script (OfScript text o) received g
+    waits has
     u = u
 client-piped scripts m worker from write kept q d run script known received g waits has u = absurd (cc (waits))

@@ -15,7 +15,7 @@ use Rattle.flash_laws.specs.Conn.{Conn, most_read, is_head_only}
 use Rattle.flash_laws.specs.declared.phase.FileResult.TheVariants.{Text as TextOf}
 use Rattle.flash_laws.specs.declared.phase.Payload.TheVariants.{Body, Script}
 use Rattle.flash_laws.specs.declared.phase.Phase.{Phase}
-use Rattle.flash_laws.specs.declared.phase.Phase.TheVariants.{Rests, Reads as Reading, Shuts, Spares}
+use Rattle.flash_laws.specs.declared.phase.Phase.TheVariants.{Receiving, Reading as Reading, ClosingFile, DroppingWhole}
 use Rattle.flash_laws.specs.declared.script_run.Running.{Running}
 use Rattle.flash_laws.specs.Client.ResponseState.{is_read}
 use Rattle.flash_laws.specs.Run as running
@@ -41,12 +41,12 @@ Keeps x r received y = (y.conn.q ≡ x.conn.q) × (y.conn.kept ≡ kept_by x r r
 file-keeps : (kept : List ℕ) (q : Answer) (d : Phase) (script : List ℕ) (r : Reply) (received : List ℕ) (b : Bool)
     → Keeps (client (at kept q d) None script) r received
     (file_after_reply b (client (at kept q d) None script) r received)
-file-keeps kept q Rests script (reply.Agg n) [] false = (refl, sym (append-nil kept))
-file-keeps kept q Rests script (reply.Agg n) (c ∷ received) false = (refl, refl)
-file-keeps kept q (Spares a (Body b size len)) script r received false = (refl, refl)
-file-keeps kept q Rests script (reply.Agg n) [] true = (refl, sym (append-nil kept))
-file-keeps kept q Rests script (reply.Agg n) (c ∷ received) true = (refl, refl)
-file-keeps kept q (Spares a (Body b size len)) script r received true = (refl, refl)
+file-keeps kept q Receiving script (reply.Agg n) [] false = (refl, sym (append-nil kept))
+file-keeps kept q Receiving script (reply.Agg n) (c ∷ received) false = (refl, refl)
+file-keeps kept q (DroppingWhole a (Body b size len)) script r received false = (refl, refl)
+file-keeps kept q Receiving script (reply.Agg n) [] true = (refl, sym (append-nil kept))
+file-keeps kept q Receiving script (reply.Agg n) (c ∷ received) true = (refl, refl)
+file-keeps kept q (DroppingWhole a (Body b size len)) script r received true = (refl, refl)
 file-keeps kept q d script r received false = (refl, refl)
 file-keeps kept q d script r received true = (refl, refl)
 
@@ -93,7 +93,7 @@ module _ (scripts : Bool) (kept : List ℕ) (q : Answer) (script : List ℕ) whe
 
   -- the text is kept that is to run
   read-holds : (f n : ℕ) (received : List ℕ) (b h runs : Bool) → b ≡ true
-      → (b && (not h && is_read (Shuts f (TextOf n runs)))) ≡ false → kept_if h runs received ≡ []
+      → (b && (not h && is_read (ClosingFile f (TextOf n runs)))) ≡ false → kept_if h runs received ≡ []
   read-holds f n received b true runs is none = refl
   read-holds f n received b false false is none = refl
   read-holds f n received false false true is none = absurd (cc (is))
@@ -107,9 +107,9 @@ module _ (scripts : Bool) (kept : List ℕ) (q : Answer) (script : List ℕ) whe
   reads-hold f r received is holds = λ none. unheld (Reading f) refl holds
 
   spares-hold : (a : ℕ) (r : Reply) (received : List ℕ) (h : Bool) → is_head_only q ≡ h
-      → HoldsNoOther scripts (plain (Spares a Script))
+      → HoldsNoOther scripts (plain (DroppingWhole a Script))
       → HoldsNoOther scripts (record {
-        conn = conn.after_reply (at kept q (Spares a Script)) r received;
+        conn = conn.after_reply (at kept q (DroppingWhole a Script)) r received;
         run =
             after_drop_whole h r;
         script = script;
@@ -119,12 +119,12 @@ module _ (scripts : Bool) (kept : List ℕ) (q : Answer) (script : List ℕ) whe
   spares-hold a reply.Done received false is holds = λ none. absurd (cc (none))
   spares-hold a r received false is holds = holds
 
-  closed-holds : (f a : ℕ) (received : List ℕ) → HoldsNoOther scripts (plain (Shuts f (TextOf a true)))
-      → HoldsNoOther scripts (file_after_reply true (plain (Shuts f (TextOf a true))) reply.Done received)
+  closed-holds : (f a : ℕ) (received : List ℕ) → HoldsNoOther scripts (plain (ClosingFile f (TextOf a true)))
+      → HoldsNoOther scripts (file_after_reply true (plain (ClosingFile f (TextOf a true))) reply.Done received)
   closed-holds f a received holds = by q holds
     where
-      by : (p : Answer) → HoldsNoOther scripts (client (at kept p (Shuts f (TextOf a true))) None script)
-          → HoldsNoOther scripts (file_after_reply true (client (at kept p (Shuts f (TextOf a true))) None script)
+      by : (p : Answer) → HoldsNoOther scripts (client (at kept p (ClosingFile f (TextOf a true))) None script)
+          → HoldsNoOther scripts (file_after_reply true (client (at kept p (ClosingFile f (TextOf a true))) None script)
           reply.Done received)
       by (serve w) holds = holds
       by (refuse status head_only close) holds = holds
@@ -135,9 +135,9 @@ module _ (scripts : Bool) (kept : List ℕ) (q : Answer) (script : List ℕ) whe
       → HoldsNoOther scripts (file_after_reply b (plain d) r received)
   file-holds d r received false is holds = λ none. holds (ap (λ b. b && (not (is_head_only q) && is_read d)) is)
   file-holds (Reading f) r received true is holds = reads-hold f r received is holds
-  file-holds (Spares a Script) r received true is holds = spares-hold a r received (is_head_only q) refl holds
-  file-holds (Shuts f (TextOf a true)) reply.Done received true is holds = closed-holds f a received holds
-  file-holds (Shuts f (TextOf a true)) r received true is holds = holds
+  file-holds (DroppingWhole a Script) r received true is holds = spares-hold a r received (is_head_only q) refl holds
+  file-holds (ClosingFile f (TextOf a true)) reply.Done received true is holds = closed-holds f a received holds
+  file-holds (ClosingFile f (TextOf a true)) r received true is holds = holds
   file-holds d r received true is holds = λ none. unheld d refl holds
 
   stays-ready : (d : Phase) (y : Client) (ready : Conn) → HoldsNoOther scripts (plain d) → ready ≡ at kept q d
@@ -149,9 +149,10 @@ module _ (scripts : Bool) (kept : List ℕ) (q : Answer) (script : List ℕ) whe
   begun-holds : (d : Phase) (y : Client) (b : Bool) → is_read d ≡ b → HoldsNoOther scripts (plain d)
       → Readies (plain d) y → HoldsNoOther scripts y
   begun-holds d y false unread holds begun = λ none. ap (λ (z : Client). z.script) begun.2 ∙ unheld d unread holds
-  begun-holds (Shuts f (TextOf a true)) y true read holds begun =
-      stays-ready (Shuts f (TextOf a true)) y begun.0 holds begun.1 begun.2
-  begun-holds (Spares a Script) y true read holds begun = stays-ready (Spares a Script) y begun.0 holds begun.1 begun.2
+  begun-holds (ClosingFile f (TextOf a true)) y true read holds begun =
+      stays-ready (ClosingFile f (TextOf a true)) y begun.0 holds begun.1 begun.2
+  begun-holds (DroppingWhole a Script) y true read holds begun =
+      stays-ready (DroppingWhole a Script) y begun.0 holds begun.1 begun.2
   begun-holds d y true read holds begun = absurd (cc (read))
 
 -- what a run's job is made of is held until it is made

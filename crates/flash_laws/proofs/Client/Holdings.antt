@@ -23,9 +23,10 @@ use Rattle.flash_laws.specs.Conn as conn
 use Rattle.flash_laws.specs.Conn.{Conn, is_head_only}
 use Rattle.flash_laws.specs.declared.phase.Payload.TheVariants.{Script}
 use Rattle.flash_laws.specs.declared.phase.Phase.{Phase}
-use Rattle.flash_laws.specs.declared.phase.Phase.TheVariants.{Reads as Reading, Spares}
+use Rattle.flash_laws.specs.declared.phase.Phase.TheVariants.{Reading as Reading, DroppingWhole}
 use Rattle.flash_laws.specs.declared.script_run.Running.{Running}
-use Rattle.flash_laws.specs.declared.script_run.Running.TheVariants.{Awaits, Runs, Leaves, Closes as Ends}
+use Rattle.flash_laws.specs.declared.script_run.Running.TheVariants.{AwaitingWorker, InProgress, Finishing}
+use Rattle.flash_laws.specs.declared.script_run.Running.TheVariants.{Disconnecting as Ends}
 use Rattle.flash_laws.specs.Conn.Fits.{Has}
 use Rattle.flash_laws.specs.Client.ResponseState.{Known, OfFile, OfScript, IsRun, HasKnown}
 use Rattle.flash_laws.specs.Run.Fits.{Progress}
@@ -52,8 +53,9 @@ script-as : {A : Type 0} (client_has : Client → A) (conn_has : Phase → A) (k
     → ((f : ℕ) (r : Reply)
     → conn_has (after_text f r received) ≡ conn_has (conn.after_reply (at kept q (Reading f)) r received).phase)
     → ((a : ℕ)
-    → client_has (client (conn.after_reply (at kept q (Spares a Script)) reply.Done received) (Some Awaits) script)
-    ≡ conn_has (conn.after_reply (at kept q (Spares a Script)) reply.Done received).phase)
+    → client_has (client (conn.after_reply (at kept q (DroppingWhole a Script)) reply.Done received)
+    (Some AwaitingWorker) script)
+    ≡ conn_has (conn.after_reply (at kept q (DroppingWhole a Script)) reply.Done received).phase)
     → client_has (file_after_reply b (client (at kept q d) None script) r received)
     ≡ conn_has (conn.after_reply (at kept q d) r received).phase
 script-as client_has conn_has kept q d script r received false plain text dropped =
@@ -61,18 +63,19 @@ script-as client_has conn_has kept q d script r received false plain text droppe
 script-as client_has conn_has kept q (Reading f) script r received true plain text dropped =
     plain (record { kept = kept; q = q; phase = after_text f r received })
     (kept_text (is_head_only q) script r received) ∙ text f r
-script-as client_has conn_has kept q (Spares a Script) script r received true plain text dropped = by (is_head_only q) r
+script-as client_has conn_has kept q (DroppingWhole a Script) script r received true plain text dropped =
+    by (is_head_only q) r
   where
     by : (h : Bool) (r : Reply)
         → client_has (record {
-          conn = conn.after_reply (at kept q (Spares a Script)) r received;
+          conn = conn.after_reply (at kept q (DroppingWhole a Script)) r received;
           run =
               after_drop_whole h r;
           script = script;
         })
-        ≡ conn_has (conn.after_reply (at kept q (Spares a Script)) r received).phase
+        ≡ conn_has (conn.after_reply (at kept q (DroppingWhole a Script)) r received).phase
     by false reply.Done = dropped a
-    by b r = plain (conn.after_reply (at kept q (Spares a Script)) r received) script
+    by b r = plain (conn.after_reply (at kept q (DroppingWhole a Script)) r received) script
 script-as client_has conn_has kept q d script r received true plain text dropped =
     plain (conn.after_reply (at kept q d) r received) script
 
@@ -107,7 +110,7 @@ script-opens kept q d script r received g b =
 
 pub on-uses : (x : Client) (y z : Running) (a : ℕ) (was over : Bool) → is_over z ≡ over
     → uses_agg (proceeds was over x y z) a ≡ running.uses_agg z a
-on-uses x y (Leaves d) a false true is = refl
+on-uses x y (Finishing d) a false true is = refl
 on-uses x y Ends a false true is = refl
 on-uses x y z a false false is = refl
 on-uses x y z a true true is = refl
@@ -116,7 +119,7 @@ on-uses x y other a false true is = absurd (cc (is))
 
 on-ends : (x : Client) (y z : Running) (g : ℕ) (was over : Bool) → is_over z ≡ over
     → has_fd (proceeds was over x y z) g ≡ false → has_end z g ≡ false
-on-ends x y (Runs run s) g false true is unused = absurd (cc (is))
+on-ends x y (InProgress run s) g false true is unused = absurd (cc (is))
 on-ends x y z g false false is unused = unused
 on-ends x y z g true true is unused = unused
 on-ends x y z g true false is unused = unused

@@ -27,10 +27,11 @@ use Rattle.flash_laws.specs.Client.OfferedBytes.{ClientsAreOfferedTheResponse}
 use Rattle.flash_laws.specs.Conn as conn
 use Rattle.flash_laws.specs.Conn.{Conn, most_read}
 use Rattle.flash_laws.specs.declared.phase.Phase.{Phase}
-use Rattle.flash_laws.specs.declared.phase.Phase.TheVariants.{Rests, Opens, Reads as Reading, Sends, Offers, Closes}
+use Rattle.flash_laws.specs.declared.phase.Phase.TheVariants.{Receiving, Opening, Reading as Reading, SendingWhole}
+use Rattle.flash_laws.specs.declared.phase.Phase.TheVariants.{SendingPiece, Disconnecting}
 use Rattle.flash_laws.specs.declared.script_run.Step.TheVariants as act
 use Rattle.flash_laws.specs.declared.script_run.Running.{Running}
-use Rattle.flash_laws.specs.declared.script_run.Running.TheVariants.{Runs, Leaves}
+use Rattle.flash_laws.specs.declared.script_run.Running.TheVariants.{InProgress, Finishing}
 use Rattle.flash_laws.specs.Conn.Fits.{Has, Names}
 use Rattle.flash_laws.specs.Client.ResponseState as known
 use Rattle.flash_laws.specs.Client.ResponseState.{Known, OfFile, OfScript, MayPutOut, IsNextOf, is_read, is_silent}
@@ -61,7 +62,7 @@ starts : (scripts : Bool) (m : State) (fd : ℕ) (kept : List ℕ) (q : Answer) 
 starts scripts m fd kept (serve w) o =
     (opens (is_for_script scripts (serve w)), record { none = refl; unread = refl; has = tt })
   where
-    opens : (b : Bool) → conn_wants b fd (at kept (serve w) Opens) ≡ call.OpenFile w.name modes.Read
+    opens : (b : Bool) → conn_wants b fd (at kept (serve w) Opening) ≡ call.OpenFile w.name modes.Read
     opens true = refl
     opens false = refl
 starts scripts m fd kept (refuse status head_only close) o = (refl, record { none = refl; unread = refl; has = refl })
@@ -79,7 +80,7 @@ end-has scripts n w kept text o d answers ends = elim ends.0 [
         read = refl;
         has = tt;
         sends =
-            sent Rests refl refl (subst (λ (e : Phase). IsAfter w o e) rests ends.1);
+            sent Receiving refl refl (subst (λ (e : Phase). IsAfter w o e) rests ends.1);
       })
   | inr closes ↦ subst (λ (e : Phase). HasNoRun scripts n w (client (at kept (serve w) e) None []) text o) (sym closes)
       (record {
@@ -87,7 +88,7 @@ end-has scripts n w kept text o d answers ends = elim ends.0 [
         read = refl;
         has = tt;
         sends =
-            sent Closes refl refl (subst (λ (e : Phase). IsAfter w o e) closes ends.1);
+            sent Disconnecting refl refl (subst (λ (e : Phase). IsAfter w o e) closes ends.1);
       })
 ]
   where
@@ -239,15 +240,15 @@ one-next m q k expected a taken none may next = record {
 -- while nothing is sent nothing is written
 silent-writes : (fd g a : ℕ) (kept : List ℕ) (q : Answer) (d : Phase) → is_silent d ≡ true
     → conn.wants fd (at kept q d) ≡ call.IolWrite g a → ⊥
-silent-writes fd g a kept q (Sends s) silent is = cc (silent)
-silent-writes fd g a kept q (Offers s piece) silent is = cc (silent)
+silent-writes fd g a kept q (SendingWhole s) silent is = cc (silent)
+silent-writes fd g a kept q (SendingPiece s piece) silent is = cc (silent)
 silent-writes fd g a kept q (Reading f) silent is = cc (silent)
 silent-writes fd g a kept q d silent is = cc (is)
 
 -- the phases of any response write to their connection
 own-fd : (fd g a : ℕ) (w : Wanted) (d : Phase) → conn.wants fd (in_phase w d) ≡ call.IolWrite g a → g ≡ fd
-own-fd fd g a w (Sends s) is = sym (ap (λ k. written_fd k fd) is)
-own-fd fd g a w (Offers s piece) is = sym (ap (λ k. written_fd k fd) is)
+own-fd fd g a w (SendingWhole s) is = sym (ap (λ k. written_fd k fd) is)
+own-fd fd g a w (SendingPiece s piece) is = sym (ap (λ k. written_fd k fd) is)
 own-fd fd g a w (Reading f) is = absurd (by w.head_only is)
   where
     by : (b : Bool) → (if b then call.Length f else call.IolRead f most_read) ≡ call.IolWrite g a → ⊥
@@ -269,20 +270,20 @@ run-writes : (scripts : Bool) (m : State) (fd g a : ℕ) (kept : List ℕ) (w : 
     (script text : List ℕ) (o : Progress)
     → IsRun m w y script text o → running.wants (job_of w script) fd w y ≡ call.IolWrite g a
     → Writes scripts m fd g a (client (at kept (serve w) d) (Some y) script) (OfScript text o)
-run-writes scripts m fd g a kept w d (Runs run (act.Hands j f)) script text o has is =
+run-writes scripts m fd g a kept w d (InProgress run (act.WritingJob j f)) script text o has is =
     inr (sym (ap (λ k. written_fd k (job_pipe run.worker)) is), sym (ap (λ k. written k j) is))
-run-writes scripts m fd g a kept w d (Runs run (act.Sending e frame)) script text o has is =
+run-writes scripts m fd g a kept w d (InProgress run (act.SendingPart e frame)) script text o has is =
     let own = own-fd fd g a w e is in
     inl (
       own,
-      known-next m w d kept text o a (taken_by_run (Runs run (act.Sending e frame))) has.answers
+      known-next m w d kept text o a (taken_by_run (InProgress run (act.SendingPart e frame))) has.answers
           (part-next m fd a w o run e frame has.has.1 (is ∙ ap (λ k. call.IolWrite k a) own)),
     )
-run-writes scripts m fd g a kept w d (Leaves e) script text o has is =
+run-writes scripts m fd g a kept w d (Finishing e) script text o has is =
     let own = own-fd fd g a w e is in
     inl (
       own,
-      known-next m w d kept text o a (taken_by_run (Leaves e)) has.answers
+      known-next m w d kept text o a (taken_by_run (Finishing e)) has.answers
           (left-next m fd a w o e has.has (is ∙ ap (λ k. call.IolWrite k a) own)),
     )
 run-writes scripts m fd g a kept w d y script text o has is = absurd (cc (is))

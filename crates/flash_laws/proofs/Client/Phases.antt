@@ -26,9 +26,11 @@ use Rattle.flash_laws.proofs.Conn.ReadableBytes.{at-start}
 use Rattle.flash_laws.specs.declared.phase.FileResult.{FileResult}
 use Rattle.flash_laws.specs.declared.phase.FileResult.TheVariants.{File, Text as TextOf}
 use Rattle.flash_laws.specs.declared.phase.Phase.{Phase}
-use Rattle.flash_laws.specs.declared.phase.Phase.TheVariants.{Rests, Got, Opens, Reads as Reading, Shuts, Picks, Spares}
-use Rattle.flash_laws.specs.declared.phase.Phase.TheVariants.{Heads, Joins, Sends, Cuts, Offers, Swaps, Sent, Breaks}
-use Rattle.flash_laws.specs.declared.phase.Phase.TheVariants.{Drops, Closes, Over}
+use Rattle.flash_laws.specs.declared.phase.Phase.TheVariants.{Receiving, DroppingInput, Opening, Reading as Reading}
+use Rattle.flash_laws.specs.declared.phase.Phase.TheVariants.{ClosingFile, Slicing, DroppingWhole}
+use Rattle.flash_laws.specs.declared.phase.Phase.TheVariants.{MakingHead, Joining, SendingWhole, CuttingPiece}
+use Rattle.flash_laws.specs.declared.phase.Phase.TheVariants.{SendingPiece, DroppingPiece, DroppingSent, AbortingPiece}
+use Rattle.flash_laws.specs.declared.phase.Phase.TheVariants.{Aborting, Disconnecting, Closed}
 use Rattle.flash_laws.specs.Conn.Fits.{Has}
 use Rattle.flash_laws.specs.Client.ResponseState.{is_read, is_opening}
 use Rattle.flash_laws.specs.Conn.OfferedBytes.{taken_of}
@@ -58,7 +60,7 @@ reads-none false f g a e = cc (e)
 pub next-expected : (m : State) (fd g a : ℕ) (kept : List ℕ) (q : Answer) (d : Phase) (expected : List ℕ)
     → Has m q expected d
     → wants fd (at kept q d) ≡ call.IolWrite g a → (g ≡ fd) × Next m expected a (taken_of d)
-next-expected m fd g a kept q (Sends s) expected has is =
+next-expected m fd g a kept q (SendingWhole s) expected has is =
     let same : s.agg ≡ a = ap (λ k. written k s.agg) is in
     let own : fd ≡ g = ap (λ k. written_fd k fd) is in (
       sym own,
@@ -69,7 +71,7 @@ next-expected m fd g a kept q (Sends s) expected has is =
         at-start has.0 has.1,
       ),
     )
-next-expected m fd g a kept q (Offers s piece) expected has is =
+next-expected m fd g a kept q (SendingPiece s piece) expected has is =
     let same : piece ≡ a = ap (λ k. written k piece) is in
     let own : fd ≡ g = ap (λ k. written_fd k fd) is in
     let bytes = has.whole.bytes in
@@ -98,10 +100,10 @@ script-writes fd g a kept q d true is = is
 
 -- whether nothing of a file, or of a script, is opened, read, told or dropped
 abbrev is_apart : Phase → Bool
-is_apart Opens = false
+is_apart Opening = false
 is_apart (Reading f) = false
-is_apart (Shuts f k) = false
-is_apart (Spares a k) = false
+is_apart (ClosingFile f k) = false
+is_apart (DroppingWhole a k) = false
 is_apart d = true
 
 -- whether a file, or a script, is still to be opened or read, or its text is there
@@ -117,34 +119,35 @@ headed-unread n size (Some x) = either-way Unread (nat_le (size + x.1) MAX_AGGRE
 
 apart-unread : (kept : List ℕ) (q : Answer) (d : Phase) (r : Reply) (received : List ℕ) → is_apart d ≡ true
     → Unread (after_reply (at kept q d) r received).phase
-apart-unread kept q Rests (reply.Agg n) [] left = refl
-apart-unread kept q Rests (reply.Agg n) (b ∷ received) left = refl
-apart-unread kept q Rests r received left = refl
-apart-unread kept q (Got a) r received left = after-done Unread r refl refl
-apart-unread kept q (Picks a from to len) r received left = after-agg Unread r refl (λ n. refl)
-apart-unread kept q Closes r received left = after-done Unread r refl refl
-apart-unread kept q Over r received left = refl
-apart-unread kept q (Heads k) r received left =
+apart-unread kept q Receiving (reply.Agg n) [] left = refl
+apart-unread kept q Receiving (reply.Agg n) (b ∷ received) left = refl
+apart-unread kept q Receiving r received left = refl
+apart-unread kept q (DroppingInput a) r received left = after-done Unread r refl refl
+apart-unread kept q (Slicing a from to len) r received left = after-agg Unread r refl (λ n. refl)
+apart-unread kept q Disconnecting r received left = after-done Unread r refl refl
+apart-unread kept q Closed r received left = refl
+apart-unread kept q (MakingHead k) r received left =
     after-agg Unread r refl (λ n. headed-unread n (count_of received) (following k))
-apart-unread kept q (Joins a size body len) r received left = after-agg Unread r refl (λ n. refl)
-apart-unread kept q (Sends s) r received left =
+apart-unread kept q (Joining a size body len) r received left = after-agg Unread r refl (λ n. refl)
+apart-unread kept q (SendingWhole s) r received left =
     after-write Unread r refl refl (λ n. either-next Unread (after_taking s n) refl refl)
-apart-unread kept q (Cuts s) r received left = after-agg Unread r refl (λ n. refl)
-apart-unread kept q (Offers s piece) r received left = after-write Unread r refl refl (λ n. refl)
-apart-unread kept q (Swaps s piece) r received left = after-done Unread r refl (either-next Unread s refl refl)
-apart-unread kept q (Sent a taken (Some x)) r received left = after-done Unread r refl refl
-apart-unread kept q (Sent a taken None) r received left =
+apart-unread kept q (CuttingPiece s) r received left = after-agg Unread r refl (λ n. refl)
+apart-unread kept q (SendingPiece s piece) r received left = after-write Unread r refl refl (λ n. refl)
+apart-unread kept q (DroppingPiece s piece) r received left = after-done Unread r refl (either-next Unread s refl refl)
+apart-unread kept q (DroppingSent a taken (Some x)) r received left = after-done Unread r refl refl
+apart-unread kept q (DroppingSent a taken None) r received left =
     after-done Unread r refl (either-way Unread (keeps q) refl refl)
-apart-unread kept q (Breaks piece a more) r received left = after-done Unread r refl refl
-apart-unread kept q (Drops a (Some x)) r received left = after-done Unread r refl refl
-apart-unread kept q (Drops a None) r received left = after-done Unread r refl refl
+apart-unread kept q (AbortingPiece piece a more) r received left = after-done Unread r refl refl
+apart-unread kept q (Aborting a (Some x)) r received left = after-done Unread r refl refl
+apart-unread kept q (Aborting a None) r received left = after-done Unread r refl refl
 apart-unread kept q d r received left = absurd (cc (left))
 
 neither-true : (b c : Bool) → (b || c) ≡ false → (b ≡ false) × (c ≡ false)
 neither-true true c is = absurd (cc (is))
 neither-true false c is = (refl, is)
 
-resolved-unread : (f : ℕ) (q : Answer) (k : FileResult) → is_read (Shuts f k) ≡ false → is_read (resolved q k) ≡ false
+resolved-unread : (f : ℕ) (q : Answer) (k : FileResult) → is_read (ClosingFile f k) ≡ false
+    → is_read (resolved q k) ≡ false
 resolved-unread f (serve w) (File a len) was = by (selected w.range len)
   where
     by : (sel : Selection) → is_read (sends_of sel a len) ≡ false
@@ -168,10 +171,10 @@ NotRead d = is_read d ≡ false
 -- no script's text is read by a call for a file
 pub unread-after_reply : (kept : List ℕ) (q : Answer) (d : Phase) (r : Reply) (received : List ℕ) → is_read d ≡ false
     → is_read (after_reply (at kept q d) r received).phase ≡ false
-unread-after_reply kept q Opens r received was = after-open NotRead r refl (λ f. refl) (λ x. refl)
+unread-after_reply kept q Opening r received was = after-open NotRead r refl (λ f. refl) (λ x. refl)
 unread-after_reply kept q (Reading f) r received was = after-read NotRead r refl (λ n. refl) (λ k. refl) (λ x. refl)
-unread-after_reply kept q (Shuts f k) r received was = after-done NotRead r was (resolved-unread f q k was)
-unread-after_reply kept q (Spares a k) r received was = after-done NotRead r was refl
+unread-after_reply kept q (ClosingFile f k) r received was = after-done NotRead r was (resolved-unread f q k was)
+unread-after_reply kept q (DroppingWhole a k) r received was = after-done NotRead r was refl
 unread-after_reply kept q d r received was =
     (neither-true (is_read (after_reply (at kept q d) r received).phase)
     (is_opening (after_reply (at kept q d) r received).phase) (apart-unread kept q d r received refl)).0
@@ -179,10 +182,11 @@ unread-after_reply kept q d r received was =
 -- and what is read is not read again
 pub read-after_reply : (kept : List ℕ) (q : Answer) (d : Phase) (r : Reply) (received : List ℕ) → is_opening d ≡ false
     → is_opening (after_reply (at kept q d) r received).phase ≡ false
-read-after_reply kept q Opens r received was = absurd (cc (was))
+read-after_reply kept q Opening r received was = absurd (cc (was))
 read-after_reply kept q (Reading f) r received was = absurd (cc (was))
-read-after_reply kept q (Shuts f k) r received was = after-done (λ d. is_opening d ≡ false) r refl (resolved-read q k)
-read-after_reply kept q (Spares a k) r received was = after-done (λ d. is_opening d ≡ false) r refl refl
+read-after_reply kept q (ClosingFile f k) r received was =
+    after-done (λ d. is_opening d ≡ false) r refl (resolved-read q k)
+read-after_reply kept q (DroppingWhole a k) r received was = after-done (λ d. is_opening d ≡ false) r refl refl
 read-after_reply kept q d r received was =
     (neither-true (is_read (after_reply (at kept q d) r received).phase)
     (is_opening (after_reply (at kept q d) r received).phase) (apart-unread kept q d r received refl)).1
@@ -190,6 +194,6 @@ read-after_reply kept q d r received was =
 -- the request stays the same
 pub asks-after_reply : (kept : List ℕ) (q : Answer) (d : Phase) (r : Reply) (received : List ℕ)
     → (after_reply (at kept q d) r received).q ≡ q
-asks-after_reply kept q Rests (reply.Agg n) [] = refl
-asks-after_reply kept q Rests (reply.Agg n) (b ∷ received) = refl
+asks-after_reply kept q Receiving (reply.Agg n) [] = refl
+asks-after_reply kept q Receiving (reply.Agg n) (b ∷ received) = refl
 asks-after_reply kept q d r received = refl

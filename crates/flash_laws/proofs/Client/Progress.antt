@@ -34,9 +34,11 @@ use Rattle.flash_laws.specs.Site.{server}
 use Rattle.flash_laws.specs.declared.phase.FileResult.TheVariants.{Text as TextOf}
 use Rattle.flash_laws.specs.declared.phase.Payload.TheVariants.{Script}
 use Rattle.flash_laws.specs.declared.phase.Phase.{Phase}
-use Rattle.flash_laws.specs.declared.phase.Phase.TheVariants.{Rests, Reads as Reading, Shuts, Spares, Heads}
+use Rattle.flash_laws.specs.declared.phase.Phase.TheVariants.{Receiving, Reading as Reading, ClosingFile, DroppingWhole}
+use Rattle.flash_laws.specs.declared.phase.Phase.TheVariants.{MakingHead}
 use Rattle.flash_laws.specs.declared.script_run.Running.{Running}
-use Rattle.flash_laws.specs.declared.script_run.Running.TheVariants.{Awaits, Runs, Leaves, Closes as Ends}
+use Rattle.flash_laws.specs.declared.script_run.Running.TheVariants.{AwaitingWorker, InProgress, Finishing}
+use Rattle.flash_laws.specs.declared.script_run.Running.TheVariants.{Disconnecting as Ends}
 use Rattle.flash_laws.proofs.Forms.{at, of as client}
 use Rattle.flash_laws.proofs.Client.Phases.{unread-after_reply}
 use Rattle.flash_laws.proofs.Lists.{clash, not-true}
@@ -50,7 +52,7 @@ use Rattle.flash_laws.proofs.Run.OfferedBytes as running_on
 
 -- the calls of a run that is to begin
 abbrev to_run : Answer → ℕ
-to_run (serve w) = run_calls w Awaits
+to_run (serve w) = run_calls w AwaitingWorker
 to_run (refuse status head_only close) = 0
 
 abbrev run_left : Answer → Running → ℕ
@@ -86,7 +88,7 @@ lift kept q script d e r was now (inr same) = inr (ap (λ z. client (at kept q z
 
 abbrev pub is_scripts : Phase → Bool
 is_scripts (Reading f) = true
-is_scripts (Spares a Script) = true
+is_scripts (DroppingWhole a Script) = true
 is_scripts d = false
 
 pub wants-plain : (fd : ℕ) (kept : List ℕ) (q : Answer) (d : Phase) → is_scripts d ≡ false
@@ -99,13 +101,13 @@ pub after_reply-plain : (kept : List ℕ) (q : Answer) (script : List ℕ) (d : 
     → file_after_reply true (client (at kept q d) None script) r received
     ≡ conn_after_reply (client (at kept q d) None script) r received
 after_reply-plain kept q script (Reading f) r received plain = absurd (cc (plain))
-after_reply-plain kept q script (Spares a Script) r received plain = absurd (cc (plain))
+after_reply-plain kept q script (DroppingWhole a Script) r received plain = absurd (cc (plain))
 after_reply-plain kept q script d r received plain = refl
 
 -- a busy connection keeps what it has kept, and its request
 conn-at : (kept : List ℕ) (q : Answer) (d : Phase) (r : Reply) (received : List ℕ) → is_busy d ≡ true
     → conn.after_reply (at kept q d) r received ≡ at kept q (conn.after_reply (at kept q d) r received).phase
-conn-at kept q Rests r received busy = absurd (cc (busy))
+conn-at kept q Receiving r received busy = absurd (cc (busy))
 conn-at kept q d r received busy = refl
 
 module _ (own : CallsServeTheirDomain) (may : RefusalsThatAreLeft) (m n : State) (order : IsOrderly m)
@@ -155,7 +157,7 @@ module _ (own : CallsServeTheirDomain) (may : RefusalsThatAreLeft) (m n : State)
           (λ (e : Phase). Nears rank (client (at kept q e) None script) r
           (file_after_reply true (client (at kept q e) None script) r received)) (sym is)
           (text-near q f r received read)
-      reading (Spares a Script) is scripts = absurd (let e = ap (λ z. is_read z) is in cc (e, unread))
+      reading (DroppingWhole a Script) is scripts = absurd (let e = ap (λ z. is_read z) is in cc (e, unread))
       reading e is scripts = absurd (cc (scripts))
 
       by : (b : Bool) → is_scripts d ≡ b
@@ -175,17 +177,18 @@ module _ (own : CallsServeTheirDomain) (may : RefusalsThatAreLeft) (m n : State)
   spared-near : (w : Wanted) (a : ℕ) (bytes : List ℕ) (r : Reply) (received : List ℕ)
       → StepsTo m (event.Call server (call.AggDrop a)) r n
       → readable_at m server a ≡ Some bytes
-      → Nears rank (client (at kept (serve w) (Spares a Script)) None script) r
-      (file_after_reply true (client (at kept (serve w) (Spares a Script)) None script) r received)
+      → Nears rank (client (at kept (serve w) (DroppingWhole a Script)) None script) r
+      (file_after_reply true (client (at kept (serve w) (DroppingWhole a Script)) None script) r received)
   spared-near w a bytes r received step readable =
-      drops own may m n order lives rank (client (at kept (serve w) (Spares a Script)) None script)
-      (λ z. file_after_reply true (client (at kept (serve w) (Spares a Script)) None script) z received) a bytes r
+      drops own may m n order lives rank (client (at kept (serve w) (DroppingWhole a Script)) None script)
+      (λ z. file_after_reply true (client (at kept (serve w) (DroppingWhole a Script)) None script) z received) a bytes
+      r
       readable step
       (by w.head_only)
     where
       by : (h : Bool)
-          → IsBelow (rank (client (at kept (serve w) (Heads Script)) (after_drop_whole h reply.Done) script))
-          (rank (client (at kept (serve w) (Spares a Script)) None script))
+          → IsBelow (rank (client (at kept (serve w) (MakingHead Script)) (after_drop_whole h reply.Done) script))
+          (rank (client (at kept (serve w) (DroppingWhole a Script)) None script))
       by true = inr (refl, omega arith)
       by false = inr (refl, omega arith)
 
@@ -194,11 +197,11 @@ module _ (own : CallsServeTheirDomain) (may : RefusalsThatAreLeft) (m n : State)
       → StepsTo m (event.Call server (conn_wants true fd (at kept (serve w) d))) r n
       → Nears rank (client (at kept (serve w) d) None script) r
       (file_after_reply true (client (at kept (serve w) d) None script) r received)
-  read-near w (Shuts f (TextOf a true)) r received read has step =
-      closes own may m n order lives rank (client (at kept (serve w) (Shuts f (TextOf a true))) None script)
+  read-near w (ClosingFile f (TextOf a true)) r received read has step =
+      closes own may m n order lives rank (client (at kept (serve w) (ClosingFile f (TextOf a true))) None script)
       (λ z. client (at kept (serve w) (after_close_file (serve w) f (TextOf a true) z)) None script) f
       (on.File has.0.0 has.0.1 modes.Read) r has.0.2 step (inr (refl, omega arith))
-  read-near w (Spares a Script) r received read has step = spared-near w a has.0.0 r received step has.0.1
+  read-near w (DroppingWhole a Script) r received read has step = spared-near w a has.0.0 r received step has.0.1
   read-near w d r received read has step = absurd (cc (read))
 
   of-script : (scripts : Bool) (w : Wanted) (d : Phase) (text : List ℕ) (o : Progress) (r : Reply) (received : List ℕ)
@@ -266,16 +269,16 @@ module _ (steps : EachStepLeavesTheRest) (own : CallsServeTheirDomain) (may : Re
       → StepsTo m (event.Call server (running.wants job fd w y)) r n → Names n r received
       → is_over (running.after_reply worker w y r received) ≡ true
       → IsEnd (after_run (running.after_reply worker w y r received))
-  over-ends job worker w Awaits (reply.Fds from write) received o going has step names over = absurd (cc (over))
-  over-ends job worker w Awaits r received o going has step names over = absurd (cc (over))
-  over-ends job worker w (Runs run s) r received o going has step names over =
-      let got = running_on.replied steps own m n order job w fd c worker (Runs run s) r received o open_on
+  over-ends job worker w AwaitingWorker (reply.Fds from write) received o going has step names over = absurd (cc (over))
+  over-ends job worker w AwaitingWorker r received o going has step names over = absurd (cc (over))
+  over-ends job worker w (InProgress run s) r received o going has step names over =
+      let got = running_on.replied steps own m n order job w fd c worker (InProgress run s) r received o open_on
       (λ e. absurd (cc (e))) going has step names in
-      run-ends job n w got.0 (running.after_reply worker w (Runs run s) r received) got.2 over
-  over-ends job worker w (Leaves d) r received o going has step names over =
-      let got = running_on.replied steps own m n order job w fd c worker (Leaves d) r received o open_on
+      run-ends job n w got.0 (running.after_reply worker w (InProgress run s) r received) got.2 over
+  over-ends job worker w (Finishing d) r received o going has step names over =
+      let got = running_on.replied steps own m n order job w fd c worker (Finishing d) r received o open_on
       (λ e. absurd (cc (e))) going has step names in
-      run-ends job n w got.0 (running.after_reply worker w (Leaves d) r received) got.2 over
+      run-ends job n w got.0 (running.after_reply worker w (Finishing d) r received) got.2 over
   over-ends job worker w Ends r received o going has step names over = absurd (cc (going))
 
   run-near : (kept : List ℕ) (d : Phase) (script : List ℕ) (worker : ℕ) (w : Wanted) (y : Running) (r : Reply)

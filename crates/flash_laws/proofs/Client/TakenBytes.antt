@@ -31,9 +31,9 @@ use Rattle.flash_laws.specs.Run.{is_over}
 use Rattle.flash_laws.specs.Site.{server}
 use Rattle.flash_laws.specs.declared.phase.Payload.TheVariants.{Script}
 use Rattle.flash_laws.specs.declared.phase.Phase.{Phase}
-use Rattle.flash_laws.specs.declared.phase.Phase.TheVariants.{Reads as Reading, Spares}
+use Rattle.flash_laws.specs.declared.phase.Phase.TheVariants.{Reading as Reading, DroppingWhole}
 use Rattle.flash_laws.specs.declared.script_run.Running.{Running}
-use Rattle.flash_laws.specs.declared.script_run.Running.TheVariants.{Leaves, Closes as Ends}
+use Rattle.flash_laws.specs.declared.script_run.Running.TheVariants.{Finishing, Disconnecting as Ends}
 use Rattle.flash_laws.proofs.Forms.{at, of as client}
 use Rattle.flash_laws.proofs.Client.Progress.{is_scripts, wants-plain, after_reply-plain}
 use Rattle.flash_laws.proofs.Run.Ends.{wants-text}
@@ -71,13 +71,13 @@ reading-none f (reply.Refused z) received = refl
 reading-none f r received = refl
 
 spares-none : (fd : ℕ) (kept : List ℕ) (q : Answer) (a : ℕ) (script : List ℕ) (r : Reply) (received : List ℕ)
-    → taken_by (file_after_reply true (client (at kept q (Spares a Script)) None script) r received)
+    → taken_by (file_after_reply true (client (at kept q (DroppingWhole a Script)) None script) r received)
     ≡ newly_taken fd (call.AggDrop a) r
 spares-none fd kept q a script r received = by (is_head_only q) r
   where
     by : (h : Bool) (r : Reply)
         → taken_by (record {
-          conn = record (at kept q (Spares a Script)) { phase = after_drop_whole_conn a Script r };
+          conn = record (at kept q (DroppingWhole a Script)) { phase = after_drop_whole_conn a Script r };
           run = after_drop_whole h r;
           script = script;
         }) ≡ newly_taken fd (call.AggDrop a) r
@@ -103,7 +103,7 @@ module _ (own : CallsServeTheirDomain) (m n : State) (order : IsOrderly m) (fd c
     where
       scripts : (e : Phase) → d ≡ e → is_scripts e ≡ true → Takes true d
       scripts (Reading f) is own_way = subst (λ (e : Phase). Takes true e) (sym is) (reading-none f r received)
-      scripts (Spares a Script) is own_way =
+      scripts (DroppingWhole a Script) is own_way =
           subst (λ (e : Phase). Takes true e) (sym is) (let e = spares-none fd kept q a script r received in
           omega (arith, e))
       scripts e is own_way = absurd (cc (own_way))
@@ -122,12 +122,12 @@ module _ (own : CallsServeTheirDomain) (m n : State) (order : IsOrderly m) (fd c
 -- ---- where one runs
 
 end-taken : (z : Running) → is_over z ≡ true → taken_of (after_run z) ≡ run_taken z
-end-taken (Leaves d) over = refl
+end-taken (Finishing d) over = refl
 end-taken Ends over = refl
 end-taken x over = absurd (cc (over))
 
 end-breaks : (z : Running) → is_over z ≡ true → breaks_off z ≡ is_dropping (after_run z)
-end-breaks (Leaves d) over = refl
+end-breaks (Finishing d) over = refl
 end-breaks Ends over = refl
 end-breaks x over = absurd (cc (over))
 

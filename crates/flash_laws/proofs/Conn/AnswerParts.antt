@@ -37,8 +37,10 @@ use Rattle.flash_laws.specs.declared.phase.Payload.{Payload}
 use Rattle.flash_laws.specs.declared.phase.Payload.TheVariants.{Body}
 use Rattle.flash_laws.specs.declared.phase.Sending.{Sending}
 use Rattle.flash_laws.specs.declared.phase.Phase.{Phase}
-use Rattle.flash_laws.specs.declared.phase.Phase.TheVariants.{Rests, Got, Shuts, Picks, Spares, Heads, Joins, Sends}
-use Rattle.flash_laws.specs.declared.phase.Phase.TheVariants.{Cuts, Offers, Swaps, Sent, Breaks, Drops, Closes, Over}
+use Rattle.flash_laws.specs.declared.phase.Phase.TheVariants.{Receiving, DroppingInput, ClosingFile, Slicing}
+use Rattle.flash_laws.specs.declared.phase.Phase.TheVariants.{DroppingWhole, MakingHead, Joining, SendingWhole}
+use Rattle.flash_laws.specs.declared.phase.Phase.TheVariants.{CuttingPiece, SendingPiece, DroppingPiece, DroppingSent}
+use Rattle.flash_laws.specs.declared.phase.Phase.TheVariants.{AbortingPiece, Aborting, Disconnecting, Closed}
 use Rattle.flash_laws.specs.Conn.Fits.{MoreIsReadable, HoldsRestFrom, HoldsUnsent, HasFile, HasFileResult}
 use Rattle.flash_laws.specs.Conn.Fits.{HasContent, Has, is_closing, Names}
 use Rattle.flash_laws.specs.Client.ResponseState.{is_opening}
@@ -79,10 +81,10 @@ module _ (steps : EachStepLeavesTheRest) (own : CallsServeTheirDomain) (m n : St
       ∙ (ap (λ b. file_text w len ++ body_unless b (chosen (selected w.range len) h.bytes)) h.whole
       ∙ ap (λ (z : Selection). file_text w len ++ chosen z h.bytes) is))
 
-  pub shuts : (q : Answer) (g : ℕ) (k : FileResult) (expected : List ℕ) (r : Reply) → Has m q expected (Shuts g k)
+  pub shuts : (q : Answer) (g : ℕ) (k : FileResult) (expected : List ℕ) (r : Reply) → Has m q expected (ClosingFile g k)
       → StepsTo m (event.Call server (call.Close g)) r n → Has n q expected (after_close_file q g k r)
   shuts q g k expected r has step =
-      closed m n (Has n q expected) g r (own.closes m n server g r step) (unchanged q (Shuts g k) expected has)
+      closed m n (Has n q expected) g r (own.closes m n server g r step) (unchanged q (ClosingFile g k) expected has)
       (done q k has.1 (λ a l readable. stays (call.Close g) r step a l readable refl))
     where
       done : (q : Answer) (k : FileResult) → HasFileResult m q expected k → ((a : ℕ) (l : List ℕ)
@@ -128,12 +130,12 @@ module _ (steps : EachStepLeavesTheRest) (own : CallsServeTheirDomain) (m n : St
       done x (Length len) h is_readable = h
 
   pub picks : (q : Answer) (a first to len : ℕ) (expected : List ℕ) (r : Reply)
-      → Has m q expected (Picks a first to len) → StepsTo m (event.Call server (call.AggCut a first to)) r n
+      → Has m q expected (Slicing a first to len) → StepsTo m (event.Call server (call.AggCut a first to)) r n
       → Has n q expected (after_slice a first to len r)
   picks q a first to len expected r has step =
       made m n (Has n q expected) (slice_range has.bytes first to) r
       (own.cut m n server a first to has.bytes r order has.is_readable step)
-      (unchanged q (Picks a first to len) expected has)
+      (unchanged q (Slicing a first to len) expected has)
       (λ x readable new. (
         (has.bytes, stays (call.AggCut a first to) r step a has.bytes has.is_readable refl),
         turned a x (new-other m a x has.bytes has.is_readable new),
@@ -147,10 +149,11 @@ module _ (steps : EachStepLeavesTheRest) (own : CallsServeTheirDomain) (m n : St
         },
       ))
 
-  pub spares : (q : Answer) (a : ℕ) (k : Payload) (expected : List ℕ) (r : Reply) → Has m q expected (Spares a k)
+  pub spares : (q : Answer) (a : ℕ) (k : Payload) (expected : List ℕ) (r : Reply) → Has m q expected (DroppingWhole a k)
       → StepsTo m (event.Call server (call.AggDrop a)) r n → Has n q expected (after_drop_whole a k r)
   spares q a k expected r has step =
-      dropped m n (Has n q expected) a r (own.drops m n server a r order step) (unchanged q (Spares a k) expected has)
+      dropped m n (Has n q expected) a r (own.drops m n server a r order step)
+      (unchanged q (DroppingWhole a k) expected has)
       (content-on m n q expected k
       (λ b l u readable. stays (call.AggDrop a) r step b l readable
       (not-equal a b (λ e. let p = ap (λ z. content_agg k z) e in let not_a = has.1 in absurd (cc (p, not_a, u)))))
@@ -163,16 +166,16 @@ module _ (steps : EachStepLeavesTheRest) (own : CallsServeTheirDomain) (m n : St
   headed-keeps q a size (Some x) expected has = by (nat_le (size + x.1) MAX_AGGREGATE_BYTES) refl
     where
       by : (b : Bool) → nat_le (size + x.1) MAX_AGGREGATE_BYTES ≡ b
-          → Has n q expected (if b then Joins a size x.0 x.1 else Sends (whole a size 0 (Some x)))
+          → Has n q expected (if b then Joining a size x.0 x.1 else SendingWhole (whole a size 0 (Some x)))
       by true fits = (has, grind (arith, nat_tests, fits))
       by false fits = (has, refl)
 
   pub heads : (q : Answer) (k : Payload) (expected : List ℕ) (r : Reply) (received : List ℕ)
-      → Has m q expected (Heads k) → StepsTo m (event.Call server (call.AggMake (text_of q k))) r n
+      → Has m q expected (MakingHead k) → StepsTo m (event.Call server (call.AggMake (text_of q k))) r n
       → Names n r received → Has n q expected (after_head k r received)
   heads q k expected r received has step names =
       made-received m n (Has n q expected) (text_of q k) received r (own.make m n server (text_of q k) r order step)
-      names (unchanged q (Heads k) expected has) new
+      names (unchanged q (MakingHead k) expected has) new
     where
       parts : (k : Payload) → HasContent m q expected k
           → (after : List ℕ) × MoreIsReadable m (following k) after × (text_of q k ++ after ≡ expected)
@@ -202,12 +205,12 @@ module _ (steps : EachStepLeavesTheRest) (own : CallsServeTheirDomain) (m n : St
           })
 
   pub joins : (q : Answer) (a size b len : ℕ) (expected : List ℕ) (r : Reply)
-      → Has m q expected (Joins a size b len) → StepsTo m (event.Call server (call.AggJoin a b)) r n
+      → Has m q expected (Joining a size b len) → StepsTo m (event.Call server (call.AggJoin a b)) r n
       → Has n q expected (after_join a size b len r)
   joins q a size b len expected r has step =
       made m n (Has n q expected) (has.0.bytes ++ has.0.after) r
       (own.join m n server a b has.0.bytes has.0.after r order has.0.is_readable has.0.follows.0 step)
-      (unchanged q (Joins a size b len) expected has)
+      (unchanged q (Joining a size b len) expected has)
       (λ x readable new. (
         record {
           bytes = has.0.bytes ++ has.0.after;
@@ -250,7 +253,7 @@ module _ (steps : EachStepLeavesTheRest) (own : CallsServeTheirDomain) (m n : St
   next-has q expected s h = cases (nat_lt s.from s.len) refl
     where
       cases : (b : Bool) → nat_lt s.from s.len ≡ b
-          → Has n q expected (if b then Cuts s else Sent s.agg s.taken s.more)
+          → Has n q expected (if b then CuttingPiece s else DroppingSent s.agg s.taken s.more)
       cases true part = (h, grind (arith, nat_tests, part))
       cases false all = record {
         bytes = h.bytes;
@@ -266,24 +269,25 @@ module _ (steps : EachStepLeavesTheRest) (own : CallsServeTheirDomain) (m n : St
       record { after = h.after; readable = (h.bytes, h.is_readable); follows = h.follows; apart = h.apart }
 
   pub sends : (q : Answer) (fd c : ℕ) (s : Sending) (expected : List ℕ) (r : Reply)
-      → descriptor m server fd ≡ Some (on.Connection c) → Has m q expected (Sends s)
+      → descriptor m server fd ≡ Some (on.Connection c) → Has m q expected (SendingWhole s)
       → StepsTo m (event.Call server (call.IolWrite fd s.agg)) r n → Has n q expected (after_send s r)
   sends q fd c s expected r open_on has step =
       written m n (Has n q expected) c has.0.bytes r
       (own.write_conn m n server fd c s.agg has.0.bytes r order open_on has.0.is_readable step)
-      (unchanged q (Sends s) expected has) (unchanged q (Drops s.agg s.more) expected (unsent expected s has.0))
+      (unchanged q (SendingWhole s) expected has)
+      (unchanged q (Aborting s.agg s.more) expected (unsent expected s has.0))
       (λ k puts. next-has q expected (after_taking s k)
       (taken-on expected s k
       (rest-stays (call.IolWrite fd s.agg) r step expected s (λ a u. refl) has.0)
       (few-whole k s has.0.bytes has.1 puts.within)))
 
-  pub cuts : (q : Answer) (s : Sending) (expected : List ℕ) (r : Reply) → Has m q expected (Cuts s)
+  pub cuts : (q : Answer) (s : Sending) (expected : List ℕ) (r : Reply) → Has m q expected (CuttingPiece s)
       → StepsTo m (event.Call server (call.AggCut s.agg s.from (piece_end s))) r n
       → Has n q expected (after_cut s r)
   cuts q s expected r has step =
       made m n (Has n q expected) (slice_range has.0.bytes s.from (piece_end s)) r
       (own.cut m n server s.agg s.from (piece_end s) has.0.bytes r order has.0.is_readable step)
-      (unchanged q (Cuts s) expected has)
+      (unchanged q (CuttingPiece s) expected has)
       (λ x readable new. record {
         whole =
             rest-stays (call.AggCut s.agg s.from (piece_end s)) r step expected s (λ a u. refl) has.0;
@@ -294,13 +298,13 @@ module _ (steps : EachStepLeavesTheRest) (own : CallsServeTheirDomain) (m n : St
       })
 
   pub offers_piece : (q : Answer) (fd c : ℕ) (s : Sending) (piece : ℕ) (expected : List ℕ) (r : Reply)
-      → descriptor m server fd ≡ Some (on.Connection c) → Has m q expected (Offers s piece)
+      → descriptor m server fd ≡ Some (on.Connection c) → Has m q expected (SendingPiece s piece)
       → StepsTo m (event.Call server (call.IolWrite fd piece)) r n → Has n q expected (after_offer s piece r)
   offers_piece q fd c s piece expected r open_on has step =
       written m n (Has n q expected) c bytes r
       (own.write_conn m n server fd c piece bytes r order open_on has.is_readable step)
-      (unchanged q (Offers s piece) expected has)
-      (unchanged q (Breaks piece s.agg s.more) expected
+      (unchanged q (SendingPiece s piece) expected has)
+      (unchanged q (AbortingPiece piece s.agg s.more) expected
       ((bytes, has.is_readable), has.other, unsent expected s has.whole))
       (λ k puts. (
         (bytes, stays (call.IolWrite fd piece) r step piece bytes has.is_readable refl),
@@ -314,11 +318,11 @@ module _ (steps : EachStepLeavesTheRest) (own : CallsServeTheirDomain) (m n : St
       bytes = slice_range has.whole.bytes s.from (piece_end s)
 
   pub swaps : (q : Answer) (s : Sending) (piece : ℕ) (expected : List ℕ) (r : Reply)
-      → Has m q expected (Swaps s piece)
+      → Has m q expected (DroppingPiece s piece)
       → StepsTo m (event.Call server (call.AggDrop piece)) r n → Has n q expected (after_swap s piece r)
   swaps q s piece expected r has step =
       dropped m n (Has n q expected) piece r (own.drops m n server piece r order step)
-      (unchanged q (Swaps s piece) expected has)
+      (unchanged q (DroppingPiece s piece) expected has)
       (next-has q expected s
       (rest-stays (call.AggDrop piece) r step expected s
       (λ b u. not-equal piece b
@@ -326,12 +330,12 @@ module _ (steps : EachStepLeavesTheRest) (own : CallsServeTheirDomain) (m n : St
       absurd (cc (p, not_piece, u)))) has.2))
 
   pub breaks : (q : Answer) (piece a : ℕ) (more : Following) (expected : List ℕ) (r : Reply)
-      → Has m q expected (Breaks piece a more) → StepsTo m (event.Call server (call.AggDrop piece)) r n
+      → Has m q expected (AbortingPiece piece a more) → StepsTo m (event.Call server (call.AggDrop piece)) r n
       → Has n q expected (after_break piece a more r)
   breaks q piece a more expected r has step =
       let both = or_parts (a == piece) (has_followed more piece) has.1 in
       dropped m n (Has n q expected) piece r (own.drops m n server piece r order step)
-      (unchanged q (Breaks piece a more) expected has)
+      (unchanged q (AbortingPiece piece a more) expected has)
       (record {
         after = has.2.after;
         readable = (
@@ -345,11 +349,11 @@ module _ (steps : EachStepLeavesTheRest) (own : CallsServeTheirDomain) (m n : St
       })
 
   pub sent_all : (q : Answer) (a taken : ℕ) (more : Following) (expected : List ℕ) (r : Reply)
-      → Has m q expected (Sent a taken more) → StepsTo m (event.Call server (call.AggDrop a)) r n
+      → Has m q expected (DroppingSent a taken more) → StepsTo m (event.Call server (call.AggDrop a)) r n
       → Has n q expected (after_taken q a taken more r)
   sent_all q a taken more expected r has step =
       dropped m n (Has n q expected) a r (own.drops m n server a r order step)
-      (unchanged q (Sent a taken more) expected has)
+      (unchanged q (DroppingSent a taken more) expected has)
       (after more has.after (follows (call.AggDrop a) r step more has.after (λ b u. apart more a b has.apart u)
       has.follows) has.next)
     where
@@ -370,10 +374,11 @@ module _ (steps : EachStepLeavesTheRest) (own : CallsServeTheirDomain) (m n : St
       after None rest is_readable next = either-way (λ (e : Phase). Has n q expected e) (keeps q) tt tt
 
   pub drops : (q : Answer) (a : ℕ) (more : Following) (expected : List ℕ) (r : Reply)
-      → Has m q expected (Drops a more) → StepsTo m (event.Call server (call.AggDrop a)) r n
+      → Has m q expected (Aborting a more) → StepsTo m (event.Call server (call.AggDrop a)) r n
       → Has n q expected (after_drop a more r)
   drops q a more expected r has step =
-      dropped m n (Has n q expected) a r (own.drops m n server a r order step) (unchanged q (Drops a more) expected has)
+      dropped m n (Has n q expected) a r (own.drops m n server a r order step)
+      (unchanged q (Aborting a more) expected has)
       (next more has.after (follows (call.AggDrop a) r step more has.after (λ b u. apart more a b has.apart u)
       has.follows))
     where
@@ -400,31 +405,35 @@ module _ (steps : EachStepLeavesTheRest) (own : CallsServeTheirDomain) (m n : St
       → is_opening d ≡ false → is_closing d ≡ false → Has m q expected d
       → StepsTo m (event.Call server (wants fd (at kept q d))) r n
       → Names n r received → Has n q expected (after_reply (at kept q d) r received).phase
-  phase kept fd c q Rests expected r received open_on read busy has step names = rests kept q expected r received names
-  phase kept fd c q (Got a) expected r received open_on read busy has step names =
-      dropped m n (Has n q expected) a r (own.drops m n server a r order step) (unchanged q (Got a) expected has) tt
-  phase kept fd c q (Shuts f k) expected r received open_on read busy has step names = shuts q f k expected r has step
-  phase kept fd c q (Picks a first last len) expected r received open_on read busy has step names =
+  phase kept fd c q Receiving expected r received open_on read busy has step names =
+      rests kept q expected r received names
+  phase kept fd c q (DroppingInput a) expected r received open_on read busy has step names =
+      dropped m n (Has n q expected) a r (own.drops m n server a r order step)
+      (unchanged q (DroppingInput a) expected has) tt
+  phase kept fd c q (ClosingFile f k) expected r received open_on read busy has step names =
+      shuts q f k expected r has step
+  phase kept fd c q (Slicing a first last len) expected r received open_on read busy has step names =
       picks q a first last len expected r has step
-  phase kept fd c q (Spares a k) expected r received open_on read busy has step names = spares q a k expected r has step
-  phase kept fd c q (Heads k) expected r received open_on read busy has step names =
+  phase kept fd c q (DroppingWhole a k) expected r received open_on read busy has step names =
+      spares q a k expected r has step
+  phase kept fd c q (MakingHead k) expected r received open_on read busy has step names =
       heads q k expected r received has step names
-  phase kept fd c q (Joins a size body len) expected r received open_on read busy has step names =
+  phase kept fd c q (Joining a size body len) expected r received open_on read busy has step names =
       joins q a size body len expected r has step
-  phase kept fd c q (Sends s) expected r received open_on read busy has step names =
+  phase kept fd c q (SendingWhole s) expected r received open_on read busy has step names =
       sends q fd c s expected r open_on has step
-  phase kept fd c q (Cuts s) expected r received open_on read busy has step names =
+  phase kept fd c q (CuttingPiece s) expected r received open_on read busy has step names =
       cuts q s expected r has step
-  phase kept fd c q (Offers s piece) expected r received open_on read busy has step names =
+  phase kept fd c q (SendingPiece s piece) expected r received open_on read busy has step names =
       offers_piece q fd c s piece expected r open_on has step
-  phase kept fd c q (Swaps s piece) expected r received open_on read busy has step names =
+  phase kept fd c q (DroppingPiece s piece) expected r received open_on read busy has step names =
       swaps q s piece expected r has step
-  phase kept fd c q (Sent a taken more) expected r received open_on read busy has step names =
+  phase kept fd c q (DroppingSent a taken more) expected r received open_on read busy has step names =
       sent_all q a taken more expected r has step
-  phase kept fd c q (Breaks piece a more) expected r received open_on read busy has step names =
+  phase kept fd c q (AbortingPiece piece a more) expected r received open_on read busy has step names =
       breaks q piece a more expected r has step
-  phase kept fd c q (Drops a more) expected r received open_on read busy has step names =
+  phase kept fd c q (Aborting a more) expected r received open_on read busy has step names =
       drops q a more expected r has step
-  phase kept fd c q Closes expected r received open_on read busy has step names = absurd (cc (busy))
-  phase kept fd c q Over expected r received open_on read busy has step names = absurd (cc (busy))
+  phase kept fd c q Disconnecting expected r received open_on read busy has step names = absurd (cc (busy))
+  phase kept fd c q Closed expected r received open_on read busy has step names = absurd (cc (busy))
   phase kept fd c q x expected r received open_on read busy has step names = absurd (cc (read))

@@ -27,44 +27,49 @@ use Rattle.flash_laws.specs.declared.phase.FileResult.{FileResult}
 use Rattle.flash_laws.specs.declared.phase.FileResult.TheVariants.{File}
 use Rattle.flash_laws.specs.declared.phase.Sending.{Sending}
 use Rattle.flash_laws.specs.declared.phase.Phase.{Phase}
-use Rattle.flash_laws.specs.declared.phase.Phase.TheVariants.{Rests, Got, Opens, Reads as Reading, Shuts, Picks, Spares}
-use Rattle.flash_laws.specs.declared.phase.Phase.TheVariants.{Heads, Joins, Sends, Cuts, Offers, Swaps, Sent, Breaks}
-use Rattle.flash_laws.specs.declared.phase.Phase.TheVariants.{Drops, Closes}
+use Rattle.flash_laws.specs.declared.phase.Phase.TheVariants.{Receiving, DroppingInput, Opening, Reading as Reading}
+use Rattle.flash_laws.specs.declared.phase.Phase.TheVariants.{ClosingFile, Slicing, DroppingWhole}
+use Rattle.flash_laws.specs.declared.phase.Phase.TheVariants.{MakingHead, Joining, SendingWhole, CuttingPiece}
+use Rattle.flash_laws.specs.declared.phase.Phase.TheVariants.{SendingPiece, DroppingPiece, DroppingSent, AbortingPiece}
+use Rattle.flash_laws.specs.declared.phase.Phase.TheVariants.{Aborting, Disconnecting}
 use Rattle.flash_laws.proofs.Forms.{at}
 use Rattle.flash_laws.proofs.Lists.{self}
 use Rattle.flash_laws.proofs.Conn.Repeats.{either, drops, closes, makes, cuts, joins, reads, writes, opens, lengths}
 use Rattle.flash_laws.proofs.Moves.{either-of}
 
 rests-not : (kept : List ℕ) (q : Answer) (received : List ℕ) (k : ℕ)
-    → (after_receive kept q (reply.Agg k) received).phase ≡ Rests → ⊥
+    → (after_receive kept q (reply.Agg k) received).phase ≡ Receiving → ⊥
 rests-not kept q [] k same = cc (same)
 rests-not kept q (b ∷ received) k same = cc (same)
 
-resolved-not : (q : Answer) (f : ℕ) (k : FileResult) → resolved q k ≡ Shuts f k → ⊥
+resolved-not : (q : Answer) (f : ℕ) (k : FileResult) → resolved q k ≡ ClosingFile f k → ⊥
 resolved-not (serve w) f (File a len) same = by (selected w.range len) same
   where
-    by : (sel : Selection) → sends_of sel a len ≡ Shuts f (File a len) → ⊥
+    by : (sel : Selection) → sends_of sel a len ≡ ClosingFile f (File a len) → ⊥
     by (Bytes first last) same = cc (same)
     by x same = cc (same)
 resolved-not (refuse status head_only close) f (File a len) same = cc (same)
 resolved-not x f k same = cc (same)
 
-headed-not : (n size : ℕ) (more : Following) (d : Phase) → ((a b c e : ℕ) → Joins a b c e ≡ d → ⊥)
-    → ((s : Sending) → Sends s ≡ d → ⊥) → headed n size more ≡ d → ⊥
+headed-not : (n size : ℕ) (more : Following) (d : Phase) → ((a b c e : ℕ) → Joining a b c e ≡ d → ⊥)
+    → ((s : Sending) → SendingWhole s ≡ d → ⊥) → headed n size more ≡ d → ⊥
 headed-not n size None d joins sends same = sends (whole n size 0 None) same
 headed-not n size (Some x) d joins sends same =
-    either-of (λ (e : Phase). e ≡ d → ⊥) (nat_le (size + x.1) MAX_AGGREGATE_BYTES) (Joins n size x.0 x.1)
-    (Sends (whole n size 0 (Some x))) (λ same. joins n size x.0 x.1 same)
+    either-of (λ (e : Phase). e ≡ d → ⊥) (nat_le (size + x.1) MAX_AGGREGATE_BYTES) (Joining n size x.0 x.1)
+    (SendingWhole (whole n size 0 (Some x))) (λ same. joins n size x.0 x.1 same)
     (λ same. sends (whole n size 0 (Some x)) same) same
 
-next-not : (s : Sending) (d : Phase) → (Cuts s ≡ d → ⊥) → (Sent s.agg s.taken s.more ≡ d → ⊥) → next_piece s ≡ d → ⊥
-next-not s d cuts sent same = either (nat_lt s.from s.len) (Cuts s) (Sent s.agg s.taken s.more) d cuts sent same
+next-not : (s : Sending) (d : Phase) → (CuttingPiece s ≡ d → ⊥) → (DroppingSent s.agg s.taken s.more ≡ d → ⊥)
+    → next_piece s ≡ d → ⊥
+next-not s d cuts sent same =
+    either (nat_lt s.from s.len) (CuttingPiece s) (DroppingSent s.agg s.taken s.more) d cuts sent same
 
-proceeds-not : (q : Answer) (a taken : ℕ) (more : Following) → proceeds q taken more ≡ Sent a taken more → ⊥
+proceeds-not : (q : Answer) (a taken : ℕ) (more : Following) → proceeds q taken more ≡ DroppingSent a taken more → ⊥
 proceeds-not q a taken (Some x) same = cc (same)
-proceeds-not q a taken None same = either (keeps q) Rests Closes (Sent a taken None) (λ e. cc (e)) (λ e. cc (e)) same
+proceeds-not q a taken None same =
+    either (keeps q) Receiving Disconnecting (DroppingSent a taken None) (λ e. cc (e)) (λ e. cc (e)) same
 
-drops_next-not : (a : ℕ) (more : Following) → drops_next more ≡ Drops a more → ⊥
+drops_next-not : (a : ℕ) (more : Following) → drops_next more ≡ Aborting a more → ⊥
 drops_next-not a (Some x) same = cc (same)
 drops_next-not a None same = cc (same)
 
@@ -81,42 +86,45 @@ module _ (m n : State) (fd : ℕ) (kept : List ℕ) (q : Answer) where
   pub moved : (d : Phase) (r : Reply) (received : List ℕ) → is_closing d ≡ false
       → StepsTo m (event.Call server (wants fd (at kept q d))) r n
       → (after_reply (at kept q d) r received).phase ≡ d → may_repeat (wants fd (at kept q d)) r ≡ true
-  moved Rests r received going step same =
-      reads m n Rests (λ z. (after_receive kept q z received).phase) fd (most_kept - length kept) r step
+  moved Receiving r received going step same =
+      reads m n Receiving (λ z. (after_receive kept q z received).phase) fd (most_kept - length kept) r step
       (rests-not kept q received) same
-  moved (Got b) r received going step same = drops m n (Got b) (λ z. after_discard b z) b r step (λ e. cc (e)) same
-  moved Opens r received going step same =
-      opens m n Opens (λ z. after_open z) (name_of q) modes.Read r step (λ k e. cc (e)) same
+  moved (DroppingInput b) r received going step same =
+      drops m n (DroppingInput b) (λ z. after_discard b z) b r step (λ e. cc (e)) same
+  moved Opening r received going step same =
+      opens m n Opening (λ z. after_open z) (name_of q) modes.Read r step (λ k e. cc (e)) same
   moved (Reading f) r received going step same = reading f (is_head_only q) r received step same
-  moved (Shuts f k) r received going step same =
-      closes m n (Shuts f k) (λ z. after_close_file q f k z) f r step (resolved-not q f k) same
-  moved (Picks b from to len) r received going step same =
-      cuts m n (Picks b from to len) (λ z. after_slice b from to len z) b from to r step (λ k e. cc (e)) same
-  moved (Spares b k) r received going step same =
-      drops m n (Spares b k) (λ z. after_drop_whole b k z) b r step (λ e. cc (e)) same
-  moved (Heads k) r received going step same = makes m n (Heads k) (λ z. after_head k z received) (text_of q k) r step
-      (λ a. headed-not a (count_of received) (following k) (Heads k) (λ a b c e same. cc (same))
+  moved (ClosingFile f k) r received going step same =
+      closes m n (ClosingFile f k) (λ z. after_close_file q f k z) f r step (resolved-not q f k) same
+  moved (Slicing b from to len) r received going step same =
+      cuts m n (Slicing b from to len) (λ z. after_slice b from to len z) b from to r step (λ k e. cc (e)) same
+  moved (DroppingWhole b k) r received going step same =
+      drops m n (DroppingWhole b k) (λ z. after_drop_whole b k z) b r step (λ e. cc (e)) same
+  moved (MakingHead k) r received going step same =
+      makes m n (MakingHead k) (λ z. after_head k z received) (text_of q k) r step
+      (λ a. headed-not a (count_of received) (following k) (MakingHead k) (λ a b c e same. cc (same))
       (λ s same. cc (same))) same
-  moved (Joins b size body len) r received going step same =
-      joins m n (Joins b size body len) (λ z. after_join b size body len z) b body r step (λ k e. cc (e)) same
-  moved (Sends s) r received going step same =
-      writes m n (Sends s) (λ z. after_send s z) fd s.agg r step
-      (λ k. next-not (after_taking s k) (Sends s) (λ e. cc (e)) (λ e. cc (e))) (λ e. cc (e)) same
-  moved (Cuts s) r received going step same =
-      cuts m n (Cuts s) (λ z. after_cut s z) s.agg s.from (piece_end s) r step
+  moved (Joining b size body len) r received going step same =
+      joins m n (Joining b size body len) (λ z. after_join b size body len z) b body r step (λ k e. cc (e)) same
+  moved (SendingWhole s) r received going step same =
+      writes m n (SendingWhole s) (λ z. after_send s z) fd s.agg r step
+      (λ k. next-not (after_taking s k) (SendingWhole s) (λ e. cc (e)) (λ e. cc (e))) (λ e. cc (e)) same
+  moved (CuttingPiece s) r received going step same =
+      cuts m n (CuttingPiece s) (λ z. after_cut s z) s.agg s.from (piece_end s) r step
       (λ k e. cc (e)) same
-  moved (Offers s piece) r received going step same =
-      writes m n (Offers s piece) (λ z. after_offer s piece z) fd piece r step
+  moved (SendingPiece s piece) r received going step same =
+      writes m n (SendingPiece s piece) (λ z. after_offer s piece z) fd piece r step
       (λ k e. cc (e)) (λ e. cc (e)) same
-  moved (Swaps s piece) r received going step same =
-      drops m n (Swaps s piece) (λ z. after_swap s piece z) piece r step
-      (next-not s (Swaps s piece) (λ e. cc (e)) (λ e. cc (e))) same
-  moved (Sent b taken more) r received going step same =
-      drops m n (Sent b taken more) (λ z. after_taken q b taken more z) b r step (proceeds-not q b taken more) same
-  moved (Breaks piece b more) r received going step same =
-      drops m n (Breaks piece b more) (λ z. after_break piece b more z) piece r step (λ e. cc (e)) same
-  moved (Drops b more) r received going step same =
-      drops m n (Drops b more) (λ z. after_drop b more z) b r step (drops_next-not b more) same
+  moved (DroppingPiece s piece) r received going step same =
+      drops m n (DroppingPiece s piece) (λ z. after_swap s piece z) piece r step
+      (next-not s (DroppingPiece s piece) (λ e. cc (e)) (λ e. cc (e))) same
+  moved (DroppingSent b taken more) r received going step same =
+      drops m n (DroppingSent b taken more) (λ z. after_taken q b taken more z) b r step (proceeds-not q b taken more)
+      same
+  moved (AbortingPiece piece b more) r received going step same =
+      drops m n (AbortingPiece piece b more) (λ z. after_break piece b more z) piece r step (λ e. cc (e)) same
+  moved (Aborting b more) r received going step same =
+      drops m n (Aborting b more) (λ z. after_drop b more z) b r step (drops_next-not b more) same
   moved x r received going step same = absurd (cc (going))
 
   -- a descriptor comes by opening a file alone
@@ -128,7 +136,7 @@ module _ (m n : State) (fd : ℕ) (kept : List ℕ) (q : Answer) where
   pub opened : (d : Phase) (f : ℕ) (received : List ℕ)
       → StepsTo m (event.Call server (wants fd (at kept q d))) (reply.Fd f) n
       → uses_fd (after_reply (at kept q d) (reply.Fd f) received).phase f ≡ true
-  opened Opens f received step = self f
+  opened Opening f received step = self f
   opened (Reading g) f received step = absurd (came g (is_head_only q) f step)
   opened d f received step = let e = step.1 in absurd (cc (e))
 

@@ -38,9 +38,11 @@ use Rattle.flash_laws.specs.declared.phase.Payload.{Payload}
 use Rattle.flash_laws.specs.declared.phase.Payload.TheVariants.{Body}
 use Rattle.flash_laws.specs.declared.phase.Sending.{Sending}
 use Rattle.flash_laws.specs.declared.phase.Phase.{Phase}
-use Rattle.flash_laws.specs.declared.phase.Phase.TheVariants.{Rests, Got, Opens, Reads as Reading, Shuts, Picks, Spares}
-use Rattle.flash_laws.specs.declared.phase.Phase.TheVariants.{Heads, Joins, Sends, Cuts, Offers, Swaps, Sent, Breaks}
-use Rattle.flash_laws.specs.declared.phase.Phase.TheVariants.{Drops, Closes, Over}
+use Rattle.flash_laws.specs.declared.phase.Phase.TheVariants.{Receiving, DroppingInput, Opening, Reading as Reading}
+use Rattle.flash_laws.specs.declared.phase.Phase.TheVariants.{ClosingFile, Slicing, DroppingWhole}
+use Rattle.flash_laws.specs.declared.phase.Phase.TheVariants.{MakingHead, Joining, SendingWhole, CuttingPiece}
+use Rattle.flash_laws.specs.declared.phase.Phase.TheVariants.{SendingPiece, DroppingPiece, DroppingSent, AbortingPiece}
+use Rattle.flash_laws.specs.declared.phase.Phase.TheVariants.{Aborting, Disconnecting, Closed}
 use Rattle.flash_laws.specs.Conn.Fits.{Has}
 use Rattle.flash_laws.specs.Conn.Holdings.{KeepsNothing}
 use Rattle.flash_laws.specs.Site.{server}
@@ -76,7 +78,7 @@ headed-more : (n size : ℕ) (more : Following) (a : ℕ) → has_followed more 
 headed-more n size None a u = absurd (cc (u))
 headed-more n size (Some x) a u = by (nat_le (size + x.1) MAX_AGGREGATE_BYTES)
   where
-    by : (t : Bool) → uses_agg (if t then Joins n size x.0 x.1 else Sends (whole n size 0 (Some x))) a ≡ true
+    by : (t : Bool) → uses_agg (if t then Joining n size x.0 x.1 else SendingWhole (whole n size 0 (Some x))) a ≡ true
     by true = later_of (n == a) (x.0 == a) u
     by false = later_of (n == a) (x.0 == a) u
 
@@ -99,42 +101,42 @@ drops-more None a unused = refl
 
 pub leaves-after_reply : (fd : ℕ) (kept : List ℕ) (q : Answer) (d : Phase) (r : Reply) (received : List ℕ) (a : ℕ)
     → Leaves fd (at kept q d) r (after_reply (at kept q d) r received).phase a
-leaves-after_reply fd kept q Rests r received a u unused = absurd (cc (u))
-leaves-after_reply fd kept q Opens r received a u unused = absurd (cc (u))
+leaves-after_reply fd kept q Receiving r received a u unused = absurd (cc (u))
+leaves-after_reply fd kept q Opening r received a u unused = absurd (cc (u))
 leaves-after_reply fd kept q (Reading f) r received a u unused = absurd (cc (u))
-leaves-after_reply fd kept q Closes r received a u unused = absurd (cc (u))
-leaves-after_reply fd kept q Over r received a u unused = absurd (cc (u))
-leaves-after_reply fd kept q (Got b) reply.Done received a u unused = (u, refl)
-leaves-after_reply fd kept q (Shuts f k) reply.Done received a u unused =
+leaves-after_reply fd kept q Disconnecting r received a u unused = absurd (cc (u))
+leaves-after_reply fd kept q Closed r received a u unused = absurd (cc (u))
+leaves-after_reply fd kept q (DroppingInput b) reply.Done received a u unused = (u, refl)
+leaves-after_reply fd kept q (ClosingFile f k) reply.Done received a u unused =
     absurd (clash (uses_agg (resolved q k) a) (resolved-uses q k a u) unused)
-leaves-after_reply fd kept q (Picks b first last len) (reply.Agg n) received a u unused =
+leaves-after_reply fd kept q (Slicing b first last len) (reply.Agg n) received a u unused =
     absurd (clash ((b == a) || (n == a)) (former_of (b == a) (n == a) u) unused)
-leaves-after_reply fd kept q (Spares b k) reply.Done received a u unused =
+leaves-after_reply fd kept q (DroppingWhole b k) reply.Done received a u unused =
     (former_by (b == a) (content_agg k a) u unused, refl)
-leaves-after_reply fd kept q (Heads k) (reply.Agg n) received a u unused =
+leaves-after_reply fd kept q (MakingHead k) (reply.Agg n) received a u unused =
     absurd
     (clash (uses_agg (headed n (count_of received) (following k)) a)
     (headed-more n (count_of received) (following k) a (following-uses k a u)) unused)
-leaves-after_reply fd kept q (Joins b size body len) (reply.Agg n) received a u unused = (u, refl)
-leaves-after_reply fd kept q (Sends s) (reply.Count k) received a u unused =
+leaves-after_reply fd kept q (Joining b size body len) (reply.Agg n) received a u unused = (u, refl)
+leaves-after_reply fd kept q (SendingWhole s) (reply.Count k) received a u unused =
     absurd (clash ((s.agg == a) || has_followed s.more a) u (sym (next-uses (after_taking s k) a) ∙ unused))
-leaves-after_reply fd kept q (Sends s) (reply.Refused no.BrokenPipe) received a u unused =
+leaves-after_reply fd kept q (SendingWhole s) (reply.Refused no.BrokenPipe) received a u unused =
     absurd (clash ((s.agg == a) || has_followed s.more a) u unused)
-leaves-after_reply fd kept q (Cuts s) (reply.Agg n) received a u unused =
+leaves-after_reply fd kept q (CuttingPiece s) (reply.Agg n) received a u unused =
     absurd
     (clash ((n == a) || ((s.agg == a) || has_followed s.more a))
     (later_of (n == a) ((s.agg == a) || has_followed s.more a) u) unused)
-leaves-after_reply fd kept q (Offers s piece) (reply.Count k) received a u unused =
+leaves-after_reply fd kept q (SendingPiece s piece) (reply.Count k) received a u unused =
     absurd (clash ((piece == a) || ((s.agg == a) || has_followed s.more a)) u unused)
-leaves-after_reply fd kept q (Offers s piece) (reply.Refused no.BrokenPipe) received a u unused =
+leaves-after_reply fd kept q (SendingPiece s piece) (reply.Refused no.BrokenPipe) received a u unused =
     absurd (clash ((piece == a) || ((s.agg == a) || has_followed s.more a)) u unused)
-leaves-after_reply fd kept q (Swaps s piece) reply.Done received a u unused =
+leaves-after_reply fd kept q (DroppingPiece s piece) reply.Done received a u unused =
     (former_by (piece == a) ((s.agg == a) || has_followed s.more a) u (sym (next-uses s a) ∙ unused), refl)
-leaves-after_reply fd kept q (Sent b taken more) reply.Done received a u unused =
+leaves-after_reply fd kept q (DroppingSent b taken more) reply.Done received a u unused =
     (former_by (b == a) (has_followed more a) u (proceeds-more q taken more a unused), refl)
-leaves-after_reply fd kept q (Breaks piece b more) reply.Done received a u unused =
+leaves-after_reply fd kept q (AbortingPiece piece b more) reply.Done received a u unused =
     (former_by (piece == a) ((b == a) || has_followed more a) u unused, refl)
-leaves-after_reply fd kept q (Drops b more) reply.Done received a u unused =
+leaves-after_reply fd kept q (Aborting b more) reply.Done received a u unused =
     (former_by (b == a) (has_followed more a) u (drops-more more a unused), refl)
 leaves-after_reply fd kept q d r received a u unused = absurd (clash (uses_agg d a) u unused)
 
@@ -152,9 +154,9 @@ shuts own m n fd kept q (Reading f) r received g step u unused = absurd (by r u 
     by (reply.Refused no.WouldBlock) u unused = clash (f == g) u unused
     by (reply.Refused x) u unused = clash (f == g) u unused
     by r u unused = clash (f == g) u unused
-shuts own m n fd kept q (Shuts f k) r received g step u unused = by r (own.closes m n server f r step) unused
+shuts own m n fd kept q (ClosingFile f k) r received g step u unused = by r (own.closes m n server f r step) unused
   where
-    by : (r : Reply) → o.Closes m server f r n → uses_fd (after_reply (at kept q (Shuts f k)) r received).phase g
+    by : (r : Reply) → o.Closes m server f r n → uses_fd (after_reply (at kept q (ClosingFile f k)) r received).phase g
         ≡ false
         → descriptor n server g ≡ None
     by reply.Done did unused = ap (λ z. descriptor n server z) (sym (same-number f g u)) ∙ did
@@ -168,7 +170,7 @@ pub headed-first : (n size : ℕ) (more : Following) (a : ℕ) → (n == a) ≡ 
 headed-first n size None a is = former_of (n == a) false is
 headed-first n size (Some x) a is = by (nat_le (size + x.1) MAX_AGGREGATE_BYTES)
   where
-    by : (t : Bool) → uses_agg (if t then Joins n size x.0 x.1 else Sends (whole n size 0 (Some x))) a ≡ true
+    by : (t : Bool) → uses_agg (if t then Joining n size x.0 x.1 else SendingWhole (whole n size 0 (Some x))) a ≡ true
     by true = former_of (n == a) (x.0 == a) is
     by false = former_of (n == a) (x.0 == a) is
 
@@ -290,39 +292,39 @@ module _ (come : AggregatesComeAndGo) (own : CallsServeTheirDomain) (m n : State
       picks : (b first last len : ℕ) (q : Answer) (part : List ℕ) (r : Reply) (received : List ℕ)
           → readable_at m server b ≡ Some part
           → StepsTo m (event.Call server (call.AggCut b first last)) r n
-          → uses_agg (after_reply (at kept q (Picks b first last len)) r received).phase a ≡ true
+          → uses_agg (after_reply (at kept q (Slicing b first last len)) r received).phase a ≡ true
       picks b first last len q part r received is_readable step =
           made (call.AggCut b first last) (slice_range part first last)
-          (λ z. uses_agg (after_reply (at kept q (Picks b first last len)) z received).phase a) r step
+          (λ z. uses_agg (after_reply (at kept q (Slicing b first last len)) z received).phase a) r step
           (own.cut m n server b first last part r order is_readable step) (λ x is. is) (λ x is. cc (is))
           (λ x is. later_of (b == a) (x == a) is)
 
       heads : (fd : ℕ) (q : Answer) (k : Payload) (r : Reply) (received : List ℕ)
           → StepsTo m (event.Call server (call.AggMake (text_of q k))) r n
-          → uses_agg (after_reply (at kept q (Heads k)) r received).phase a ≡ true
+          → uses_agg (after_reply (at kept q (MakingHead k)) r received).phase a ≡ true
       heads fd q k r received step =
           made (call.AggMake (text_of q k)) (text_of q k)
-          (λ z. uses_agg (after_reply (at kept q (Heads k)) z received).phase a) r step
+          (λ z. uses_agg (after_reply (at kept q (MakingHead k)) z received).phase a) r step
           (own.make m n server (text_of q k) r order step) (λ x is. is) (λ x is. cc (is))
           (λ x is. headed-first x (count_of received) (following k) a is)
 
       joins : (b size body len : ℕ) (q : Answer) (xs ys : List ℕ) (r : Reply) (received : List ℕ)
           → readable_at m server b ≡ Some xs
           → readable_at m server body ≡ Some ys → StepsTo m (event.Call server (call.AggJoin b body)) r n
-          → uses_agg (after_reply (at kept q (Joins b size body len)) r received).phase a ≡ true
+          → uses_agg (after_reply (at kept q (Joining b size body len)) r received).phase a ≡ true
       joins b size body len q xs ys r received is_readable more step =
           made (call.AggJoin b body) (xs ++ ys)
-          (λ z. uses_agg (after_reply (at kept q (Joins b size body len)) z received).phase a) r step
+          (λ z. uses_agg (after_reply (at kept q (Joining b size body len)) z received).phase a) r step
           (own.join m n server b body xs ys r order is_readable more step) (λ x is. is) (λ x is. cc (is))
           (λ x is. former_of (x == a) false is)
 
       cuts : (s : Sending) (q : Answer) (whole : List ℕ) (r : Reply) (received : List ℕ)
           → readable_at m server s.agg ≡ Some whole
           → StepsTo m (event.Call server (call.AggCut s.agg s.from (piece_end s))) r n
-          → uses_agg (after_reply (at kept q (Cuts s)) r received).phase a ≡ true
+          → uses_agg (after_reply (at kept q (CuttingPiece s)) r received).phase a ≡ true
       cuts s q whole r received is_readable step =
           made (call.AggCut s.agg s.from (piece_end s)) (slice_range whole s.from (piece_end s))
-          (λ z. uses_agg (after_reply (at kept q (Cuts s)) z received).phase a) r step
+          (λ z. uses_agg (after_reply (at kept q (CuttingPiece s)) z received).phase a) r step
           (own.cut m n server s.agg s.from (piece_end s) whole r order is_readable step) (λ x is. is) (λ x is. cc (is))
           (λ x is. former_of (x == a) ((s.agg == a) || has_followed s.more a) is)
 
@@ -332,34 +334,35 @@ module _ (come : AggregatesComeAndGo) (own : CallsServeTheirDomain) (m n : State
           → descriptor m server fd ≡ Some (on.Connection c) → Has m q expected d
           → StepsTo m (event.Call server (wants fd (at kept q d))) r n
           → uses_agg (after_reply (at kept q d) r received).phase a ≡ true
-      brought fd c q Rests expected r received access lives open_on has step =
+      brought fd c q Receiving expected r received access lives open_on has step =
           rests fd c (most_kept - length kept) q r received open_on step
-      brought fd c q (Got b) expected r received access lives open_on has step = absurd (dropped b r step)
-      brought fd c q Opens expected r received access lives open_on has step =
+      brought fd c q (DroppingInput b) expected r received access lives open_on has step = absurd (dropped b r step)
+      brought fd c q Opening expected r received access lives open_on has step =
           absurd (opened-nothing (name_of q) r lives step)
       brought fd c q (Reading g) expected r received access lives open_on has step =
           reads q g has.1.0 has.1.1 r received access lives has.1.2 (is_head_only q) step
-      brought fd c q (Shuts g k) expected r received access lives open_on has step = absurd (closed g r step)
-      brought fd c q (Picks b first last len) expected r received access lives open_on has step =
+      brought fd c q (ClosingFile g k) expected r received access lives open_on has step = absurd (closed g r step)
+      brought fd c q (Slicing b first last len) expected r received access lives open_on has step =
           picks b first last len q has.bytes r received has.is_readable step
-      brought fd c q (Spares b k) expected r received access lives open_on has step = absurd (dropped b r step)
-      brought fd c q (Heads k) expected r received access lives open_on has step = heads fd q k r received step
-      brought fd c q (Joins b size body len) expected r received access lives open_on has step =
+      brought fd c q (DroppingWhole b k) expected r received access lives open_on has step = absurd (dropped b r step)
+      brought fd c q (MakingHead k) expected r received access lives open_on has step = heads fd q k r received step
+      brought fd c q (Joining b size body len) expected r received access lives open_on has step =
           joins b size body len q has.0.bytes has.0.after r received has.0.is_readable has.0.follows.0 step
-      brought fd c q (Sends s) expected r received access lives open_on has step =
+      brought fd c q (SendingWhole s) expected r received access lives open_on has step =
           absurd (written fd c s.agg has.0.bytes r open_on has.0.is_readable step)
-      brought fd c q (Cuts s) expected r received access lives open_on has step =
+      brought fd c q (CuttingPiece s) expected r received access lives open_on has step =
           cuts s q has.0.bytes r received has.0.is_readable step
-      brought fd c q (Offers s piece) expected r received access lives open_on has step =
+      brought fd c q (SendingPiece s piece) expected r received access lives open_on has step =
           absurd (written fd c piece (slice_range has.whole.bytes s.from (piece_end s)) r open_on has.is_readable step)
-      brought fd c q (Swaps s piece) expected r received access lives open_on has step =
+      brought fd c q (DroppingPiece s piece) expected r received access lives open_on has step =
           absurd (dropped piece r step)
-      brought fd c q (Sent b taken more) expected r received access lives open_on has step = absurd (dropped b r step)
-      brought fd c q (Breaks piece b more) expected r received access lives open_on has step =
+      brought fd c q (DroppingSent b taken more) expected r received access lives open_on has step =
+          absurd (dropped b r step)
+      brought fd c q (AbortingPiece piece b more) expected r received access lives open_on has step =
           absurd (dropped piece r step)
-      brought fd c q (Drops b more) expected r received access lives open_on has step = absurd (dropped b r step)
-      brought fd c q Closes expected r received access lives open_on has step = absurd (closed fd r step)
-      brought fd c q Over expected r received access lives open_on has step = absurd has
+      brought fd c q (Aborting b more) expected r received access lives open_on has step = absurd (dropped b r step)
+      brought fd c q Disconnecting expected r received access lives open_on has step = absurd (closed fd r step)
+      brought fd c q Closed expected r received access lives open_on has step = absurd has
 
 pub keeps_nothing : AggregatesComeAndGo → CallsServeTheirDomain → FileCallsServeTheirDomain → KeepsNothing
 keeps_nothing come own files = record {

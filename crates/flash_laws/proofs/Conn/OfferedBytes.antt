@@ -28,8 +28,8 @@ use Rattle.flash_laws.specs.Answers.{Outcome, Found, Failed, body_unless, chosen
 use Rattle.flash_laws.specs.Conn.{is_head_only, most_read, piece_end, name_of, wants, begins, status_of, after_receive}
 use Rattle.flash_laws.specs.Conn.{after_reply}
 use Rattle.flash_laws.specs.declared.phase.Phase.{Phase}
-use Rattle.flash_laws.specs.declared.phase.Phase.TheVariants.{Rests, Opens, Reads as Reading}
-use Rattle.flash_laws.specs.declared.phase.Phase.TheVariants.{Sends, Offers, Sent}
+use Rattle.flash_laws.specs.declared.phase.Phase.TheVariants.{Receiving, Opening, Reading as Reading}
+use Rattle.flash_laws.specs.declared.phase.Phase.TheVariants.{SendingWhole, SendingPiece, DroppingSent}
 use Rattle.flash_laws.specs.Conn.Fits.{IsFile, Has, is_closing, Names}
 use Rattle.flash_laws.specs.Site.{server}
 use Rattle.flash_laws.specs.Conn.OfferedBytes.{HasAnswer, FirstCall, Learns, taken_of, IsNextOf, OffersTheResponse}
@@ -55,7 +55,7 @@ written k other = other
 
 next-of : (m : State) (fd a : ℕ) (kept : List ℕ) (q : Answer) (d : Phase) (o : Outcome)
     → Has m q (response q o) d → wants fd (at kept q d) ≡ call.IolWrite fd a → IsNextOf m q o a (taken_of d)
-next-of m fd a kept q (Sends s) o has is =
+next-of m fd a kept q (SendingWhole s) o has is =
     let same : s.agg ≡ a = ap (λ k. written k s.agg) is in
     record {
       bytes = has.0.bytes;
@@ -63,7 +63,7 @@ next-of m fd a kept q (Sends s) o has is =
       is_readable = ap (λ z. readable_at m server z) (sym same) ∙ has.0.is_readable;
       next = at-start has.0 has.1;
     }
-next-of m fd a kept q (Offers s piece) o has is =
+next-of m fd a kept q (SendingPiece s piece) o has is =
     let same : piece ≡ a = ap (λ k. written k piece) is in
     record {
       bytes = slice_range has.whole.bytes s.from (piece_end s);
@@ -88,12 +88,13 @@ module _ (steps : EachStepLeavesTheRest) (own : CallsServeTheirDomain) (files : 
       × HasAnswer n (after_reply (at kept q d) r received) after
 
   opens : (q : Answer) (r : Reply) (received : List ℕ) (before : Outcome)
-      → Has m q (response q before) Opens
-      → StepsTo m (event.Call server (call.OpenFile (name_of q) modes.Read)) r n → AfterReply q Opens r received before
+      → Has m q (response q before) Opening
+      → StepsTo m (event.Call server (call.OpenFile (name_of q) modes.Read)) r n
+      → AfterReply q Opening r received before
   opens (refuse status head_only close) r received before has step = absurd has
   opens (serve w) r received before has step = by r (files.opens m n server w.name modes.Read r lives step)
     where
-      by : (r : Reply) → of.Opening m server w.name modes.Read r n → AfterReply (serve w) Opens r received before
+      by : (r : Reply) → of.Opening m server w.name modes.Read r n → AfterReply (serve w) Opening r received before
       by (reply.Fd g) did = (before, refl, (tt, (did.file_is, 0, did.open_on)))
       by (reply.Refused no.WouldBlock) did = (Failed 503, refl, tt)
       by (reply.Refused no.NoFile) did = (Failed 404, refl, refl)
@@ -170,9 +171,9 @@ module _ (steps : EachStepLeavesTheRest) (own : CallsServeTheirDomain) (files : 
       → HasAccess m → descriptor m server fd ≡ Some (on.Connection c) → is_closing d ≡ false
       → Has m q (response q before) d → StepsTo m (event.Call server (wants fd (at kept q d))) r n → Names n r received
       → AfterReply q d r received before
-  replied fd c q Rests r received before access open_on open_yet has step names =
+  replied fd c q Receiving r received before access open_on open_yet has step names =
       (before, refl, rests q r received before names)
-  replied fd c q Opens r received before access open_on open_yet has step names = opens q r received before has step
+  replied fd c q Opening r received before access open_on open_yet has step names = opens q r received before has step
   replied fd c (refuse status head_only close) (Reading g) r received before access open_on open_yet has step names =
       absurd has.0
   replied fd c (serve w) (Reading g) r received before access open_on open_yet has step names =
@@ -186,10 +187,10 @@ module _ (steps : EachStepLeavesTheRest) (own : CallsServeTheirDomain) (files : 
   )
 
 -- where the response is sent all of it is taken
-whole : (m : State) (q : Answer) (expected : List ℕ) (d : Phase) (a taken : ℕ) → d ≡ Sent a taken None
+whole : (m : State) (q : Answer) (expected : List ℕ) (d : Phase) (a taken : ℕ) → d ≡ DroppingSent a taken None
     → Has m q expected d → drop taken expected ≡ []
 whole m q expected d a taken is has =
-    let all : Has m q expected (Sent a taken None) = subst (λ (e : Phase). Has m q expected e) is has in
+    let all : Has m q expected (DroppingSent a taken None) = subst (λ (e : Phase). Has m q expected e) is has in
     sym all.next ∙ all.follows
 
 pub offers_the_response : EachStepLeavesTheRest → CallsServeTheirDomain → FileCallsServeTheirDomain → RefusalsTellWhy

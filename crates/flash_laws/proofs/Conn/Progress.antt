@@ -47,9 +47,11 @@ use Rattle.flash_laws.specs.declared.phase.Payload.{Payload}
 use Rattle.flash_laws.specs.declared.phase.Payload.TheVariants.{Body}
 use Rattle.flash_laws.specs.declared.phase.Sending.{Sending}
 use Rattle.flash_laws.specs.declared.phase.Phase.{Phase}
-use Rattle.flash_laws.specs.declared.phase.Phase.TheVariants.{Rests, Got, Opens, Reads as Reading, Shuts, Picks, Spares}
-use Rattle.flash_laws.specs.declared.phase.Phase.TheVariants.{Heads, Joins, Sends, Cuts, Offers, Swaps, Sent, Breaks}
-use Rattle.flash_laws.specs.declared.phase.Phase.TheVariants.{Drops, Closes}
+use Rattle.flash_laws.specs.declared.phase.Phase.TheVariants.{Receiving, DroppingInput, Opening, Reading as Reading}
+use Rattle.flash_laws.specs.declared.phase.Phase.TheVariants.{ClosingFile, Slicing, DroppingWhole}
+use Rattle.flash_laws.specs.declared.phase.Phase.TheVariants.{MakingHead, Joining, SendingWhole, CuttingPiece}
+use Rattle.flash_laws.specs.declared.phase.Phase.TheVariants.{SendingPiece, DroppingPiece, DroppingSent, AbortingPiece}
+use Rattle.flash_laws.specs.declared.phase.Phase.TheVariants.{Aborting, Disconnecting}
 use Rattle.flash_laws.proofs.Forms.{at}
 use Rattle.flash_laws.proofs.Conn.Responses.{some-inj}
 use Rattle.flash_laws.proofs.Conn.ReadableBytes.{text-same}
@@ -76,27 +78,27 @@ head_calls q k = 3 * length (text_of q k) + (3 * size_of k + 7)
 
 -- Each byte that is to be sent takes three calls at most: a piece that begins with it is cut, offered and dropped.
 abbrev pub ready : Answer → Phase → ℕ
-ready q (Got a) = 1
-ready q (Picks a from to len) = head_calls q (Body a (to - from) len) + 2
-ready q (Spares a k) = head_calls q k + 1
-ready q (Heads k) = head_calls q k
-ready q (Joins a size body len) = 3 * (size + len) + 4
-ready q (Sends s) = 3 * (s.len - s.from) + (sent_after s.more + 2)
-ready q (Cuts s) = 3 * (s.len - s.from) + (sent_after s.more + 1)
-ready q (Offers s piece) = 3 * (s.len - s.from) + sent_after s.more
-ready q (Swaps s piece) = 3 * (s.len - s.from) + (sent_after s.more + 2)
-ready q (Sent a taken more) = sent_after more
-ready q (Breaks piece a more) = 3
-ready q (Drops a more) = drops_left more
+ready q (DroppingInput a) = 1
+ready q (Slicing a from to len) = head_calls q (Body a (to - from) len) + 2
+ready q (DroppingWhole a k) = head_calls q k + 1
+ready q (MakingHead k) = head_calls q k
+ready q (Joining a size body len) = 3 * (size + len) + 4
+ready q (SendingWhole s) = 3 * (s.len - s.from) + (sent_after s.more + 2)
+ready q (CuttingPiece s) = 3 * (s.len - s.from) + (sent_after s.more + 1)
+ready q (SendingPiece s piece) = 3 * (s.len - s.from) + sent_after s.more
+ready q (DroppingPiece s piece) = 3 * (s.len - s.from) + (sent_after s.more + 2)
+ready q (DroppingSent a taken more) = sent_after more
+ready q (AbortingPiece piece a more) = 3
+ready q (Aborting a more) = drops_left more
 ready q d = 0
 
 abbrev pub calls_left : Answer → Phase → ℕ
-calls_left q (Shuts f k) = ready q (resolved q k) + 1
+calls_left q (ClosingFile f k) = ready q (resolved q k) + 1
 calls_left q d = ready q d
 
 -- before a file is read it is not known how long the answer will be
 abbrev pub stage : Phase → ℕ
-stage Opens = 2
+stage Opening = 2
 stage (Reading f) = 1
 stage d = 0
 
@@ -256,7 +258,7 @@ some-piece s bytes some size =
 falls : (q : Answer) (e d : Phase) → stage e ≡ stage d → calls_left q e < calls_left q d → IsBelow (rank q e) (rank q d)
 falls q e d same fewer = inr (same, fewer)
 
-resolved-near : (q : Answer) (f : ℕ) (k : FileResult) → IsBelow (rank q (resolved q k)) (rank q (Shuts f k))
+resolved-near : (q : Answer) (f : ℕ) (k : FileResult) → IsBelow (rank q (resolved q k)) (rank q (ClosingFile f k))
 resolved-near (serve w) f (File a len) = by (selected w.range len)
   where
     by : (sel : Selection) → IsBelow (rank (serve w) (sends_of sel a len)) (0, ready (serve w) (sends_of sel a len) + 1)
@@ -266,15 +268,16 @@ resolved-near (refuse status head_only close) f (File a len) = inr (refl, omega 
 resolved-near q f k = inr (refl, omega arith)
 
 headed-near : (q : Answer) (a size : ℕ) (k : Payload) → size ≤ length (text_of q k)
-    → IsBelow (rank q (headed a size (following k))) (rank q (Heads k))
+    → IsBelow (rank q (headed a size (following k))) (rank q (MakingHead k))
 headed-near q a size (Body b s len) short = by (nat_le (size + s) MAX_AGGREGATE_BYTES)
   where
     by : (fits : Bool)
-        → IsBelow (rank q (if fits then Joins a size b s else Sends (whole a size 0 (Some (b, s)))))
-        (rank q (Heads (Body b s len)))
-    by true = falls q (Joins a size b s) (Heads (Body b s len)) refl (omega (arith, short))
-    by false = falls q (Sends (whole a size 0 (Some (b, s)))) (Heads (Body b s len)) refl (omega (arith, short))
-headed-near q a size k short = falls q (Sends (whole a size 0 None)) (Heads k) refl (omega (arith, short))
+        → IsBelow (rank q (if fits then Joining a size b s else SendingWhole (whole a size 0 (Some (b, s)))))
+        (rank q (MakingHead (Body b s len)))
+    by true = falls q (Joining a size b s) (MakingHead (Body b s len)) refl (omega (arith, short))
+    by false =
+        falls q (SendingWhole (whole a size 0 (Some (b, s)))) (MakingHead (Body b s len)) refl (omega (arith, short))
+headed-near q a size k short = falls q (SendingWhole (whole a size 0 None)) (MakingHead k) refl (omega (arith, short))
 
 some-after : (more : Following) → 1 ≤ sent_after more
 some-after None = omega arith
@@ -284,9 +287,9 @@ few-sent : (more : Following) → drops_left more < sent_after more + 2
 few-sent None = omega arith
 few-sent (Some x) = omega arith
 
-drops-near : (q : Answer) (s : Sending) → IsBelow (rank q (Drops s.agg s.more)) (rank q (Sends s))
+drops-near : (q : Answer) (s : Sending) → IsBelow (rank q (Aborting s.agg s.more)) (rank q (SendingWhole s))
 drops-near q s =
-    let few = few-sent s.more in falls q (Drops s.agg s.more) (Sends s) refl (omega (arith, few))
+    let few = few-sent s.more in falls q (Aborting s.agg s.more) (SendingWhole s) refl (omega (arith, few))
 
 -- the next piece is cut, or the aggregate is dropped, before one is offered that has as many bytes left
 next-near : (q : Answer) (s : Sending) (left : ℕ) → 3 * (s.len - s.from) + (sent_after s.more + 1) < left
@@ -300,15 +303,17 @@ few-drops None = omega arith
 few-drops (Some x) = omega arith
 
 goes-near : (q : Answer) (a taken : ℕ) (more : Following)
-    → IsBelow (rank q (proceeds q taken more)) (rank q (Sent a taken more))
-goes-near q a taken (Some x) = falls q (Sends (whole x.0 x.1 taken None)) (Sent a taken (Some x)) refl (omega arith)
+    → IsBelow (rank q (proceeds q taken more)) (rank q (DroppingSent a taken more))
+goes-near q a taken (Some x) =
+    falls q (SendingWhole (whole x.0 x.1 taken None)) (DroppingSent a taken (Some x)) refl (omega arith)
 goes-near q a taken None =
-    either-way (λ (e : Phase). IsBelow (rank q e) (rank q (Sent a taken None))) (keeps q)
-    (falls q Rests (Sent a taken None) refl (omega arith)) (falls q Closes (Sent a taken None) refl (omega arith))
+    either-way (λ (e : Phase). IsBelow (rank q e) (rank q (DroppingSent a taken None))) (keeps q)
+    (falls q Receiving (DroppingSent a taken None) refl (omega arith))
+    (falls q Disconnecting (DroppingSent a taken None) refl (omega arith))
 
-drop-near : (q : Answer) (a : ℕ) (more : Following) → IsBelow (rank q (drops_next more)) (rank q (Drops a more))
-drop-near q a None = falls q Closes (Drops a None) refl (omega arith)
-drop-near q a (Some x) = falls q (Drops x.0 None) (Drops a (Some x)) refl (omega arith)
+drop-near : (q : Answer) (a : ℕ) (more : Following) → IsBelow (rank q (drops_next more)) (rank q (Aborting a more))
+drop-near q a None = falls q Disconnecting (Aborting a None) refl (omega arith)
+drop-near q a (Some x) = falls q (Aborting x.0 None) (Aborting a (Some x)) refl (omega arith)
 
 counts-short : (received bytes : List ℕ) → received ≡ bytes → count_of received ≤ length bytes
 counts-short received bytes same = let e = ap (λ (l : List ℕ). length l) same in omega (arith, e)
@@ -318,7 +323,7 @@ counts-short received bytes same = let e = ap (λ (l : List ℕ). length l) same
 module _ (own : CallsServeTheirDomain) (may : RefusalsThatAreLeft) (m n : State) (order : IsOrderly m)
     (lives : is_live m server ≡ true) where
   opens : (q : Answer) (name : List ℕ) (r : Reply) → StepsTo m (event.Call server (call.OpenFile name modes.Read)) r n
-      → Nears (rank q) Opens r (after_open r)
+      → Nears (rank q) Opening r (after_open r)
   opens q name (reply.Fd f) step = inl (inl (omega arith))
   opens q name (reply.Refused no.WouldBlock) step = inr (refl, refl)
   opens q name (reply.Refused z) step = inl (inl (omega arith))
@@ -337,90 +342,99 @@ module _ (own : CallsServeTheirDomain) (may : RefusalsThatAreLeft) (m n : State)
   sends : (q : Answer) (fd c : ℕ) (s : Sending) (bytes : List ℕ) (r : Reply)
       → descriptor m server fd ≡ Some (on.Connection c)
       → readable_at m server s.agg ≡ Some bytes → StepsTo m (event.Call server (call.IolWrite fd s.agg)) r n
-      → Nears (rank q) (Sends s) r (after_send s r)
+      → Nears (rank q) (SendingWhole s) r (after_send s r)
   sends q fd c s bytes r open_on readable step =
-      writes own may m n order lives (rank q) (Sends s) (λ z. after_send s z) fd c s.agg bytes r open_on readable step
-      (λ k did puts. next-near q (after_taking s k) (ready q (Sends s)) (omega arith)) (drops-near q s) refl refl
+      writes own may m n order lives (rank q) (SendingWhole s) (λ z. after_send s z) fd c s.agg bytes r open_on readable
+      step
+      (λ k did puts. next-near q (after_taking s k) (ready q (SendingWhole s)) (omega arith)) (drops-near q s) refl refl
 
   offers : (q : Answer) (fd c : ℕ) (s : Sending) (piece : ℕ) (bytes : List ℕ) (r : Reply)
       → descriptor m server fd ≡ Some (on.Connection c)
       → readable_at m server piece ≡ Some (slice_range bytes s.from (piece_end s)) → s.from < s.len
       → s.len ≡ length bytes
       → StepsTo m (event.Call server (call.IolWrite fd piece)) r n
-      → Nears (rank q) (Offers s piece) r (after_offer s piece r)
+      → Nears (rank q) (SendingPiece s piece) r (after_offer s piece r)
   offers q fd c s piece bytes r open_on readable some size step =
-      writes own may m n order lives (rank q) (Offers s piece) (λ z. after_offer s piece z) fd c piece
+      writes own may m n order lives (rank q) (SendingPiece s piece) (λ z. after_offer s piece z) fd c piece
       (slice_range bytes s.from (piece_end s)) r open_on readable step
       (λ k did puts. taken-some k (some-taken m n fd piece k (slice_range bytes s.from (piece_end s)) readable
       (some-piece s bytes some size) did))
-      (falls q (Breaks piece s.agg s.more) (Offers s piece) refl (let one = some-after s.more in
+      (falls q (AbortingPiece piece s.agg s.more) (SendingPiece s piece) refl (let one = some-after s.more in
       omega (arith, one, some))) refl refl
     where
-      taken-some : (k : ℕ) → 0 < k → IsBelow (rank q (Swaps (after_taking s k) piece)) (rank q (Offers s piece))
+      taken-some : (k : ℕ) → 0 < k
+          → IsBelow (rank q (DroppingPiece (after_taking s k) piece)) (rank q (SendingPiece s piece))
       taken-some k one =
-          falls q (Swaps (after_taking s k) piece) (Offers s piece) refl (omega (arith, one, some))
+          falls q (DroppingPiece (after_taking s k) piece) (SendingPiece s piece) refl (omega (arith, one, some))
 
   swaps : (q : Answer) (s : Sending) (piece : ℕ) (bytes : List ℕ) (r : Reply)
       → readable_at m server piece ≡ Some bytes
       → StepsTo m (event.Call server (call.AggDrop piece)) r n
-      → Nears (rank q) (Swaps s piece) r (after_swap s piece r)
+      → Nears (rank q) (DroppingPiece s piece) r (after_swap s piece r)
   swaps q s piece bytes r readable step =
-      drops own may m n order lives (rank q) (Swaps s piece) (λ z. after_swap s piece z) piece bytes r readable step
-      (next-near q s (ready q (Swaps s piece)) (omega arith))
+      drops own may m n order lives (rank q) (DroppingPiece s piece) (λ z. after_swap s piece z) piece bytes r readable
+      step
+      (next-near q s (ready q (DroppingPiece s piece)) (omega arith))
 
   pub near : (fd c : ℕ) (kept : List ℕ) (q : Answer) (d : Phase) (expected : List ℕ) (r : Reply) (received : List ℕ)
       → descriptor m server fd ≡ Some (on.Connection c)
       → is_busy d ≡ true → Has m q expected d → CanMake m (wants fd (at kept q d))
       → StepsTo m (event.Call server (wants fd (at kept q d))) r n → Names n r received
       → Nears (rank q) d r (after_reply (at kept q d) r received).phase
-  near fd c kept q (Got a) expected r received open_on busy has can step names =
-      drops own may m n order lives (rank q) (Got a) (λ z. after_discard a z) a has.0 r has.1 step
-      (falls q Rests (Got a) refl (omega arith))
-  near fd c kept q Opens expected r received open_on busy has can step names = opens q (name_of q) r step
+  near fd c kept q (DroppingInput a) expected r received open_on busy has can step names =
+      drops own may m n order lives (rank q) (DroppingInput a) (λ z. after_discard a z) a has.0 r has.1 step
+      (falls q Receiving (DroppingInput a) refl (omega arith))
+  near fd c kept q Opening expected r received open_on busy has can step names = opens q (name_of q) r step
   near fd c kept q (Reading f) expected r received open_on busy has can step names =
       reads q f (is_head_only q) r received step
-  near fd c kept q (Shuts f k) expected r received open_on busy has can step names =
-      closes own may m n order lives (rank q) (Shuts f k) (λ z. after_close_file q f k z) f
+  near fd c kept q (ClosingFile f k) expected r received open_on busy has can step names =
+      closes own may m n order lives (rank q) (ClosingFile f k) (λ z. after_close_file q f k z) f
       (on.File has.0.0 has.0.1 modes.Read) r has.0.2 step (resolved-near q f k)
-  near fd c kept q (Picks a from to len) expected r received open_on busy has can step names =
-      cuts own may m n order lives (rank q) (Picks a from to len) (λ z. after_slice a from to len z) a from to has.bytes
+  near fd c kept q (Slicing a from to len) expected r received open_on busy has can step names =
+      cuts own may m n order lives (rank q) (Slicing a from to len) (λ z. after_slice a from to len z) a from to
+      has.bytes
       r has.is_readable
       (let some = has.some in omega (arith, some)) (within-part from to has.bytes has.some has.count) step
       (λ k. let same = ap (λ (l : List ℕ). length l) (text-same q a k (to - from) (to - from) len) in
-      falls q (Spares a (Body k (to - from) len)) (Picks a from to len) refl (omega (arith, same))) (λ z. refl)
-  near fd c kept q (Spares a k) expected r received open_on busy has can step names =
-      drops own may m n order lives (rank q) (Spares a k) (λ z. after_drop_whole a k z) a has.0.0 r has.0.1 step
-      (falls q (Heads k) (Spares a k) refl (omega arith))
-  near fd c kept q (Heads k) expected r received open_on busy has can step names =
-      makes own may m n order lives (rank q) (Heads k) (λ z. after_head k z received) (text_of q k) received r can step
+      falls q (DroppingWhole a (Body k (to - from) len)) (Slicing a from to len) refl (omega (arith, same))) (λ z. refl)
+  near fd c kept q (DroppingWhole a k) expected r received open_on busy has can step names =
+      drops own may m n order lives (rank q) (DroppingWhole a k) (λ z. after_drop_whole a k z) a has.0.0 r has.0.1 step
+      (falls q (MakingHead k) (DroppingWhole a k) refl (omega arith))
+  near fd c kept q (MakingHead k) expected r received open_on busy has can step names =
+      makes own may m n order lives (rank q) (MakingHead k) (λ z. after_head k z received) (text_of q k) received r can
+      step
       names
       (λ a same. headed-near q a (count_of received) k (counts-short received (text_of q k) same)) (λ z. refl)
-  near fd c kept q (Joins a size body len) expected r received open_on busy has can step names =
-      joins own may m n order lives (rank q) (Joins a size body len) (λ z. after_join a size body len z) a body
+  near fd c kept q (Joining a size body len) expected r received open_on busy has can step names =
+      joins own may m n order lives (rank q) (Joining a size body len) (λ z. after_join a size body len z) a body
       has.0.bytes has.0.after r has.0.is_readable has.0.follows.0
       (differ a body (turned body a has.0.apart))
       (let one = has.0.size in let two = has.0.follows.1 in let fits = has.1 in omega (arith, one, two, fits)) step
-      (λ k. falls q (Sends (whole k (size + len) 0 None)) (Joins a size body len) refl (omega arith)) (λ z. refl)
-  near fd c kept q (Sends s) expected r received open_on busy has can step names =
+      (λ k. falls q (SendingWhole (whole k (size + len) 0 None)) (Joining a size body len) refl (omega arith))
+      (λ z. refl)
+  near fd c kept q (SendingWhole s) expected r received open_on busy has can step names =
       sends q fd c s has.0.bytes r open_on has.0.is_readable step
-  near fd c kept q (Cuts s) expected r received open_on busy has can step names =
-      cuts own may m n order lives (rank q) (Cuts s) (λ z. after_cut s z) s.agg s.from (piece_end s)
+  near fd c kept q (CuttingPiece s) expected r received open_on busy has can step names =
+      cuts own may m n order lives (rank q) (CuttingPiece s) (λ z. after_cut s z) s.agg s.from (piece_end s)
       has.0.bytes r has.0.is_readable
       (let some = has.1 in omega (arith, some)) (let size = has.0.size in omega (arith, size)) step
-      (λ k. falls q (Offers s k) (Cuts s) refl (omega arith)) (λ z. refl)
-  near fd c kept q (Offers s piece) expected r received open_on busy has can step names =
+      (λ k. falls q (SendingPiece s k) (CuttingPiece s) refl (omega arith)) (λ z. refl)
+  near fd c kept q (SendingPiece s piece) expected r received open_on busy has can step names =
       offers q fd c s piece has.whole.bytes r open_on has.is_readable has.some has.whole.size step
-  near fd c kept q (Swaps s piece) expected r received open_on busy has can step names =
+  near fd c kept q (DroppingPiece s piece) expected r received open_on busy has can step names =
       swaps q s piece has.0.0 r has.0.1 step
-  near fd c kept q (Sent a taken more) expected r received open_on busy has can step names =
-      drops own may m n order lives (rank q) (Sent a taken more) (λ z. after_taken q a taken more z) a has.bytes r
+  near fd c kept q (DroppingSent a taken more) expected r received open_on busy has can step names =
+      drops own may m n order lives (rank q) (DroppingSent a taken more) (λ z. after_taken q a taken more z) a has.bytes
+      r
       has.is_readable step (goes-near q a taken more)
-  near fd c kept q (Breaks piece a more) expected r received open_on busy has can step names =
-      drops own may m n order lives (rank q) (Breaks piece a more) (λ z. after_break piece a more z) piece has.0.0 r
+  near fd c kept q (AbortingPiece piece a more) expected r received open_on busy has can step names =
+      drops own may m n order lives (rank q) (AbortingPiece piece a more) (λ z. after_break piece a more z) piece
+      has.0.0 r
       has.0.1 step
-      (falls q (Drops a more) (Breaks piece a more) refl (few-drops more))
-  near fd c kept q (Drops a more) expected r received open_on busy has can step names =
-      drops own may m n order lives (rank q) (Drops a more) (λ z. after_drop a more z) a has.readable.0 r has.readable.1
+      (falls q (Aborting a more) (AbortingPiece piece a more) refl (few-drops more))
+  near fd c kept q (Aborting a more) expected r received open_on busy has can step names =
+      drops own may m n order lives (rank q) (Aborting a more) (λ z. after_drop a more z) a has.readable.0 r
+      has.readable.1
       step (drop-near q a more)
   near fd c kept q d expected r received open_on busy has can step names = absurd (cc (busy))
 
@@ -428,7 +442,7 @@ module _ (own : CallsServeTheirDomain) (may : RefusalsThatAreLeft) (m n : State)
 
 after_reply-at : (kept : List ℕ) (q : Answer) (d : Phase) (r : Reply) (received : List ℕ) → is_busy d ≡ true
     → after_reply (at kept q d) r received ≡ at kept q (after_reply (at kept q d) r received).phase
-after_reply-at kept q Rests r received busy = absurd (cc (busy))
+after_reply-at kept q Receiving r received busy = absurd (cc (busy))
 after_reply-at kept q d r received busy = refl
 
 lift : (kept : List ℕ) (q : Answer) (d e : Phase) (r : Reply) → Nears (rank q) d r e
@@ -454,11 +468,11 @@ conn-nears own may m n fd c kept q d expected r received order lives open_on bus
 pub conn-reads : RefusalsTellWhy → RefusalsThatAreLeft
     → (m n : State) (fd c : ℕ) (kept : List ℕ) (q : Answer) (d : Phase) (r : Reply) (received : List ℕ)
     → is_live m server ≡ true
-    → descriptor m server fd ≡ Some (on.Connection c) → d ≡ Rests
+    → descriptor m server fd ≡ Some (on.Connection c) → d ≡ Receiving
     → StepsTo m (event.Call server (wants fd (at kept q d))) r n
     → after_reply (at kept q d) r received ≡ at kept q d
     → (is_later r ≡ true) ⊎ ((p : ℕ) × IsHidden m server p (conn_at m c).incoming)
-conn-reads why may m n fd c kept q Rests r received lives open_on rests step same = by r received step same
+conn-reads why may m n fd c kept q Receiving r received lives open_on rests step same = by r received step same
   where
     refused : (z : Refusal) → LacksNumbersOrHasNothingToRead z
         → StepsTo m (event.Call server (call.IolRead fd (most_kept - length kept))) (reply.Refused z) n
@@ -471,7 +485,7 @@ conn-reads why may m n fd c kept q Rests r received lives open_on rests step sam
     refused z left step = absurd left
 
     by : (r : Reply) (received : List ℕ) → StepsTo m (event.Call server (call.IolRead fd (most_kept - length kept))) r n
-        → after_receive kept q r received ≡ at kept q Rests
+        → after_receive kept q r received ≡ at kept q Receiving
         → (is_later r ≡ true) ⊎ ((p : ℕ) × IsHidden m server p (conn_at m c).incoming)
     by (reply.Agg k) [] step same = let e = ap (λ (x : Conn). x.phase) same in absurd (cc (e))
     by (reply.Agg k) (b ∷ received) step same = let e = ap (λ (x : Conn). x.phase) same in absurd (cc (e))

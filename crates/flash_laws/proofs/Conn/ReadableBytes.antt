@@ -24,9 +24,11 @@ use Rattle.flash_laws.specs.declared.phase.Payload.{Payload}
 use Rattle.flash_laws.specs.declared.phase.Payload.TheVariants.{Body}
 use Rattle.flash_laws.specs.declared.phase.Sending.{Sending}
 use Rattle.flash_laws.specs.declared.phase.Phase.{Phase}
-use Rattle.flash_laws.specs.declared.phase.Phase.TheVariants.{Got, Opens, Reads as Reading, Shuts, Picks, Spares, Heads}
-use Rattle.flash_laws.specs.declared.phase.Phase.TheVariants.{Joins, Sends, Cuts, Offers, Swaps, Sent, Breaks, Drops}
-use Rattle.flash_laws.specs.declared.phase.Phase.TheVariants.{Over}
+use Rattle.flash_laws.specs.declared.phase.Phase.TheVariants.{DroppingInput, Opening, Reading as Reading, ClosingFile}
+use Rattle.flash_laws.specs.declared.phase.Phase.TheVariants.{Slicing, DroppingWhole, MakingHead}
+use Rattle.flash_laws.specs.declared.phase.Phase.TheVariants.{Joining, SendingWhole, CuttingPiece, SendingPiece}
+use Rattle.flash_laws.specs.declared.phase.Phase.TheVariants.{DroppingPiece, DroppingSent, AbortingPiece, Aborting}
+use Rattle.flash_laws.specs.declared.phase.Phase.TheVariants.{Closed}
 use Rattle.flash_laws.specs.Conn.Fits.{IsReadable, MoreIsReadable, HoldsRestFrom, HoldsUnsent, HasFileResult}
 use Rattle.flash_laws.specs.Conn.Fits.{HasContent, Has}
 use Rattle.flash_laws.specs.Site.{server}
@@ -156,15 +158,16 @@ unsent-on m n a more is_readable follows h =
 
 pub has-stays : (m n : State) (q : Answer) (expected : List ℕ) (d : Phase) → IsReadableOn m n d → OpensOn m n d
     → Has m q expected d → Has n q expected d
-has-stays m n q expected (Got a) is_readable opens has = readable-on m n a (λ l is. is_readable a l (self a) is) has
-has-stays m n q expected Opens is_readable opens has = has
+has-stays m n q expected (DroppingInput a) is_readable opens has =
+    readable-on m n a (λ l is. is_readable a l (self a) is) has
+has-stays m n q expected Opening is_readable opens has = has
 has-stays m n q expected (Reading f) is_readable opens has =
     (has.0, (has.1.0, has.1.1, opens f (on.File has.1.0 has.1.1 modes.Read) (self f) has.1.2))
-has-stays m n q expected (Shuts f k) is_readable opens has = (
+has-stays m n q expected (ClosingFile f k) is_readable opens has = (
   (has.0.0, has.0.1, opens f (on.File has.0.0 has.0.1 modes.Read) (self f) has.0.2),
   file_result-on m n q expected k (λ a l u is. is_readable a l u is) has.1,
 )
-has-stays m n q expected (Picks a first last len) is_readable opens has =
+has-stays m n q expected (Slicing a first last len) is_readable opens has =
     record {
       bytes = has.bytes;
       is_readable = is_readable a has.bytes (self a) has.is_readable;
@@ -173,18 +176,18 @@ has-stays m n q expected (Picks a first last len) is_readable opens has =
           has.count;
       expected_is = has.expected_is;
     }
-has-stays m n q expected (Spares a k) is_readable opens has = (
+has-stays m n q expected (DroppingWhole a k) is_readable opens has = (
   readable-on m n a (λ l is. is_readable a l (first_of a (content_agg k a)) is) has.0,
   has.1,
   content-on m n q expected k (λ b l u is. is_readable b l (later_of (a == b) (content_agg k b) u) is) has.2,
 )
-has-stays m n q expected (Heads k) is_readable opens has =
+has-stays m n q expected (MakingHead k) is_readable opens has =
     content-on m n q expected k (λ b l u is. is_readable b l u is) has
-has-stays m n q expected (Joins a size body len) is_readable opens has =
+has-stays m n q expected (Joining a size body len) is_readable opens has =
     (rest-on m n expected (whole a size 0 (Some (body, len))) is_readable has.0, has.1)
-has-stays m n q expected (Sends s) is_readable opens has = (rest-on m n expected s is_readable has.0, has.1)
-has-stays m n q expected (Cuts s) is_readable opens has = (rest-on m n expected s is_readable has.0, has.1)
-has-stays m n q expected (Offers s piece) is_readable opens has = record {
+has-stays m n q expected (SendingWhole s) is_readable opens has = (rest-on m n expected s is_readable has.0, has.1)
+has-stays m n q expected (CuttingPiece s) is_readable opens has = (rest-on m n expected s is_readable has.0, has.1)
+has-stays m n q expected (SendingPiece s piece) is_readable opens has = record {
   whole =
       rest-on m n expected s
       (λ a l u is. is_readable a l (later_of (piece == a) ((s.agg == a) || has_followed s.more a) u) is) has.whole;
@@ -194,14 +197,14 @@ has-stays m n q expected (Offers s piece) is_readable opens has = record {
       (first_of piece ((s.agg == piece) || has_followed s.more piece)) has.is_readable;
   other = has.other;
 }
-has-stays m n q expected (Swaps s piece) is_readable opens has = (
+has-stays m n q expected (DroppingPiece s piece) is_readable opens has = (
   readable-on m n piece
       (λ l is. is_readable piece l (first_of piece ((s.agg == piece) || has_followed s.more piece)) is) has.0,
   has.1,
   rest-on m n expected s
       (λ a l u is. is_readable a l (later_of (piece == a) ((s.agg == a) || has_followed s.more a) u) is) has.2,
 )
-has-stays m n q expected (Sent a taken more) is_readable opens has =
+has-stays m n q expected (DroppingSent a taken more) is_readable opens has =
     record {
       bytes = has.bytes;
       after = has.after;
@@ -213,7 +216,7 @@ has-stays m n q expected (Sent a taken more) is_readable opens has =
       next = has.next;
       apart = has.apart;
     }
-has-stays m n q expected (Breaks piece a more) is_readable opens has = (
+has-stays m n q expected (AbortingPiece piece a more) is_readable opens has = (
   readable-on m n piece (λ l is. is_readable piece l (first_of piece ((a == piece) || has_followed more piece)) is)
       has.0,
   has.1,
@@ -223,8 +226,8 @@ has-stays m n q expected (Breaks piece a more) is_readable opens has = (
       (λ b l u is. is_readable b l
       (later_of (piece == b) ((a == b) || has_followed more b) (later_of (a == b) (has_followed more b) u)) is) has.2,
 )
-has-stays m n q expected (Drops a more) is_readable opens has =
+has-stays m n q expected (Aborting a more) is_readable opens has =
     unsent-on m n a more (λ l is. is_readable a l (first_of a (has_followed more a)) is)
     (λ b l u is. is_readable b l (later_of (a == b) (has_followed more b) u) is) has
-has-stays m n q expected Over is_readable opens has = has
+has-stays m n q expected Closed is_readable opens has = has
 has-stays m n q expected x is_readable opens has = tt

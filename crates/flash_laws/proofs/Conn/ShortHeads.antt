@@ -27,9 +27,11 @@ use Rattle.flash_laws.specs.declared.phase.FileResult.{FileResult}
 use Rattle.flash_laws.specs.declared.phase.FileResult.TheVariants.{File, Length, Fails, Text as TextOf}
 use Rattle.flash_laws.specs.declared.phase.Payload.TheVariants.{Script}
 use Rattle.flash_laws.specs.declared.phase.Phase.{Phase}
-use Rattle.flash_laws.specs.declared.phase.Phase.TheVariants.{Rests, Got, Opens, Reads as ReadsFile, Shuts, Picks}
-use Rattle.flash_laws.specs.declared.phase.Phase.TheVariants.{Spares, Heads, Joins, Sends, Cuts, Offers, Swaps, Sent}
-use Rattle.flash_laws.specs.declared.phase.Phase.TheVariants.{Breaks, Drops, Closes, Over}
+use Rattle.flash_laws.specs.declared.phase.Phase.TheVariants.{Receiving, DroppingInput, Opening, Reading as ReadsFile}
+use Rattle.flash_laws.specs.declared.phase.Phase.TheVariants.{ClosingFile, Slicing}
+use Rattle.flash_laws.specs.declared.phase.Phase.TheVariants.{DroppingWhole, MakingHead, Joining, SendingWhole}
+use Rattle.flash_laws.specs.declared.phase.Phase.TheVariants.{CuttingPiece, SendingPiece, DroppingPiece, DroppingSent}
+use Rattle.flash_laws.specs.declared.phase.Phase.TheVariants.{AbortingPiece, Aborting, Disconnecting, Closed}
 use Rattle.flash_laws.proofs.Forms.{at}
 use Rattle.flash_laws.proofs.Moves.{after-done, after-agg, after-write, either-way, either-next}
 
@@ -88,7 +90,7 @@ refused-status head status head_only close is = asks-listed is.0 (refuse status 
 -- ---- phases
 
 resolved-short : (site_contents : SiteContents) (n : State) (q : Answer) (script : List ℕ) (f : ℕ) (k : FileResult)
-    → is_read (Shuts f k) ≡ false → FileResultIsShort k
+    → is_read (ClosingFile f k) ≡ false → FileResultIsShort k
     → Finds site_contents n q script (resolved q k)
 resolved-short site_contents n (serve w) script f (File a len) unread short = by (selected w.range len)
   where
@@ -123,42 +125,42 @@ pub finds-after_reply : (site_contents : SiteContents) (m n : State) (kept : Lis
     (d : Phase) (r : Reply) (received : List ℕ)
     → is_opening d ≡ false → is_read d ≡ false → Finds site_contents m q script d
     → Finds site_contents n q script (after_reply (at kept q d) r received).phase
-finds-after_reply site_contents m n kept q script Rests (reply.Agg a) [] un unread h = tt
-finds-after_reply site_contents m n kept q script Rests (reply.Agg a) (b ∷ received) un unread h = tt
-finds-after_reply site_contents m n kept q script Rests r received un unread h = tt
-finds-after_reply site_contents m n kept q script (Got a) r received un unread h =
+finds-after_reply site_contents m n kept q script Receiving (reply.Agg a) [] un unread h = tt
+finds-after_reply site_contents m n kept q script Receiving (reply.Agg a) (b ∷ received) un unread h = tt
+finds-after_reply site_contents m n kept q script Receiving r received un unread h = tt
+finds-after_reply site_contents m n kept q script (DroppingInput a) r received un unread h =
     after-done (Finds site_contents n q script) r tt tt
-finds-after_reply site_contents m n kept q script Opens r received un unread h = absurd (cc (un))
+finds-after_reply site_contents m n kept q script Opening r received un unread h = absurd (cc (un))
 finds-after_reply site_contents m n kept q script (ReadsFile f) r received un unread h = absurd (cc (un))
-finds-after_reply site_contents m n kept q script (Shuts f (TextOf a true)) r received un unread h =
+finds-after_reply site_contents m n kept q script (ClosingFile f (TextOf a true)) r received un unread h =
     absurd (cc (unread))
-finds-after_reply site_contents m n kept q script (Shuts f k) r received un unread h =
+finds-after_reply site_contents m n kept q script (ClosingFile f k) r received un unread h =
     after-done (Finds site_contents n q script) r h (resolved-short site_contents n q script f k refl h)
-finds-after_reply site_contents m n kept q script (Picks a from to len) r received un unread h =
+finds-after_reply site_contents m n kept q script (Slicing a from to len) r received un unread h =
     after-agg (Finds site_contents n q script) r h (λ x. h)
-finds-after_reply site_contents m n kept q script (Spares a Script) r received un unread h = absurd (cc (unread))
-finds-after_reply site_contents m n kept q script (Spares a k) r received un unread h =
+finds-after_reply site_contents m n kept q script (DroppingWhole a Script) r received un unread h = absurd (cc (unread))
+finds-after_reply site_contents m n kept q script (DroppingWhole a k) r received un unread h =
     after-done (Finds site_contents n q script) r h h
-finds-after_reply site_contents m n kept q script (Heads k) r received un unread h =
+finds-after_reply site_contents m n kept q script (MakingHead k) r received un unread h =
     after-agg (Finds site_contents n q script) r h
     (λ x. headed-finds site_contents n q script x (count_of received) (following k))
-finds-after_reply site_contents m n kept q script (Joins a size body len) r received un unread h =
+finds-after_reply site_contents m n kept q script (Joining a size body len) r received un unread h =
     after-agg (Finds site_contents n q script) r tt (λ x. tt)
-finds-after_reply site_contents m n kept q script (Sends s) r received un unread h =
+finds-after_reply site_contents m n kept q script (SendingWhole s) r received un unread h =
     after-write (Finds site_contents n q script) r tt tt
     (λ k. either-next (Finds site_contents n q script) (after_taking s k) tt tt)
-finds-after_reply site_contents m n kept q script (Cuts s) r received un unread h =
+finds-after_reply site_contents m n kept q script (CuttingPiece s) r received un unread h =
     after-agg (Finds site_contents n q script) r tt (λ x. tt)
-finds-after_reply site_contents m n kept q script (Offers s piece) r received un unread h =
+finds-after_reply site_contents m n kept q script (SendingPiece s piece) r received un unread h =
     after-write (Finds site_contents n q script) r tt tt (λ k. tt)
-finds-after_reply site_contents m n kept q script (Swaps s piece) r received un unread h =
+finds-after_reply site_contents m n kept q script (DroppingPiece s piece) r received un unread h =
     after-done (Finds site_contents n q script) r tt (either-next (Finds site_contents n q script) s tt tt)
-finds-after_reply site_contents m n kept q script (Sent a taken more) r received un unread h =
+finds-after_reply site_contents m n kept q script (DroppingSent a taken more) r received un unread h =
     after-done (Finds site_contents n q script) r tt (goes-finds site_contents n q script taken more)
-finds-after_reply site_contents m n kept q script (Breaks piece a more) r received un unread h =
+finds-after_reply site_contents m n kept q script (AbortingPiece piece a more) r received un unread h =
     after-done (Finds site_contents n q script) r tt tt
-finds-after_reply site_contents m n kept q script (Drops a more) r received un unread h =
+finds-after_reply site_contents m n kept q script (Aborting a more) r received un unread h =
     after-done (Finds site_contents n q script) r tt (drops-finds site_contents n q script more)
-finds-after_reply site_contents m n kept q script Closes r received un unread h =
+finds-after_reply site_contents m n kept q script Disconnecting r received un unread h =
     after-done (Finds site_contents n q script) r tt tt
-finds-after_reply site_contents m n kept q script Over r received un unread h = tt
+finds-after_reply site_contents m n kept q script Closed r received un unread h = tt

@@ -34,9 +34,11 @@ use Rattle.flash_laws.specs.declared.phase.FileResult.{FileResult}
 use Rattle.flash_laws.specs.declared.phase.FileResult.TheVariants.{File}
 use Rattle.flash_laws.specs.declared.phase.Sending.{Sending}
 use Rattle.flash_laws.specs.declared.phase.Phase.{Phase}
-use Rattle.flash_laws.specs.declared.phase.Phase.TheVariants.{Rests, Got, Opens, Reads as Reading, Shuts, Picks, Spares}
-use Rattle.flash_laws.specs.declared.phase.Phase.TheVariants.{Heads, Joins, Sends, Cuts, Offers, Swaps, Sent, Breaks}
-use Rattle.flash_laws.specs.declared.phase.Phase.TheVariants.{Drops, Closes, Over}
+use Rattle.flash_laws.specs.declared.phase.Phase.TheVariants.{Receiving, DroppingInput, Opening, Reading as Reading}
+use Rattle.flash_laws.specs.declared.phase.Phase.TheVariants.{ClosingFile, Slicing, DroppingWhole}
+use Rattle.flash_laws.specs.declared.phase.Phase.TheVariants.{MakingHead, Joining, SendingWhole, CuttingPiece}
+use Rattle.flash_laws.specs.declared.phase.Phase.TheVariants.{SendingPiece, DroppingPiece, DroppingSent, AbortingPiece}
+use Rattle.flash_laws.specs.declared.phase.Phase.TheVariants.{Aborting, Disconnecting, Closed}
 use Rattle.flash_laws.proofs.Forms.{at}
 use Rattle.flash_laws.proofs.Lists.{clash, self, few-taken, least-taken, few-whole}
 use Rattle.iol_core.specs.declared.events.Call.{Call}
@@ -49,16 +51,16 @@ abbrev IsBegun : Phase → Type 0
 IsBegun d = (taken_of d ≡ 0) × (is_dropping d ≡ false)
 
 abbrev is_begun : Phase → Bool
-is_begun (Got a) = true
-is_begun Opens = true
+is_begun (DroppingInput a) = true
+is_begun Opening = true
 is_begun (Reading f) = true
-is_begun (Shuts f k) = true
-is_begun (Picks a first last len) = true
-is_begun (Spares a k) = true
-is_begun (Heads k) = true
-is_begun (Joins a size body len) = true
-is_begun Closes = true
-is_begun Over = true
+is_begun (ClosingFile f k) = true
+is_begun (Slicing a first last len) = true
+is_begun (DroppingWhole a k) = true
+is_begun (MakingHead k) = true
+is_begun (Joining a size body len) = true
+is_begun Disconnecting = true
+is_begun Closed = true
 is_begun d = false
 
 resolved-begun : (q : Answer) (k : FileResult) → IsBegun (resolved q k)
@@ -77,32 +79,32 @@ headed-begun a size (Some x) =
 
 begun : (kept : List ℕ) (q : Answer) (d : Phase) (r : Reply) (received : List ℕ) → is_begun d ≡ true
     → IsBegun (after_reply (at kept q d) r received).phase
-begun kept q (Got a) r received is = after-done IsBegun r (refl, refl) (refl, refl)
-begun kept q Opens r received is = after-open IsBegun r (refl, refl) (λ f. (refl, refl)) (λ x. (refl, refl))
+begun kept q (DroppingInput a) r received is = after-done IsBegun r (refl, refl) (refl, refl)
+begun kept q Opening r received is = after-open IsBegun r (refl, refl) (λ f. (refl, refl)) (λ x. (refl, refl))
 begun kept q (Reading f) r received is =
     after-read IsBegun r (refl, refl) (λ k. (refl, refl)) (λ k. (refl, refl)) (λ x. (refl, refl))
-begun kept q (Shuts f k) r received is = after-done IsBegun r (refl, refl) (resolved-begun q k)
-begun kept q (Picks a first last len) r received is = after-agg IsBegun r (refl, refl) (λ k. (refl, refl))
-begun kept q (Spares a k) r received is = after-done IsBegun r (refl, refl) (refl, refl)
-begun kept q (Heads k) r received is =
+begun kept q (ClosingFile f k) r received is = after-done IsBegun r (refl, refl) (resolved-begun q k)
+begun kept q (Slicing a first last len) r received is = after-agg IsBegun r (refl, refl) (λ k. (refl, refl))
+begun kept q (DroppingWhole a k) r received is = after-done IsBegun r (refl, refl) (refl, refl)
+begun kept q (MakingHead k) r received is =
     after-agg IsBegun r (refl, refl) (λ a. headed-begun a (count_of received) (following k))
-begun kept q (Joins a size body len) r received is = after-agg IsBegun r (refl, refl) (λ k. (refl, refl))
-begun kept q Closes r received is = after-done IsBegun r (refl, refl) (refl, refl)
-begun kept q Over r received is = (refl, refl)
+begun kept q (Joining a size body len) r received is = after-agg IsBegun r (refl, refl) (λ k. (refl, refl))
+begun kept q Disconnecting r received is = after-done IsBegun r (refl, refl) (refl, refl)
+begun kept q Closed r received is = (refl, refl)
 begun kept q d r received is = absurd (cc (is))
 
 none-taken : (d : Phase) → is_begun d ≡ true → taken_of d ≡ 0
-none-taken (Sends s) is = absurd (cc (is))
-none-taken (Cuts s) is = absurd (cc (is))
-none-taken (Offers s piece) is = absurd (cc (is))
-none-taken (Swaps s piece) is = absurd (cc (is))
-none-taken (Sent a taken more) is = absurd (cc (is))
+none-taken (SendingWhole s) is = absurd (cc (is))
+none-taken (CuttingPiece s) is = absurd (cc (is))
+none-taken (SendingPiece s piece) is = absurd (cc (is))
+none-taken (DroppingPiece s piece) is = absurd (cc (is))
+none-taken (DroppingSent a taken more) is = absurd (cc (is))
 none-taken d is = refl
 
 none-newly : (fd : ℕ) (kept : List ℕ) (q : Answer) (d : Phase) (r : Reply) → is_begun d ≡ true
     → newly_taken fd (wants fd (at kept q d)) r ≡ 0
-none-newly fd kept q (Sends s) r is = absurd (cc (is))
-none-newly fd kept q (Offers s piece) r is = absurd (cc (is))
+none-newly fd kept q (SendingWhole s) r is = absurd (cc (is))
+none-newly fd kept q (SendingPiece s piece) r is = absurd (cc (is))
 none-newly fd kept q (Reading f) r is = either-way (λ (k : Call). newly_taken fd k r ≡ 0) (is_head_only q) refl refl
 none-newly fd kept q d r is = refl
 
@@ -121,7 +123,7 @@ module _ (own : CallsServeTheirDomain) (m n : State) (order : IsOrderly m) (fd c
   counts s k h within =
       ap (λ z. s.taken + z) (least-taken k s.from s.len h.bytes h.size within ∙ sym (all-newly fd k))
 
-  sends : (s : Sending) (r : Reply) → Has m q expected (Sends s)
+  sends : (s : Sending) (r : Reply) → Has m q expected (SendingWhole s)
       → StepsTo m (event.Call server (call.IolWrite fd s.agg)) r n
       → is_dropping (after_send s r) ≡ false
       → taken_of (after_send s r) ≡ s.taken + newly_taken fd (call.IolWrite fd s.agg) r
@@ -137,7 +139,7 @@ module _ (own : CallsServeTheirDomain) (m n : State) (order : IsOrderly m) (fd c
       by r did on = absurd did
 
   offers : (s : Sending) (piece : ℕ) (r : Reply)
-      → Has m q expected (Offers s piece)
+      → Has m q expected (SendingPiece s piece)
       → StepsTo m (event.Call server (call.IolWrite fd piece)) r n
       → is_dropping (after_offer s piece r) ≡ false
       → taken_of (after_offer s piece r) ≡ s.taken + newly_taken fd (call.IolWrite fd piece) r
@@ -167,7 +169,7 @@ module _ (own : CallsServeTheirDomain) (m n : State) (order : IsOrderly m) (fd c
       → taken_of (after_taken q a taken more r) ≡ taken + newly_taken fd (call.AggDrop a) r
   sent a taken (Some x) reply.Done busy = omega arith
   sent a taken None reply.Done busy =
-      absurd (either-of (λ (e : Phase). is_busy e ≡ true → ⊥) (keeps q) Rests Closes (λ busy. cc (busy))
+      absurd (either-of (λ (e : Phase). is_busy e ≡ true → ⊥) (keeps q) Receiving Disconnecting (λ busy. cc (busy))
       (λ busy. cc (busy)) busy)
   sent a taken more r busy = omega arith
 
@@ -201,14 +203,14 @@ module _ (own : CallsServeTheirDomain) (m n : State) (order : IsOrderly m) (fd c
               → is_busy (after_reply (at kept q d) r received).phase ≡ true → is_begun d ≡ false
               → taken_of (after_reply (at kept q d) r received).phase ≡ taken_of d + newly_taken fd
               (wants fd (at kept q d)) r
-          sending Rests has step at_is on busy is = (let e = rests kept r received on busy in omega (arith, e))
-          sending (Sends s) has step at_is on busy is = sends s r has step on
-          sending (Cuts s) has step at_is on busy is = cuts s r
-          sending (Offers s piece) has step at_is on busy is = offers s piece r has step on
-          sending (Swaps s piece) has step at_is on busy is = swaps s piece r
-          sending (Sent a taken more) has step at_is on busy is = sent a taken more r busy
-          sending (Breaks piece a more) has step at_is on busy is = absurd (cc (at_is))
-          sending (Drops a more) has step at_is on busy is = absurd (cc (at_is))
+          sending Receiving has step at_is on busy is = (let e = rests kept r received on busy in omega (arith, e))
+          sending (SendingWhole s) has step at_is on busy is = sends s r has step on
+          sending (CuttingPiece s) has step at_is on busy is = cuts s r
+          sending (SendingPiece s piece) has step at_is on busy is = offers s piece r has step on
+          sending (DroppingPiece s piece) has step at_is on busy is = swaps s piece r
+          sending (DroppingSent a taken more) has step at_is on busy is = sent a taken more r busy
+          sending (AbortingPiece piece a more) has step at_is on busy is = absurd (cc (at_is))
+          sending (Aborting a more) has step at_is on busy is = absurd (cc (at_is))
           sending d has step at_is on busy is = absurd (cc (is))
 
 -- ---- where it is broken off
@@ -227,22 +229,22 @@ module _ (why : RefusalsTellWhy) (m n : State) (fd c : ℕ) (open_on : descripto
   pub breaks : (d : Phase) (r : Reply) → is_busy d ≡ true → StepsTo m (event.Call server (wants fd (at kept q d))) r n
       → is_dropping d ≡ false
       → is_dropping (after_reply (at kept q d) r received).phase ≡ true → is_gone (conn_at m c).peer ≡ true
-  breaks (Sends s) (reply.Refused no.BrokenPipe) busy step at_is off =
+  breaks (SendingWhole s) (reply.Refused no.BrokenPipe) busy step at_is off =
       why.peer_is_gone m n server fd c s.agg open_on step
-  breaks (Sends s) (reply.Count k) busy step at_is off = never _ off (next-not-dropped (after_taking s k))
-  breaks (Sends s) r busy step at_is off = absurd (cc (off))
-  breaks (Offers s piece) (reply.Refused no.BrokenPipe) busy step at_is off =
+  breaks (SendingWhole s) (reply.Count k) busy step at_is off = never _ off (next-not-dropped (after_taking s k))
+  breaks (SendingWhole s) r busy step at_is off = absurd (cc (off))
+  breaks (SendingPiece s piece) (reply.Refused no.BrokenPipe) busy step at_is off =
       why.peer_is_gone m n server fd c piece open_on step
-  breaks (Offers s piece) (reply.Count k) busy step at_is off = absurd (cc (off))
-  breaks (Offers s piece) r busy step at_is off = absurd (cc (off))
-  breaks (Cuts s) r busy step at_is off = never _ off (after-agg Kept r refl (λ k. refl))
-  breaks (Swaps s piece) r busy step at_is off = never _ off (after-done Kept r refl (next-not-dropped s))
-  breaks (Sent a taken (Some x)) r busy step at_is off = never _ off (after-done Kept r refl refl)
-  breaks (Sent a taken None) r busy step at_is off =
+  breaks (SendingPiece s piece) (reply.Count k) busy step at_is off = absurd (cc (off))
+  breaks (SendingPiece s piece) r busy step at_is off = absurd (cc (off))
+  breaks (CuttingPiece s) r busy step at_is off = never _ off (after-agg Kept r refl (λ k. refl))
+  breaks (DroppingPiece s piece) r busy step at_is off = never _ off (after-done Kept r refl (next-not-dropped s))
+  breaks (DroppingSent a taken (Some x)) r busy step at_is off = never _ off (after-done Kept r refl refl)
+  breaks (DroppingSent a taken None) r busy step at_is off =
       never _ off (after-done Kept r refl (either-way Kept (keeps q) refl refl))
-  breaks (Breaks piece a more) r busy step at_is off = absurd (cc (at_is))
-  breaks (Drops a more) r busy step at_is off = absurd (cc (at_is))
-  breaks Rests r busy step at_is off = absurd (cc (busy))
+  breaks (AbortingPiece piece a more) r busy step at_is off = absurd (cc (at_is))
+  breaks (Aborting a more) r busy step at_is off = absurd (cc (at_is))
+  breaks Receiving r busy step at_is off = absurd (cc (busy))
   breaks d r busy step at_is off = absurd (begun-on d (begun kept q d r received refl) off)
     where
       begun-on : (d : Phase) → IsBegun (after_reply (at kept q d) r received).phase
@@ -254,14 +256,15 @@ module _ (why : RefusalsTellWhy) (m n : State) (fd c : ℕ) (open_on : descripto
 pub closes : CallsServeTheirDomain → RefusalsThatAreLeft
     → (m n : State) (fd c : ℕ) (kept : List ℕ) (q : Answer) (d : Phase) (r : Reply) (received : List ℕ) → IsOrderly m
     → is_live m server ≡ true
-    → descriptor m server fd ≡ Some (on.Connection c) → d ≡ Closes
+    → descriptor m server fd ≡ Some (on.Connection c) → d ≡ Disconnecting
     → StepsTo m (event.Call server (wants fd (at kept q d))) r n
-    → (r ≡ reply.Done) × ((after_reply (at kept q d) r received).phase ≡ Over) × ((conn_at n c).closed ≡ true)
-closes own may m n fd c kept q Closes r received order lives open_on is step =
+    → (r ≡ reply.Done) × ((after_reply (at kept q d) r received).phase ≡ Closed) × ((conn_at n c).closed ≡ true)
+closes own may m n fd c kept q Disconnecting r received order lives open_on is step =
     by r (own.closes_conn m n server fd c r order open_on step) step
   where
     by : (r : Reply) → caller.ClosesConn m c r n → StepsTo m (event.Call server (call.Close fd)) r n
-        → (r ≡ reply.Done) × ((after_reply (at kept q Closes) r received).phase ≡ Over) × ((conn_at n c).closed ≡ true)
+        → (r ≡ reply.Done) × ((after_reply (at kept q Disconnecting) r received).phase ≡ Closed)
+        × ((conn_at n c).closed ≡ true)
     by reply.Done did step = (refl, refl, (closed-then m n c did).0)
     by (reply.Refused z) did step = absurd (may.closes m n server fd (on.Connection c) z lives open_on step)
     by r did step = absurd did

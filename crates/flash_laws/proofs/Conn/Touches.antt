@@ -16,8 +16,9 @@ use Rattle.iol_core.specs.declared.events.Event.TheVariants as event
 use Rattle.flash_http.specs.Request.{Answer}
 use Rattle.flash_laws.specs.Conn.{uses_fd, is_head_only, most_read, wants}
 use Rattle.flash_laws.specs.declared.phase.Phase.{Phase}
-use Rattle.flash_laws.specs.declared.phase.Phase.TheVariants.{Rests, Reads as Reading, Shuts, Sends, Offers, Closes}
-use Rattle.flash_laws.specs.declared.phase.Phase.TheVariants.{Over}
+use Rattle.flash_laws.specs.declared.phase.Phase.TheVariants.{Receiving, Reading as Reading, ClosingFile, SendingWhole}
+use Rattle.flash_laws.specs.declared.phase.Phase.TheVariants.{SendingPiece, Disconnecting}
+use Rattle.flash_laws.specs.declared.phase.Phase.TheVariants.{Closed}
 use Rattle.flash_laws.specs.Conn.Fits.{Has}
 use Rattle.flash_laws.specs.Site.{server}
 use Rattle.flash_laws.proofs.Forms.{at}
@@ -39,7 +40,7 @@ pub fds-wants : (m : State) (fd c : ℕ) (kept : List ℕ) (q : Answer) (d : Pha
     → descriptor m server fd ≡ Some (on.Connection c)
     → touches_fd m (event.Call server (wants fd (at kept q d))) server g ≡ true
     → (uses_fd d g ≡ true) ⊎ (fd ≡ g)
-fds-wants m fd c kept q Rests g is t =
+fds-wants m fd c kept q Receiving g is t =
     absurd (clash ((fd == g) && is_file (descriptor m server fd)) t (not-file m fd c g is))
 fds-wants m fd c kept q (Reading f) g is t = inl (by (is_head_only q) t)
   where
@@ -48,13 +49,13 @@ fds-wants m fd c kept q (Reading f) g is t = inl (by (is_head_only q) t)
         → (f == g) ≡ true
     by true t = absurd (cc)
     by false t = left-of (f == g) (is_file (descriptor m server f)) t
-fds-wants m fd c kept q (Shuts f k) g is t = inl t
-fds-wants m fd c kept q (Sends s) g is t =
+fds-wants m fd c kept q (ClosingFile f k) g is t = inl t
+fds-wants m fd c kept q (SendingWhole s) g is t =
     absurd (clash ((fd == g) && is_file (descriptor m server fd)) t (not-file m fd c g is))
-fds-wants m fd c kept q (Offers s piece) g is t =
+fds-wants m fd c kept q (SendingPiece s piece) g is t =
     absurd (clash ((fd == g) && is_file (descriptor m server fd)) t (not-file m fd c g is))
-fds-wants m fd c kept q Closes g is t = inr (same-number fd g t)
-fds-wants m fd c kept q Over g is t = inr (same-number fd g t)
+fds-wants m fd c kept q Disconnecting g is t = inr (same-number fd g t)
+fds-wants m fd c kept q Closed g is t = inr (same-number fd g t)
 fds-wants m fd c kept q d g is t = absurd (cc)
 
 uses-conn : (m : State) (fd c k : ℕ) → descriptor m server fd ≡ Some (on.Connection c)
@@ -72,7 +73,7 @@ uses-no_conn m g f pos k is t =
 pub conns-wants : (m : State) (fd c : ℕ) (kept : List ℕ) (q : Answer) (expected : List ℕ) (d : Phase) (k : ℕ)
     → descriptor m server fd ≡ Some (on.Connection c) → Has m q expected d
     → touches_conn m (event.Call server (wants fd (at kept q d))) k ≡ true → c ≡ k
-conns-wants m fd c kept q expected Rests k is has t = uses-conn m fd c k is t
+conns-wants m fd c kept q expected Receiving k is has t = uses-conn m fd c k is t
 conns-wants m fd c kept q expected (Reading f) k is has t = absurd (by (is_head_only q) t)
   where
     by : (b : Bool) → touches_conn m (event.Call server (if b then call.Length f else call.IolRead f most_read)) k
@@ -80,11 +81,11 @@ conns-wants m fd c kept q expected (Reading f) k is has t = absurd (by (is_head_
         → ⊥
     by true t = cc
     by false t = uses-no_conn m f has.1.0 has.1.1 k has.1.2 t
-conns-wants m fd c kept q expected (Shuts f x) k is has t = absurd (uses-no_conn m f has.0.0 has.0.1 k has.0.2 t)
-conns-wants m fd c kept q expected (Sends s) k is has t = uses-conn m fd c k is t
-conns-wants m fd c kept q expected (Offers s piece) k is has t = uses-conn m fd c k is t
-conns-wants m fd c kept q expected Closes k is has t = uses-conn m fd c k is t
-conns-wants m fd c kept q expected Over k is has t = uses-conn m fd c k is t
+conns-wants m fd c kept q expected (ClosingFile f x) k is has t = absurd (uses-no_conn m f has.0.0 has.0.1 k has.0.2 t)
+conns-wants m fd c kept q expected (SendingWhole s) k is has t = uses-conn m fd c k is t
+conns-wants m fd c kept q expected (SendingPiece s piece) k is has t = uses-conn m fd c k is t
+conns-wants m fd c kept q expected Disconnecting k is has t = uses-conn m fd c k is t
+conns-wants m fd c kept q expected Closed k is has t = uses-conn m fd c k is t
 conns-wants m fd c kept q expected d k is has t = absurd (cc)
 
 -- and no pipe
@@ -99,15 +100,15 @@ no-file-end m g f pos p is = ap (λ (d : Option Descriptor). list_any (is_end p)
 pub pipes-wants : (m : State) (fd c : ℕ) (kept : List ℕ) (q : Answer) (expected : List ℕ) (d : Phase) (p : ℕ)
     → descriptor m server fd ≡ Some (on.Connection c) → Has m q expected d
     → touches_pipe m (event.Call server (wants fd (at kept q d))) p ≡ false
-pipes-wants m fd c kept q expected Rests p is has = no-end m fd c p is
+pipes-wants m fd c kept q expected Receiving p is has = no-end m fd c p is
 pipes-wants m fd c kept q expected (Reading f) p is has =
     either-way (λ (k : Call). touches_pipe m (event.Call server k) p ≡ false) (is_head_only q) refl
     (no-file-end m f has.1.0 has.1.1 p has.1.2)
-pipes-wants m fd c kept q expected (Shuts f x) p is has = no-file-end m f has.0.0 has.0.1 p has.0.2
-pipes-wants m fd c kept q expected (Sends s) p is has = no-end m fd c p is
-pipes-wants m fd c kept q expected (Offers s piece) p is has = no-end m fd c p is
-pipes-wants m fd c kept q expected Closes p is has = no-end m fd c p is
-pipes-wants m fd c kept q expected Over p is has = no-end m fd c p is
+pipes-wants m fd c kept q expected (ClosingFile f x) p is has = no-file-end m f has.0.0 has.0.1 p has.0.2
+pipes-wants m fd c kept q expected (SendingWhole s) p is has = no-end m fd c p is
+pipes-wants m fd c kept q expected (SendingPiece s piece) p is has = no-end m fd c p is
+pipes-wants m fd c kept q expected Disconnecting p is has = no-end m fd c p is
+pipes-wants m fd c kept q expected Closed p is has = no-end m fd c p is
 pipes-wants m fd c kept q expected d p is has = refl
 
 -- it writes no file
@@ -116,8 +117,8 @@ pub files-wants : (m : State) (fd c : ℕ) (kept : List ℕ) (q : Answer) (d : P
     → changes_files m (event.Call server (wants fd (at kept q d))) ≡ false
 files-wants m fd c kept q (Reading f) is =
     either-way (λ (k : Call). changes_files m (event.Call server k) ≡ false) (is_head_only q) refl refl
-files-wants m fd c kept q (Sends s) is = ap is_file is
-files-wants m fd c kept q (Offers s piece) is = ap is_file is
+files-wants m fd c kept q (SendingWhole s) is = ap is_file is
+files-wants m fd c kept q (SendingPiece s piece) is = ap is_file is
 files-wants m fd c kept q d is = refl
 
 -- it admits nobody to a pool

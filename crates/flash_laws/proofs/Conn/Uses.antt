@@ -29,9 +29,11 @@ use Rattle.flash_laws.specs.declared.phase.Payload.{Payload}
 use Rattle.flash_laws.specs.declared.phase.Payload.TheVariants.{Body}
 use Rattle.flash_laws.specs.declared.phase.Sending.{Sending}
 use Rattle.flash_laws.specs.declared.phase.Phase.{Phase}
-use Rattle.flash_laws.specs.declared.phase.Phase.TheVariants.{Rests, Got, Opens, Reads as Reading, Shuts, Picks, Spares}
-use Rattle.flash_laws.specs.declared.phase.Phase.TheVariants.{Heads, Joins, Sends, Cuts, Offers, Swaps, Sent, Breaks}
-use Rattle.flash_laws.specs.declared.phase.Phase.TheVariants.{Drops, Closes, Over}
+use Rattle.flash_laws.specs.declared.phase.Phase.TheVariants.{Receiving, DroppingInput, Opening, Reading as Reading}
+use Rattle.flash_laws.specs.declared.phase.Phase.TheVariants.{ClosingFile, Slicing, DroppingWhole}
+use Rattle.flash_laws.specs.declared.phase.Phase.TheVariants.{MakingHead, Joining, SendingWhole, CuttingPiece}
+use Rattle.flash_laws.specs.declared.phase.Phase.TheVariants.{SendingPiece, DroppingPiece, DroppingSent, AbortingPiece}
+use Rattle.flash_laws.specs.declared.phase.Phase.TheVariants.{Aborting, Disconnecting, Closed}
 use Rattle.flash_laws.specs.Conn.Fits.{IsReadable, MoreIsReadable, HasContent, HasFileResult, Has}
 use Rattle.flash_laws.specs.Conn.Fits.{HoldsRestFrom}
 use Rattle.flash_laws.specs.Site.{server}
@@ -50,7 +52,7 @@ same-number a b is = grind (arith, nat_tests, is)
 -- a call gives up what is the connection's
 pub gives-wants : (fd : ℕ) (kept : List ℕ) (q : Answer) (d : Phase) (a : ℕ)
     → gives_up (event.Call server (wants fd (at kept q d))) server a ≡ true → uses_agg d a ≡ true
-gives-wants fd kept q (Got b) a is = is
+gives-wants fd kept q (DroppingInput b) a is = is
 gives-wants fd kept q (Reading f) a is = absurd (by (is_head_only q) is)
   where
     by : (b : Bool) → gives_up (event.Call server (if b then call.Length f else call.IolRead f most_read)) server a
@@ -58,12 +60,12 @@ gives-wants fd kept q (Reading f) a is = absurd (by (is_head_only q) is)
         → ⊥
     by true is = cc
     by false is = cc
-gives-wants fd kept q (Spares b k) a is = grind (arith, is)
-gives-wants fd kept q (Joins b size body len) a is = grind (arith, is)
-gives-wants fd kept q (Swaps s piece) a is = grind (arith, is)
-gives-wants fd kept q (Sent b taken more) a is = grind (arith, is)
-gives-wants fd kept q (Breaks piece b more) a is = grind (arith, is)
-gives-wants fd kept q (Drops b more) a is = grind (arith, is)
+gives-wants fd kept q (DroppingWhole b k) a is = grind (arith, is)
+gives-wants fd kept q (Joining b size body len) a is = grind (arith, is)
+gives-wants fd kept q (DroppingPiece s piece) a is = grind (arith, is)
+gives-wants fd kept q (DroppingSent b taken more) a is = grind (arith, is)
+gives-wants fd kept q (AbortingPiece piece b more) a is = grind (arith, is)
+gives-wants fd kept q (Aborting b more) a is = grind (arith, is)
 gives-wants fd kept q d a is = absurd (cc)
 
 -- its reply names nothing of another domain
@@ -77,7 +79,7 @@ abbrev Uses : Phase → Reply → Phase → (a : ℕ) → Type 0
 Uses d r after a = uses_agg after a ≡ true → (uses_agg d a ≡ true) ⊎ (is_agg r a ≡ true)
 
 uses-rests : (kept : List ℕ) (q : Answer) (r : Reply) (received : List ℕ) (a : ℕ)
-    → Uses Rests r (after_receive kept q r received).phase a
+    → Uses Receiving r (after_receive kept q r received).phase a
 uses-rests kept q (reply.Agg n) [] a u = inr (bare (n == a) u)
 uses-rests kept q (reply.Agg n) (b ∷ received) a u = inr u
 uses-rests kept q r received a u = absurd (cc)
@@ -108,7 +110,7 @@ uses-headed : (n size : ℕ) (more : Following) (a : ℕ) → uses_agg (headed n
 uses-headed n size None a u = u
 uses-headed n size (Some x) a u = by (nat_le (size + x.1) MAX_AGGREGATE_BYTES) u
   where
-    by : (t : Bool) → uses_agg (if t then Joins n size x.0 x.1 else Sends (whole n size 0 (Some x))) a ≡ true
+    by : (t : Bool) → uses_agg (if t then Joining n size x.0 x.1 else SendingWhole (whole n size 0 (Some x))) a ≡ true
         → ((n == a) || (x.0 == a)) ≡ true
     by true u = u
     by false u = u
@@ -118,7 +120,7 @@ uses-proceeds : (q : Answer) (b taken : ℕ) (more : Following) (a : ℕ)
 uses-proceeds q b taken (Some x) a u = later_of (b == a) (x.0 == a) (bare (x.0 == a) u)
 uses-proceeds q b taken None a u = by (keeps q) u
   where
-    by : (t : Bool) → uses_agg (if t then Rests else Closes) a ≡ true → ((b == a) || false) ≡ true
+    by : (t : Bool) → uses_agg (if t then Receiving else Disconnecting) a ≡ true → ((b == a) || false) ≡ true
     by true u = absurd (cc)
     by false u = absurd (cc)
 
@@ -136,48 +138,48 @@ next-no_fd s g = either-next (λ (e : Phase). uses_fd e g ≡ false) s refl refl
 
 pub uses-after_reply : (kept : List ℕ) (q : Answer) (d : Phase) (r : Reply) (received : List ℕ) (a : ℕ)
     → Uses d r (after_reply (at kept q d) r received).phase a
-uses-after_reply kept q Rests r received a u = uses-rests kept q r received a u
-uses-after_reply kept q (Got b) reply.Done received a u = absurd (cc)
-uses-after_reply kept q Opens (reply.Fd f) received a u = absurd (cc)
-uses-after_reply kept q Opens (reply.Refused no.WouldBlock) received a u = absurd (cc)
-uses-after_reply kept q Opens (reply.Refused x) received a u = absurd (cc)
-uses-after_reply kept q Opens r received a u = absurd (cc)
+uses-after_reply kept q Receiving r received a u = uses-rests kept q r received a u
+uses-after_reply kept q (DroppingInput b) reply.Done received a u = absurd (cc)
+uses-after_reply kept q Opening (reply.Fd f) received a u = absurd (cc)
+uses-after_reply kept q Opening (reply.Refused no.WouldBlock) received a u = absurd (cc)
+uses-after_reply kept q Opening (reply.Refused x) received a u = absurd (cc)
+uses-after_reply kept q Opening r received a u = absurd (cc)
 uses-after_reply kept q (Reading f) (reply.Agg n) received a u = inr u
 uses-after_reply kept q (Reading f) (reply.Count n) received a u = absurd (cc)
 uses-after_reply kept q (Reading f) (reply.Refused no.WouldBlock) received a u = absurd (cc)
 uses-after_reply kept q (Reading f) (reply.Refused x) received a u = absurd (cc)
 uses-after_reply kept q (Reading f) r received a u = absurd (cc)
-uses-after_reply kept q (Shuts f k) reply.Done received a u = inl (uses-resolved q f k a u)
-uses-after_reply kept q (Picks b first last len) (reply.Agg n) received a u =
+uses-after_reply kept q (ClosingFile f k) reply.Done received a u = inl (uses-resolved q f k a u)
+uses-after_reply kept q (Slicing b first last len) (reply.Agg n) received a u =
     elim (one-of (b == a) (n == a) u) [ inl is ↦ inl is | inr is ↦ inr is ]
-uses-after_reply kept q (Spares b k) reply.Done received a u = inl (later_of (b == a) (content_agg k a) u)
-uses-after_reply kept q (Heads k) (reply.Agg n) received a u =
+uses-after_reply kept q (DroppingWhole b k) reply.Done received a u = inl (later_of (b == a) (content_agg k a) u)
+uses-after_reply kept q (MakingHead k) (reply.Agg n) received a u =
     elim (one-of (n == a) (has_followed (following k) a) (uses-headed n (count_of received) (following k) a u)) [
       | inl
           is ↦ inr is
       | inr is ↦ inl (uses-following k a is)
     ]
-uses-after_reply kept q (Joins b size body len) (reply.Agg n) received a u = inr (bare (n == a) u)
-uses-after_reply kept q (Sends s) (reply.Count k) received a u = inl (sym (next-uses (after_taking s k) a) ∙ u)
-uses-after_reply kept q (Sends s) (reply.Refused no.BrokenPipe) received a u = inl u
-uses-after_reply kept q (Cuts s) (reply.Agg n) received a u =
+uses-after_reply kept q (Joining b size body len) (reply.Agg n) received a u = inr (bare (n == a) u)
+uses-after_reply kept q (SendingWhole s) (reply.Count k) received a u = inl (sym (next-uses (after_taking s k) a) ∙ u)
+uses-after_reply kept q (SendingWhole s) (reply.Refused no.BrokenPipe) received a u = inl u
+uses-after_reply kept q (CuttingPiece s) (reply.Agg n) received a u =
     elim (one-of (n == a) ((s.agg == a) || has_followed s.more a) u) [ inl new ↦ inr new | inr old ↦ inl old ]
-uses-after_reply kept q (Offers s piece) (reply.Count k) received a u = inl u
-uses-after_reply kept q (Offers s piece) (reply.Refused no.BrokenPipe) received a u = inl u
-uses-after_reply kept q (Swaps s piece) reply.Done received a u =
+uses-after_reply kept q (SendingPiece s piece) (reply.Count k) received a u = inl u
+uses-after_reply kept q (SendingPiece s piece) (reply.Refused no.BrokenPipe) received a u = inl u
+uses-after_reply kept q (DroppingPiece s piece) reply.Done received a u =
     inl (later_of (piece == a) ((s.agg == a) || has_followed s.more a) (sym (next-uses s a) ∙ u))
-uses-after_reply kept q (Sent b taken more) reply.Done received a u = inl (uses-proceeds q b taken more a u)
-uses-after_reply kept q (Breaks piece b more) reply.Done received a u =
+uses-after_reply kept q (DroppingSent b taken more) reply.Done received a u = inl (uses-proceeds q b taken more a u)
+uses-after_reply kept q (AbortingPiece piece b more) reply.Done received a u =
     inl (later_of (piece == a) ((b == a) || has_followed more a) u)
-uses-after_reply kept q (Drops b more) reply.Done received a u = inl (uses-drops b more a u)
-uses-after_reply kept q Closes reply.Done received a u = absurd (cc)
+uses-after_reply kept q (Aborting b more) reply.Done received a u = inl (uses-drops b more a u)
+uses-after_reply kept q Disconnecting reply.Done received a u = absurd (cc)
 uses-after_reply kept q d r received a u = inl u
 
 abbrev UsesFd : Phase → Reply → Phase → (g : ℕ) → Type 0
 UsesFd d r after g = uses_fd after g ≡ true → (uses_fd d g ≡ true) ⊎ (is_fd r g ≡ true)
 
 uses_fd-rests : (kept : List ℕ) (q : Answer) (r : Reply) (received : List ℕ) (g : ℕ)
-    → UsesFd Rests r (after_receive kept q r received).phase g
+    → UsesFd Receiving r (after_receive kept q r received).phase g
 uses_fd-rests kept q (reply.Agg n) [] g u = absurd (cc)
 uses_fd-rests kept q (reply.Agg n) (b ∷ received) g u = absurd (cc)
 uses_fd-rests kept q r received g u = absurd (cc)
@@ -206,39 +208,39 @@ no_fd-drops None g = refl
 
 pub uses_fd-after_reply : (kept : List ℕ) (q : Answer) (d : Phase) (r : Reply) (received : List ℕ) (g : ℕ)
     → UsesFd d r (after_reply (at kept q d) r received).phase g
-uses_fd-after_reply kept q Rests r received g u = uses_fd-rests kept q r received g u
-uses_fd-after_reply kept q (Got b) reply.Done received g u = absurd (cc)
-uses_fd-after_reply kept q Opens (reply.Fd f) received g u = inr u
-uses_fd-after_reply kept q Opens (reply.Refused no.WouldBlock) received g u = absurd (cc)
-uses_fd-after_reply kept q Opens (reply.Refused x) received g u = absurd (cc)
-uses_fd-after_reply kept q Opens r received g u = absurd (cc)
+uses_fd-after_reply kept q Receiving r received g u = uses_fd-rests kept q r received g u
+uses_fd-after_reply kept q (DroppingInput b) reply.Done received g u = absurd (cc)
+uses_fd-after_reply kept q Opening (reply.Fd f) received g u = inr u
+uses_fd-after_reply kept q Opening (reply.Refused no.WouldBlock) received g u = absurd (cc)
+uses_fd-after_reply kept q Opening (reply.Refused x) received g u = absurd (cc)
+uses_fd-after_reply kept q Opening r received g u = absurd (cc)
 uses_fd-after_reply kept q (Reading f) (reply.Agg n) received g u = inl u
 uses_fd-after_reply kept q (Reading f) (reply.Count n) received g u = inl u
 uses_fd-after_reply kept q (Reading f) (reply.Refused no.WouldBlock) received g u = inl u
 uses_fd-after_reply kept q (Reading f) (reply.Refused x) received g u = inl u
-uses_fd-after_reply kept q (Shuts f k) reply.Done received g u =
+uses_fd-after_reply kept q (ClosingFile f k) reply.Done received g u =
     absurd (clash (uses_fd (resolved q k) g) u (no_fd-resolved q k g))
-uses_fd-after_reply kept q (Picks b first last len) (reply.Agg n) received g u = absurd (cc)
-uses_fd-after_reply kept q (Spares b k) reply.Done received g u = absurd (cc)
-uses_fd-after_reply kept q (Heads k) (reply.Agg n) received g u =
+uses_fd-after_reply kept q (Slicing b first last len) (reply.Agg n) received g u = absurd (cc)
+uses_fd-after_reply kept q (DroppingWhole b k) reply.Done received g u = absurd (cc)
+uses_fd-after_reply kept q (MakingHead k) (reply.Agg n) received g u =
     absurd
     (clash (uses_fd (headed n (count_of received) (following k)) g) u
     (no_fd-headed n (count_of received) (following k) g))
-uses_fd-after_reply kept q (Joins b size body len) (reply.Agg n) received g u = absurd (cc)
-uses_fd-after_reply kept q (Sends s) (reply.Count k) received g u =
+uses_fd-after_reply kept q (Joining b size body len) (reply.Agg n) received g u = absurd (cc)
+uses_fd-after_reply kept q (SendingWhole s) (reply.Count k) received g u =
     absurd (clash (uses_fd (next_piece (after_taking s k)) g) u (next-no_fd (after_taking s k) g))
-uses_fd-after_reply kept q (Sends s) (reply.Refused no.BrokenPipe) received g u = absurd (cc)
-uses_fd-after_reply kept q (Cuts s) (reply.Agg n) received g u = absurd (cc)
-uses_fd-after_reply kept q (Offers s piece) (reply.Count k) received g u = absurd (cc)
-uses_fd-after_reply kept q (Offers s piece) (reply.Refused no.BrokenPipe) received g u = absurd (cc)
-uses_fd-after_reply kept q (Swaps s piece) reply.Done received g u =
+uses_fd-after_reply kept q (SendingWhole s) (reply.Refused no.BrokenPipe) received g u = absurd (cc)
+uses_fd-after_reply kept q (CuttingPiece s) (reply.Agg n) received g u = absurd (cc)
+uses_fd-after_reply kept q (SendingPiece s piece) (reply.Count k) received g u = absurd (cc)
+uses_fd-after_reply kept q (SendingPiece s piece) (reply.Refused no.BrokenPipe) received g u = absurd (cc)
+uses_fd-after_reply kept q (DroppingPiece s piece) reply.Done received g u =
     absurd (clash (uses_fd (next_piece s) g) u (next-no_fd s g))
-uses_fd-after_reply kept q (Sent b taken more) reply.Done received g u =
+uses_fd-after_reply kept q (DroppingSent b taken more) reply.Done received g u =
     absurd (clash (uses_fd (proceeds q taken more) g) u (no_fd-proceeds q taken more g))
-uses_fd-after_reply kept q (Breaks piece b more) reply.Done received g u = absurd (cc)
-uses_fd-after_reply kept q (Drops b more) reply.Done received g u =
+uses_fd-after_reply kept q (AbortingPiece piece b more) reply.Done received g u = absurd (cc)
+uses_fd-after_reply kept q (Aborting b more) reply.Done received g u =
     absurd (clash (uses_fd (drops_next more) g) u (no_fd-drops more g))
-uses_fd-after_reply kept q Closes reply.Done received g u = absurd (cc)
+uses_fd-after_reply kept q Disconnecting reply.Done received g u = absurd (cc)
 uses_fd-after_reply kept q d r received g u = inl u
 
 pub begins-none : (q : Answer) (a : ℕ) → uses_agg (begins q) a ≡ false
@@ -284,38 +286,38 @@ at-rest m expected s a u h =
 
 pub has-agg : (m : State) (q : Answer) (expected : List ℕ) (d : Phase) (a : ℕ) → uses_agg d a ≡ true
     → Has m q expected d → IsReadable m a
-has-agg m q expected (Got b) a u has = at-number m b a u has.0 has.1
-has-agg m q expected (Shuts f k) a u has = at-file_result m q expected k a u has.1
-has-agg m q expected (Picks b first last len) a u has = at-number m b a u has.bytes has.is_readable
-has-agg m q expected (Spares b k) a u has =
+has-agg m q expected (DroppingInput b) a u has = at-number m b a u has.0 has.1
+has-agg m q expected (ClosingFile f k) a u has = at-file_result m q expected k a u has.1
+has-agg m q expected (Slicing b first last len) a u has = at-number m b a u has.bytes has.is_readable
+has-agg m q expected (DroppingWhole b k) a u has =
     two m b (content_agg k a) a u has.0.0 has.0.1 (λ is. at-content m q expected k a is has.2)
-has-agg m q expected (Heads k) a u has = at-content m q expected k a u has
-has-agg m q expected (Joins b size body len) a u has =
+has-agg m q expected (MakingHead k) a u has = at-content m q expected k a u has
+has-agg m q expected (Joining b size body len) a u has =
     two m b (body == a) a u has.0.bytes has.0.is_readable (λ is. at-number m body a is has.0.after has.0.follows.0)
-has-agg m q expected (Sends s) a u has = at-rest m expected s a u has.0
-has-agg m q expected (Cuts s) a u has = at-rest m expected s a u has.0
-has-agg m q expected (Offers s piece) a u has =
+has-agg m q expected (SendingWhole s) a u has = at-rest m expected s a u has.0
+has-agg m q expected (CuttingPiece s) a u has = at-rest m expected s a u has.0
+has-agg m q expected (SendingPiece s piece) a u has =
     two m piece ((s.agg == a) || has_followed s.more a) a u (slice_range has.whole.bytes s.from (piece_end s))
     has.is_readable (λ v. at-rest m expected s a v has.whole)
-has-agg m q expected (Swaps s piece) a u has =
+has-agg m q expected (DroppingPiece s piece) a u has =
     two m piece ((s.agg == a) || has_followed s.more a) a u has.0.0 has.0.1 (λ v. at-rest m expected s a v has.2)
-has-agg m q expected (Sent b taken more) a u has =
+has-agg m q expected (DroppingSent b taken more) a u has =
     two m b (has_followed more a) a u has.bytes has.is_readable (λ is. at-following m more has.after a is has.follows)
-has-agg m q expected (Breaks piece b more) a u has =
+has-agg m q expected (AbortingPiece piece b more) a u has =
     two m piece ((b == a) || has_followed more a) a u has.0.0 has.0.1
     (λ v. two m b (has_followed more a) a v has.2.readable.0 has.2.readable.1
     (λ is. at-following m more has.2.after a is has.2.follows))
-has-agg m q expected (Drops b more) a u has =
+has-agg m q expected (Aborting b more) a u has =
     two m b (has_followed more a) a u has.readable.0 has.readable.1
     (λ is. at-following m more has.after a is has.follows)
-has-agg m q expected Over a u has = absurd has
+has-agg m q expected Closed a u has = absurd has
 has-agg m q expected d a u has = absurd (cc)
 
 pub has-fd : (m : State) (q : Answer) (expected : List ℕ) (d : Phase) (g : ℕ) → uses_fd d g ≡ true
     → Has m q expected d → (f pos : ℕ) × (descriptor m server g ≡ Some (on.File f pos modes.Read))
 has-fd m q expected (Reading f) g u has =
     (has.1.0, has.1.1, ap (λ n. descriptor m server n) (sym (same-number f g u)) ∙ has.1.2)
-has-fd m q expected (Shuts f k) g u has =
+has-fd m q expected (ClosingFile f k) g u has =
     (has.0.0, has.0.1, ap (λ n. descriptor m server n) (sym (same-number f g u)) ∙ has.0.2)
-has-fd m q expected Over g u has = absurd has
+has-fd m q expected Closed g u has = absurd has
 has-fd m q expected d g u has = absurd (cc)

@@ -30,12 +30,17 @@ use Rattle.flash_laws.specs.declared.phase.Phase.TheVariants as phase
 use Rattle.flash_laws.specs.declared.script_run.TheConstants.{CHUNK_BYTES}
 use Rattle.flash_laws.specs.declared.script_run.Run.{Run}
 use Rattle.flash_laws.specs.declared.script_run.Step.{Step}
-use Rattle.flash_laws.specs.declared.script_run.Step.TheVariants.{Gives, Makes, Hands, Lets, Heads, Sending, Receives}
-use Rattle.flash_laws.specs.declared.script_run.Step.TheVariants.{Spills, Gathers, Frames, Wraps, Trims, Ended, Unholds}
-use Rattle.flash_laws.specs.declared.script_run.Step.TheVariants.{Stops, Unframes, Lasts, WrapsLast, TrimsLast, Unwraps}
-use Rattle.flash_laws.specs.declared.script_run.Step.TheVariants.{Returns, Lapses, Fails}
+use Rattle.flash_laws.specs.declared.script_run.Step.TheVariants.{GivingPipe, MakingJob, WritingJob, DroppingJob}
+use Rattle.flash_laws.specs.declared.script_run.Step.TheVariants.{MakingHead, SendingPart, ReadingOutput}
+use Rattle.flash_laws.specs.declared.script_run.Step.TheVariants.{DroppingOutput, JoiningOutput, MakingFrame}
+use Rattle.flash_laws.specs.declared.script_run.Step.TheVariants.{FillingFrame, DroppingHeld, DroppingEnd}
+use Rattle.flash_laws.specs.declared.script_run.Step.TheVariants.{DiscardingHeld}
+use Rattle.flash_laws.specs.declared.script_run.Step.TheVariants.{ClosingOutput, DroppingFrame, MakingEnd, FillingEnd}
+use Rattle.flash_laws.specs.declared.script_run.Step.TheVariants.{DroppingLast, DroppingLastFrame}
+use Rattle.flash_laws.specs.declared.script_run.Step.TheVariants.{ClosingPipe, DiscardingJob, Failing}
 use Rattle.flash_laws.specs.declared.script_run.Running.{Running}
-use Rattle.flash_laws.specs.declared.script_run.Running.TheVariants.{Awaits, Runs, Leaves, Closes}
+use Rattle.flash_laws.specs.declared.script_run.Running.TheVariants.{AwaitingWorker, InProgress, Finishing}
+use Rattle.flash_laws.specs.declared.script_run.Running.TheVariants.{Disconnecting}
 use Rattle.flash_laws.proofs.Lists.{clash, later_of, bare, former_of, not-false}
 use Rattle.flash_laws.proofs.Run.Rest.{is-rest, part-sends}
 use Rattle.flash_laws.proofs.Run.Parts.{no-position}
@@ -186,16 +191,17 @@ module _ (m : State) (fd c : ℕ) (x : Running) where
   sends : (w : Wanted) (expected : List ℕ) (d : Phase) → descriptor m server fd ≡ Some (on.Connection c)
       → ((a : ℕ) → conn.uses_agg d a ≡ true → uses_agg x a ≡ true)
       → IsSending m expected d → Keeps (conn.wants fd (in_phase w d))
-  sends w expected (phase.Heads (Error status)) open_on uses is = makes (conn.text_of (serve w) (Error status))
-  sends w expected (phase.Sends s) open_on uses is = offers s.agg open_on
-  sends w expected (phase.Cuts s) open_on uses is = cuts s.agg s.from (piece_end s)
-  sends w expected (phase.Offers s piece) open_on uses is = offers piece open_on
-  sends w expected (phase.Swaps s piece) open_on uses is =
+  sends w expected (phase.MakingHead (Error status)) open_on uses is = makes (conn.text_of (serve w) (Error status))
+  sends w expected (phase.SendingWhole s) open_on uses is = offers s.agg open_on
+  sends w expected (phase.CuttingPiece s) open_on uses is = cuts s.agg s.from (piece_end s)
+  sends w expected (phase.SendingPiece s piece) open_on uses is = offers piece open_on
+  sends w expected (phase.DroppingPiece s piece) open_on uses is =
       drops piece (λ b u. uses b (former_of (piece == b) ((s.agg == b) || has_followed s.more b) u))
-  sends w expected (phase.Sent a taken None) open_on uses is = drops a (λ b u. uses b (former_of (a == b) false u))
-  sends w expected (phase.Breaks piece a None) open_on uses is =
+  sends w expected (phase.DroppingSent a taken None) open_on uses is =
+      drops a (λ b u. uses b (former_of (a == b) false u))
+  sends w expected (phase.AbortingPiece piece a None) open_on uses is =
       drops piece (λ b u. uses b (former_of (piece == b) ((a == b) || false) u))
-  sends w expected (phase.Drops a None) open_on uses is = drops a (λ b u. uses b (former_of (a == b) false u))
+  sends w expected (phase.Aborting a None) open_on uses is = drops a (λ b u. uses b (former_of (a == b) false u))
   sends w expected d open_on uses is = absurd is.0
 
 to-end : (m : State) (f p q : ℕ) → descriptor m server f ≡ Some (on.ReadEnd p) → p ≡ q
@@ -212,69 +218,77 @@ module _ (job : ℕ → List ℕ) (m : State) (fd c : ℕ) (w : Wanted) (o : Pro
   reading : (g : ℕ) → (run.from == g) ≡ true → ((run.from == g) || false) ≡ true
   reading g u = former_of (run.from == g) false u
 
-  step-alone : (s : Step) → HasRun job m w o (Runs run s)
-      → KeepsToItself m fd c (Runs run s) (step_wants job fd w run s)
-  step-alone (Gives write) has =
-      gives m fd c (Runs run (Gives write)) write (worker_domain run.worker)
+  step-alone : (s : Step) → HasRun job m w o (InProgress run s)
+      → KeepsToItself m fd c (InProgress run s) (step_wants job fd w run s)
+  step-alone (GivingPipe write) has =
+      gives m fd c (InProgress run (GivingPipe write)) write (worker_domain run.worker)
       (λ g u. later_of (run.from == g) (write == g) u)
-  step-alone (Makes f) has = makes m fd c (Runs run (Makes f)) (job f)
-  step-alone (Hands j f) has =
-      writes m fd c (Runs run (Hands j f)) (job_pipe run.worker) has.0.0 j has.0.1
+  step-alone (MakingJob f) has = makes m fd c (InProgress run (MakingJob f)) (job f)
+  step-alone (WritingJob j f) has =
+      writes m fd c (InProgress run (WritingJob j f)) (job_pipe run.worker) has.0.0 j has.0.1
       (λ q same. from-end m (job_pipe run.worker) has.0.0 q has.0.1 same)
-  step-alone (Lets j) has = drops m fd c (Runs run (Lets j)) j (λ a u. u)
-  step-alone Heads has = makes m fd c (Runs run Heads) (script_text w)
-  step-alone (Sending d frame) has =
-      sends m fd c (Runs run (Sending d frame)) w has.1.part d open_on
+  step-alone (DroppingJob j) has = drops m fd c (InProgress run (DroppingJob j)) j (λ a u. u)
+  step-alone MakingHead has = makes m fd c (InProgress run MakingHead) (script_text w)
+  step-alone (SendingPart d frame) has =
+      sends m fd c (InProgress run (SendingPart d frame)) w has.1.part d open_on
       (λ a u. former_of (conn.uses_agg d a) (has_frame frame a) u)
       (part-sends m has.1.part d has.1.is_part has.1.within)
-  step-alone (Receives held frame) has =
-      reads m fd c (Runs run (Receives held frame)) run.from has.1.reads.0 (CHUNK_BYTES - held_size held) has.1.reads.1
+  step-alone (ReadingOutput held frame) has =
+      reads m fd c (InProgress run (ReadingOutput held frame)) run.from has.1.reads.0 (CHUNK_BYTES - held_size held)
+      has.1.reads.1
       (λ q same. to-end m run.from has.1.reads.0 q has.1.reads.1 same)
-  step-alone (Spills a frame) has =
-      drops m fd c (Runs run (Spills a frame)) a (λ b u. former_of (a == b) (has_frame frame b) u)
-  step-alone (Gathers held size piece len frame) has =
-      joins m fd c (Runs run (Gathers held size piece len frame)) held piece
+  step-alone (DroppingOutput a frame) has =
+      drops m fd c (InProgress run (DroppingOutput a frame)) a (λ b u. former_of (a == b) (has_frame frame b) u)
+  step-alone (JoiningOutput held size piece len frame) has =
+      joins m fd c (InProgress run (JoiningOutput held size piece len frame)) held piece
       (λ a u. around (held == a) (piece == a) (has_frame frame a) u)
     where
       around : (x y z : Bool) → (x || y) ≡ true → (x || (y || z)) ≡ true
       around true y z u = refl
       around false y z u = former_of y z u
-  step-alone (Frames held) has = makes m fd c (Runs run (Frames held)) (frame_of CHUNK_BYTES)
-  step-alone (Wraps held frame) has =
-      replaces m fd c (Runs run (Wraps held frame)) frame (place_in_frame CHUNK_BYTES) (place_in_frame CHUNK_BYTES) held
-  step-alone (Trims held chunk len frame) has =
-      drops m fd c (Runs run (Trims held chunk len frame)) held
+  step-alone (MakingFrame held) has = makes m fd c (InProgress run (MakingFrame held)) (frame_of CHUNK_BYTES)
+  step-alone (FillingFrame held frame) has =
+      replaces m fd c (InProgress run (FillingFrame held frame)) frame (place_in_frame CHUNK_BYTES)
+      (place_in_frame CHUNK_BYTES) held
+  step-alone (DroppingHeld held chunk len frame) has =
+      drops m fd c (InProgress run (DroppingHeld held chunk len frame)) held
       (λ a u. former_of (held == a) ((chunk == a) || (frame == a)) u)
-  step-alone (Ended b held frame) has =
-      drops m fd c (Runs run (Ended b held frame)) b
+  step-alone (DroppingEnd b held frame) has =
+      drops m fd c (InProgress run (DroppingEnd b held frame)) b
       (λ a u. former_of (b == a) (has_followed held a || has_frame frame a) u)
-  step-alone (Unholds held frame) has =
-      drops m fd c (Runs run (Unholds held frame)) held (λ a u. former_of (held == a) (has_frame frame a) u)
-  step-alone (Stops held frame) has =
-      closes m fd c (Runs run (Stops held frame)) run.from has.1.0.0 (on.ReadEnd has.1.0.0) has.1.0.1 (λ d. refl)
+  step-alone (DiscardingHeld held frame) has =
+      drops m fd c (InProgress run (DiscardingHeld held frame)) held
+      (λ a u. former_of (held == a) (has_frame frame a) u)
+  step-alone (ClosingOutput held frame) has =
+      closes m fd c (InProgress run (ClosingOutput held frame)) run.from has.1.0.0 (on.ReadEnd has.1.0.0) has.1.0.1
+      (λ d. refl)
       (λ q. refl) (λ g u. reading g u) (λ q same. to-end m run.from has.1.0.0 q has.1.0.1 same)
-  step-alone (Unframes frame held) has =
-      drops m fd c (Runs run (Unframes frame held)) frame (λ a u. former_of (frame == a) (has_followed held a) u)
-  step-alone (Lasts held) has = makes m fd c (Runs run (Lasts held)) (end_around held)
-  step-alone (WrapsLast held size frame) has =
-      replaces m fd c (Runs run (WrapsLast held size frame)) frame (place_in_frame size) (place_in_frame size) held
-  step-alone (TrimsLast held chunk len frame) has =
-      drops m fd c (Runs run (TrimsLast held chunk len frame)) held
+  step-alone (DroppingFrame frame held) has =
+      drops m fd c (InProgress run (DroppingFrame frame held)) frame
+      (λ a u. former_of (frame == a) (has_followed held a) u)
+  step-alone (MakingEnd held) has = makes m fd c (InProgress run (MakingEnd held)) (end_around held)
+  step-alone (FillingEnd held size frame) has =
+      replaces m fd c (InProgress run (FillingEnd held size frame)) frame (place_in_frame size) (place_in_frame size)
+      held
+  step-alone (DroppingLast held chunk len frame) has =
+      drops m fd c (InProgress run (DroppingLast held chunk len frame)) held
       (λ a u. former_of (held == a) ((chunk == a) || (frame == a)) u)
-  step-alone (Unwraps frame chunk len) has =
-      drops m fd c (Runs run (Unwraps frame chunk len)) frame (λ a u. former_of (frame == a) (chunk == a) u)
-  step-alone (Returns write) has =
-      closes m fd c (Runs run (Returns write)) write has.1.0.pipe (on.WriteEnd has.1.0.pipe) has.1.0.write_end
+  step-alone (DroppingLastFrame frame chunk len) has =
+      drops m fd c (InProgress run (DroppingLastFrame frame chunk len)) frame
+      (λ a u. former_of (frame == a) (chunk == a) u)
+  step-alone (ClosingPipe write) has =
+      closes m fd c (InProgress run (ClosingPipe write)) write has.1.0.pipe (on.WriteEnd has.1.0.pipe) has.1.0.write_end
       (λ d. refl) (λ q. refl) (λ g u. later_of (run.from == g) (write == g) u)
       (λ q same. from-end m write has.1.0.pipe q has.1.0.write_end same)
-  step-alone (Lapses j) has = drops m fd c (Runs run (Lapses j)) j (λ a u. u)
-  step-alone Fails has = closes m fd c (Runs run Fails) run.from has.1.0.0 (on.ReadEnd has.1.0.0) has.1.0.1 (λ d. refl)
+  step-alone (DiscardingJob j) has = drops m fd c (InProgress run (DiscardingJob j)) j (λ a u. u)
+  step-alone Failing has = closes m fd c (InProgress run Failing) run.from has.1.0.0 (on.ReadEnd has.1.0.0) has.1.0.1
+      (λ d. refl)
       (λ q. refl) (λ g u. reading g u) (λ q same. to-end m run.from has.1.0.0 q has.1.0.1 same)
 
 pub keeps-alone : (job : ℕ → List ℕ) (m : State) (fd c : ℕ) (w : Wanted) (x : Running) (o : Progress)
     → descriptor m server fd ≡ Some (on.Connection c)
     → is_over x ≡ false → HasRun job m w o x → KeepsToItself m fd c x (wants job fd w x)
-keeps-alone job m fd c w Awaits o open_on going has = record {
+keeps-alone job m fd c w AwaitingWorker o open_on going has = record {
   kind = refl;
   aggs = λ a u. absurd (cc (u));
   fds = λ g u. absurd (cc (u));
@@ -282,11 +296,11 @@ keeps-alone job m fd c w Awaits o open_on going has = record {
   pipes = λ p u. same-number (lowest m.pipes) p u;
   files = refl;
 }
-keeps-alone job m fd c w (Runs run s) o open_on going has = step-alone job m fd c w o run open_on s has
-keeps-alone job m fd c w (Leaves d) o open_on going has =
+keeps-alone job m fd c w (InProgress run s) o open_on going has = step-alone job m fd c w o run open_on s has
+keeps-alone job m fd c w (Finishing d) o open_on going has =
     let h = is-rest m w o d (not-false (is_left d) going) has in
-    sends m fd c (Leaves d) w h.expected d open_on (λ a u. u) h.sends
-keeps-alone job m fd c w Closes o open_on going has = absurd (cc (going))
+    sends m fd c (Finishing d) w h.expected d open_on (λ a u. u) h.sends
+keeps-alone job m fd c w Disconnecting o open_on going has = absurd (cc (going))
 
 -- ---- a pipe that comes is had
 
@@ -298,7 +312,7 @@ only-pipe m n d from write k step = let e = step.1 in absurd (cc (e))
 
 no-pipe : (m : State) (fd : ℕ) (w : Wanted) (expected : List ℕ) (d : Phase) → IsSending m expected d
     → conn.wants fd (in_phase w d) ≡ call.Pipe → ⊥
-no-pipe m fd w expected (phase.Reads f) sends is = sends.0
+no-pipe m fd w expected (phase.Reading f) sends is = sends.0
 no-pipe m fd w expected d sends is = cc (is)
 
 pub opened : (job : ℕ → List ℕ) (m n : State) (fd worker : ℕ) (w : Wanted) (x : Running) (o : Progress) (from write : ℕ)
@@ -310,9 +324,9 @@ opened job m n fd worker w x o from write received g going has step u =
   where
     by : (x : Running) → is_over x ≡ false → HasRun job m w o x → wants job fd w x ≡ call.Pipe
         → has_end (after_reply worker w x (reply.Fds from write) received) g ≡ true
-    by Awaits going has is = u
-    by (Leaves d) going has is = let h = is-rest m w o d (not-false (is_left d) going) has in
+    by AwaitingWorker going has is = u
+    by (Finishing d) going has is = let h = is-rest m w o d (not-false (is_left d) going) has in
         absurd (no-pipe m fd w h.expected d h.sends is)
-    by (Runs run (Sending d frame)) going has is =
+    by (InProgress run (SendingPart d frame)) going has is =
         absurd (no-pipe m fd w has.1.part d (part-sends m has.1.part d has.1.is_part has.1.within) is)
     by x going has is = absurd (cc (is))

@@ -18,38 +18,43 @@ use Rattle.flash_laws.specs.declared.phase.Phase.TheVariants as phase
 use Rattle.flash_laws.specs.declared.script_run.TheConstants.{CHUNK_BYTES}
 use Rattle.flash_laws.specs.declared.script_run.Run.{Run}
 use Rattle.flash_laws.specs.declared.script_run.Step.{Step}
-use Rattle.flash_laws.specs.declared.script_run.Step.TheVariants.{Gives, Makes, Hands, Lets, Heads, Sending, Receives}
-use Rattle.flash_laws.specs.declared.script_run.Step.TheVariants.{Spills, Gathers, Frames, Wraps, Trims, Ended, Unholds}
-use Rattle.flash_laws.specs.declared.script_run.Step.TheVariants.{Stops, Unframes, Lasts, WrapsLast, TrimsLast, Unwraps}
-use Rattle.flash_laws.specs.declared.script_run.Step.TheVariants.{Returns, Lapses, Fails}
+use Rattle.flash_laws.specs.declared.script_run.Step.TheVariants.{GivingPipe, MakingJob, WritingJob, DroppingJob}
+use Rattle.flash_laws.specs.declared.script_run.Step.TheVariants.{MakingHead, SendingPart, ReadingOutput}
+use Rattle.flash_laws.specs.declared.script_run.Step.TheVariants.{DroppingOutput, JoiningOutput, MakingFrame}
+use Rattle.flash_laws.specs.declared.script_run.Step.TheVariants.{FillingFrame, DroppingHeld, DroppingEnd}
+use Rattle.flash_laws.specs.declared.script_run.Step.TheVariants.{DiscardingHeld}
+use Rattle.flash_laws.specs.declared.script_run.Step.TheVariants.{ClosingOutput, DroppingFrame, MakingEnd, FillingEnd}
+use Rattle.flash_laws.specs.declared.script_run.Step.TheVariants.{DroppingLast, DroppingLastFrame}
+use Rattle.flash_laws.specs.declared.script_run.Step.TheVariants.{ClosingPipe, DiscardingJob, Failing}
 use Rattle.flash_laws.specs.declared.script_run.Running.{Running}
-use Rattle.flash_laws.specs.declared.script_run.Running.TheVariants.{Awaits, Runs, Leaves, Closes}
+use Rattle.flash_laws.specs.declared.script_run.Running.TheVariants.{AwaitingWorker, InProgress, Finishing}
+use Rattle.flash_laws.specs.declared.script_run.Running.TheVariants.{Disconnecting}
 use Rattle.flash_laws.proofs.Lists.{clash, not-true}
 use Rattle.flash_laws.proofs.Moves.{either-way}
 
 -- ---- it ends where the connection rests, or is to be closed
 
 abbrev pub IsEnd : Phase → Type 0
-IsEnd d = (d ≡ phase.Rests) ⊎ (d ≡ phase.Closes)
+IsEnd d = (d ≡ phase.Receiving) ⊎ (d ≡ phase.Disconnecting)
 
 -- what is left is sent, until nothing of it is
 left-ends : (m : State) (w : Wanted) (o : Progress) (d : Phase) → HasLeft m w o d → is_left d ≡ false → IsEnd d
-left-ends m w o phase.Rests has over = inl refl
-left-ends m w o phase.Closes has over = inr refl
-left-ends m w o (phase.Heads k) has over = absurd (cc (over))
-left-ends m w o (phase.Sends s) has over = absurd (cc (over))
-left-ends m w o (phase.Cuts s) has over = absurd (cc (over))
-left-ends m w o (phase.Offers s piece) has over = absurd (cc (over))
-left-ends m w o (phase.Swaps s piece) has over = absurd (cc (over))
-left-ends m w o (phase.Sent a taken more) has over = absurd (cc (over))
-left-ends m w o (phase.Breaks piece a more) has over = absurd (cc (over))
-left-ends m w o (phase.Drops a more) has over = absurd (cc (over))
+left-ends m w o phase.Receiving has over = inl refl
+left-ends m w o phase.Disconnecting has over = inr refl
+left-ends m w o (phase.MakingHead k) has over = absurd (cc (over))
+left-ends m w o (phase.SendingWhole s) has over = absurd (cc (over))
+left-ends m w o (phase.CuttingPiece s) has over = absurd (cc (over))
+left-ends m w o (phase.SendingPiece s piece) has over = absurd (cc (over))
+left-ends m w o (phase.DroppingPiece s piece) has over = absurd (cc (over))
+left-ends m w o (phase.DroppingSent a taken more) has over = absurd (cc (over))
+left-ends m w o (phase.AbortingPiece piece a more) has over = absurd (cc (over))
+left-ends m w o (phase.Aborting a more) has over = absurd (cc (over))
 left-ends m w o d has over = absurd has.sends.0
 
 pub run-ends : (job : ℕ → List ℕ) (m : State) (w : Wanted) (o : Progress) (z : Running) → HasRun job m w o z
     → is_over z ≡ true → IsEnd (after_run z)
-run-ends job m w o (Leaves d) has over = left-ends m w o d has (not-true (is_left d) over)
-run-ends job m w o Closes has over = inr refl
+run-ends job m w o (Finishing d) has over = left-ends m w o d has (not-true (is_left d) over)
+run-ends job m w o Disconnecting has over = inr refl
 run-ends job m w o x has over = absurd (cc (over))
 
 -- ---- and all of the response was taken, or it was broken off
@@ -72,8 +77,8 @@ left-after m w o d has ends = elim ends [
 
 pub run-after : (job : ℕ → List ℕ) (m : State) (w : Wanted) (o : Progress) (z : Running) → HasRun job m w o z
     → is_over z ≡ true → IsAfter w o (after_run z)
-run-after job m w o (Leaves d) has over = left-after m w o d has (left-ends m w o d has (not-true (is_left d) over))
-run-after job m w o Closes has over = none-taken w o has
+run-after job m w o (Finishing d) has over = left-after m w o d has (left-ends m w o d has (not-true (is_left d) over))
+run-after job m w o Disconnecting has over = none-taken w o has
 run-after job m w o x has over = absurd (cc (over))
 
 -- ---- the text is kept until the job is made
@@ -81,17 +86,17 @@ run-after job m w o x has over = absurd (cc (over))
 abbrev Forgets : Running → Type 0
 Forgets z = keeps_text z ≡ false
 
-holding-forgets : (run : Run) (held size : ℕ) (frame : Option ℕ) → Forgets (Runs run (holding held size frame))
+holding-forgets : (run : Run) (held size : ℕ) (frame : Option ℕ) → Forgets (InProgress run (holding held size frame))
 holding-forgets run held size frame = by (nat_lt size CHUNK_BYTES) frame
   where
     by : (t : Bool) (frame : Option ℕ)
-        → Forgets (Runs run (if t then Receives (Some (held, size)) frame else filled held frame))
+        → Forgets (InProgress run (if t then ReadingOutput (Some (held, size)) frame else filled held frame))
     by true frame = refl
     by false None = refl
     by false (Some f) = refl
 
 hearing-forgets : (run : Run) (b c : Bool) (held : Following) (frame : Option ℕ) (a len : ℕ)
-    → Forgets (Runs run (hearing b c held frame a len))
+    → Forgets (InProgress run (hearing b c held frame a len))
 hearing-forgets run true c held frame a len = refl
 hearing-forgets run false false held frame a len = refl
 hearing-forgets run false true None frame a len = holding-forgets run a len frame
@@ -102,50 +107,51 @@ finishing-forgets false true run held = refl
 finishing-forgets false false run held = refl
 finishing-forgets true c run held = refl
 
-step-forgets : (w : Wanted) (run : Run) (s : Step) (r : Reply) (received : List ℕ) → keeps_text (Runs run s) ≡ false
+step-forgets : (w : Wanted) (run : Run) (s : Step) (r : Reply) (received : List ℕ)
+    → keeps_text (InProgress run s) ≡ false
     → Forgets (after_step w run s r received)
-step-forgets w run (Gives write) r received was = absurd (cc (was))
-step-forgets w run (Makes f) r received was = absurd (cc (was))
-step-forgets w run (Hands j f) (reply.Count n) received was = refl
-step-forgets w run (Hands j f) (reply.Refused x) received was =
-    either-way (λ (s : Step). Forgets (Runs run s)) (is_again x) refl refl
-step-forgets w run (Lets j) reply.Done received was = refl
-step-forgets w run Heads (reply.Agg n) received was = refl
-step-forgets w run (Sending (phase.Sent a taken None) frame) reply.Done received was = refl
-step-forgets w run (Sending (phase.Drops a None) frame) reply.Done received was = refl
-step-forgets w run (Receives held frame) (reply.Agg n) [] was = refl
-step-forgets w run (Receives held frame) (reply.Agg n) (b ∷ received) was =
+step-forgets w run (GivingPipe write) r received was = absurd (cc (was))
+step-forgets w run (MakingJob f) r received was = absurd (cc (was))
+step-forgets w run (WritingJob j f) (reply.Count n) received was = refl
+step-forgets w run (WritingJob j f) (reply.Refused x) received was =
+    either-way (λ (s : Step). Forgets (InProgress run s)) (is_again x) refl refl
+step-forgets w run (DroppingJob j) reply.Done received was = refl
+step-forgets w run MakingHead (reply.Agg n) received was = refl
+step-forgets w run (SendingPart (phase.DroppingSent a taken None) frame) reply.Done received was = refl
+step-forgets w run (SendingPart (phase.Aborting a None) frame) reply.Done received was = refl
+step-forgets w run (ReadingOutput held frame) (reply.Agg n) [] was = refl
+step-forgets w run (ReadingOutput held frame) (reply.Agg n) (b ∷ received) was =
     hearing-forgets run run.broken w.chunked held frame n (count_of (b ∷ received))
-step-forgets w run (Receives None frame) (reply.Refused (no.Denied p)) received was = refl
-step-forgets w run (Receives (Some x) frame) (reply.Refused (no.Denied p)) received was = refl
-step-forgets w run (Spills a frame) reply.Done received was = refl
-step-forgets w run (Gathers held size piece len frame) (reply.Agg n) received was =
+step-forgets w run (ReadingOutput None frame) (reply.Refused (no.Denied p)) received was = refl
+step-forgets w run (ReadingOutput (Some x) frame) (reply.Refused (no.Denied p)) received was = refl
+step-forgets w run (DroppingOutput a frame) reply.Done received was = refl
+step-forgets w run (JoiningOutput held size piece len frame) (reply.Agg n) received was =
     holding-forgets run n (both size len) frame
-step-forgets w run (Frames held) (reply.Agg n) received was = refl
-step-forgets w run (Wraps held frame) (reply.Agg n) received was = refl
-step-forgets w run (Trims held chunk len frame) reply.Done received was = refl
-step-forgets w run (Ended a held frame) reply.Done received was = refl
-step-forgets w run (Unholds held frame) reply.Done received was = refl
-step-forgets w run (Stops held None) reply.Done received was = finishing-forgets run.broken w.chunked run held
-step-forgets w run (Stops held (Some f)) reply.Done received was = refl
-step-forgets w run (Unframes f held) reply.Done received was = finishing-forgets run.broken w.chunked run held
-step-forgets w run (Lasts None) (reply.Agg n) received was = refl
-step-forgets w run (Lasts (Some x)) (reply.Agg n) received was = refl
-step-forgets w run (WrapsLast held size frame) (reply.Agg n) received was = refl
-step-forgets w run (TrimsLast held chunk len frame) reply.Done received was = refl
-step-forgets w run (Unwraps frame chunk len) reply.Done received was = refl
-step-forgets w run (Returns write) reply.Done received was = refl
-step-forgets w run (Lapses j) reply.Done received was = refl
-step-forgets w run Fails reply.Done received was = refl
+step-forgets w run (MakingFrame held) (reply.Agg n) received was = refl
+step-forgets w run (FillingFrame held frame) (reply.Agg n) received was = refl
+step-forgets w run (DroppingHeld held chunk len frame) reply.Done received was = refl
+step-forgets w run (DroppingEnd a held frame) reply.Done received was = refl
+step-forgets w run (DiscardingHeld held frame) reply.Done received was = refl
+step-forgets w run (ClosingOutput held None) reply.Done received was = finishing-forgets run.broken w.chunked run held
+step-forgets w run (ClosingOutput held (Some f)) reply.Done received was = refl
+step-forgets w run (DroppingFrame f held) reply.Done received was = finishing-forgets run.broken w.chunked run held
+step-forgets w run (MakingEnd None) (reply.Agg n) received was = refl
+step-forgets w run (MakingEnd (Some x)) (reply.Agg n) received was = refl
+step-forgets w run (FillingEnd held size frame) (reply.Agg n) received was = refl
+step-forgets w run (DroppingLast held chunk len frame) reply.Done received was = refl
+step-forgets w run (DroppingLastFrame frame chunk len) reply.Done received was = refl
+step-forgets w run (ClosingPipe write) reply.Done received was = refl
+step-forgets w run (DiscardingJob j) reply.Done received was = refl
+step-forgets w run Failing reply.Done received was = refl
 step-forgets w run s r received was = refl
 
 -- what keeps it kept it before
 pub keeps-back : (worker : ℕ) (w : Wanted) (y : Running) (r : Reply) (received : List ℕ)
     → keeps_text (after_reply worker w y r received) ≡ true → keeps_text y ≡ true
-keeps-back worker w Awaits r received kept = refl
-keeps-back worker w (Runs run s) r received kept = by (keeps_text (Runs run s)) refl
+keeps-back worker w AwaitingWorker r received kept = refl
+keeps-back worker w (InProgress run s) r received kept = by (keeps_text (InProgress run s)) refl
   where
-    by : (b : Bool) → keeps_text (Runs run s) ≡ b → keeps_text (Runs run s) ≡ true
+    by : (b : Bool) → keeps_text (InProgress run s) ≡ b → keeps_text (InProgress run s) ≡ true
     by true is = is
     by false is = absurd (clash (keeps_text (after_step w run s r received)) kept (step-forgets w run s r received is))
 keeps-back worker w x r received kept = absurd (cc (kept))
@@ -153,6 +159,6 @@ keeps-back worker w x r received kept = absurd (cc (kept))
 -- no call but that for the job tells its text
 pub wants-text : (fd : ℕ) (w : Wanted) (y : Running) (script text : List ℕ) → (keeps_text y ≡ true → script ≡ text)
     → wants (job_of w script) fd w y ≡ wants (job_of w text) fd w y
-wants-text fd w (Runs run (Makes f)) script text kept =
-    ap (λ (t : List ℕ). wants (job_of w t) fd w (Runs run (Makes f))) (kept refl)
+wants-text fd w (InProgress run (MakingJob f)) script text kept =
+    ap (λ (t : List ℕ). wants (job_of w t) fd w (InProgress run (MakingJob f))) (kept refl)
 wants-text fd w y script text kept = refl

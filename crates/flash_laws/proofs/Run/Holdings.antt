@@ -31,12 +31,16 @@ use Rattle.flash_laws.specs.declared.phase.Phase.TheVariants as phase
 use Rattle.flash_laws.specs.declared.script_run.TheConstants.{CHUNK_BYTES}
 use Rattle.flash_laws.specs.declared.script_run.Run.{Run}
 use Rattle.flash_laws.specs.declared.script_run.Step.{Step}
-use Rattle.flash_laws.specs.declared.script_run.Step.TheVariants.{Gives, Makes, Hands, Lets, Heads, Sending, Receives}
-use Rattle.flash_laws.specs.declared.script_run.Step.TheVariants.{Spills, Gathers, Frames, Wraps, Trims, Ended, Unholds}
-use Rattle.flash_laws.specs.declared.script_run.Step.TheVariants.{Stops, Unframes, Lasts, WrapsLast, TrimsLast, Unwraps}
-use Rattle.flash_laws.specs.declared.script_run.Step.TheVariants.{Returns, Lapses, Fails}
+use Rattle.flash_laws.specs.declared.script_run.Step.TheVariants.{GivingPipe, MakingJob, WritingJob, DroppingJob}
+use Rattle.flash_laws.specs.declared.script_run.Step.TheVariants.{MakingHead, SendingPart, ReadingOutput}
+use Rattle.flash_laws.specs.declared.script_run.Step.TheVariants.{DroppingOutput, JoiningOutput, MakingFrame}
+use Rattle.flash_laws.specs.declared.script_run.Step.TheVariants.{FillingFrame, DroppingHeld, DroppingEnd}
+use Rattle.flash_laws.specs.declared.script_run.Step.TheVariants.{DiscardingHeld}
+use Rattle.flash_laws.specs.declared.script_run.Step.TheVariants.{ClosingOutput, DroppingFrame, MakingEnd, FillingEnd}
+use Rattle.flash_laws.specs.declared.script_run.Step.TheVariants.{DroppingLast, DroppingLastFrame}
+use Rattle.flash_laws.specs.declared.script_run.Step.TheVariants.{ClosingPipe, DiscardingJob, Failing}
 use Rattle.flash_laws.specs.declared.script_run.Running.{Running}
-use Rattle.flash_laws.specs.declared.script_run.Running.TheVariants.{Runs, Leaves}
+use Rattle.flash_laws.specs.declared.script_run.Running.TheVariants.{InProgress, Finishing}
 use Rattle.flash_laws.proofs.Moves.{after-done, after-agg, either-way, either-of}
 use Rattle.flash_laws.proofs.Conn.Holdings.{leaves-after_reply}
 use Rattle.flash_laws.proofs.Lists.{clash, later_of, amid, bare, bare-none, former_by, former_of, swapped}
@@ -83,7 +87,7 @@ holding-frame n size frame a u = by (nat_lt size CHUNK_BYTES)
     set None u = absurd (cc (u))
     set (Some f) u = later_of (n == a) (f == a) u
 
-    by : (b : Bool) → step_agg (if b then Receives (Some (n, size)) frame else filled n frame) a ≡ true
+    by : (b : Bool) → step_agg (if b then ReadingOutput (Some (n, size)) frame else filled n frame) a ≡ true
     by true = later_of (n == a) (has_frame frame a) u
     by false = set frame u
 
@@ -94,7 +98,7 @@ holding-new n size frame a u = by (nat_lt size CHUNK_BYTES)
     set None = u
     set (Some f) = former_of (n == a) (f == a) u
 
-    by : (b : Bool) → step_agg (if b then Receives (Some (n, size)) frame else filled n frame) a ≡ true
+    by : (b : Bool) → step_agg (if b then ReadingOutput (Some (n, size)) frame else filled n frame) a ≡ true
     by true = former_of (n == a) (has_frame frame a) u
     by false = set frame
 
@@ -151,41 +155,43 @@ module _ (job : ℕ → List ℕ) (m : State) (fd : ℕ) (w : Wanted) (o : Progr
   LeavesAt s r y = step_agg s a ≡ true → uses_agg y a ≡ false → Gone (step_wants job fd w run s) r a
 
   sending : (d : Phase) (frame : Option ℕ) (r : Reply) → HasPart m w o run d frame
-      → LeavesAt (Sending d frame) r (after_sending run d frame r)
-  sending (phase.Sent b taken None) frame reply.Done h u unused =
+      → LeavesAt (SendingPart d frame) r (after_sending run d frame r)
+  sending (phase.DroppingSent b taken None) frame reply.Done h u unused =
       apart ((b == a) || false) false (has_frame frame a) u unused (λ x y. (bare (b == a) x, refl))
-  sending (phase.Sent b taken None) frame r h u unused =
-      absurd (clash (step_agg (Sending (phase.Sent b taken None) frame) a) u unused)
-  sending (phase.Drops b None) frame reply.Done h u unused =
+  sending (phase.DroppingSent b taken None) frame r h u unused =
+      absurd (clash (step_agg (SendingPart (phase.DroppingSent b taken None) frame) a) u unused)
+  sending (phase.Aborting b None) frame reply.Done h u unused =
       apart ((b == a) || false) false (has_frame frame a) u unused (λ x y. (bare (b == a) x, refl))
-  sending (phase.Drops b None) frame r h u unused =
-      absurd (clash (step_agg (Sending (phase.Drops b None) frame) a) u unused)
-  sending (phase.Sends s) frame r h u unused =
-      apart (conn.uses_agg (phase.Sends s) a) (conn.uses_agg (conn.after_send s r) a)
+  sending (phase.Aborting b None) frame r h u unused =
+      absurd (clash (step_agg (SendingPart (phase.Aborting b None) frame) a) u unused)
+  sending (phase.SendingWhole s) frame r h u unused =
+      apart (conn.uses_agg (phase.SendingWhole s) a) (conn.uses_agg (conn.after_send s r) a)
       (has_frame frame a) u unused
-      (leaves-after_reply fd [] (serve w) (phase.Sends s) r [] a)
-  sending (phase.Cuts s) frame r h u unused =
-      apart (conn.uses_agg (phase.Cuts s) a)
+      (leaves-after_reply fd [] (serve w) (phase.SendingWhole s) r [] a)
+  sending (phase.CuttingPiece s) frame r h u unused =
+      apart (conn.uses_agg (phase.CuttingPiece s) a)
       (conn.uses_agg (conn.after_cut s r) a) (has_frame frame a) u unused
-      (leaves-after_reply fd [] (serve w) (phase.Cuts s) r [] a)
-  sending (phase.Offers s piece) frame r h u unused =
-      apart (conn.uses_agg (phase.Offers s piece) a)
+      (leaves-after_reply fd [] (serve w) (phase.CuttingPiece s) r [] a)
+  sending (phase.SendingPiece s piece) frame r h u unused =
+      apart (conn.uses_agg (phase.SendingPiece s piece) a)
       (conn.uses_agg (conn.after_offer s piece r) a) (has_frame frame a) u unused
-      (leaves-after_reply fd [] (serve w) (phase.Offers s piece) r [] a)
-  sending (phase.Swaps s piece) frame r h u unused =
-      apart (conn.uses_agg (phase.Swaps s piece) a)
+      (leaves-after_reply fd [] (serve w) (phase.SendingPiece s piece) r [] a)
+  sending (phase.DroppingPiece s piece) frame r h u unused =
+      apart (conn.uses_agg (phase.DroppingPiece s piece) a)
       (conn.uses_agg (conn.after_swap s piece r) a) (has_frame frame a) u unused
-      (leaves-after_reply fd [] (serve w) (phase.Swaps s piece) r [] a)
-  sending (phase.Breaks piece b None) frame r h u unused =
-      apart (conn.uses_agg (phase.Breaks piece b None) a) (conn.uses_agg (conn.after_break piece b None r) a)
+      (leaves-after_reply fd [] (serve w) (phase.DroppingPiece s piece) r [] a)
+  sending (phase.AbortingPiece piece b None) frame r h u unused =
+      apart (conn.uses_agg (phase.AbortingPiece piece b None) a) (conn.uses_agg (conn.after_break piece b None r) a)
       (has_frame frame a) u unused
-      (leaves-after_reply fd [] (serve w) (phase.Breaks piece b None) r [] a)
+      (leaves-after_reply fd [] (serve w) (phase.AbortingPiece piece b None) r [] a)
   sending d frame r h u unused = absurd h.is_part
 
   receives : (held : Following) (frame : Option ℕ) (r : Reply) (received : List ℕ) → HasReceived m w o run held frame
-      → LeavesAt (Receives held frame) r (after_output w run held frame r received)
+      → LeavesAt (ReadingOutput held frame) r (after_output w run held frame r received)
   receives held frame (reply.Agg n) [] h u unused =
-      absurd (clash (step_agg (Ended n held frame) a) (later_of (n == a) (has_followed held a || has_frame frame a) u)
+      absurd
+      (clash (step_agg (DroppingEnd n held frame) a)
+      (later_of (n == a) (has_followed held a || has_frame frame a) u)
       unused)
   receives held frame (reply.Agg n) (b ∷ received) h u unused =
       absurd (clash (step_agg (hearing run.broken w.chunked held frame n (count_of (b ∷ received))) a)
@@ -193,36 +199,37 @@ module _ (job : ℕ → List ℕ) (m : State) (fd : ℕ) (w : Wanted) (o : Progr
       u) unused)
   receives held frame (reply.Refused (no.Denied p)) received h u unused =
       absurd (clash (step_agg (unread held frame) a) (unread-uses held frame a u) unused)
-  receives held frame r received h u unused = absurd (clash (step_agg (Receives held frame) a) u unused)
+  receives held frame r received h u unused = absurd (clash (step_agg (ReadingOutput held frame) a) u unused)
 
   stops : (held : Following) (frame : Option ℕ) (r : Reply) (received : List ℕ) → HasAll m w o run held frame
-      → LeavesAt (Stops held frame) r (after_step w run (Stops held frame) r received)
+      → LeavesAt (ClosingOutput held frame) r (after_step w run (ClosingOutput held frame) r received)
   stops held None reply.Done received h u unused =
       absurd
       (clash (has_followed held a) (bare (has_followed held a) u)
       (finishing-uses m w o run run.broken w.chunked held h.bytes a h.has.holds h.ends refl unused))
   stops held (Some f) reply.Done received h u unused =
-      absurd (clash (step_agg (Unframes f held) a) (swapped (has_followed held a) (f == a) u) unused)
-  stops held frame r received h u unused = absurd (clash (step_agg (Stops held frame) a) u unused)
+      absurd (clash (step_agg (DroppingFrame f held) a) (swapped (has_followed held a) (f == a) u) unused)
+  stops held frame r received h u unused = absurd (clash (step_agg (ClosingOutput held frame) a) u unused)
 
   unframes : (f : ℕ) (held : Following) (r : Reply) (received : List ℕ) → HasAll m w o run held (Some f)
-      → LeavesAt (Unframes f held) r (after_step w run (Unframes f held) r received)
+      → LeavesAt (DroppingFrame f held) r (after_step w run (DroppingFrame f held) r received)
   unframes f held reply.Done received h u unused = (
     former_by (f == a) (has_followed held a) u
         (finishing-uses m w o run run.broken w.chunked held h.bytes a h.has.holds h.ends refl unused),
     refl,
   )
-  unframes f held r received h u unused = absurd (clash (step_agg (Unframes f held) a) u unused)
+  unframes f held r received h u unused = absurd (clash (step_agg (DroppingFrame f held) a) u unused)
 
   lasts : (held : Following) (r : Reply) (received : List ℕ)
-      → LeavesAt (Lasts held) r (after_step w run (Lasts held) r received)
+      → LeavesAt (MakingEnd held) r (after_step w run (MakingEnd held) r received)
   lasts None r received u unused = absurd (cc (u))
   lasts (Some x) (reply.Agg n) received u unused =
-      absurd (clash (step_agg (WrapsLast x.0 x.1 n) a) (former_of (x.0 == a) (n == a) u) unused)
-  lasts (Some x) r received u unused = absurd (clash (step_agg (Lasts (Some x)) a) u unused)
+      absurd (clash (step_agg (FillingEnd x.0 x.1 n) a) (former_of (x.0 == a) (n == a) u) unused)
+  lasts (Some x) r received u unused = absurd (clash (step_agg (MakingEnd (Some x)) a) u unused)
 
   gathers : (held size piece len : ℕ) (frame : Option ℕ) (r : Reply) (received : List ℕ)
-      → LeavesAt (Gathers held size piece len frame) r (after_step w run (Gathers held size piece len frame) r received)
+      → LeavesAt (JoiningOutput held size piece len frame) r
+      (after_step w run (JoiningOutput held size piece len frame) r received)
   gathers held size piece len frame (reply.Agg n) received u unused =
       (by (has_frame frame a) refl (held == a) (piece == a) u, refl)
     where
@@ -233,64 +240,67 @@ module _ (job : ℕ → List ℕ) (m : State) (fd : ℕ) (w : Wanted) (o : Progr
       by false is true y u = refl
       by false is false y u = bare y u
   gathers held size piece len frame r received u unused =
-      absurd (clash (step_agg (Gathers held size piece len frame) a) u unused)
+      absurd (clash (step_agg (JoiningOutput held size piece len frame) a) u unused)
 
-  hands : (j f : ℕ) (r : Reply) (received : List ℕ) → LeavesAt (Hands j f) r (after_step w run (Hands j f) r received)
+  hands : (j f : ℕ) (r : Reply) (received : List ℕ)
+      → LeavesAt (WritingJob j f) r (after_step w run (WritingJob j f) r received)
   hands j f (reply.Count n) received u unused = absurd (clash (j == a) u unused)
   hands j f (reply.Refused x) received u unused =
-      absurd (either-of (λ (s : Step). step_agg s a ≡ false → ⊥) (is_again x) (Hands j f) (Lapses j)
+      absurd (either-of (λ (s : Step). step_agg s a ≡ false → ⊥) (is_again x) (WritingJob j f) (DiscardingJob j)
       (λ unused. clash (j == a) u unused) (λ unused. clash (j == a) u unused) unused)
   hands j f r received u unused = absurd (clash (j == a) u unused)
 
   step-leaves : (s : Step) (r : Reply) (received : List ℕ) → HasStep job m w o run s
       → LeavesAt s r (after_step w run s r received)
-  step-leaves (Gives write) r received has u unused = absurd (cc (u))
-  step-leaves (Makes f) r received has u unused = absurd (cc (u))
-  step-leaves Heads r received has u unused = absurd (cc (u))
-  step-leaves (Returns write) r received has u unused = absurd (cc (u))
-  step-leaves Fails r received has u unused = absurd (cc (u))
-  step-leaves (Hands j f) r received has u unused = hands j f r received u unused
-  step-leaves (Lets j) reply.Done received has u unused = (u, refl)
-  step-leaves (Sending d frame) r received has u unused = sending d frame r has u unused
-  step-leaves (Receives held frame) r received has u unused = receives held frame r received has u unused
-  step-leaves (Spills b frame) reply.Done received has u unused =
+  step-leaves (GivingPipe write) r received has u unused = absurd (cc (u))
+  step-leaves (MakingJob f) r received has u unused = absurd (cc (u))
+  step-leaves MakingHead r received has u unused = absurd (cc (u))
+  step-leaves (ClosingPipe write) r received has u unused = absurd (cc (u))
+  step-leaves Failing r received has u unused = absurd (cc (u))
+  step-leaves (WritingJob j f) r received has u unused = hands j f r received u unused
+  step-leaves (DroppingJob j) reply.Done received has u unused = (u, refl)
+  step-leaves (SendingPart d frame) r received has u unused = sending d frame r has u unused
+  step-leaves (ReadingOutput held frame) r received has u unused = receives held frame r received has u unused
+  step-leaves (DroppingOutput b frame) reply.Done received has u unused =
       (former_by (b == a) (has_frame frame a) u unused, refl)
-  step-leaves (Gathers held size piece len frame) r received has u unused =
+  step-leaves (JoiningOutput held size piece len frame) r received has u unused =
       gathers held size piece len frame r received u unused
-  step-leaves (Frames held) (reply.Agg n) received has u unused =
-      absurd (clash (step_agg (Wraps held n) a) (former_of (held == a) (n == a) u) unused)
-  step-leaves (Wraps held frame) (reply.Agg n) received has u unused =
-      absurd (clash (step_agg (Trims held n (count_of received) frame) a) (amid (held == a) (n == a) (frame == a) u)
+  step-leaves (MakingFrame held) (reply.Agg n) received has u unused =
+      absurd (clash (step_agg (FillingFrame held n) a) (former_of (held == a) (n == a) u) unused)
+  step-leaves (FillingFrame held frame) (reply.Agg n) received has u unused =
+      absurd
+      (clash (step_agg (DroppingHeld held n (count_of received) frame) a) (amid (held == a) (n == a) (frame == a) u)
       unused)
-  step-leaves (Trims held chunk len frame) reply.Done received has u unused =
+  step-leaves (DroppingHeld held chunk len frame) reply.Done received has u unused =
       (former_by (held == a) ((chunk == a) || (frame == a)) u (plain (chunk == a) (frame == a) unused), refl)
-  step-leaves (Ended b held frame) reply.Done received has u unused =
+  step-leaves (DroppingEnd b held frame) reply.Done received has u unused =
       (former_by (b == a) (has_followed held a || has_frame frame a) u unused, refl)
-  step-leaves (Unholds held frame) reply.Done received has u unused =
+  step-leaves (DiscardingHeld held frame) reply.Done received has u unused =
       (former_by (held == a) (has_frame frame a) u unused, refl)
-  step-leaves (Stops held frame) r received has u unused = stops held frame r received has.1 u unused
-  step-leaves (Unframes f held) r received has u unused = unframes f held r received has u unused
-  step-leaves (Lasts held) r received has u unused = lasts held r received u unused
-  step-leaves (WrapsLast held size frame) (reply.Agg n) received has u unused =
-      absurd (clash (step_agg (TrimsLast held n (count_of received) frame) a) (amid (held == a) (n == a) (frame == a) u)
+  step-leaves (ClosingOutput held frame) r received has u unused = stops held frame r received has.1 u unused
+  step-leaves (DroppingFrame f held) r received has u unused = unframes f held r received has u unused
+  step-leaves (MakingEnd held) r received has u unused = lasts held r received u unused
+  step-leaves (FillingEnd held size frame) (reply.Agg n) received has u unused =
+      absurd
+      (clash (step_agg (DroppingLast held n (count_of received) frame) a) (amid (held == a) (n == a) (frame == a) u)
       unused)
-  step-leaves (TrimsLast held chunk len frame) reply.Done received has u unused =
+  step-leaves (DroppingLast held chunk len frame) reply.Done received has u unused =
       (former_by (held == a) ((chunk == a) || (frame == a)) u (swapped-none (chunk == a) (frame == a) unused), refl)
-  step-leaves (Unwraps frame chunk len) reply.Done received has u unused =
+  step-leaves (DroppingLastFrame frame chunk len) reply.Done received has u unused =
       (former_by (frame == a) (chunk == a) u (bare-none (chunk == a) unused), refl)
-  step-leaves (Lapses j) reply.Done received has u unused = (u, refl)
+  step-leaves (DiscardingJob j) reply.Done received has u unused = (u, refl)
   step-leaves s r received has u unused = absurd (clash (step_agg s a) u unused)
 
 pub left : (come : AggregatesComeAndGo) (job : ℕ → List ℕ) (m n : State) (fd worker : ℕ) (w : Wanted) (x : Running)
     (o : Progress) (r : Reply) (received : List ℕ) (a : ℕ)
     → IsOrderly m → HasRun job m w o x → StepsTo m (event.Call server (wants job fd w x)) r n
     → uses_agg x a ≡ true → uses_agg (after_reply worker w x r received) a ≡ false → readable_at n server a ≡ None
-left come job m n fd worker w (Runs run s) o r received a order has step u unused =
+left come job m n fd worker w (InProgress run s) o r received a order has step u unused =
     let gives = step-leaves job m fd w o run a s r received has.1 u unused in
-    come.gone m n (event.Call server (wants job fd w (Runs run s))) r server a order step gives.0 gives.1
-left come job m n fd worker w (Leaves d) o r received a order has step u unused =
+    come.gone m n (event.Call server (wants job fd w (InProgress run s))) r server a order step gives.0 gives.1
+left come job m n fd worker w (Finishing d) o r received a order has step u unused =
     let gives = leaves-after_reply fd [] (serve w) d r received a u unused in
-    come.gone m n (event.Call server (wants job fd w (Leaves d))) r server a order step gives.0 gives.1
+    come.gone m n (event.Call server (wants job fd w (Finishing d))) r server a order step gives.0 gives.1
 left come job m n fd worker w x o r received a order has step u unused = absurd (cc (u))
 
 -- ---- an end of the pipe that it has no more is closed, or given away
@@ -313,21 +323,21 @@ module _ (own : CallsServeTheirDomain) (job : ℕ → List ℕ) (m n : State) (f
       by (reply.Refused x) did unused = absurd (clash (ends_of run s g) u (sym (same x) ∙ unused))
       by r did unused = absurd did
 
-  gives : (write : ℕ) (r : Reply) (received : List ℕ) → HasStep job m w o run (Gives write)
-      → ShutsAt (Gives write) r (after_step w run (Gives write) r received)
+  gives : (write : ℕ) (r : Reply) (received : List ℕ) → HasStep job m w o run (GivingPipe write)
+      → ShutsAt (GivingPipe write) r (after_step w run (GivingPipe write) r received)
   gives write r received has step u unused =
       by r (own.gives_fd m n server write (worker_domain run.worker) (on.WriteEnd has.0.pipe) r has.0.write_end step)
       unused
     where
-      again : (b : Bool) → has_end (Runs run (if b then Gives write else Returns write)) g ≡ false → ⊥
-      again true unused = clash (ends_of run (Gives write) g) u unused
-      again false unused = clash (ends_of run (Gives write) g) u unused
+      again : (b : Bool) → has_end (InProgress run (if b then GivingPipe write else ClosingPipe write)) g ≡ false → ⊥
+      again true unused = clash (ends_of run (GivingPipe write) g) u unused
+      again false unused = clash (ends_of run (GivingPipe write) g) u unused
 
       other : server ≡ worker_domain run.worker → ⊥
       other is = absurd (omega (arith, is))
 
       by : (r : Reply) → caller.GivesFd m server write (worker_domain run.worker) (on.WriteEnd has.0.pipe) r n
-          → has_end (Runs run (after_give write r)) g ≡ false → descriptor n server g ≡ None
+          → has_end (InProgress run (after_give write r)) g ≡ false → descriptor n server g ≡ None
       by (reply.Fd f) did unused =
           ap (λ z. descriptor n server z)
           (sym (same-number write g (later_by (run.from == g) (write == g) u (none (run.from == g) unused))))
@@ -340,18 +350,18 @@ module _ (own : CallsServeTheirDomain) (job : ℕ → List ℕ) (m n : State) (f
       by r did unused = absurd did
 
   holding-ends : (held size : ℕ) (frame : Option ℕ)
-      → has_end (Runs run (holding held size frame)) g ≡ ((run.from == g) || false)
+      → has_end (InProgress run (holding held size frame)) g ≡ ((run.from == g) || false)
   holding-ends held size frame = by (nat_lt size CHUNK_BYTES) frame
     where
       by : (b : Bool) (frame : Option ℕ)
-          → has_end (Runs run (if b then Receives (Some (held, size)) frame else filled held frame)) g
+          → has_end (InProgress run (if b then ReadingOutput (Some (held, size)) frame else filled held frame)) g
           ≡ ((run.from == g) || false)
       by true frame = refl
       by false None = refl
       by false (Some f) = refl
 
   hearing-ends : (c d : Bool) (held : Following) (frame : Option ℕ) (k len : ℕ)
-      → has_end (Runs run (hearing c d held frame k len)) g ≡ ((run.from == g) || false)
+      → has_end (InProgress run (hearing c d held frame k len)) g ≡ ((run.from == g) || false)
   hearing-ends true d held frame k len = refl
   hearing-ends false false held frame k len = refl
   hearing-ends false true None frame k len = holding-ends k len frame
@@ -359,8 +369,8 @@ module _ (own : CallsServeTheirDomain) (job : ℕ → List ℕ) (m n : State) (f
 
   sending-ends : (d : Phase) (frame : Option ℕ) (r : Reply)
       → has_end (after_sending run d frame r) g ≡ ((run.from == g) || false)
-  sending-ends (phase.Sent b taken None) frame reply.Done = refl
-  sending-ends (phase.Drops b None) frame reply.Done = refl
+  sending-ends (phase.DroppingSent b taken None) frame reply.Done = refl
+  sending-ends (phase.Aborting b None) frame reply.Done = refl
   sending-ends d frame r = refl
 
   receives-ends : (held : Following) (frame : Option ℕ) (r : Reply) (received : List ℕ)
@@ -373,15 +383,15 @@ module _ (own : CallsServeTheirDomain) (job : ℕ → List ℕ) (m n : State) (f
   receives-ends held frame r received = refl
 
   hands-ends : (j f : ℕ) (r : Reply) (received : List ℕ)
-      → has_end (after_step w run (Hands j f) r received) g ≡ ((run.from == g) || false)
+      → has_end (after_step w run (WritingJob j f) r received) g ≡ ((run.from == g) || false)
   hands-ends j f (reply.Count k) received = refl
   hands-ends j f (reply.Refused x) received =
-      either-way (λ (s : Step). has_end (Runs run s) g ≡ ((run.from == g) || false)) (is_again x) refl refl
+      either-way (λ (s : Step). has_end (InProgress run s) g ≡ ((run.from == g) || false)) (is_again x) refl refl
   hands-ends j f r received = refl
 
   -- the read end stays, and the write end is not there
   abbrev Stays : Step → Type 0
-  Stays t = has_end (Runs run t) g ≡ ((run.from == g) || false)
+  Stays t = has_end (InProgress run t) g ≡ ((run.from == g) || false)
 
   kept : (s : Step) (r : Reply) (received : List ℕ) → ends_of run s g ≡ true
       → has_end (after_step w run s r received) g ≡ ends_of run s g
@@ -390,48 +400,53 @@ module _ (own : CallsServeTheirDomain) (job : ℕ → List ℕ) (m n : State) (f
 
   step-shuts : (s : Step) (r : Reply) (received : List ℕ) → HasStep job m w o run s
       → ShutsAt s r (after_step w run s r received)
-  step-shuts (Gives write) r received has step u unused = gives write r received has step u unused
-  step-shuts (Returns write) r received has step u unused =
-      closed write (Returns write) r (λ k. after_step w run (Returns write) k received) step (λ x. refl)
+  step-shuts (GivingPipe write) r received has step u unused = gives write r received has step u unused
+  step-shuts (ClosingPipe write) r received has step u unused =
+      closed write (ClosingPipe write) r (λ k. after_step w run (ClosingPipe write) k received) step (λ x. refl)
       (λ none. later_by (run.from == g) (write == g) u (bare-none (run.from == g) none)) u unused
-  step-shuts (Stops held frame) r received has step u unused =
-      closed run.from (Stops held frame) r (λ k. after_step w run (Stops held frame) k received) step (λ x. refl)
+  step-shuts (ClosingOutput held frame) r received has step u unused =
+      closed run.from (ClosingOutput held frame) r (λ k. after_step w run (ClosingOutput held frame) k received) step
+      (λ x. refl)
       (λ none. bare (run.from == g) u) u unused
-  step-shuts Fails r received has step u unused =
-      closed run.from Fails r (λ k. after_step w run Fails k received) step (λ x. refl) (λ none. bare (run.from == g) u)
+  step-shuts Failing r received has step u unused =
+      closed run.from Failing r (λ k. after_step w run Failing k received) step (λ x. refl)
+      (λ none. bare (run.from == g) u)
       u unused
-  step-shuts (Makes f) r received has step u unused =
-      kept (Makes f) r received u (after-agg Stays r refl (λ k. refl)) unused
-  step-shuts (Hands j f) r received has step u unused = kept (Hands j f) r received u (hands-ends j f r received) unused
-  step-shuts (Lets j) r received has step u unused = kept (Lets j) r received u (after-done Stays r refl refl) unused
-  step-shuts Heads r received has step u unused = kept Heads r received u (after-agg Stays r refl (λ k. refl)) unused
-  step-shuts (Sending d frame) r received has step u unused =
-      kept (Sending d frame) r received u (sending-ends d frame r) unused
-  step-shuts (Receives held frame) r received has step u unused =
-      kept (Receives held frame) r received u (receives-ends held frame r received) unused
-  step-shuts (Spills b frame) r received has step u unused =
-      kept (Spills b frame) r received u (after-done Stays r refl refl) unused
-  step-shuts (Gathers held size piece len frame) r received has step u unused =
-      kept (Gathers held size piece len frame) r received u
+  step-shuts (MakingJob f) r received has step u unused =
+      kept (MakingJob f) r received u (after-agg Stays r refl (λ k. refl)) unused
+  step-shuts (WritingJob j f) r received has step u unused =
+      kept (WritingJob j f) r received u (hands-ends j f r received) unused
+  step-shuts (DroppingJob j) r received has step u unused =
+      kept (DroppingJob j) r received u (after-done Stays r refl refl) unused
+  step-shuts MakingHead r received has step u unused =
+      kept MakingHead r received u (after-agg Stays r refl (λ k. refl)) unused
+  step-shuts (SendingPart d frame) r received has step u unused =
+      kept (SendingPart d frame) r received u (sending-ends d frame r) unused
+  step-shuts (ReadingOutput held frame) r received has step u unused =
+      kept (ReadingOutput held frame) r received u (receives-ends held frame r received) unused
+  step-shuts (DroppingOutput b frame) r received has step u unused =
+      kept (DroppingOutput b frame) r received u (after-done Stays r refl refl) unused
+  step-shuts (JoiningOutput held size piece len frame) r received has step u unused =
+      kept (JoiningOutput held size piece len frame) r received u
       (after-agg Stays r refl (λ k. holding-ends k (both size len) frame)) unused
-  step-shuts (Frames held) r received has step u unused =
-      kept (Frames held) r received u (after-agg Stays r refl (λ k. refl)) unused
-  step-shuts (Wraps held frame) r received has step u unused =
-      kept (Wraps held frame) r received u (after-agg Stays r refl (λ k. refl)) unused
-  step-shuts (Trims held chunk len frame) r received has step u unused =
-      kept (Trims held chunk len frame) r received u (after-done Stays r refl refl) unused
-  step-shuts (Ended b held frame) r received has step u unused =
-      kept (Ended b held frame) r received u (after-done Stays r refl refl) unused
-  step-shuts (Unholds held frame) r received has step u unused =
-      kept (Unholds held frame) r received u (after-done Stays r refl refl) unused
-  step-shuts (Lapses j) r received has step u unused =
-      kept (Lapses j) r received u (after-done Stays r refl refl) unused
+  step-shuts (MakingFrame held) r received has step u unused =
+      kept (MakingFrame held) r received u (after-agg Stays r refl (λ k. refl)) unused
+  step-shuts (FillingFrame held frame) r received has step u unused =
+      kept (FillingFrame held frame) r received u (after-agg Stays r refl (λ k. refl)) unused
+  step-shuts (DroppingHeld held chunk len frame) r received has step u unused =
+      kept (DroppingHeld held chunk len frame) r received u (after-done Stays r refl refl) unused
+  step-shuts (DroppingEnd b held frame) r received has step u unused =
+      kept (DroppingEnd b held frame) r received u (after-done Stays r refl refl) unused
+  step-shuts (DiscardingHeld held frame) r received has step u unused =
+      kept (DiscardingHeld held frame) r received u (after-done Stays r refl refl) unused
+  step-shuts (DiscardingJob j) r received has step u unused =
+      kept (DiscardingJob j) r received u (after-done Stays r refl refl) unused
   step-shuts s r received has step u unused = absurd (cc (u))
 
 pub shut : (own : CallsServeTheirDomain) (job : ℕ → List ℕ) (m n : State) (fd worker : ℕ) (w : Wanted) (x : Running)
     (o : Progress) (r : Reply) (received : List ℕ) (g : ℕ)
     → HasRun job m w o x → StepsTo m (event.Call server (wants job fd w x)) r n
     → has_end x g ≡ true → has_end (after_reply worker w x r received) g ≡ false → descriptor n server g ≡ None
-shut own job m n fd worker w (Runs run s) o r received g has step u unused =
+shut own job m n fd worker w (InProgress run s) o r received g has step u unused =
     step-shuts own job m n fd w o run g s r received has.1 step u unused
 shut own job m n fd worker w x o r received g has step u unused = absurd (cc (u))

@@ -26,12 +26,17 @@ use Rattle.flash_laws.specs.declared.phase.Phase.TheVariants as phase
 use Rattle.flash_laws.specs.declared.script_run.TheConstants.{CHUNK_BYTES}
 use Rattle.flash_laws.specs.declared.script_run.Run.{Run}
 use Rattle.flash_laws.specs.declared.script_run.Step.{Step}
-use Rattle.flash_laws.specs.declared.script_run.Step.TheVariants.{Gives, Makes, Hands, Lets, Heads, Sending, Receives}
-use Rattle.flash_laws.specs.declared.script_run.Step.TheVariants.{Spills, Gathers, Frames, Wraps, Trims, Ended, Unholds}
-use Rattle.flash_laws.specs.declared.script_run.Step.TheVariants.{Stops, Unframes, Lasts, WrapsLast, TrimsLast, Unwraps}
-use Rattle.flash_laws.specs.declared.script_run.Step.TheVariants.{Returns, Lapses, Fails}
+use Rattle.flash_laws.specs.declared.script_run.Step.TheVariants.{GivingPipe, MakingJob, WritingJob, DroppingJob}
+use Rattle.flash_laws.specs.declared.script_run.Step.TheVariants.{MakingHead, SendingPart, ReadingOutput}
+use Rattle.flash_laws.specs.declared.script_run.Step.TheVariants.{DroppingOutput, JoiningOutput, MakingFrame}
+use Rattle.flash_laws.specs.declared.script_run.Step.TheVariants.{FillingFrame, DroppingHeld, DroppingEnd}
+use Rattle.flash_laws.specs.declared.script_run.Step.TheVariants.{DiscardingHeld}
+use Rattle.flash_laws.specs.declared.script_run.Step.TheVariants.{ClosingOutput, DroppingFrame, MakingEnd, FillingEnd}
+use Rattle.flash_laws.specs.declared.script_run.Step.TheVariants.{DroppingLast, DroppingLastFrame}
+use Rattle.flash_laws.specs.declared.script_run.Step.TheVariants.{ClosingPipe, DiscardingJob, Failing}
 use Rattle.flash_laws.specs.declared.script_run.Running.{Running}
-use Rattle.flash_laws.specs.declared.script_run.Running.TheVariants.{Awaits, Runs, Leaves, Closes}
+use Rattle.flash_laws.specs.declared.script_run.Running.TheVariants.{AwaitingWorker, InProgress, Finishing}
+use Rattle.flash_laws.specs.declared.script_run.Running.TheVariants.{Disconnecting}
 use Rattle.flash_laws.proofs.Conn.DoneCalls.{moved}
 use Rattle.flash_laws.proofs.Conn.Repeats.{drops, closes, makes, joins, replaces, reads, gives, writes, pipes}
 use Rattle.flash_laws.proofs.Run.Rest.{is-rest}
@@ -39,9 +44,9 @@ use Rattle.flash_laws.proofs.Lists.{not-false}
 
 -- the phase of what is sent
 abbrev phase_of : Running → Phase
-phase_of (Runs run (Sending d frame)) = d
-phase_of (Leaves d) = d
-phase_of x = phase.Over
+phase_of (InProgress run (SendingPart d frame)) = d
+phase_of (Finishing d) = d
+phase_of x = phase.Closed
 
 -- ---- a part, or what is left
 
@@ -54,35 +59,36 @@ sent_phase m n w fd expected d r received is step same =
     moved m n fd [] (serve w) d r received (open-yet d is) step same
   where
     open-yet : (d : Phase) → IsSending m expected d → is_closing d ≡ false
-    open-yet phase.Closes is = absurd is.0
-    open-yet phase.Over is = absurd is.0
+    open-yet phase.Disconnecting is = absurd is.0
+    open-yet phase.Closed is = absurd is.0
     open-yet d is = refl
 
 sending : (m n : State) (w : Wanted) (fd : ℕ) (expected : List ℕ) (run : Run) (d : Phase) (frame : Option ℕ) (r : Reply)
     → IsPart m (sent_agg d) expected → taken_of d ≤ length expected
     → StepsTo m (event.Call server (conn.wants fd (in_phase w d))) r n
-    → after_sending run d frame r ≡ Runs run (Sending d frame)
+    → after_sending run d frame r ≡ InProgress run (SendingPart d frame)
     → may_repeat (conn.wants fd (in_phase w d)) r ≡ true
-sending m n w fd expected run (phase.Sent a taken None) frame r is within step same =
-    drops m n (Runs run (Sending (phase.Sent a taken None) frame))
-    (λ z. after_sending run (phase.Sent a taken None) frame z) a r step (λ e. cc (e)) same
-sending m n w fd expected run (phase.Drops a None) frame r is within step same =
-    drops m n (Runs run (Sending (phase.Drops a None) frame)) (λ z. after_sending run (phase.Drops a None) frame z) a r
+sending m n w fd expected run (phase.DroppingSent a taken None) frame r is within step same =
+    drops m n (InProgress run (SendingPart (phase.DroppingSent a taken None) frame))
+    (λ z. after_sending run (phase.DroppingSent a taken None) frame z) a r step (λ e. cc (e)) same
+sending m n w fd expected run (phase.Aborting a None) frame r is within step same =
+    drops m n (InProgress run (SendingPart (phase.Aborting a None) frame))
+    (λ z. after_sending run (phase.Aborting a None) frame z) a r
     step (λ e. cc (e)) same
-sending m n w fd expected run (phase.Sends s) frame r is within step same =
-    sent_phase m n w fd expected (phase.Sends s) r [] (is, within) step
+sending m n w fd expected run (phase.SendingWhole s) frame r is within step same =
+    sent_phase m n w fd expected (phase.SendingWhole s) r [] (is, within) step
     (ap (λ (z : Running). phase_of z) same)
-sending m n w fd expected run (phase.Cuts s) frame r is within step same =
-    sent_phase m n w fd expected (phase.Cuts s) r [] (is, within) step
+sending m n w fd expected run (phase.CuttingPiece s) frame r is within step same =
+    sent_phase m n w fd expected (phase.CuttingPiece s) r [] (is, within) step
     (ap (λ (z : Running). phase_of z) same)
-sending m n w fd expected run (phase.Offers s piece) frame r is within step same =
-    sent_phase m n w fd expected (phase.Offers s piece) r [] (is, within) step
+sending m n w fd expected run (phase.SendingPiece s piece) frame r is within step same =
+    sent_phase m n w fd expected (phase.SendingPiece s piece) r [] (is, within) step
     (ap (λ (z : Running). phase_of z) same)
-sending m n w fd expected run (phase.Swaps s piece) frame r is within step same =
-    sent_phase m n w fd expected (phase.Swaps s piece) r [] (is, within) step
+sending m n w fd expected run (phase.DroppingPiece s piece) frame r is within step same =
+    sent_phase m n w fd expected (phase.DroppingPiece s piece) r [] (is, within) step
     (ap (λ (z : Running). phase_of z) same)
-sending m n w fd expected run (phase.Breaks piece a None) frame r is within step same =
-    sent_phase m n w fd expected (phase.Breaks piece a None) r [] (is, within) step
+sending m n w fd expected run (phase.AbortingPiece piece a None) frame r is within step same =
+    sent_phase m n w fd expected (phase.AbortingPiece piece a None) r [] (is, within) step
     (ap (λ (z : Running). phase_of z) same)
 sending m n w fd expected run d frame r is within step same = absurd is
 
@@ -90,126 +96,143 @@ sending m n w fd expected run d frame r is within step same = absurd is
 
 module _ (run : Run) where
   holding-not : (held size : ℕ) (frame : Option ℕ) (a b c d : ℕ) (f : Option ℕ)
-      → Runs run (holding held size frame) ≡ Runs run (Gathers a b c d f) → ⊥
+      → InProgress run (holding held size frame) ≡ InProgress run (JoiningOutput a b c d f) → ⊥
   holding-not held size frame a b c d f same = by (nat_lt size CHUNK_BYTES) frame same
     where
       by : (t : Bool) (frame : Option ℕ)
-          → Runs run (if t then Receives (Some (held, size)) frame else filled held frame)
-          ≡ Runs run (Gathers a b c d f) → ⊥
+          → InProgress run (if t then ReadingOutput (Some (held, size)) frame else filled held frame)
+          ≡ InProgress run (JoiningOutput a b c d f) → ⊥
       by true frame same = cc (same)
       by false None same = cc (same)
       by false (Some g) same = cc (same)
 
   hearing-not : (b c : Bool) (held : Following) (frame : Option ℕ) (a len : ℕ)
-      → Runs run (hearing b c held frame a len) ≡ Runs run (Receives held frame) → ⊥
+      → InProgress run (hearing b c held frame a len) ≡ InProgress run (ReadingOutput held frame) → ⊥
   hearing-not true c held frame a len same = cc (same)
   hearing-not false false held frame a len same = cc (same)
   hearing-not false true (Some x) frame a len same = cc (same)
   hearing-not false true None frame a len same = by (nat_lt len CHUNK_BYTES) frame same
     where
-      by : (t : Bool) (frame : Option ℕ) → Runs run (if t then Receives (Some (a, len)) frame else filled a frame)
-          ≡ Runs run (Receives None frame) → ⊥
+      by : (t : Bool) (frame : Option ℕ)
+          → InProgress run (if t then ReadingOutput (Some (a, len)) frame else filled a frame)
+          ≡ InProgress run (ReadingOutput None frame) → ⊥
       by true frame same = cc (same)
       by false None same = cc (same)
       by false (Some f) same = cc (same)
 
   receives-not : (w : Wanted) (held : Following) (frame : Option ℕ) (received : List ℕ) (k : ℕ)
-      → after_output w run held frame (reply.Agg k) received ≡ Runs run (Receives held frame) → ⊥
+      → after_output w run held frame (reply.Agg k) received ≡ InProgress run (ReadingOutput held frame) → ⊥
   receives-not w held frame [] k same = cc (same)
   receives-not w held frame (b ∷ received) k same =
       hearing-not run.broken w.chunked held frame k (count_of (b ∷ received)) same
 
-  finishing-not : (b c : Bool) (held : Following) (s : Step) → ((x : Following) → Runs run (Lasts x) ≡ Runs run s → ⊥)
-      → finishing b c run held ≡ Runs run s → ⊥
+  finishing-not : (b c : Bool) (held : Following) (s : Step)
+      → ((x : Following) → InProgress run (MakingEnd x) ≡ InProgress run s → ⊥)
+      → finishing b c run held ≡ InProgress run s → ⊥
   finishing-not false true held s differs same = differs held same
   finishing-not false false held s differs same = cc (same)
   finishing-not true c held s differs same = cc (same)
 
   stopped-not : (w : Wanted) (held : Following) (frame : Option ℕ)
-      → stopped w run held frame ≡ Runs run (Stops held frame) → ⊥
-  stopped-not w held None same = finishing-not run.broken w.chunked held (Stops held None) (λ x e. cc (e)) same
+      → stopped w run held frame ≡ InProgress run (ClosingOutput held frame) → ⊥
+  stopped-not w held None same = finishing-not run.broken w.chunked held (ClosingOutput held None) (λ x e. cc (e)) same
   stopped-not w held (Some f) same = cc (same)
 
-  ending-not : (held : Following) (k len : ℕ) → ending run held k len ≡ Runs run (Lasts held) → ⊥
+  ending-not : (held : Following) (k len : ℕ) → ending run held k len ≡ InProgress run (MakingEnd held) → ⊥
   ending-not None k len same = cc (same)
   ending-not (Some x) k len same = cc (same)
 
   module _ (job : ℕ → List ℕ) (m n : State) (fd : ℕ) (w : Wanted) (o : Progress) where
-    steps : (s : Step) (r : Reply) (received : List ℕ) → HasRun job m w o (Runs run s)
+    steps : (s : Step) (r : Reply) (received : List ℕ) → HasRun job m w o (InProgress run s)
         → StepsTo m (event.Call server (step_wants job fd w run s)) r n
-        → after_step w run s r received ≡ Runs run s → may_repeat (step_wants job fd w run s) r ≡ true
-    steps (Gives write) r received has step same =
-        gives m n (Runs run (Gives write)) (λ z. Runs run (after_give write z)) write (worker_domain run.worker) r step
+        → after_step w run s r received ≡ InProgress run s → may_repeat (step_wants job fd w run s) r ≡ true
+    steps (GivingPipe write) r received has step same =
+        gives m n (InProgress run (GivingPipe write)) (λ z. InProgress run (after_give write z)) write
+        (worker_domain run.worker) r step
         (λ k e. cc (e)) same
-    steps (Makes f) r received has step same =
-        makes m n (Runs run (Makes f)) (λ z. Runs run (after_make f z)) (job f) r step (λ k e. cc (e)) same
-    steps (Hands j f) r received has step same =
-        writes m n (Runs run (Hands j f)) (λ z. Runs run (after_hand j f z)) (job_pipe run.worker) j r step
-        (λ k e. cc (e)) (λ e. cc (e)) same
-    steps (Lets j) r received has step same =
-        drops m n (Runs run (Lets j)) (λ z. Runs run (after_release_job j z)) j r step (λ e. cc (e)) same
-    steps Heads r received has step same =
-        makes m n (Runs run Heads) (λ z. Runs run (after_head z received)) (script_text w) r step (λ k e. cc (e)) same
-    steps (Sending d frame) r received has step same =
-        sending m n w fd has.1.part run d frame r has.1.is_part has.1.within step same
-    steps (Receives held frame) r received has step same =
-        reads m n (Runs run (Receives held frame)) (λ z. after_output w run held frame z received) run.from
-        (CHUNK_BYTES - held_size held) r step (receives-not w held frame received) same
-    steps (Spills a frame) r received has step same =
-        drops m n (Runs run (Spills a frame)) (λ z. Runs run (after_spill a frame z)) a r step (λ e. cc (e)) same
-    steps (Gathers held size piece len frame) r received has step same =
-        joins m n (Runs run (Gathers held size piece len frame))
-        (λ z. Runs run (after_gather held size piece len frame z)) held piece r step
-        (λ k. holding-not k (both size len) frame held size piece len frame) same
-    steps (Frames held) r received has step same =
-        makes m n (Runs run (Frames held)) (λ z. Runs run (after_frame held z)) (frame_of CHUNK_BYTES) r step
-        (λ k e. cc (e)) same
-    steps (Wraps held frame) r received has step same =
-        replaces m n (Runs run (Wraps held frame)) (λ z. Runs run (after_wrap held frame z received)) frame
-        (place_in_frame CHUNK_BYTES) (place_in_frame CHUNK_BYTES) held r step (λ k e. cc (e)) same
-    steps (Trims held chunk len frame) r received has step same =
-        drops m n (Runs run (Trims held chunk len frame)) (λ z. Runs run (after_trim held chunk len frame z)) held r
-        step (λ e. cc (e)) same
-    steps (Ended a held frame) r received has step same =
-        drops m n (Runs run (Ended a held frame)) (λ z. Runs run (after_ended a held frame z)) a r step (λ e. cc (e))
+    steps (MakingJob f) r received has step same =
+        makes m n (InProgress run (MakingJob f)) (λ z. InProgress run (after_make f z)) (job f) r step (λ k e. cc (e))
         same
-    steps (Unholds held frame) r received has step same =
-        drops m n (Runs run (Unholds held frame)) (λ z. Runs run (after_release_held held frame z)) held r step
+    steps (WritingJob j f) r received has step same =
+        writes m n (InProgress run (WritingJob j f)) (λ z. InProgress run (after_hand j f z)) (job_pipe run.worker) j r
+        step
+        (λ k e. cc (e)) (λ e. cc (e)) same
+    steps (DroppingJob j) r received has step same =
+        drops m n (InProgress run (DroppingJob j)) (λ z. InProgress run (after_release_job j z)) j r step (λ e. cc (e))
+        same
+    steps MakingHead r received has step same =
+        makes m n (InProgress run MakingHead) (λ z. InProgress run (after_head z received)) (script_text w) r step
+        (λ k e. cc (e)) same
+    steps (SendingPart d frame) r received has step same =
+        sending m n w fd has.1.part run d frame r has.1.is_part has.1.within step same
+    steps (ReadingOutput held frame) r received has step same =
+        reads m n (InProgress run (ReadingOutput held frame)) (λ z. after_output w run held frame z received) run.from
+        (CHUNK_BYTES - held_size held) r step (receives-not w held frame received) same
+    steps (DroppingOutput a frame) r received has step same =
+        drops m n (InProgress run (DroppingOutput a frame)) (λ z. InProgress run (after_spill a frame z)) a r step
         (λ e. cc (e)) same
-    steps (Stops held frame) r received has step same =
-        closes m n (Runs run (Stops held frame)) (λ z. after_stop w run held frame z) run.from r step
+    steps (JoiningOutput held size piece len frame) r received has step same =
+        joins m n (InProgress run (JoiningOutput held size piece len frame))
+        (λ z. InProgress run (after_gather held size piece len frame z)) held piece r step
+        (λ k. holding-not k (both size len) frame held size piece len frame) same
+    steps (MakingFrame held) r received has step same =
+        makes m n (InProgress run (MakingFrame held)) (λ z. InProgress run (after_frame held z)) (frame_of CHUNK_BYTES)
+        r step
+        (λ k e. cc (e)) same
+    steps (FillingFrame held frame) r received has step same =
+        replaces m n (InProgress run (FillingFrame held frame)) (λ z. InProgress run (after_wrap held frame z received))
+        frame
+        (place_in_frame CHUNK_BYTES) (place_in_frame CHUNK_BYTES) held r step (λ k e. cc (e)) same
+    steps (DroppingHeld held chunk len frame) r received has step same =
+        drops m n (InProgress run (DroppingHeld held chunk len frame))
+        (λ z. InProgress run (after_trim held chunk len frame z)) held r
+        step (λ e. cc (e)) same
+    steps (DroppingEnd a held frame) r received has step same =
+        drops m n (InProgress run (DroppingEnd a held frame)) (λ z. InProgress run (after_ended a held frame z)) a r
+        step (λ e. cc (e))
+        same
+    steps (DiscardingHeld held frame) r received has step same =
+        drops m n (InProgress run (DiscardingHeld held frame)) (λ z. InProgress run (after_release_held held frame z))
+        held r step
+        (λ e. cc (e)) same
+    steps (ClosingOutput held frame) r received has step same =
+        closes m n (InProgress run (ClosingOutput held frame)) (λ z. after_stop w run held frame z) run.from r step
         (stopped-not w held frame) same
-    steps (Unframes f held) r received has step same =
-        drops m n (Runs run (Unframes f held)) (λ z. after_release_frame w run f held z) f r step
-        (finishing-not run.broken w.chunked held (Unframes f held) (λ x e. cc (e))) same
-    steps (Lasts held) r received has step same =
-        makes m n (Runs run (Lasts held)) (λ z. after_last run held z received) (end_around held) r step
+    steps (DroppingFrame f held) r received has step same =
+        drops m n (InProgress run (DroppingFrame f held)) (λ z. after_release_frame w run f held z) f r step
+        (finishing-not run.broken w.chunked held (DroppingFrame f held) (λ x e. cc (e))) same
+    steps (MakingEnd held) r received has step same =
+        makes m n (InProgress run (MakingEnd held)) (λ z. after_last run held z received) (end_around held) r step
         (λ k. ending-not held k (count_of received)) same
-    steps (WrapsLast held size frame) r received has step same =
-        replaces m n (Runs run (WrapsLast held size frame)) (λ z. Runs run (after_wrap_last held size frame z received))
+    steps (FillingEnd held size frame) r received has step same =
+        replaces m n (InProgress run (FillingEnd held size frame))
+        (λ z. InProgress run (after_wrap_last held size frame z received))
         frame (place_in_frame size) (place_in_frame size) held r step (λ k e. cc (e)) same
-    steps (TrimsLast held chunk len frame) r received has step same =
-        drops m n (Runs run (TrimsLast held chunk len frame)) (λ z. Runs run (after_trim_last held chunk len frame z))
+    steps (DroppingLast held chunk len frame) r received has step same =
+        drops m n (InProgress run (DroppingLast held chunk len frame))
+        (λ z. InProgress run (after_trim_last held chunk len frame z))
         held r step (λ e. cc (e)) same
-    steps (Unwraps frame chunk len) r received has step same =
-        drops m n (Runs run (Unwraps frame chunk len)) (λ z. after_unwrap run frame chunk len z) frame r step
+    steps (DroppingLastFrame frame chunk len) r received has step same =
+        drops m n (InProgress run (DroppingLastFrame frame chunk len)) (λ z. after_unwrap run frame chunk len z) frame r
+        step
         (λ e. cc (e)) same
-    steps (Returns write) r received has step same =
-        closes m n (Runs run (Returns write)) (λ z. Runs run (after_return write z)) write r step (λ e. cc (e)) same
-    steps (Lapses j) r received has step same =
-        drops m n (Runs run (Lapses j)) (λ z. Runs run (after_lapse j z)) j r step (λ e. cc (e)) same
-    steps Fails r received has step same =
-        closes m n (Runs run Fails) (λ z. after_fail run z) run.from r step (λ e. cc (e)) same
+    steps (ClosingPipe write) r received has step same =
+        closes m n (InProgress run (ClosingPipe write)) (λ z. InProgress run (after_return write z)) write r step
+        (λ e. cc (e)) same
+    steps (DiscardingJob j) r received has step same =
+        drops m n (InProgress run (DiscardingJob j)) (λ z. InProgress run (after_lapse j z)) j r step (λ e. cc (e)) same
+    steps Failing r received has step same =
+        closes m n (InProgress run Failing) (λ z. after_fail run z) run.from r step (λ e. cc (e)) same
 
 pub moves : (job : ℕ → List ℕ) (m n : State) (fd worker : ℕ) (w : Wanted) (x : Running) (r : Reply) (received : List ℕ)
     (o : Progress)
     → is_over x ≡ false → HasRun job m w o x → StepsTo m (event.Call server (wants job fd w x)) r n
     → after_reply worker w x r received ≡ x → may_repeat (wants job fd w x) r ≡ true
-moves job m n fd worker w Awaits r received o going has step same =
-    pipes m n Awaits (λ z. after_reply worker w Awaits z received) r step (λ k l e. cc (e)) same
-moves job m n fd worker w (Runs run s) r received o going has step same =
+moves job m n fd worker w AwaitingWorker r received o going has step same =
+    pipes m n AwaitingWorker (λ z. after_reply worker w AwaitingWorker z received) r step (λ k l e. cc (e)) same
+moves job m n fd worker w (InProgress run s) r received o going has step same =
     steps run job m n fd w o s r received has step same
-moves job m n fd worker w (Leaves d) r received o going has step same =
+moves job m n fd worker w (Finishing d) r received o going has step same =
     let h = is-rest m w o d (not-false (is_left d) going) has in
     sent_phase m n w fd h.expected d r received h.sends step (ap (λ (z : Running). phase_of z) same)
-moves job m n fd worker w Closes r received o going has step same = absurd (cc (going))
+moves job m n fd worker w Disconnecting r received o going has step same = absurd (cc (going))

@@ -37,12 +37,17 @@ use Rattle.flash_laws.specs.declared.phase.Phase.TheVariants as phase
 use Rattle.flash_laws.specs.declared.script_run.TheConstants.{CHUNK_BYTES}
 use Rattle.flash_laws.specs.declared.script_run.Run.{Run}
 use Rattle.flash_laws.specs.declared.script_run.Step.{Step}
-use Rattle.flash_laws.specs.declared.script_run.Step.TheVariants.{Gives, Makes, Hands, Lets, Heads, Sending, Receives}
-use Rattle.flash_laws.specs.declared.script_run.Step.TheVariants.{Spills, Gathers, Frames, Wraps, Trims, Ended, Unholds}
-use Rattle.flash_laws.specs.declared.script_run.Step.TheVariants.{Stops, Unframes, Lasts, WrapsLast, TrimsLast, Unwraps}
-use Rattle.flash_laws.specs.declared.script_run.Step.TheVariants.{Returns, Lapses, Fails}
+use Rattle.flash_laws.specs.declared.script_run.Step.TheVariants.{GivingPipe, MakingJob, WritingJob, DroppingJob}
+use Rattle.flash_laws.specs.declared.script_run.Step.TheVariants.{MakingHead, SendingPart, ReadingOutput}
+use Rattle.flash_laws.specs.declared.script_run.Step.TheVariants.{DroppingOutput, JoiningOutput, MakingFrame}
+use Rattle.flash_laws.specs.declared.script_run.Step.TheVariants.{FillingFrame, DroppingHeld, DroppingEnd}
+use Rattle.flash_laws.specs.declared.script_run.Step.TheVariants.{DiscardingHeld}
+use Rattle.flash_laws.specs.declared.script_run.Step.TheVariants.{ClosingOutput, DroppingFrame, MakingEnd, FillingEnd}
+use Rattle.flash_laws.specs.declared.script_run.Step.TheVariants.{DroppingLast, DroppingLastFrame}
+use Rattle.flash_laws.specs.declared.script_run.Step.TheVariants.{ClosingPipe, DiscardingJob, Failing}
 use Rattle.flash_laws.specs.declared.script_run.Running.{Running}
-use Rattle.flash_laws.specs.declared.script_run.Running.TheVariants.{Awaits, Runs, Leaves, Closes}
+use Rattle.flash_laws.specs.declared.script_run.Running.TheVariants.{AwaitingWorker, InProgress, Finishing}
+use Rattle.flash_laws.specs.declared.script_run.Running.TheVariants.{Disconnecting}
 use Rattle.flash_laws.proofs.Moves.{after-done, after-agg}
 use Rattle.flash_laws.proofs.Client.Phases.{Next, written_fd, next-expected}
 use Rattle.flash_laws.proofs.Run.Rest as left
@@ -77,21 +82,22 @@ module _ (steps : EachStepLeavesTheRest) (own : CallsServeTheirDomain) (m n : St
 
     -- the part is sent whole
     sent : (a taken : ℕ) (r : Reply) (received : List ℕ) (o : Progress)
-        → HasPart m w o run (phase.Sent a taken None) frame
+        → HasPart m w o run (phase.DroppingSent a taken None) frame
         → StepsTo m (event.Call server (call.AggDrop a)) r n
-        → AfterReply (Runs run (Sending (phase.Sent a taken None) frame))
-        (after_sending run (phase.Sent a taken None) frame r) r received o
+        → AfterReply (InProgress run (SendingPart (phase.DroppingSent a taken None) frame))
+        (after_sending run (phase.DroppingSent a taken None) frame r) r received o
     sent a taken r received o h step = by r (own.drops m n server a r order step) step
       where
         by : (r : Reply) → caller.Drops m server a r n → StepsTo m (event.Call server (call.AggDrop a)) r n
-            → AfterReply (Runs run (Sending (phase.Sent a taken None) frame))
-            (after_sending run (phase.Sent a taken None) frame r) r received o
+            → AfterReply (InProgress run (SendingPart (phase.DroppingSent a taken None) frame))
+            (after_sending run (phase.DroppingSent a taken None) frame r) r received o
         by reply.Done did step = (
           takes_on o h.part,
           (h.part, h.is_part, refl),
           (
             still-hired (call.AggDrop a) reply.Done step refl,
-            parts.receives-again steps own m n order w o run frame a (phase.Sent a taken None) (takes_on o h.part) run
+            parts.receives-again steps own m n order w o run frame a (phase.DroppingSent a taken None)
+                (takes_on o h.part) run
                 step (λ f is. (or_parts (a == f) false is).0) refl
                 (proceeds-on run.broken w (takes_on o h.part) [] h.whole (continued w o h.part [] h.continues)) h,
           ),
@@ -99,44 +105,45 @@ module _ (steps : EachStepLeavesTheRest) (own : CallsServeTheirDomain) (m n : St
         by (reply.Refused y) did step = (
           o,
           refl,
-          subst (λ (s : State). HasRun job s w o (Runs run (Sending (phase.Sent a taken None) frame)))
+          subst (λ (s : State). HasRun job s w o (InProgress run (SendingPart (phase.DroppingSent a taken None) frame)))
               (sym did) (hired, h),
         )
         by r did step = absurd did
 
     -- nobody takes it
-    unsent : (a : ℕ) (r : Reply) (received : List ℕ) (o : Progress) → HasPart m w o run (phase.Drops a None) frame
+    unsent : (a : ℕ) (r : Reply) (received : List ℕ) (o : Progress) → HasPart m w o run (phase.Aborting a None) frame
         → StepsTo m (event.Call server (call.AggDrop a)) r n
-        → AfterReply (Runs run (Sending (phase.Drops a None) frame)) (after_sending run (phase.Drops a None) frame r) r
+        → AfterReply (InProgress run (SendingPart (phase.Aborting a None) frame))
+        (after_sending run (phase.Aborting a None) frame r) r
         received o
     unsent a r received o h step = by r (own.drops m n server a r order step) step
       where
         by : (r : Reply) → caller.Drops m server a r n → StepsTo m (event.Call server (call.AggDrop a)) r n
-            → AfterReply (Runs run (Sending (phase.Drops a None) frame))
-            (after_sending run (phase.Drops a None) frame r) r received o
+            → AfterReply (InProgress run (SendingPart (phase.Aborting a None) frame))
+            (after_sending run (phase.Aborting a None) frame r) r received o
         by reply.Done did step = (
           Broken,
           refl,
           (
             still-hired (call.AggDrop a) reply.Done step refl,
-            parts.receives-again steps own m n order w o run frame a (phase.Drops a None) Broken (broken run) step
+            parts.receives-again steps own m n order w o run frame a (phase.Aborting a None) Broken (broken run) step
                 (λ f is. (or_parts (a == f) false is).0) refl (refl, refl) h,
           ),
         )
         by (reply.Refused y) did step = (
           o,
           refl,
-          subst (λ (s : State). HasRun job s w o (Runs run (Sending (phase.Drops a None) frame))) (sym did)
+          subst (λ (s : State). HasRun job s w o (InProgress run (SendingPart (phase.Aborting a None) frame))) (sym did)
               (hired, h),
         )
         by r did step = absurd did
 
     sending : (d : Phase) (r : Reply) (received : List ℕ) (o : Progress) → HasPart m w o run d frame
         → StepsTo m (event.Call server (conn.wants fd (in_phase w d))) r n
-        → AfterReply (Runs run (Sending d frame)) (after_sending run d frame r) r received o
-    sending (phase.Sends s) r received o h step =
+        → AfterReply (InProgress run (SendingPart d frame)) (after_sending run d frame r) r received o
+    sending (phase.SendingWhole s) r received o h step =
         (o, refl, (written s.agg r step, parts.sends steps own m n order w o run frame fd c s r open_on h step))
-    sending (phase.Cuts s) r received o h step = (
+    sending (phase.CuttingPiece s) r received o h step = (
       o,
       refl,
       (
@@ -144,9 +151,9 @@ module _ (steps : EachStepLeavesTheRest) (own : CallsServeTheirDomain) (m n : St
         parts.cuts steps own m n order w o run frame s r h step,
       ),
     )
-    sending (phase.Offers s piece) r received o h step =
+    sending (phase.SendingPiece s piece) r received o h step =
         (o, refl, (written piece r step, parts.offers steps own m n order w o run frame fd c s piece r open_on h step))
-    sending (phase.Swaps s piece) r received o h step = (
+    sending (phase.DroppingPiece s piece) r received o h step = (
       o,
       refl,
       (
@@ -154,105 +161,117 @@ module _ (steps : EachStepLeavesTheRest) (own : CallsServeTheirDomain) (m n : St
         parts.swaps steps own m n order w o run frame s piece r h step,
       ),
     )
-    sending (phase.Breaks piece a None) r received o h step = (
+    sending (phase.AbortingPiece piece a None) r received o h step = (
       o,
       refl,
       (still-hired (call.AggDrop piece) r step refl, parts.breaks steps own m n order w o run frame piece a r h step),
     )
-    sending (phase.Sent a taken None) r received o h step = sent a taken r received o h step
-    sending (phase.Drops a None) r received o h step = unsent a r received o h step
+    sending (phase.DroppingSent a taken None) r received o h step = sent a taken r received o h step
+    sending (phase.Aborting a None) r received o h step = unsent a r received o h step
     sending d r received o h step = absurd h.is_part
 
   -- what is left goes on as a file's response does
   rest : (fd c : ℕ) (o : Progress) (d : Phase) (r : Reply) (received : List ℕ)
       → descriptor m server fd ≡ Some (on.Connection c)
       → HasRest m w o d → StepsTo m (event.Call server (conn.wants fd (in_phase w d))) r n → Names n r received
-      → AfterReply (Leaves d) (Leaves (conn.after_reply (in_phase w d) r received).phase) r received o
+      → AfterReply (Finishing d) (Finishing (conn.after_reply (in_phase w d) r received).phase) r received o
   rest fd c o d r received open_on h step names =
       left.leaving steps own m n order w h.expected fd c d r received o h.left h.has h.sends open_on step names
 
   leaving : (fd c : ℕ) (o : Progress) (d : Phase) (r : Reply) (received : List ℕ)
       → descriptor m server fd ≡ Some (on.Connection c) → is_left d ≡ true
       → HasLeft m w o d → StepsTo m (event.Call server (conn.wants fd (in_phase w d))) r n → Names n r received
-      → AfterReply (Leaves d) (Leaves (conn.after_reply (in_phase w d) r received).phase) r received o
+      → AfterReply (Finishing d) (Finishing (conn.after_reply (in_phase w d) r received).phase) r received o
   leaving fd c o d r received open_on is has step names =
       rest fd c o d r received open_on (is-rest m w o d is has) step names
 
   pub replied : (fd c worker : ℕ) (x : Running) (r : Reply) (received : List ℕ) (o : Progress)
       → descriptor m server fd ≡ Some (on.Connection c)
-      → (x ≡ Awaits → HasJobPipe m worker) → is_over x ≡ false → HasRun job m w o x
+      → (x ≡ AwaitingWorker → HasJobPipe m worker) → is_over x ≡ false → HasRun job m w o x
       → StepsTo m (event.Call server (wants job fd w x)) r n → Names n r received
       → AfterReply x (after_reply worker w x r received) r received o
-  replied fd c worker Awaits r received o open_on free going has step names =
+  replied fd c worker AwaitingWorker r received o open_on free going has step names =
       acts.awaits steps own m n order job w worker r received o (free refl) has step
-  replied fd c worker Closes r received o open_on free going has step names = absurd (cc (going))
-  replied fd c worker (Leaves d) r received o open_on free going has step names =
+  replied fd c worker Disconnecting r received o open_on free going has step names = absurd (cc (going))
+  replied fd c worker (Finishing d) r received o open_on free going has step names =
       leaving fd c o d r received open_on (not-false (is_left d) going) has step names
-  replied fd c worker (Runs run (Gives write)) r received o open_on free going has step names =
+  replied fd c worker (InProgress run (GivingPipe write)) r received o open_on free going has step names =
       (o, refl, acts.gives steps own m n order job w run has.0 write r o has.1 step)
-  replied fd c worker (Runs run (Makes f)) r received o open_on free going has step names =
+  replied fd c worker (InProgress run (MakingJob f)) r received o open_on free going has step names =
       (o, refl, acts.makes steps own m n order job w run has.0 f r o has.1 step)
-  replied fd c worker (Runs run (Hands j f)) r received o open_on free going has step names =
+  replied fd c worker (InProgress run (WritingJob j f)) r received o open_on free going has step names =
       (o, refl, acts.hands steps own m n order job w run has.0 j f r o has.1 step)
-  replied fd c worker (Runs run (Lets j)) r received o open_on free going has step names =
-      (o, refl, acts.drops steps own m n order job w run has.0 j (Lets j) Heads r o has refl (has.1.0, has.1.2) step)
-  replied fd c worker (Runs run Heads) r received o open_on free going has step names =
-      (o, refl, acts.heads steps own m n order job w run has.0 r received o has.1 step names)
-  replied fd c worker (Runs run (Sending d frame)) r received o open_on free going has step names =
-      sending run has.0 fd c open_on frame d r received o has.1 step
-  replied fd c worker (Runs run (Receives held frame)) r received o open_on free going has step names =
-      acts.receives steps own m n order job w run has.0 held frame r received o has.1 step names
-  replied fd c worker (Runs run (Spills a frame)) r received o open_on free going has step names = (
+  replied fd c worker (InProgress run (DroppingJob j)) r received o open_on free going has step names = (
     o,
     refl,
-    acts.drops steps own m n order job w run has.0 a (Spills a frame) (Receives None frame) r o has
+    acts.drops steps own m n order job w run has.0 j (DroppingJob j) MakingHead r o has refl
+        (has.1.0, has.1.2) step,
+  )
+  replied fd c worker (InProgress run MakingHead) r received o open_on free going has step names =
+      (o, refl, acts.heads steps own m n order job w run has.0 r received o has.1 step names)
+  replied fd c worker (InProgress run (SendingPart d frame)) r received o open_on free going has step names =
+      sending run has.0 fd c open_on frame d r received o has.1 step
+  replied fd c worker (InProgress run (ReadingOutput held frame)) r received o open_on free going has step names =
+      acts.receives steps own m n order job w run has.0 held frame r received o has.1 step names
+  replied fd c worker (InProgress run (DroppingOutput a frame)) r received o open_on free going has step names = (
+    o,
+    refl,
+    acts.drops steps own m n order job w run has.0 a (DroppingOutput a frame) (ReadingOutput None frame) r o has
         has.1.0.1 has.1.1 step,
   )
-  replied fd c worker (Runs run (Gathers held size piece len frame)) r received o open_on free going has step names =
+  replied fd c worker (InProgress run (JoiningOutput held size piece len frame)) r received o open_on free going has
+      step names =
       (o, refl, acts.gathers steps own m n order job w run has.0 held size piece len frame r o has.1 step)
-  replied fd c worker (Runs run (Frames held)) r received o open_on free going has step names =
+  replied fd c worker (InProgress run (MakingFrame held)) r received o open_on free going has step names =
       (o, refl, acts.frames steps own m n order job w run has.0 held r o has.1 step)
-  replied fd c worker (Runs run (Wraps held frame)) r received o open_on free going has step names =
+  replied fd c worker (InProgress run (FillingFrame held frame)) r received o open_on free going has step names =
       (o, refl, acts.wraps steps own m n order job w run has.0 held frame r received o has.1 step names)
-  replied fd c worker (Runs run (Trims held chunk len frame)) r received o open_on free going has step names = (
+  replied fd c worker (InProgress run (DroppingHeld held chunk len frame)) r received o open_on free going has step
+      names = (
+        o,
+        refl,
+        acts.drops steps own m n order job w run has.0 held (DroppingHeld held chunk len frame)
+            (SendingPart (sends_part chunk len) (Some frame)) r o has has.1.0.1 has.1.1 step,
+      )
+  replied fd c worker (InProgress run (DroppingEnd a held frame)) r received o open_on free going has step names = (
     o,
     refl,
-    acts.drops steps own m n order job w run has.0 held (Trims held chunk len frame)
-        (Sending (sends_part chunk len) (Some frame)) r o has has.1.0.1 has.1.1 step,
-  )
-  replied fd c worker (Runs run (Ended a held frame)) r received o open_on free going has step names = (
-    o,
-    refl,
-    acts.drops steps own m n order job w run has.0 a (Ended a held frame) (Stops held frame) r o has
+    acts.drops steps own m n order job w run has.0 a (DroppingEnd a held frame) (ClosingOutput held frame) r o has
         has.1.0.1 (has.1.1, has.1.2) step,
   )
-  replied fd c worker (Runs run (Unholds held frame)) r received o open_on free going has step names = (
+  replied fd c worker (InProgress run (DiscardingHeld held frame)) r received o open_on free going has step names = (
     o,
     refl,
-    acts.drops steps own m n order job w run has.0 held (Unholds held frame) (Stops None frame) r o has
+    acts.drops steps own m n order job w run has.0 held (DiscardingHeld held frame) (ClosingOutput None frame) r o has
         has.1.0.1 (has.1.1, has.1.2) step,
   )
-  replied fd c worker (Runs run (Stops held frame)) r received o open_on free going has step names =
+  replied fd c worker (InProgress run (ClosingOutput held frame)) r received o open_on free going has step names =
       (o, refl, stopping.stops steps own m n order job w run has.0 held frame r o has.1 step)
-  replied fd c worker (Runs run (Unframes f held)) r received o open_on free going has step names =
+  replied fd c worker (InProgress run (DroppingFrame f held)) r received o open_on free going has step names =
       (o, refl, stopping.unframes steps own m n order job w run has.0 f held r o has.1 step)
-  replied fd c worker (Runs run (Lasts held)) r received o open_on free going has step names =
+  replied fd c worker (InProgress run (MakingEnd held)) r received o open_on free going has step names =
       (o, refl, stopping.lasts steps own m n order job w run has.0 held r received o has.1 step names)
-  replied fd c worker (Runs run (WrapsLast held size frame)) r received o open_on free going has step names =
+  replied fd c worker (InProgress run (FillingEnd held size frame)) r received o open_on free going has step names =
       (o, refl, stopping.wraps_last steps own m n order job w run has.0 held size frame r received o has.1 step names)
-  replied fd c worker (Runs run (TrimsLast held chunk len frame)) r received o open_on free going has step names = (
+  replied fd c worker (InProgress run (DroppingLast held chunk len frame)) r received o open_on free going has step
+      names = (
+        o,
+        refl,
+        acts.drops steps own m n order job w run has.0 held (DroppingLast held chunk len frame)
+            (DroppingLastFrame frame chunk len) r o has has.1.0.1 (has.1.1, has.1.2) step,
+      )
+  replied fd c worker (InProgress run (DroppingLastFrame frame chunk len)) r received o open_on free going has step
+      names =
+      (o, refl, stopping.unwraps steps own m n order job w run has.0 frame chunk len r o has.1 step)
+  replied fd c worker (InProgress run (ClosingPipe write)) r received o open_on free going has step names =
+      (o, refl, stopping.returns steps own m n order job w run has.0 write r o has.1 step)
+  replied fd c worker (InProgress run (DiscardingJob j)) r received o open_on free going has step names = (
     o,
     refl,
-    acts.drops steps own m n order job w run has.0 held (TrimsLast held chunk len frame)
-        (Unwraps frame chunk len) r o has has.1.0.1 (has.1.1, has.1.2) step,
+    acts.drops steps own m n order job w run has.0 j (DiscardingJob j) Failing r o has refl
+        (has.1.0, has.1.2) step,
   )
-  replied fd c worker (Runs run (Unwraps frame chunk len)) r received o open_on free going has step names =
-      (o, refl, stopping.unwraps steps own m n order job w run has.0 frame chunk len r o has.1 step)
-  replied fd c worker (Runs run (Returns write)) r received o open_on free going has step names =
-      (o, refl, stopping.returns steps own m n order job w run has.0 write r o has.1 step)
-  replied fd c worker (Runs run (Lapses j)) r received o open_on free going has step names =
-      (o, refl, acts.drops steps own m n order job w run has.0 j (Lapses j) Fails r o has refl (has.1.0, has.1.2) step)
-  replied fd c worker (Runs run Fails) r received o open_on free going has step names =
+  replied fd c worker (InProgress run Failing) r received o open_on free going has step names =
       stopping.fails steps own m n order job w run has.0 r received o has.1 step
 
 -- ---- what is offered
@@ -321,25 +340,26 @@ rest-next m fd a w o d h is =
 
 pub left-next : (m : State) (fd a : ℕ) (w : Wanted) (o : Progress) (d : Phase) → HasLeft m w o d
     → conn.wants fd (in_phase w d) ≡ call.IolWrite fd a → IsNextOf m w o a (taken_of d)
-left-next m fd a w o phase.Rests has is = absurd (cc (is))
-left-next m fd a w o phase.Closes has is = absurd (cc (is))
+left-next m fd a w o phase.Receiving has is = absurd (cc (is))
+left-next m fd a w o phase.Disconnecting has is = absurd (cc (is))
 left-next m fd a w o d has is = rest-next m fd a w o d has is
 
 next-of : (job : ℕ → List ℕ) (m : State) (fd c a : ℕ) (w : Wanted) (x : Running) (o : Progress)
     → descriptor m server fd ≡ Some (on.Connection c) → HasRun job m w o x
     → wants job fd w x ≡ call.IolWrite fd a → IsNextOf m w o a (taken_by x)
-next-of job m fd c a w (Runs run (Sending d frame)) o open_on has is = part-next m fd a w o run d frame has.1 is
-next-of job m fd c a w (Runs run (Hands j f)) o open_on has is =
+next-of job m fd c a w (InProgress run (SendingPart d frame)) o open_on has is =
+    part-next m fd a w o run d frame has.1 is
+next-of job m fd c a w (InProgress run (WritingJob j f)) o open_on has is =
     let same : job_pipe run.worker ≡ fd = ap (λ k. written_fd k (job_pipe run.worker)) is in
     let e = ap (λ z. descriptor m server z) same in
     let hired = has.0.1 in
     absurd (cc (e, hired, open_on))
-next-of job m fd c a w (Leaves d) o open_on has is = left-next m fd a w o d has is
+next-of job m fd c a w (Finishing d) o open_on has is = left-next m fd a w o d has is
 next-of job m fd c a w x o open_on has is = absurd (cc (is))
 
 few-held : (job : ℕ → List ℕ) (m : State) (w : Wanted) (o : Progress) (run : Run) (held : Option (ℕ × ℕ))
     (frame : Option ℕ)
-    → HasRun job m w o (Runs run (Receives held frame)) → held_size held < CHUNK_BYTES
+    → HasRun job m w o (InProgress run (ReadingOutput held frame)) → held_size held < CHUNK_BYTES
 few-held job m w o run None frame has = omega arith
 few-held job m w o run (Some x) frame has = has.1.has.holds.few
 
@@ -347,20 +367,20 @@ few-held job m w o run (Some x) frame has = has.1.has.holds.few
 
 none-of : (job : ℕ → List ℕ) (m : State) (fd a : ℕ) (w : Wanted) (x : Running) → HasRun job m w Broken x
     → wants job fd w x ≡ call.IolWrite fd a → ⊥
-none-of job m fd a w (Runs run (Sending d frame)) has is = has.1.continues
-none-of job m fd a w (Runs run (Hands j f)) has is = let e = has.1.2.1 in cc (e)
-none-of job m fd a w (Leaves phase.Rests) has is = has.0
-none-of job m fd a w (Leaves phase.Closes) has is = cc (is)
-none-of job m fd a w (Leaves d) has is = has.left
+none-of job m fd a w (InProgress run (SendingPart d frame)) has is = has.1.continues
+none-of job m fd a w (InProgress run (WritingJob j f)) has is = let e = has.1.2.1 in cc (e)
+none-of job m fd a w (Finishing phase.Receiving) has is = has.0
+none-of job m fd a w (Finishing phase.Disconnecting) has is = cc (is)
+none-of job m fd a w (Finishing d) has is = has.left
 none-of job m fd a w x has is = cc (is)
 
 -- ---- the job
 
 opened : (own : CallsServeTheirDomain) (job : ℕ → List ℕ) (m n : State) (fd worker : ℕ) (w : Wanted) (from write : ℕ)
     (received : List ℕ)
-    → StepsTo m (event.Call server (wants job fd w Awaits)) (reply.Fds from write) n
-    → (after_reply worker w Awaits (reply.Fds from write) received
-    ≡ Runs (record { worker = worker; from = from; broken = false }) (Gives write))
+    → StepsTo m (event.Call server (wants job fd w AwaitingWorker)) (reply.Fds from write) n
+    → (after_reply worker w AwaitingWorker (reply.Fds from write) received
+    ≡ InProgress (record { worker = worker; from = from; broken = false }) (GivingPipe write))
     × ((p : ℕ) × (pipe_at n p ≡ new_pipe) × (descriptor n server from ≡ Some (on.ReadEnd p))
     × (descriptor n server write ≡ Some (on.WriteEnd p)))
 opened own job m n fd worker w from write received step =
@@ -369,9 +389,9 @@ opened own job m n fd worker w from write received step =
 
 given : (steps : EachStepLeavesTheRest) (own : CallsServeTheirDomain) (job : ℕ → List ℕ) (m n : State) (fd worker : ℕ)
     (w : Wanted) (o : Progress) (run : Run) (write f : ℕ) (received : List ℕ)
-    → HasRun job m w o (Runs run (Gives write))
-    → StepsTo m (event.Call server (wants job fd w (Runs run (Gives write)))) (reply.Fd f) n
-    → (after_reply worker w (Runs run (Gives write)) (reply.Fd f) received ≡ Runs run (Makes f))
+    → HasRun job m w o (InProgress run (GivingPipe write))
+    → StepsTo m (event.Call server (wants job fd w (InProgress run (GivingPipe write)))) (reply.Fd f) n
+    → (after_reply worker w (InProgress run (GivingPipe write)) (reply.Fd f) received ≡ InProgress run (MakingJob f))
     × ((p : ℕ) × (descriptor n server run.from ≡ Some (on.ReadEnd p))
     × (descriptor n (worker_domain run.worker) f ≡ Some (on.WriteEnd p)))
 given steps own job m n fd worker w o run write f received has step = (
@@ -400,8 +420,8 @@ keeps-stopped w run held (Some f) = refl
 
 keeps-sending : (run : Run) (d : Phase) (frame : Option ℕ) (r : Reply)
     → HasWorker run.worker (after_sending run d frame r)
-keeps-sending run (phase.Sent a taken None) frame reply.Done = refl
-keeps-sending run (phase.Drops a None) frame reply.Done = refl
+keeps-sending run (phase.DroppingSent a taken None) frame reply.Done = refl
+keeps-sending run (phase.Aborting a None) frame reply.Done = refl
 keeps-sending run d frame r = refl
 
 keeps-receives : (w : Wanted) (run : Run) (held : Following) (frame : Option ℕ) (r : Reply) (received : List ℕ)
@@ -416,17 +436,17 @@ keeps-ending run None n len = tt
 keeps-ending run (Some x) n len = refl
 
 pub keeps : (worker : ℕ) (w : Wanted) (run : Run) (step : Step) (r : Reply) (received : List ℕ)
-    → HasWorker run.worker (after_reply worker w (Runs run step) r received)
-keeps worker w run (Sending d frame) r received = keeps-sending run d frame r
-keeps worker w run (Receives held frame) r received = keeps-receives w run held frame r received
-keeps worker w run (Stops held frame) r received =
+    → HasWorker run.worker (after_reply worker w (InProgress run step) r received)
+keeps worker w run (SendingPart d frame) r received = keeps-sending run d frame r
+keeps worker w run (ReadingOutput held frame) r received = keeps-receives w run held frame r received
+keeps worker w run (ClosingOutput held frame) r received =
     after-done (HasWorker run.worker) r refl (keeps-stopped w run held frame)
-keeps worker w run (Unframes frame held) r received =
+keeps worker w run (DroppingFrame frame held) r received =
     after-done (HasWorker run.worker) r refl (keeps-finishing run.broken w.chunked run held)
-keeps worker w run (Lasts held) r received =
+keeps worker w run (MakingEnd held) r received =
     after-agg (HasWorker run.worker) r refl (λ n. keeps-ending run held n (conn.count_of received))
-keeps worker w run (Unwraps frame chunk len) r received = after-done (HasWorker run.worker) r refl tt
-keeps worker w run Fails r received = after-done (HasWorker run.worker) r refl tt
+keeps worker w run (DroppingLastFrame frame chunk len) r received = after-done (HasWorker run.worker) r refl tt
+keeps worker w run Failing r received = after-done (HasWorker run.worker) r refl tt
 keeps worker w run step r received = refl
 
 pub runs_offer : EachStepLeavesTheRest → CallsServeTheirDomain → RefusalsTellWhy → RefusalsThatAreLeft

@@ -110,47 +110,48 @@ module _ (steps : EachStepLeavesTheRest) (own : CallsServeTheirDomain) (m n : St
   }
 
   pub sends : (fd c : ℕ) (s : Sending) (r : Reply) → descriptor m server fd ≡ Some (on.Connection c)
-      → HasPart m w o run (phase.Sends s) frame → StepsTo m (event.Call server (call.IolWrite fd s.agg)) r n
+      → HasPart m w o run (phase.SendingWhole s) frame → StepsTo m (event.Call server (call.IolWrite fd s.agg)) r n
       → HasPart n w o run (conn.after_send s r) frame
   sends fd c s r open_on h step =
       fits (call.IolWrite fd s.agg) r step (no-position m fd run.from (on.Connection c) open_on refl) (λ f u. refl)
-      (phase.Sends s) (conn.after_send s r) h
+      (phase.SendingWhole s) (conn.after_send s r) h
       (left.sends steps own m n order w h.part fd c s r open_on (h.has, h.is_part, h.within) step)
-      (after-write Apart r h.apart (fewer (phase.Drops s.agg s.more) (λ f is. is))
-      (λ k. either-next Apart (after_taking s k) (fewer (phase.Cuts (after_taking s k)) (λ f is. is))
-      (fewer (phase.Sent s.agg (after_taking s k).taken s.more) (λ f is. is))))
+      (after-write Apart r h.apart (fewer (phase.Aborting s.agg s.more) (λ f is. is))
+      (λ k. either-next Apart (after_taking s k) (fewer (phase.CuttingPiece (after_taking s k)) (λ f is. is))
+      (fewer (phase.DroppingSent s.agg (after_taking s k).taken s.more) (λ f is. is))))
     where
       fewer : (e : Phase)
-          → ((f : ℕ) → conn.uses_agg (phase.Sends s) f ≡ false → conn.uses_agg e f ≡ false) → Apart e
-      fewer e of = sends-none (phase.Sends s) e frame of h.apart
+          → ((f : ℕ) → conn.uses_agg (phase.SendingWhole s) f ≡ false → conn.uses_agg e f ≡ false) → Apart e
+      fewer e of = sends-none (phase.SendingWhole s) e frame of h.apart
 
-  pub cuts : (s : Sending) (r : Reply) → HasPart m w o run (phase.Cuts s) frame
+  pub cuts : (s : Sending) (r : Reply) → HasPart m w o run (phase.CuttingPiece s) frame
       → StepsTo m (event.Call server (call.AggCut s.agg s.from (piece_end s))) r n
       → HasPart n w o run (conn.after_cut s r) frame
   cuts s r h step =
-      fits (call.AggCut s.agg s.from (piece_end s)) r step refl (λ f u. refl) (phase.Cuts s) (conn.after_cut s r) h
+      fits (call.AggCut s.agg s.from (piece_end s)) r step refl (λ f u. refl) (phase.CuttingPiece s)
+      (conn.after_cut s r) h
       (left.cuts steps own m n order w h.part s r (h.has, h.is_part, h.within) step)
       (made m n Apart (slice_range h.has.0.bytes s.from (piece_end s)) r
       (own.cut m n server s.agg s.from (piece_end s) h.has.0.bytes r order h.has.0.is_readable step) (λ same. h.apart)
-      (λ x readable new. with-piece m x (phase.Cuts s) (phase.Offers s x) frame
+      (λ x readable new. with-piece m x (phase.CuttingPiece s) (phase.SendingPiece s x) frame
       (λ f new is. or_from (x == f) ((s.agg == f) || has_followed s.more f) new is) (new-frame m frame x h.frames new)
       h.apart))
 
   pub offers : (fd c : ℕ) (s : Sending) (piece : ℕ) (r : Reply) → descriptor m server fd ≡ Some (on.Connection c)
-      → HasPart m w o run (phase.Offers s piece) frame
+      → HasPart m w o run (phase.SendingPiece s piece) frame
       → StepsTo m (event.Call server (call.IolWrite fd piece)) r n
       → HasPart n w o run (conn.after_offer s piece r) frame
   offers fd c s piece r open_on h step =
       fits (call.IolWrite fd piece) r step (no-position m fd run.from (on.Connection c) open_on refl) (λ f u. refl)
-      (phase.Offers s piece) (conn.after_offer s piece r) h
+      (phase.SendingPiece s piece) (conn.after_offer s piece r) h
       (left.offers steps own m n order w h.part fd c s piece r open_on (h.has, h.is_part, h.within) step)
-      (after-write Apart r h.apart (fewer (phase.Breaks piece s.agg s.more) (λ f is. is))
-      (λ k. fewer (phase.Swaps (after_taking s k) piece) (λ f is. is)))
+      (after-write Apart r h.apart (fewer (phase.AbortingPiece piece s.agg s.more) (λ f is. is))
+      (λ k. fewer (phase.DroppingPiece (after_taking s k) piece) (λ f is. is)))
     where
       fewer : (e : Phase)
-          → ((f : ℕ) → conn.uses_agg (phase.Offers s piece) f ≡ false → conn.uses_agg e f ≡ false)
+          → ((f : ℕ) → conn.uses_agg (phase.SendingPiece s piece) f ≡ false → conn.uses_agg e f ≡ false)
           → Apart e
-      fewer e of = sends-none (phase.Offers s piece) e frame of h.apart
+      fewer e of = sends-none (phase.SendingPiece s piece) e frame of h.apart
 
   -- what is dropped is not the frame
   not-frame : (b : ℕ) (d : Phase) → ((f : ℕ) → conn.uses_agg d f ≡ false → (b == f) ≡ false)
@@ -164,36 +165,36 @@ module _ (steps : EachStepLeavesTheRest) (own : CallsServeTheirDomain) (m n : St
           subst (λ z. (b == z) ≡ false) e (parts g apart)
 
   pub swaps : (s : Sending) (piece : ℕ) (r : Reply)
-      → HasPart m w o run (phase.Swaps s piece) frame
+      → HasPart m w o run (phase.DroppingPiece s piece) frame
       → StepsTo m (event.Call server (call.AggDrop piece)) r n
       → HasPart n w o run (conn.after_swap s piece r) frame
   swaps s piece r h step =
       fits (call.AggDrop piece) r step refl
-      (not-frame piece (phase.Swaps s piece)
+      (not-frame piece (phase.DroppingPiece s piece)
       (λ f is. (or_parts (piece == f) ((s.agg == f) || has_followed s.more f) is).0) h.apart)
-      (phase.Swaps s piece) (conn.after_swap s piece r) h
+      (phase.DroppingPiece s piece) (conn.after_swap s piece r) h
       (left.swaps steps own m n order w h.part s piece r (h.has, h.is_part, h.within) step)
       (after-done Apart r h.apart
-      (either-next Apart s (less (phase.Cuts s) (λ f is. is))
-      (less (phase.Sent s.agg s.taken s.more) (λ f is. is))))
+      (either-next Apart s (less (phase.CuttingPiece s) (λ f is. is))
+      (less (phase.DroppingSent s.agg s.taken s.more) (λ f is. is))))
     where
       less : (e : Phase) → ((f : ℕ) → ((s.agg == f) || has_followed s.more f) ≡ false → conn.uses_agg e f ≡ false)
           → Apart e
       less e of =
-          sends-none (phase.Swaps s piece) e frame
+          sends-none (phase.DroppingPiece s piece) e frame
           (λ f is. of f (or_parts (piece == f) ((s.agg == f) || has_followed s.more f) is).1) h.apart
 
-  pub breaks : (piece a : ℕ) (r : Reply) → HasPart m w o run (phase.Breaks piece a None) frame
+  pub breaks : (piece a : ℕ) (r : Reply) → HasPart m w o run (phase.AbortingPiece piece a None) frame
       → StepsTo m (event.Call server (call.AggDrop piece)) r n
       → HasPart n w o run (conn.after_break piece a None r) frame
   breaks piece a r h step =
       fits (call.AggDrop piece) r step refl
-      (not-frame piece (phase.Breaks piece a None) (λ f is. (or_parts (piece == f) ((a == f) || false) is).0)
+      (not-frame piece (phase.AbortingPiece piece a None) (λ f is. (or_parts (piece == f) ((a == f) || false) is).0)
       h.apart)
-      (phase.Breaks piece a None) (conn.after_break piece a None r) h
+      (phase.AbortingPiece piece a None) (conn.after_break piece a None r) h
       (left.breaks steps own m n order w h.part piece a r (h.has, h.is_part, h.within) step)
       (after-done Apart r h.apart
-      (sends-none (phase.Breaks piece a None) (phase.Drops a None) frame
+      (sends-none (phase.AbortingPiece piece a None) (phase.Aborting a None) frame
       (λ f is. (or_parts (piece == f) ((a == f) || false) is).1)
       h.apart))
 

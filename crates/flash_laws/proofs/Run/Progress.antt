@@ -42,12 +42,17 @@ use Rattle.flash_laws.specs.declared.phase.Phase.TheVariants as phase
 use Rattle.flash_laws.specs.declared.script_run.TheConstants.{CHUNK_BYTES}
 use Rattle.flash_laws.specs.declared.script_run.Run.{Run}
 use Rattle.flash_laws.specs.declared.script_run.Step.{Step}
-use Rattle.flash_laws.specs.declared.script_run.Step.TheVariants.{Gives, Makes, Hands, Lets, Heads, Sending, Receives}
-use Rattle.flash_laws.specs.declared.script_run.Step.TheVariants.{Spills, Gathers, Frames, Wraps, Trims, Ended, Unholds}
-use Rattle.flash_laws.specs.declared.script_run.Step.TheVariants.{Stops, Unframes, Lasts, WrapsLast, TrimsLast, Unwraps}
-use Rattle.flash_laws.specs.declared.script_run.Step.TheVariants.{Returns, Lapses, Fails}
+use Rattle.flash_laws.specs.declared.script_run.Step.TheVariants.{GivingPipe, MakingJob, WritingJob, DroppingJob}
+use Rattle.flash_laws.specs.declared.script_run.Step.TheVariants.{MakingHead, SendingPart, ReadingOutput}
+use Rattle.flash_laws.specs.declared.script_run.Step.TheVariants.{DroppingOutput, JoiningOutput, MakingFrame}
+use Rattle.flash_laws.specs.declared.script_run.Step.TheVariants.{FillingFrame, DroppingHeld, DroppingEnd}
+use Rattle.flash_laws.specs.declared.script_run.Step.TheVariants.{DiscardingHeld}
+use Rattle.flash_laws.specs.declared.script_run.Step.TheVariants.{ClosingOutput, DroppingFrame, MakingEnd, FillingEnd}
+use Rattle.flash_laws.specs.declared.script_run.Step.TheVariants.{DroppingLast, DroppingLastFrame}
+use Rattle.flash_laws.specs.declared.script_run.Step.TheVariants.{ClosingPipe, DiscardingJob, Failing}
 use Rattle.flash_laws.specs.declared.script_run.Running.{Running}
-use Rattle.flash_laws.specs.declared.script_run.Running.TheVariants.{Awaits, Runs, Leaves, Closes}
+use Rattle.flash_laws.specs.declared.script_run.Running.TheVariants.{AwaitingWorker, InProgress, Finishing}
+use Rattle.flash_laws.specs.declared.script_run.Running.TheVariants.{Disconnecting}
 use Rattle.flash_laws.proofs.Conn.Responses.{some-inj}
 use Rattle.flash_laws.proofs.Lists.{differ, not-false}
 use Rattle.flash_laws.proofs.Conn.Progress.{stage, calls_left, head_calls, lacks-later, drops, closes, makes, joins}
@@ -75,35 +80,35 @@ abbrev chunk_calls : ℕ
 chunk_calls = 3 * (length (frame_of CHUNK_BYTES) + CHUNK_BYTES) + (end_calls None + 9)
 
 abbrev step_calls : Wanted → Step → ℕ
-step_calls w (Gives write) = body_calls w + error_calls w + 7
-step_calls w (Makes f) = body_calls w + error_calls w + 6
-step_calls w (Hands j f) = body_calls w + error_calls w + 5
-step_calls w (Lets j) = body_calls w + 1
-step_calls w Heads = body_calls w
-step_calls w (Sending d frame) = calls_left (serve w) d + (end_calls None + 4)
-step_calls w (Receives held frame) = end_calls held + 4
-step_calls w (Spills a frame) = end_calls None + 5
-step_calls w (Gathers held size piece len frame) = end_calls (Some (held, size + len)) + chunk_calls + 6
-step_calls w (Frames held) = chunk_calls + 1
-step_calls w (Wraps held frame) = chunk_calls
-step_calls w (Trims held chunk len frame) = 3 * len + (end_calls None + 8)
-step_calls w (Ended a held frame) = end_calls held + 3
-step_calls w (Unholds held frame) = end_calls None + 3
-step_calls w (Stops held frame) = end_calls held + 2
-step_calls w (Unframes f held) = end_calls held + 1
-step_calls w (Lasts held) = end_calls held
-step_calls w (WrapsLast held size frame) = 3 * (length (end_around (Some (held, size))) + size) + 6
-step_calls w (TrimsLast held chunk len frame) = 3 * len + 5
-step_calls w (Unwraps frame chunk len) = 3 * len + 4
-step_calls w (Returns write) = error_calls w + 3
-step_calls w (Lapses j) = error_calls w + 2
-step_calls w Fails = error_calls w + 1
+step_calls w (GivingPipe write) = body_calls w + error_calls w + 7
+step_calls w (MakingJob f) = body_calls w + error_calls w + 6
+step_calls w (WritingJob j f) = body_calls w + error_calls w + 5
+step_calls w (DroppingJob j) = body_calls w + 1
+step_calls w MakingHead = body_calls w
+step_calls w (SendingPart d frame) = calls_left (serve w) d + (end_calls None + 4)
+step_calls w (ReadingOutput held frame) = end_calls held + 4
+step_calls w (DroppingOutput a frame) = end_calls None + 5
+step_calls w (JoiningOutput held size piece len frame) = end_calls (Some (held, size + len)) + chunk_calls + 6
+step_calls w (MakingFrame held) = chunk_calls + 1
+step_calls w (FillingFrame held frame) = chunk_calls
+step_calls w (DroppingHeld held chunk len frame) = 3 * len + (end_calls None + 8)
+step_calls w (DroppingEnd a held frame) = end_calls held + 3
+step_calls w (DiscardingHeld held frame) = end_calls None + 3
+step_calls w (ClosingOutput held frame) = end_calls held + 2
+step_calls w (DroppingFrame f held) = end_calls held + 1
+step_calls w (MakingEnd held) = end_calls held
+step_calls w (FillingEnd held size frame) = 3 * (length (end_around (Some (held, size))) + size) + 6
+step_calls w (DroppingLast held chunk len frame) = 3 * len + 5
+step_calls w (DroppingLastFrame frame chunk len) = 3 * len + 4
+step_calls w (ClosingPipe write) = error_calls w + 3
+step_calls w (DiscardingJob j) = error_calls w + 2
+step_calls w Failing = error_calls w + 1
 
 abbrev pub run_calls : Wanted → Running → ℕ
-run_calls w Awaits = body_calls w + error_calls w + 8
-run_calls w (Runs run s) = step_calls w s
-run_calls w (Leaves d) = calls_left (serve w) d
-run_calls w Closes = 0
+run_calls w AwaitingWorker = body_calls w + error_calls w + 8
+run_calls w (InProgress run s) = step_calls w s
+run_calls w (Finishing d) = calls_left (serve w) d
+run_calls w Disconnecting = 0
 
 abbrev pub rank : Wanted → Running → Rank
 rank w x = (0, run_calls w x)
@@ -152,49 +157,61 @@ again-later z is = absurd (cc (is))
 
 finishing-near : (w : Wanted) (run : Run) (held : Following) (x : Running) → end_calls held < run_calls w x
     → (b c : Bool) → IsBelow (rank w (finishing b c run held)) (rank w x)
-finishing-near w run held x fewer false true = falls w (Runs run (Lasts held)) x fewer
-finishing-near w run held x fewer false false = falls w Closes x (omega (arith, fewer))
-finishing-near w run held x fewer true c = falls w Closes x (omega (arith, fewer))
+finishing-near w run held x fewer false true = falls w (InProgress run (MakingEnd held)) x fewer
+finishing-near w run held x fewer false false = falls w Disconnecting x (omega (arith, fewer))
+finishing-near w run held x fewer true c = falls w Disconnecting x (omega (arith, fewer))
 
 stopped-near : (w : Wanted) (run : Run) (held : Following) (frame : Option ℕ)
-    → IsBelow (rank w (stopped w run held frame)) (rank w (Runs run (Stops held frame)))
-stopped-near w run held (Some f) = falls w (Runs run (Unframes f held)) (Runs run (Stops held (Some f))) (omega arith)
-stopped-near w run held None = finishing-near w run held (Runs run (Stops held None)) (omega arith) run.broken w.chunked
+    → IsBelow (rank w (stopped w run held frame)) (rank w (InProgress run (ClosingOutput held frame)))
+stopped-near w run held (Some f) =
+    falls w (InProgress run (DroppingFrame f held)) (InProgress run (ClosingOutput held (Some f))) (omega arith)
+stopped-near w run held None =
+    finishing-near w run held (InProgress run (ClosingOutput held None)) (omega arith) run.broken w.chunked
 
 ending-near : (w : Wanted) (run : Run) (held : Following) (a : ℕ) (received : List ℕ) → received ≡ end_around held
-    → IsBelow (rank w (ending run held a (count_of received))) (rank w (Runs run (Lasts held)))
+    → IsBelow (rank w (ending run held a (count_of received))) (rank w (InProgress run (MakingEnd held)))
 ending-near w run None a received same =
     let long = ap (λ (l : List ℕ). length l) same in
-    falls w (Leaves (sends_part a (count_of received))) (Runs run (Lasts None)) (omega (arith, long))
+    falls w (Finishing (sends_part a (count_of received))) (InProgress run (MakingEnd None)) (omega (arith, long))
 ending-near w run (Some x) a received same =
-    falls w (Runs run (WrapsLast x.0 x.1 a)) (Runs run (Lasts (Some x))) (omega arith)
+    falls w (InProgress run (FillingEnd x.0 x.1 a)) (InProgress run (MakingEnd (Some x))) (omega arith)
 
 unread-near : (w : Wanted) (run : Run) (held : Following) (frame : Option ℕ)
-    → IsBelow (rank w (Runs (broken run) (unread held frame))) (rank w (Runs run (Receives held frame)))
+    → IsBelow (rank w (InProgress (broken run) (unread held frame)))
+    (rank w (InProgress run (ReadingOutput held frame)))
 unread-near w run None frame =
-    falls w (Runs (broken run) (Stops None frame)) (Runs run (Receives None frame)) (omega arith)
+    falls w (InProgress (broken run) (ClosingOutput None frame)) (InProgress run (ReadingOutput None frame))
+    (omega arith)
 unread-near w run (Some x) frame =
     let more = around-more x in
-    falls w (Runs (broken run) (Unholds x.0 frame)) (Runs run (Receives (Some x) frame)) (omega (arith, more))
+    falls w (InProgress (broken run) (DiscardingHeld x.0 frame)) (InProgress run (ReadingOutput (Some x) frame))
+    (omega (arith, more))
 
 -- so many bytes are held
 holding-near : (w : Wanted) (run : Run) (held size piece len a : ℕ) (frame : Option ℕ) → size + len ≤ CHUNK_BYTES
-    → IsBelow (rank w (Runs run (holding a (both size len) frame)))
-    (rank w (Runs run (Gathers held size piece len frame)))
+    → IsBelow (rank w (InProgress run (holding a (both size len) frame)))
+    (rank w (InProgress run (JoiningOutput held size piece len frame)))
 holding-near w run held size piece len a frame few =
-    subst (λ s. IsBelow (rank w (Runs run (holding a s frame))) (rank w (Runs run (Gathers held size piece len frame))))
+    subst
+    (λ s. IsBelow (rank w (InProgress run (holding a s frame)))
+    (rank w (InProgress run (JoiningOutput held size piece len frame))))
     (sym all) (by (nat_lt (size + len) CHUNK_BYTES) frame)
   where
     all : both size len ≡ size + len
     all = omega (arith, few)
 
     by : (b : Bool) (f : Option ℕ)
-        → IsBelow (rank w (Runs run (if b then Receives (Some (a, size + len)) f else filled a f)))
-        (rank w (Runs run (Gathers held size piece len frame)))
-    by true f = falls w (Runs run (Receives (Some (a, size + len)) f)) (Runs run (Gathers held size piece len frame))
+        → IsBelow (rank w (InProgress run (if b then ReadingOutput (Some (a, size + len)) f else filled a f)))
+        (rank w (InProgress run (JoiningOutput held size piece len frame)))
+    by true f =
+        falls w (InProgress run (ReadingOutput (Some (a, size + len)) f))
+        (InProgress run (JoiningOutput held size piece len frame))
         (omega arith)
-    by false None = falls w (Runs run (Frames a)) (Runs run (Gathers held size piece len frame)) (omega arith)
-    by false (Some f) = falls w (Runs run (Wraps a f)) (Runs run (Gathers held size piece len frame)) (omega arith)
+    by false None = falls w (InProgress run (MakingFrame a)) (InProgress run (JoiningOutput held size piece len frame))
+        (omega arith)
+    by false (Some f) =
+        falls w (InProgress run (FillingFrame a f)) (InProgress run (JoiningOutput held size piece len frame))
+        (omega arith)
 
 module _ (own : CallsServeTheirDomain) (may : RefusalsThatAreLeft) (m n : State) (order : IsOrderly m)
     (lives : is_live m server ≡ true)
@@ -229,88 +246,101 @@ module _ (own : CallsServeTheirDomain) (may : RefusalsThatAreLeft) (m n : State)
           )
       by r did step names = absurd did
 
-  pipes : (worker : ℕ) (r : Reply) → StepsTo m (event.Call server call.Pipe) r n → Near Awaits r (after_wait worker r)
+  pipes : (worker : ℕ) (r : Reply) → StepsTo m (event.Call server call.Pipe) r n
+      → Near AwaitingWorker r (after_wait worker r)
   pipes worker (reply.Fds from write) step =
-      inl (falls w (after_wait worker (reply.Fds from write)) Awaits (omega arith))
+      inl (falls w (after_wait worker (reply.Fds from write)) AwaitingWorker (omega arith))
   pipes worker (reply.Refused z) step = inr (refl, lacks-later z (may.pipe m n server z lives step))
   pipes worker r step = let e = step.1 in absurd (cc (e))
 
   module _ (run : Run) where
     gives : (write : ℕ) (r : Reply) → StepsTo m (event.Call server (call.GiveFd write (worker_domain run.worker))) r n
-        → Near (Runs run (Gives write)) r (Runs run (after_give write r))
-    gives write (reply.Fd f) step = inl (falls w (Runs run (Makes f)) (Runs run (Gives write)) (omega arith))
+        → Near (InProgress run (GivingPipe write)) r (InProgress run (after_give write r))
+    gives write (reply.Fd f) step =
+        inl (falls w (InProgress run (MakingJob f)) (InProgress run (GivingPipe write)) (omega arith))
     gives write (reply.Refused z) step = by (is_again z) refl
       where
         by : (b : Bool) → is_again z ≡ b
-            → Near (Runs run (Gives write)) (reply.Refused z) (Runs run (if b then Gives write else Returns write))
+            → Near (InProgress run (GivingPipe write)) (reply.Refused z)
+            (InProgress run (if b then GivingPipe write else ClosingPipe write))
         by true is = inr (refl, again-later z is)
-        by false is = inl (falls w (Runs run (Returns write)) (Runs run (Gives write)) (omega arith))
+        by false is =
+            inl (falls w (InProgress run (ClosingPipe write)) (InProgress run (GivingPipe write)) (omega arith))
     gives write r step = let e = step.1 in absurd (cc (e))
 
     hands : (j f : ℕ) (r : Reply) → StepsTo m (event.Call server (call.IolWrite (job_pipe run.worker) j)) r n
-        → Near (Runs run (Hands j f)) r (Runs run (after_hand j f r))
-    hands j f (reply.Count k) step = inl (falls w (Runs run (Lets j)) (Runs run (Hands j f)) (omega arith))
+        → Near (InProgress run (WritingJob j f)) r (InProgress run (after_hand j f r))
+    hands j f (reply.Count k) step =
+        inl (falls w (InProgress run (DroppingJob j)) (InProgress run (WritingJob j f)) (omega arith))
     hands j f (reply.Refused z) step = by (is_again z) refl
       where
         by : (b : Bool) → is_again z ≡ b
-            → Near (Runs run (Hands j f)) (reply.Refused z) (Runs run (if b then Hands j f else Lapses j))
+            → Near (InProgress run (WritingJob j f)) (reply.Refused z)
+            (InProgress run (if b then WritingJob j f else DiscardingJob j))
         by true is = inr (refl, again-later z is)
-        by false is = inl (falls w (Runs run (Lapses j)) (Runs run (Hands j f)) (omega arith))
+        by false is = inl (falls w (InProgress run (DiscardingJob j)) (InProgress run (WritingJob j f)) (omega arith))
     hands j f r step = let e = step.1 in absurd (cc (e))
 
     -- a part goes on as a file's response does
     part : (d e : Phase) (frame : Option ℕ) (r : Reply) → stage d ≡ 0 → Nears (file.rank (serve w)) d r e
-        → Near (Runs run (Sending d frame)) r (Runs run (Sending e frame))
+        → Near (InProgress run (SendingPart d frame)) r (InProgress run (SendingPart e frame))
     part d e frame r one (inl (inl falls_first)) = absurd (omega (arith, one, falls_first))
     part d e frame r one (inl (inr fewer)) =
         (let less = fewer.1 in
-        inl (falls w (Runs run (Sending e frame)) (Runs run (Sending d frame)) (omega (arith, less))))
-    part d e frame r one (inr same) = inr (ap (λ z. Runs run (Sending z frame)) same.0, same.1)
+        inl (falls w (InProgress run (SendingPart e frame)) (InProgress run (SendingPart d frame))
+        (omega (arith, less))))
+    part d e frame r one (inr same) = inr (ap (λ z. InProgress run (SendingPart z frame)) same.0, same.1)
 
     sending : (fd c : ℕ) (o : Progress) (d : Phase) (frame : Option ℕ) (r : Reply) (received : List ℕ)
         → descriptor m server fd ≡ Some (on.Connection c) → HasPart m w o run d frame
         → StepsTo m (event.Call server (conn.wants fd (in_phase w d))) r n → Names n r received
-        → Near (Runs run (Sending d frame)) r (after_sending run d frame r)
-    sending fd c o (phase.Sent a taken None) frame r received open_on h step names =
-        drops own may m n order lives (rank w) (Runs run (Sending (phase.Sent a taken None) frame))
-        (λ z. after_sending run (phase.Sent a taken None) frame z) a h.part r h.is_part step
-        (falls w (Runs run (Receives None frame)) (Runs run (Sending (phase.Sent a taken None) frame)) (omega arith))
-    sending fd c o (phase.Drops a None) frame r received open_on h step names =
-        drops own may m n order lives (rank w) (Runs run (Sending (phase.Drops a None) frame))
-        (λ z. after_sending run (phase.Drops a None) frame z) a h.part r h.is_part step
-        (falls w (Runs (broken run) (Receives None frame)) (Runs run (Sending (phase.Drops a None) frame))
+        → Near (InProgress run (SendingPart d frame)) r (after_sending run d frame r)
+    sending fd c o (phase.DroppingSent a taken None) frame r received open_on h step names =
+        drops own may m n order lives (rank w) (InProgress run (SendingPart (phase.DroppingSent a taken None) frame))
+        (λ z. after_sending run (phase.DroppingSent a taken None) frame z) a h.part r h.is_part step
+        (falls w (InProgress run (ReadingOutput None frame))
+        (InProgress run (SendingPart (phase.DroppingSent a taken None) frame)) (omega arith))
+    sending fd c o (phase.Aborting a None) frame r received open_on h step names =
+        drops own may m n order lives (rank w) (InProgress run (SendingPart (phase.Aborting a None) frame))
+        (λ z. after_sending run (phase.Aborting a None) frame z) a h.part r h.is_part step
+        (falls w (InProgress (broken run) (ReadingOutput None frame))
+        (InProgress run (SendingPart (phase.Aborting a None) frame))
         (omega arith))
-    sending fd c o (phase.Sends s) frame r received open_on h step names =
-        part (phase.Sends s) (conn.after_send s r) frame r refl
-        (near own may m n order lives fd c [] (serve w) (phase.Sends s) h.part r received open_on
+    sending fd c o (phase.SendingWhole s) frame r received open_on h step names =
+        part (phase.SendingWhole s) (conn.after_send s r) frame r refl
+        (near own may m n order lives fd c [] (serve w) (phase.SendingWhole s) h.part r received open_on
         refl h.has tt step names)
-    sending fd c o (phase.Cuts s) frame r received open_on h step names =
-        part (phase.Cuts s) (conn.after_cut s r) frame r refl
-        (near own may m n order lives fd c [] (serve w) (phase.Cuts s) h.part r received open_on
+    sending fd c o (phase.CuttingPiece s) frame r received open_on h step names =
+        part (phase.CuttingPiece s) (conn.after_cut s r) frame r refl
+        (near own may m n order lives fd c [] (serve w) (phase.CuttingPiece s) h.part r received open_on
         refl h.has tt step names)
-    sending fd c o (phase.Offers s piece) frame r received open_on h step names =
-        part (phase.Offers s piece) (conn.after_offer s piece r) frame r refl
-        (near own may m n order lives fd c [] (serve w) (phase.Offers s piece) h.part r received
+    sending fd c o (phase.SendingPiece s piece) frame r received open_on h step names =
+        part (phase.SendingPiece s piece) (conn.after_offer s piece r) frame r refl
+        (near own may m n order lives fd c [] (serve w) (phase.SendingPiece s piece) h.part r received
         open_on refl h.has tt step names)
-    sending fd c o (phase.Swaps s piece) frame r received open_on h step names =
-        part (phase.Swaps s piece) (conn.after_swap s piece r) frame r refl
-        (near own may m n order lives fd c [] (serve w) (phase.Swaps s piece) h.part r received
+    sending fd c o (phase.DroppingPiece s piece) frame r received open_on h step names =
+        part (phase.DroppingPiece s piece) (conn.after_swap s piece r) frame r refl
+        (near own may m n order lives fd c [] (serve w) (phase.DroppingPiece s piece) h.part r received
         open_on refl h.has tt step names)
-    sending fd c o (phase.Breaks piece a None) frame r received open_on h step names =
-        part (phase.Breaks piece a None) (conn.after_break piece a None r) frame r refl
-        (near own may m n order lives fd c [] (serve w) (phase.Breaks piece a None) h.part r received open_on refl
+    sending fd c o (phase.AbortingPiece piece a None) frame r received open_on h step names =
+        part (phase.AbortingPiece piece a None) (conn.after_break piece a None r) frame r refl
+        (near own may m n order lives fd c [] (serve w) (phase.AbortingPiece piece a None) h.part r received open_on
+        refl
         h.has tt step names)
     sending fd c o d frame r received open_on h step names = absurd h.is_part
 
     abbrev Nearer : Step → Reply → List ℕ → Type 0
-    Nearer s r received = Near (Runs run s) r (after_step w run s r received) ⊎ ReceivesMore (Runs run s) r received
+    Nearer s r received = Near (InProgress run s) r (after_step w run s r received)
+        ⊎ ReceivesMore (InProgress run s) r received
 
     receives : (held : Following) (frame : Option ℕ) (p : ℕ) (r : Reply) (received : List ℕ)
         → descriptor m server run.from ≡ Some (on.ReadEnd p)
         → StepsTo m (event.Call server (call.IolRead run.from (CHUNK_BYTES - held_size held))) r n
-        → Nearer (Receives held frame) r received
+        → Nearer (ReadingOutput held frame) r received
     receives held frame p (reply.Agg k) [] opened step =
-        inl (inl (falls w (Runs run (Ended k held frame)) (Runs run (Receives held frame)) (omega arith)))
+        inl
+        (inl (falls w (InProgress run (DroppingEnd k held frame)) (InProgress run (ReadingOutput held frame))
+        (omega arith)))
     receives held frame p (reply.Agg k) (b ∷ received) opened step = inr tt
     receives held frame p (reply.Refused z) received opened step =
         inl
@@ -318,7 +348,7 @@ module _ (own : CallsServeTheirDomain) (may : RefusalsThatAreLeft) (m n : State)
         refl refl step))
       where
         refused : (z : Refusal) → LacksNumbersOrHasNothingToRead z
-            → Near (Runs run (Receives held frame)) (reply.Refused z)
+            → Near (InProgress run (ReadingOutput held frame)) (reply.Refused z)
             (after_output w run held frame (reply.Refused z) received)
         refused no.TooMany lacks = inr (refl, refl)
         refused no.WouldBlock lacks = inr (refl, refl)
@@ -330,120 +360,138 @@ module _ (own : CallsServeTheirDomain) (may : RefusalsThatAreLeft) (m n : State)
     -- an aggregate is dropped, and this step is next
     dropping : (s t : Step) (a : ℕ) (bytes : List ℕ) (r : Reply) (received : List ℕ)
         → readable_at m server a ≡ Some bytes → StepsTo m (event.Call server (call.AggDrop a)) r n
-        → after_step w run s reply.Done received ≡ Runs run t → step_calls w t < step_calls w s → Nearer s r received
+        → after_step w run s reply.Done received ≡ InProgress run t → step_calls w t < step_calls w s
+        → Nearer s r received
     dropping s t a bytes r received readable step next fewer =
-        inl (drops own may m n order lives (rank w) (Runs run s) (λ z. after_step w run s z received) a bytes r readable
+        inl (drops own may m n order lives (rank w) (InProgress run s) (λ z. after_step w run s z received) a bytes r
+        readable
         step
-        (subst (λ (y : Running). IsBelow (rank w y) (rank w (Runs run s))) (sym next)
-        (falls w (Runs run t) (Runs run s) fewer)))
+        (subst (λ (y : Running). IsBelow (rank w y) (rank w (InProgress run s))) (sym next)
+        (falls w (InProgress run t) (InProgress run s) fewer)))
 
     steps : (fd c : ℕ) (o : Progress) (s : Step) (r : Reply) (received : List ℕ)
-        → descriptor m server fd ≡ Some (on.Connection c) → HasRun job m w o (Runs run s)
+        → descriptor m server fd ≡ Some (on.Connection c) → HasRun job m w o (InProgress run s)
         → CanMake m (step_wants job fd w run s) → StepsTo m (event.Call server (step_wants job fd w run s)) r n
         → Names n r received → Nearer s r received
-    steps fd c o (Gives write) r received open_on has can step names = inl (gives write r step)
-    steps fd c o (Makes f) r received open_on has can step names =
-        inl (makes own may m n order lives (rank w) (Runs run (Makes f)) (λ z. Runs run (after_make f z)) (job f)
+    steps fd c o (GivingPipe write) r received open_on has can step names = inl (gives write r step)
+    steps fd c o (MakingJob f) r received open_on has can step names =
+        inl (makes own may m n order lives (rank w) (InProgress run (MakingJob f))
+        (λ z. InProgress run (after_make f z)) (job f)
         received r can step names
-        (λ k same. falls w (Runs run (Hands k f)) (Runs run (Makes f)) (omega arith)) (λ z. refl))
-    steps fd c o (Hands j f) r received open_on has can step names = inl (hands j f r step)
-    steps fd c o (Lets j) r received open_on has can step names =
-        dropping (Lets j) Heads j has.1.1.0 r received has.1.1.1 step refl (omega arith)
-    steps fd c o Heads r received open_on has can step names =
-        inl (makes own may m n order lives (rank w) (Runs run Heads) (λ z. Runs run (after_head z received))
+        (λ k same. falls w (InProgress run (WritingJob k f)) (InProgress run (MakingJob f)) (omega arith)) (λ z. refl))
+    steps fd c o (WritingJob j f) r received open_on has can step names = inl (hands j f r step)
+    steps fd c o (DroppingJob j) r received open_on has can step names =
+        dropping (DroppingJob j) MakingHead j has.1.1.0 r received has.1.1.1 step refl (omega arith)
+    steps fd c o MakingHead r received open_on has can step names =
+        inl
+        (makes own may m n order lives (rank w) (InProgress run MakingHead)
+        (λ z. InProgress run (after_head z received))
         (script_text w) received r can step names
         (λ k same. let long = ap (λ (l : List ℕ). length l) same in let short = counts-short received in
-        falls w (Runs run (Sending (sends_part k (count_of received)) None)) (Runs run Heads)
+        falls w (InProgress run (SendingPart (sends_part k (count_of received)) None)) (InProgress run MakingHead)
         (omega (arith, long, short))) (λ z. refl))
-    steps fd c o (Sending d frame) r received open_on has can step names =
+    steps fd c o (SendingPart d frame) r received open_on has can step names =
         inl (sending fd c o d frame r received open_on has.1 step names)
-    steps fd c o (Receives held frame) r received open_on has can step names =
+    steps fd c o (ReadingOutput held frame) r received open_on has can step names =
         receives held frame has.1.reads.0 r received has.1.reads.1 step
-    steps fd c o (Spills a frame) r received open_on has can step names =
-        dropping (Spills a frame) (Receives None frame) a has.1.0.0.0 r received has.1.0.0.1 step refl (omega arith)
-    steps fd c o (Gathers held size piece len frame) r received open_on has can step names =
-        inl (joins own may m n order lives (rank w) (Runs run (Gathers held size piece len frame))
-        (λ z. Runs run (after_gather held size piece len frame z)) held piece has.1.bytes has.1.more r
+    steps fd c o (DroppingOutput a frame) r received open_on has can step names =
+        dropping (DroppingOutput a frame) (ReadingOutput None frame) a has.1.0.0.0 r received has.1.0.0.1 step refl
+        (omega arith)
+    steps fd c o (JoiningOutput held size piece len frame) r received open_on has can step names =
+        inl (joins own may m n order lives (rank w) (InProgress run (JoiningOutput held size piece len frame))
+        (λ z. InProgress run (after_gather held size piece len frame z)) held piece has.1.bytes has.1.more r
         has.1.has.holds.is_readable has.1.is_readable (differ held piece has.1.other)
         (let one = has.1.has.holds.count in let two = has.1.count in let few = has.1.within in
         omega (arith, one, two, few)) step
         (λ k. holding-near w run held size piece len k frame has.1.within) (λ z. refl))
-    steps fd c o (Frames held) r received open_on has can step names =
-        inl (makes own may m n order lives (rank w) (Runs run (Frames held)) (λ z. Runs run (after_frame held z))
+    steps fd c o (MakingFrame held) r received open_on has can step names =
+        inl (makes own may m n order lives (rank w) (InProgress run (MakingFrame held))
+        (λ z. InProgress run (after_frame held z))
         (frame_of CHUNK_BYTES) received r can step names
-        (λ k same. falls w (Runs run (Wraps held k)) (Runs run (Frames held)) (omega arith)) (λ z. refl))
-    steps fd c o (Wraps held frame) r received open_on has can step names =
+        (λ k same. falls w (InProgress run (FillingFrame held k)) (InProgress run (MakingFrame held)) (omega arith))
+        (λ z. refl))
+    steps fd c o (FillingFrame held frame) r received open_on has can step names =
         let long = has.1.0.count in
         inl (sets frame (place_in_frame CHUNK_BYTES) held (frame_of CHUNK_BYTES) has.1.0.bytes received
-        (Runs run (Wraps held frame)) (λ z. Runs run (after_wrap held frame z received)) r
+        (InProgress run (FillingFrame held frame)) (λ z. InProgress run (after_wrap held frame z received)) r
         has.1.1 has.1.0.is_readable (frame-place CHUNK_BYTES chunk_end)
         (let short = head-long CHUNK_BYTES in let all = length-append (chunk_head CHUNK_BYTES) chunk_end in
         omega (arith, long, short, all)) step names
-        (λ k most. falls w (Runs run (Trims held k (count_of received) frame)) (Runs run (Wraps held frame))
+        (λ k most. falls w (InProgress run (DroppingHeld held k (count_of received) frame))
+        (InProgress run (FillingFrame held frame))
         (omega (arith, most, long))) (λ z. refl))
-    steps fd c o (Trims held chunk len frame) r received open_on has can step names =
-        dropping (Trims held chunk len frame) (Sending (sends_part chunk len) (Some frame)) held has.1.0.0.0 r
+    steps fd c o (DroppingHeld held chunk len frame) r received open_on has can step names =
+        dropping (DroppingHeld held chunk len frame) (SendingPart (sends_part chunk len) (Some frame)) held has.1.0.0.0
+        r
         received has.1.0.0.1 step refl (omega arith)
-    steps fd c o (Ended a held frame) r received open_on has can step names =
-        dropping (Ended a held frame) (Stops held frame) a has.1.0.0.0 r received has.1.0.0.1 step refl (omega arith)
-    steps fd c o (Unholds held frame) r received open_on has can step names =
-        dropping (Unholds held frame) (Stops None frame) held has.1.0.0.0 r received has.1.0.0.1 step refl (omega arith)
-    steps fd c o (Stops held frame) r received open_on has can step names =
-        inl (closes own may m n order lives (rank w) (Runs run (Stops held frame)) (λ z. after_stop w run held frame z)
+    steps fd c o (DroppingEnd a held frame) r received open_on has can step names =
+        dropping (DroppingEnd a held frame) (ClosingOutput held frame) a has.1.0.0.0 r received has.1.0.0.1 step refl
+        (omega arith)
+    steps fd c o (DiscardingHeld held frame) r received open_on has can step names =
+        dropping (DiscardingHeld held frame) (ClosingOutput None frame) held has.1.0.0.0 r received has.1.0.0.1 step
+        refl (omega arith)
+    steps fd c o (ClosingOutput held frame) r received open_on has can step names =
+        inl (closes own may m n order lives (rank w) (InProgress run (ClosingOutput held frame))
+        (λ z. after_stop w run held frame z)
         run.from (on.ReadEnd has.1.0.0) r has.1.0.1 step (stopped-near w run held frame))
-    steps fd c o (Unframes f held) r received open_on has can step names =
+    steps fd c o (DroppingFrame f held) r received open_on has can step names =
         inl
-        (drops own may m n order lives (rank w) (Runs run (Unframes f held))
+        (drops own may m n order lives (rank w) (InProgress run (DroppingFrame f held))
         (λ z. after_release_frame w run f held z) f (frame_of CHUNK_BYTES) r has.1.has.frames step
-        (finishing-near w run held (Runs run (Unframes f held)) (omega arith) run.broken w.chunked))
-    steps fd c o (Lasts held) r received open_on has can step names =
-        inl (makes own may m n order lives (rank w) (Runs run (Lasts held)) (λ z. after_last run held z received)
+        (finishing-near w run held (InProgress run (DroppingFrame f held)) (omega arith) run.broken w.chunked))
+    steps fd c o (MakingEnd held) r received open_on has can step names =
+        inl (makes own may m n order lives (rank w) (InProgress run (MakingEnd held))
+        (λ z. after_last run held z received)
         (end_around held) received r can step names
         (λ k same. ending-near w run held k received same) (λ z. refl))
-    steps fd c o (WrapsLast held size frame) r received open_on has can step names =
+    steps fd c o (FillingEnd held size frame) r received open_on has can step names =
         let long = has.1.holds.count in
         let few = has.1.holds.few in
         inl (sets frame (place_in_frame size) held (end_around (Some (held, size))) has.1.bytes received
-        (Runs run (WrapsLast held size frame)) (λ z. Runs run (after_wrap_last held size frame z received)) r
+        (InProgress run (FillingEnd held size frame)) (λ z. InProgress run (after_wrap_last held size frame z received))
+        r
         has.1.frames has.1.holds.is_readable (frame-place size (chunk_end ++ last_chunk))
         (let short = head-long size in let all = length-append (chunk_head size) (chunk_end ++ last_chunk) in let rest =
         length-append chunk_end last_chunk in omega (arith, long, few, short, all, rest)) step names
-        (λ k most. falls w (Runs run (TrimsLast held k (count_of received) frame))
-        (Runs run (WrapsLast held size frame)) (omega (arith, most, long))) (λ z. refl))
-    steps fd c o (TrimsLast held chunk len frame) r received open_on has can step names =
-        dropping (TrimsLast held chunk len frame) (Unwraps frame chunk len) held has.1.0.0.0 r received has.1.0.0.1 step
+        (λ k most. falls w (InProgress run (DroppingLast held k (count_of received) frame))
+        (InProgress run (FillingEnd held size frame)) (omega (arith, most, long))) (λ z. refl))
+    steps fd c o (DroppingLast held chunk len frame) r received open_on has can step names =
+        dropping (DroppingLast held chunk len frame) (DroppingLastFrame frame chunk len) held has.1.0.0.0 r received
+        has.1.0.0.1 step
         refl (omega arith)
-    steps fd c o (Unwraps frame chunk len) r received open_on has can step names =
-        inl (drops own may m n order lives (rank w) (Runs run (Unwraps frame chunk len))
+    steps fd c o (DroppingLastFrame frame chunk len) r received open_on has can step names =
+        inl (drops own may m n order lives (rank w) (InProgress run (DroppingLastFrame frame chunk len))
         (λ z. after_unwrap run frame chunk len z) frame has.1.0.0.0 r has.1.0.0.1 step
-        (falls w (Leaves (sends_part chunk len)) (Runs run (Unwraps frame chunk len)) (omega arith)))
-    steps fd c o (Returns write) r received open_on has can step names =
-        inl (closes own may m n order lives (rank w) (Runs run (Returns write)) (λ z. Runs run (after_return write z))
+        (falls w (Finishing (sends_part chunk len)) (InProgress run (DroppingLastFrame frame chunk len)) (omega arith)))
+    steps fd c o (ClosingPipe write) r received open_on has can step names =
+        inl (closes own may m n order lives (rank w) (InProgress run (ClosingPipe write))
+        (λ z. InProgress run (after_return write z))
         write (on.WriteEnd has.1.0.pipe) r has.1.0.write_end step
-        (falls w (Runs run Fails) (Runs run (Returns write)) (omega arith)))
-    steps fd c o (Lapses j) r received open_on has can step names =
-        dropping (Lapses j) Fails j has.1.1.0 r received has.1.1.1 step refl (omega arith)
-    steps fd c o Fails r received open_on has can step names =
-        inl (closes own may m n order lives (rank w) (Runs run Fails) (λ z. after_fail run z) run.from
+        (falls w (InProgress run Failing) (InProgress run (ClosingPipe write)) (omega arith)))
+    steps fd c o (DiscardingJob j) r received open_on has can step names =
+        dropping (DiscardingJob j) Failing j has.1.1.0 r received has.1.1.1 step refl (omega arith)
+    steps fd c o Failing r received open_on has can step names =
+        inl (closes own may m n order lives (rank w) (InProgress run Failing) (λ z. after_fail run z) run.from
         (on.ReadEnd has.1.0.0) r has.1.0.1 step
-        (falls w (Leaves (phase.Heads (Error 503))) (Runs run Fails) (omega arith)))
+        (falls w (Finishing (phase.MakingHead (Error 503))) (InProgress run Failing) (omega arith)))
 
   -- ---- what is left goes on as a file's response does
 
-  rest : (d e : Phase) (r : Reply) → stage d ≡ 0 → Nears (file.rank (serve w)) d r e → Near (Leaves d) r (Leaves e)
+  rest : (d e : Phase) (r : Reply) → stage d ≡ 0 → Nears (file.rank (serve w)) d r e
+      → Near (Finishing d) r (Finishing e)
   rest d e r one (inl (inl falls_first)) = absurd (omega (arith, one, falls_first))
-  rest d e r one (inl (inr fewer)) = inl (falls w (Leaves e) (Leaves d) fewer.1)
-  rest d e r one (inr same) = inr (ap (λ z. Leaves z) same.0, same.1)
+  rest d e r one (inl (inr fewer)) = inl (falls w (Finishing e) (Finishing d) fewer.1)
+  rest d e r one (inr same) = inr (ap (λ z. Finishing z) same.0, same.1)
 
 left-stage : (d : Phase) → is_left d ≡ true → stage d ≡ 0
-left-stage phase.Opens is = absurd (cc (is))
-left-stage (phase.Reads f) is = absurd (cc (is))
+left-stage phase.Opening is = absurd (cc (is))
+left-stage (phase.Reading f) is = absurd (cc (is))
 left-stage d is = refl
 
 left-busy : (d : Phase) → is_left d ≡ true → is_busy d ≡ true
-left-busy phase.Rests is = absurd (cc (is))
-left-busy phase.Closes is = absurd (cc (is))
-left-busy phase.Over is = absurd (cc (is))
+left-busy phase.Receiving is = absurd (cc (is))
+left-busy phase.Disconnecting is = absurd (cc (is))
+left-busy phase.Closed is = absurd (cc (is))
 left-busy d is = refl
 
 pub nears : CallsServeTheirDomain → RefusalsThatAreLeft
@@ -453,15 +501,15 @@ pub nears : CallsServeTheirDomain → RefusalsThatAreLeft
     → HasRun job m w o x → CanMake m (wants job fd w x)
     → StepsTo m (event.Call server (wants job fd w x)) r n → Names n r received
     → Nears (rank w) x r (after_reply worker w x r received) ⊎ ReceivesMore x r received
-nears own may job m n fd c worker w Awaits r received o order lives open_on going has can step names =
+nears own may job m n fd c worker w AwaitingWorker r received o order lives open_on going has can step names =
     inl (pipes own may m n order lives job w worker r step)
-nears own may job m n fd c worker w (Runs run s) r received o order lives open_on going has can step names =
+nears own may job m n fd c worker w (InProgress run s) r received o order lives open_on going has can step names =
     steps own may m n order lives job w run fd c o s r received open_on has can step names
-nears own may job m n fd c worker w (Leaves d) r received o order lives open_on going has can step names =
+nears own may job m n fd c worker w (Finishing d) r received o order lives open_on going has can step names =
     let left : is_left d ≡ true = not-false (is_left d) going in
     let h = is-rest m w o d left has in
     inl (rest own may m n order lives job w d (conn.after_reply (in_phase w d) r received).phase r (left-stage d left)
     (near own may m n order lives fd c [] (serve w) d h.expected r received open_on (left-busy d left) h.has can step
     names))
-nears own may job m n fd c worker w Closes r received o order lives open_on going has can step names =
+nears own may job m n fd c worker w Disconnecting r received o order lives open_on going has can step names =
     absurd (cc (going))

@@ -14,30 +14,34 @@ use Rattle.flash_laws.proofs.Moves.{after-done, after-agg, either-way}
 use Rattle.flash_laws.specs.declared.script_run.TheConstants.{CHUNK_BYTES}
 use Rattle.flash_laws.specs.declared.script_run.Run.{Run}
 use Rattle.flash_laws.specs.declared.script_run.Step.{Step}
-use Rattle.flash_laws.specs.declared.script_run.Step.TheVariants.{Gives, Makes, Hands, Lets, Heads, Sending, Receives}
-use Rattle.flash_laws.specs.declared.script_run.Step.TheVariants.{Spills, Gathers, Frames, Wraps, Trims, Ended, Unholds}
-use Rattle.flash_laws.specs.declared.script_run.Step.TheVariants.{Stops, Unframes, Lasts, WrapsLast, TrimsLast, Unwraps}
-use Rattle.flash_laws.specs.declared.script_run.Step.TheVariants.{Returns, Lapses, Fails}
+use Rattle.flash_laws.specs.declared.script_run.Step.TheVariants.{GivingPipe, MakingJob, WritingJob, DroppingJob}
+use Rattle.flash_laws.specs.declared.script_run.Step.TheVariants.{MakingHead, SendingPart, ReadingOutput}
+use Rattle.flash_laws.specs.declared.script_run.Step.TheVariants.{DroppingOutput, JoiningOutput, MakingFrame}
+use Rattle.flash_laws.specs.declared.script_run.Step.TheVariants.{FillingFrame, DroppingHeld, DroppingEnd}
+use Rattle.flash_laws.specs.declared.script_run.Step.TheVariants.{DiscardingHeld}
+use Rattle.flash_laws.specs.declared.script_run.Step.TheVariants.{ClosingOutput, DroppingFrame, MakingEnd, FillingEnd}
+use Rattle.flash_laws.specs.declared.script_run.Step.TheVariants.{DroppingLast, DroppingLastFrame}
+use Rattle.flash_laws.specs.declared.script_run.Step.TheVariants.{ClosingPipe, DiscardingJob, Failing}
 use Rattle.flash_laws.specs.declared.script_run.Running.{Running}
-use Rattle.flash_laws.specs.declared.script_run.Running.TheVariants.{Runs}
+use Rattle.flash_laws.specs.declared.script_run.Running.TheVariants.{InProgress}
 
 -- whether a part of the response is being sent
 abbrev pub is_part : Step → Bool
-is_part (Sending d frame) = true
+is_part (SendingPart d frame) = true
 is_part s = false
 
 -- whether the script may be given up now
 abbrev pub may_fail : Step → Bool
-may_fail (Gives write) = true
-may_fail (Hands j f) = true
-may_fail (Returns write) = true
-may_fail (Lapses j) = true
-may_fail Fails = true
+may_fail (GivingPipe write) = true
+may_fail (WritingJob j f) = true
+may_fail (ClosingPipe write) = true
+may_fail (DiscardingJob j) = true
+may_fail Failing = true
 may_fail s = false
 
 -- the output may not be read
 abbrev pub Bars : Step → Reply → Type 0
-Bars (Receives held frame) (reply.Refused (no.Denied p)) = Unit {0}
+Bars (ReadingOutput held frame) (reply.Refused (no.Denied p)) = Unit {0}
 Bars s r = ⊥
 
 -- from a step by a reply to y nothing is taken; it breaks off only where it was broken, or the output may not be read;
@@ -46,13 +50,13 @@ abbrev pub Quiet : Run → Step → Reply → Running → Type 0
 Quiet run s r y = (taken_by y ≡ 0)
     × (breaks_off y ≡ true → (run.broken ≡ true) ⊎ Bars s r)
     × (is_failing y ≡ true → may_fail s ≡ true)
-    × ((y ≡ Runs run s) ⊎ ComesAfter (Runs run s) r y)
+    × ((y ≡ InProgress run s) ⊎ ComesAfter (InProgress run s) r y)
 
 module _ (w : Wanted) (run : Run) where
-  gives : (write : ℕ) (r : Reply) → Quiet run (Gives write) r (Runs run (after_give write r))
+  gives : (write : ℕ) (r : Reply) → Quiet run (GivingPipe write) r (InProgress run (after_give write r))
   gives write (reply.Fd f) = (refl, λ b. inl b, λ z. refl, inr (write, refl, refl))
   gives write (reply.Refused x) =
-      either-way (λ (s : Step). Quiet run (Gives write) (reply.Refused x) (Runs run s)) (is_again x) (
+      either-way (λ (s : Step). Quiet run (GivingPipe write) (reply.Refused x) (InProgress run s)) (is_again x) (
         refl,
         λ b. inl b,
         λ z. refl,
@@ -60,14 +64,14 @@ module _ (w : Wanted) (run : Run) where
       ) (refl, λ b. inl b, λ z. refl, inr tt)
   gives write r = (refl, λ b. inl b, λ z. refl, inl refl)
 
-  makes : (f : ℕ) (r : Reply) → Quiet run (Makes f) r (Runs run (after_make f r))
+  makes : (f : ℕ) (r : Reply) → Quiet run (MakingJob f) r (InProgress run (after_make f r))
   makes f (reply.Agg n) = (refl, λ b. inl b, λ z. absurd (cc (z)), inr (refl, refl))
   makes f r = (refl, λ b. inl b, λ z. absurd (cc (z)), inl refl)
 
-  hands : (j f : ℕ) (r : Reply) → Quiet run (Hands j f) r (Runs run (after_hand j f r))
+  hands : (j f : ℕ) (r : Reply) → Quiet run (WritingJob j f) r (InProgress run (after_hand j f r))
   hands j f (reply.Count k) = (refl, λ b. inl b, λ z. refl, inr (f, k, refl, refl))
   hands j f (reply.Refused x) =
-      either-way (λ (s : Step). Quiet run (Hands j f) (reply.Refused x) (Runs run s)) (is_again x) (
+      either-way (λ (s : Step). Quiet run (WritingJob j f) (reply.Refused x) (InProgress run s)) (is_again x) (
         refl,
         λ b. inl b,
         λ z. refl,
@@ -75,40 +79,42 @@ module _ (w : Wanted) (run : Run) where
       ) (refl, λ b. inl b, λ z. refl, inr tt)
   hands j f r = (refl, λ b. inl b, λ z. refl, inl refl)
 
-  lets : (j : ℕ) (r : Reply) → Quiet run (Lets j) r (Runs run (after_release_job j r))
+  lets : (j : ℕ) (r : Reply) → Quiet run (DroppingJob j) r (InProgress run (after_release_job j r))
   lets j reply.Done = (refl, λ b. inl b, λ z. absurd (cc (z)), inr (j, refl, refl))
   lets j r = (refl, λ b. inl b, λ z. absurd (cc (z)), inl refl)
 
   -- as it stays
-  stays : (s : Step) (r : Reply) → is_part s ≡ false → Quiet run s r (Runs run s)
-  stays (Sending d frame) r plain = absurd (cc (plain))
+  stays : (s : Step) (r : Reply) → is_part s ≡ false → Quiet run s r (InProgress run s)
+  stays (SendingPart d frame) r plain = absurd (cc (plain))
   stays s r plain = (refl, λ b. inl b, λ z. cc (z), inl refl)
 
   abbrev Then : Step → Reply → Step → Type 0
-  Then s r t = Quiet run s r (Runs run t)
+  Then s r t = Quiet run s r (InProgress run t)
 
-  holds : (s : Step) (r : Reply) (held size : ℕ) (frame : Option ℕ) → Quiet run s r (Runs run (holding held size frame))
+  holds : (s : Step) (r : Reply) (held size : ℕ) (frame : Option ℕ)
+      → Quiet run s r (InProgress run (holding held size frame))
   holds s r held size frame = by (nat_lt size CHUNK_BYTES) frame
     where
       by : (b : Bool) (frame : Option ℕ)
-          → Quiet run s r (Runs run (if b then Receives (Some (held, size)) frame else filled held frame))
+          → Quiet run s r (InProgress run (if b then ReadingOutput (Some (held, size)) frame else filled held frame))
       by true frame = (refl, λ b. inl b, λ z. absurd (cc (z)), inr tt)
       by false None = (refl, λ b. inl b, λ z. absurd (cc (z)), inr tt)
       by false (Some f) = (refl, λ b. inl b, λ z. absurd (cc (z)), inr tt)
 
   hearing-on : (s : Step) (r : Reply) (c d : Bool) (held : Following) (frame : Option ℕ) (a len : ℕ)
-      → is_handing (Runs run s) ≡ false
-      → Quiet run s r (Runs run (hearing c d held frame a len))
+      → is_handing (InProgress run s) ≡ false
+      → Quiet run s r (InProgress run (hearing c d held frame a len))
   hearing-on s r true d held frame a len handed = (refl, λ b. inl b, λ z. absurd (cc (z)), inr tt)
   hearing-on s r false false held frame a len handed = (refl, λ b. absurd (cc (b)), λ z. absurd (cc (z)), inr handed)
   hearing-on s r false true None frame a len handed = holds s r a len frame
   hearing-on s r false true (Some x) frame a len handed = (refl, λ b. inl b, λ z. absurd (cc (z)), inr tt)
 
   receives : (held : Following) (frame : Option ℕ) (r : Reply) (received : List ℕ)
-      → Quiet run (Receives held frame) r (after_output w run held frame r received)
+      → Quiet run (ReadingOutput held frame) r (after_output w run held frame r received)
   receives held frame (reply.Agg n) [] = (refl, λ b. inl b, λ z. absurd (cc (z)), inr tt)
   receives held frame (reply.Agg n) (b ∷ received) =
-      hearing-on (Receives held frame) (reply.Agg n) run.broken w.chunked held frame n (count_of (b ∷ received)) refl
+      hearing-on (ReadingOutput held frame) (reply.Agg n) run.broken w.chunked held frame n (count_of (b ∷ received))
+      refl
   receives None frame (reply.Refused (no.Denied p)) received = (refl, λ b. inr tt, λ z. absurd (cc (z)), inr tt)
   receives (Some x) frame (reply.Refused (no.Denied p)) received = (refl, λ b. inr tt, λ z. absurd (cc (z)), inr tt)
   receives held frame r received = (refl, λ b. inl b, λ z. absurd (cc (z)), inl refl)
@@ -118,76 +124,79 @@ module _ (w : Wanted) (run : Run) where
   finishes s r false false held = (refl, λ b. absurd (cc (b)), λ z. absurd (cc (z)), inr tt)
   finishes s r true c held = (refl, λ b. absurd (cc (b)), λ z. absurd (cc (z)), inr tt)
 
-  stops : (held : Following) (frame : Option ℕ) (r : Reply) → Quiet run (Stops held frame) r (stopped w run held frame)
-  stops held None r = finishes (Stops held None) r run.broken w.chunked held
+  stops : (held : Following) (frame : Option ℕ) (r : Reply)
+      → Quiet run (ClosingOutput held frame) r (stopped w run held frame)
+  stops held None r = finishes (ClosingOutput held None) r run.broken w.chunked held
   stops held (Some f) r = (refl, λ b. inl b, λ z. absurd (cc (z)), inr tt)
 
-  lasts : (held : Following) (r : Reply) (n len : ℕ) → Quiet run (Lasts held) r (ending run held n len)
+  lasts : (held : Following) (r : Reply) (n len : ℕ) → Quiet run (MakingEnd held) r (ending run held n len)
   lasts None r n len = (refl, λ b. absurd (cc (b)), λ z. absurd (cc (z)), inr tt)
   lasts (Some x) r n len = (refl, λ b. inl b, λ z. absurd (cc (z)), inr tt)
 
   pub quiet : (s : Step) (r : Reply) (received : List ℕ) → is_part s ≡ false
       → Quiet run s r (after_step w run s r received)
-  quiet (Gives write) r received plain = gives write r
-  quiet (Makes f) r received plain = makes f r
-  quiet (Hands j f) r received plain = hands j f r
-  quiet (Lets j) r received plain = lets j r
-  quiet Heads r received plain =
-      after-agg (Then Heads r) r (stays Heads r refl)
+  quiet (GivingPipe write) r received plain = gives write r
+  quiet (MakingJob f) r received plain = makes f r
+  quiet (WritingJob j f) r received plain = hands j f r
+  quiet (DroppingJob j) r received plain = lets j r
+  quiet MakingHead r received plain =
+      after-agg (Then MakingHead r) r (stays MakingHead r refl)
       (λ n. (refl, λ b. absurd (cc (b)), λ z. absurd (cc (z)), inr refl))
-  quiet (Sending d frame) r received plain = absurd (cc (plain))
-  quiet (Receives held frame) r received plain = receives held frame r received
-  quiet (Spills a frame) r received plain =
-      after-done (Then (Spills a frame) r) r (stays (Spills a frame) r refl) (
+  quiet (SendingPart d frame) r received plain = absurd (cc (plain))
+  quiet (ReadingOutput held frame) r received plain = receives held frame r received
+  quiet (DroppingOutput a frame) r received plain =
+      after-done (Then (DroppingOutput a frame) r) r (stays (DroppingOutput a frame) r refl) (
         refl,
         λ b. inl b,
         λ z. absurd (cc (z)),
         inr tt,
       )
-  quiet (Gathers held size piece len frame) r received plain = let s = Gathers held size piece len frame in
+  quiet (JoiningOutput held size piece len frame) r received plain = let s = JoiningOutput held size piece len frame in
       after-agg (Then s r) r (stays s r refl) (λ n. holds s r n (both size len) frame)
-  quiet (Frames held) r received plain =
-      after-agg (Then (Frames held) r) r (stays (Frames held) r refl)
+  quiet (MakingFrame held) r received plain =
+      after-agg (Then (MakingFrame held) r) r (stays (MakingFrame held) r refl)
       (λ n. (refl, λ b. inl b, λ z. absurd (cc (z)), inr tt))
-  quiet (Wraps held frame) r received plain =
-      after-agg (Then (Wraps held frame) r) r (stays (Wraps held frame) r refl)
+  quiet (FillingFrame held frame) r received plain =
+      after-agg (Then (FillingFrame held frame) r) r (stays (FillingFrame held frame) r refl)
       (λ n. (refl, λ b. inl b, λ z. absurd (cc (z)), inr tt))
-  quiet (Trims held chunk len frame) r received plain =
-      after-done (Then (Trims held chunk len frame) r) r (stays (Trims held chunk len frame) r refl)
+  quiet (DroppingHeld held chunk len frame) r received plain =
+      after-done (Then (DroppingHeld held chunk len frame) r) r (stays (DroppingHeld held chunk len frame) r refl)
       (refl, λ b. absurd (cc (b)), λ z. absurd (cc (z)), inr refl)
-  quiet (Ended a held frame) r received plain =
-      after-done (Then (Ended a held frame) r) r (stays (Ended a held frame) r refl) (
+  quiet (DroppingEnd a held frame) r received plain =
+      after-done (Then (DroppingEnd a held frame) r) r (stays (DroppingEnd a held frame) r refl) (
         refl,
         λ b. inl b,
         λ z. absurd (cc (z)),
         inr tt,
       )
-  quiet (Unholds held frame) r received plain =
-      after-done (Then (Unholds held frame) r) r (stays (Unholds held frame) r refl) (
+  quiet (DiscardingHeld held frame) r received plain =
+      after-done (Then (DiscardingHeld held frame) r) r (stays (DiscardingHeld held frame) r refl) (
         refl,
         λ b. inl b,
         λ z. absurd (cc (z)),
         inr tt,
       )
-  quiet (Stops held frame) r received plain =
-      after-done (Quiet run (Stops held frame) r) r (stays (Stops held frame) r refl) (stops held frame r)
-  quiet (Unframes f held) r received plain =
-      after-done (Quiet run (Unframes f held) r) r (stays (Unframes f held) r refl)
-      (finishes (Unframes f held) r run.broken w.chunked held)
-  quiet (Lasts held) r received plain =
-      after-agg (Quiet run (Lasts held) r) r (stays (Lasts held) r refl) (λ n. lasts held r n (count_of received))
-  quiet (WrapsLast held size frame) r received plain =
-      after-agg (Then (WrapsLast held size frame) r) r (stays (WrapsLast held size frame) r refl)
+  quiet (ClosingOutput held frame) r received plain =
+      after-done (Quiet run (ClosingOutput held frame) r) r (stays (ClosingOutput held frame) r refl)
+      (stops held frame r)
+  quiet (DroppingFrame f held) r received plain =
+      after-done (Quiet run (DroppingFrame f held) r) r (stays (DroppingFrame f held) r refl)
+      (finishes (DroppingFrame f held) r run.broken w.chunked held)
+  quiet (MakingEnd held) r received plain =
+      after-agg (Quiet run (MakingEnd held) r) r (stays (MakingEnd held) r refl)
+      (λ n. lasts held r n (count_of received))
+  quiet (FillingEnd held size frame) r received plain =
+      after-agg (Then (FillingEnd held size frame) r) r (stays (FillingEnd held size frame) r refl)
       (λ n. (refl, λ b. inl b, λ z. absurd (cc (z)), inr tt))
-  quiet (TrimsLast held chunk len frame) r received plain =
-      after-done (Then (TrimsLast held chunk len frame) r) r (stays (TrimsLast held chunk len frame) r refl)
+  quiet (DroppingLast held chunk len frame) r received plain =
+      after-done (Then (DroppingLast held chunk len frame) r) r (stays (DroppingLast held chunk len frame) r refl)
       (refl, λ b. inl b, λ z. absurd (cc (z)), inr tt)
-  quiet (Unwraps frame chunk len) r received plain =
-      after-done (Quiet run (Unwraps frame chunk len) r) r (stays (Unwraps frame chunk len) r refl)
+  quiet (DroppingLastFrame frame chunk len) r received plain =
+      after-done (Quiet run (DroppingLastFrame frame chunk len) r) r (stays (DroppingLastFrame frame chunk len) r refl)
       (refl, λ b. absurd (cc (b)), λ z. absurd (cc (z)), inr tt)
-  quiet (Returns write) r received plain =
-      after-done (Then (Returns write) r) r (stays (Returns write) r refl) (refl, λ b. inl b, λ z. refl, inr tt)
-  quiet (Lapses j) r received plain =
-      after-done (Then (Lapses j) r) r (stays (Lapses j) r refl) (refl, λ b. inl b, λ z. refl, inr tt)
-  quiet Fails r received plain =
-      after-done (Quiet run Fails r) r (stays Fails r refl) (refl, λ b. absurd (cc (b)), λ z. refl, inr tt)
+  quiet (ClosingPipe write) r received plain =
+      after-done (Then (ClosingPipe write) r) r (stays (ClosingPipe write) r refl) (refl, λ b. inl b, λ z. refl, inr tt)
+  quiet (DiscardingJob j) r received plain =
+      after-done (Then (DiscardingJob j) r) r (stays (DiscardingJob j) r refl) (refl, λ b. inl b, λ z. refl, inr tt)
+  quiet Failing r received plain =
+      after-done (Quiet run Failing r) r (stays Failing r refl) (refl, λ b. absurd (cc (b)), λ z. refl, inr tt)

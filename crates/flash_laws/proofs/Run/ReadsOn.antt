@@ -14,11 +14,13 @@ use Rattle.flash_laws.specs.declared.phase.Phase.TheVariants as phase
 use Rattle.flash_laws.specs.declared.script_run.TheConstants.{CHUNK_BYTES}
 use Rattle.flash_laws.specs.declared.script_run.Run.{Run}
 use Rattle.flash_laws.specs.declared.script_run.Step.{Step}
-use Rattle.flash_laws.specs.declared.script_run.Step.TheVariants.{Gives, Makes, Hands, Lets, Heads, Sending, Receives}
-use Rattle.flash_laws.specs.declared.script_run.Step.TheVariants.{Spills, Gathers, Frames, Wraps, Trims, Returns}
-use Rattle.flash_laws.specs.declared.script_run.Step.TheVariants.{Lapses, Fails}
+use Rattle.flash_laws.specs.declared.script_run.Step.TheVariants.{GivingPipe, MakingJob, WritingJob, DroppingJob}
+use Rattle.flash_laws.specs.declared.script_run.Step.TheVariants.{MakingHead, SendingPart, ReadingOutput}
+use Rattle.flash_laws.specs.declared.script_run.Step.TheVariants.{DroppingOutput, JoiningOutput, MakingFrame}
+use Rattle.flash_laws.specs.declared.script_run.Step.TheVariants.{FillingFrame, DroppingHeld, ClosingPipe}
+use Rattle.flash_laws.specs.declared.script_run.Step.TheVariants.{DiscardingJob, Failing}
 use Rattle.flash_laws.specs.declared.script_run.Running.{Running}
-use Rattle.flash_laws.specs.declared.script_run.Running.TheVariants.{Awaits, Runs}
+use Rattle.flash_laws.specs.declared.script_run.Running.TheVariants.{AwaitingWorker, InProgress}
 use Rattle.flash_laws.proofs.Lists.{clash}
 use Rattle.flash_laws.proofs.Moves.{after-done, after-agg, either-way}
 
@@ -27,7 +29,7 @@ module _ (run : Run) where
   Goes y = is_stopping y ≡ false
 
   abbrev Going : Step → Type 0
-  Going t = Goes (Runs run t)
+  Going t = Goes (InProgress run t)
 
   gives : (write : ℕ) (r : Reply) → Going (after_give write r)
   gives write (reply.Fd f) = refl
@@ -40,8 +42,8 @@ module _ (run : Run) where
   hands j f r = refl
 
   sending : (d : Phase) (frame : Option ℕ) (r : Reply) → Goes (after_sending run d frame r)
-  sending (phase.Sent a taken None) frame reply.Done = refl
-  sending (phase.Drops a None) frame reply.Done = refl
+  sending (phase.DroppingSent a taken None) frame reply.Done = refl
+  sending (phase.Aborting a None) frame reply.Done = refl
   sending d frame r = refl
 
   holds : (held size : ℕ) (frame : Option ℕ) → Going (holding held size frame)
@@ -56,51 +58,51 @@ module _ (run : Run) where
 
   receives : (w : Wanted) (held : Following) (frame : Option ℕ) (r : Reply) (received : List ℕ)
       → is_stopping (after_output w run held frame r received) ≡ true
-      → StopsBy (Runs run (Receives held frame)) r received
+      → StopsBy (InProgress run (ReadingOutput held frame)) r received
   receives w held frame (reply.Agg n) [] z = refl
   receives w held frame (reply.Agg n) (b ∷ received) z =
-      let next = Runs run (hearing run.broken w.chunked held frame n (count_of (b ∷ received))) in
+      let next = InProgress run (hearing run.broken w.chunked held frame n (count_of (b ∷ received))) in
       absurd (clash (is_stopping next) z (hearing-on run.broken w.chunked held frame n (count_of (b ∷ received))))
   receives w held frame (reply.Refused (no.Denied p)) received z = tt
   receives w held frame r received z = absurd (cc (z))
 
   abbrev is_reading : Step → Bool
-  is_reading (Receives held frame) = true
+  is_reading (ReadingOutput held frame) = true
   is_reading s = false
 
-  goes : (worker : ℕ) (w : Wanted) (s : Step) (r : Reply) (received : List ℕ) → is_stopping (Runs run s) ≡ false
-      → is_reading s ≡ false → Goes (after_reply worker w (Runs run s) r received)
-  goes worker w (Gives write) r received on other = gives write r
-  goes worker w (Makes f) r received on other = after-agg Going r refl (λ n. refl)
-  goes worker w (Hands j f) r received on other = hands j f r
-  goes worker w (Lets j) r received on other = after-done Going r refl refl
-  goes worker w Heads r received on other = after-agg Going r refl (λ n. refl)
-  goes worker w (Sending d frame) r received on other = sending d frame r
-  goes worker w (Spills a frame) r received on other = after-done Going r refl refl
-  goes worker w (Gathers held size piece len frame) r received on other =
+  goes : (worker : ℕ) (w : Wanted) (s : Step) (r : Reply) (received : List ℕ) → is_stopping (InProgress run s) ≡ false
+      → is_reading s ≡ false → Goes (after_reply worker w (InProgress run s) r received)
+  goes worker w (GivingPipe write) r received on other = gives write r
+  goes worker w (MakingJob f) r received on other = after-agg Going r refl (λ n. refl)
+  goes worker w (WritingJob j f) r received on other = hands j f r
+  goes worker w (DroppingJob j) r received on other = after-done Going r refl refl
+  goes worker w MakingHead r received on other = after-agg Going r refl (λ n. refl)
+  goes worker w (SendingPart d frame) r received on other = sending d frame r
+  goes worker w (DroppingOutput a frame) r received on other = after-done Going r refl refl
+  goes worker w (JoiningOutput held size piece len frame) r received on other =
       after-agg Going r refl (λ n. holds n (both size len) frame)
-  goes worker w (Frames held) r received on other = after-agg Going r refl (λ n. refl)
-  goes worker w (Wraps held frame) r received on other = after-agg Going r refl (λ n. refl)
-  goes worker w (Trims held chunk len frame) r received on other = after-done Going r refl refl
-  goes worker w (Returns write) r received on other = after-done Going r refl refl
-  goes worker w (Lapses j) r received on other = after-done Going r refl refl
-  goes worker w Fails r received on other = after-done Goes r refl refl
-  goes worker w (Receives held frame) r received on other = absurd (cc (other))
+  goes worker w (MakingFrame held) r received on other = after-agg Going r refl (λ n. refl)
+  goes worker w (FillingFrame held frame) r received on other = after-agg Going r refl (λ n. refl)
+  goes worker w (DroppingHeld held chunk len frame) r received on other = after-done Going r refl refl
+  goes worker w (ClosingPipe write) r received on other = after-done Going r refl refl
+  goes worker w (DiscardingJob j) r received on other = after-done Going r refl refl
+  goes worker w Failing r received on other = after-done Goes r refl refl
+  goes worker w (ReadingOutput held frame) r received on other = absurd (cc (other))
   goes worker w s r received on other = absurd (cc (on))
 
-  steps : (worker : ℕ) (w : Wanted) (s : Step) (r : Reply) (received : List ℕ) → is_stopping (Runs run s) ≡ false
-      → is_stopping (after_reply worker w (Runs run s) r received) ≡ true → StopsBy (Runs run s) r received
-  steps worker w (Receives held frame) r received on z = receives w held frame r received z
+  steps : (worker : ℕ) (w : Wanted) (s : Step) (r : Reply) (received : List ℕ) → is_stopping (InProgress run s) ≡ false
+      → is_stopping (after_reply worker w (InProgress run s) r received) ≡ true → StopsBy (InProgress run s) r received
+  steps worker w (ReadingOutput held frame) r received on z = receives w held frame r received z
   steps worker w s r received on z =
       absurd
-      (clash (is_stopping (after_reply worker w (Runs run s) r received)) z (goes worker w s r received on refl))
+      (clash (is_stopping (after_reply worker w (InProgress run s) r received)) z (goes worker w s r received on refl))
 
 pub reads_on : (worker : ℕ) (w : Wanted) (x : Running) (r : Reply) (received : List ℕ) → is_stopping x ≡ false
     → is_stopping (after_reply worker w x r received) ≡ true → StopsBy x r received
-reads_on worker w Awaits r received on z = absurd (by r z)
+reads_on worker w AwaitingWorker r received on z = absurd (by r z)
   where
-    by : (r : Reply) → is_stopping (after_reply worker w Awaits r received) ≡ true → ⊥
+    by : (r : Reply) → is_stopping (after_reply worker w AwaitingWorker r received) ≡ true → ⊥
     by (reply.Fds from write) z = cc (z)
     by r z = cc (z)
-reads_on worker w (Runs run s) r received on z = steps run worker w s r received on z
+reads_on worker w (InProgress run s) r received on z = steps run worker w s r received on z
 reads_on worker w x r received on z = absurd (cc (z))

@@ -30,12 +30,17 @@ use Rattle.flash_laws.specs.declared.phase.Phase.TheVariants as phase
 use Rattle.flash_laws.specs.declared.script_run.TheConstants.{CHUNK_BYTES}
 use Rattle.flash_laws.specs.declared.script_run.Run.{Run}
 use Rattle.flash_laws.specs.declared.script_run.Step.{Step}
-use Rattle.flash_laws.specs.declared.script_run.Step.TheVariants.{Gives, Makes, Hands, Lets, Heads, Sending, Receives}
-use Rattle.flash_laws.specs.declared.script_run.Step.TheVariants.{Spills, Gathers, Frames, Wraps, Trims, Ended, Unholds}
-use Rattle.flash_laws.specs.declared.script_run.Step.TheVariants.{Unframes, Lasts, WrapsLast, TrimsLast, Unwraps}
-use Rattle.flash_laws.specs.declared.script_run.Step.TheVariants.{Returns, Lapses}
+use Rattle.flash_laws.specs.declared.script_run.Step.TheVariants.{GivingPipe, MakingJob, WritingJob, DroppingJob}
+use Rattle.flash_laws.specs.declared.script_run.Step.TheVariants.{MakingHead, SendingPart, ReadingOutput}
+use Rattle.flash_laws.specs.declared.script_run.Step.TheVariants.{DroppingOutput, JoiningOutput, MakingFrame}
+use Rattle.flash_laws.specs.declared.script_run.Step.TheVariants.{FillingFrame, DroppingHeld, DroppingEnd}
+use Rattle.flash_laws.specs.declared.script_run.Step.TheVariants.{DiscardingHeld}
+use Rattle.flash_laws.specs.declared.script_run.Step.TheVariants.{DroppingFrame, MakingEnd, FillingEnd, DroppingLast}
+use Rattle.flash_laws.specs.declared.script_run.Step.TheVariants.{DroppingLastFrame}
+use Rattle.flash_laws.specs.declared.script_run.Step.TheVariants.{ClosingPipe, DiscardingJob}
 use Rattle.flash_laws.specs.declared.script_run.Running.{Running}
-use Rattle.flash_laws.specs.declared.script_run.Running.TheVariants.{Awaits, Runs, Leaves, Closes}
+use Rattle.flash_laws.specs.declared.script_run.Running.TheVariants.{AwaitingWorker, InProgress, Finishing}
+use Rattle.flash_laws.specs.declared.script_run.Running.TheVariants.{Disconnecting}
 use Rattle.flash_laws.proofs.Conn.Holdings as keeping
 use Rattle.flash_laws.proofs.Conn.Holdings.{headed-first}
 use Rattle.flash_laws.proofs.Lists.{later_of, former_of, not-false}
@@ -92,22 +97,22 @@ module _ (come : AggregatesComeAndGo) (own : CallsServeTheirDomain) (m n : State
       sending-brings : (run : Run) (d : Phase) (frame : Option ℕ) (r : Reply) → HasPart m w o run d frame
           → StepsTo m (event.Call server (conn.wants fd (in_phase w d))) r n
           → uses_agg (after_sending run d frame r) a ≡ true
-      sending-brings run (phase.Sends s) frame r h step =
+      sending-brings run (phase.SendingWhole s) frame r h step =
           absurd (written fd c s.agg h.has.0.bytes r open_on h.has.0.is_readable step)
-      sending-brings run (phase.Cuts s) frame r h step =
+      sending-brings run (phase.CuttingPiece s) frame r h step =
           made (call.AggCut s.agg s.from (piece_end s)) (slice_range h.has.0.bytes s.from (piece_end s))
-          (λ k. after_sending run (phase.Cuts s) frame k) r step
+          (λ k. after_sending run (phase.CuttingPiece s) frame k) r step
           (own.cut m n server s.agg s.from (piece_end s) h.has.0.bytes r order h.has.0.is_readable step) (λ x is. is)
           (λ x is. cc (is))
           (λ x is. former_of ((x == a) || ((s.agg == a) || has_followed s.more a)) (has_frame frame a)
           (former_of (x == a) ((s.agg == a) || has_followed s.more a) is))
-      sending-brings run (phase.Offers s piece) frame r h step =
+      sending-brings run (phase.SendingPiece s piece) frame r h step =
           absurd (written fd c piece (slice_range h.has.whole.bytes s.from (piece_end s)) r open_on h.has.is_readable
           step)
-      sending-brings run (phase.Swaps s piece) frame r h step = absurd (dropped piece r step)
-      sending-brings run (phase.Sent b taken None) frame r h step = absurd (dropped b r step)
-      sending-brings run (phase.Breaks piece b None) frame r h step = absurd (dropped piece r step)
-      sending-brings run (phase.Drops b None) frame r h step = absurd (dropped b r step)
+      sending-brings run (phase.DroppingPiece s piece) frame r h step = absurd (dropped piece r step)
+      sending-brings run (phase.DroppingSent b taken None) frame r h step = absurd (dropped b r step)
+      sending-brings run (phase.AbortingPiece piece b None) frame r h step = absurd (dropped piece r step)
+      sending-brings run (phase.Aborting b None) frame r h step = absurd (dropped b r step)
       sending-brings run d frame r h step = absurd h.is_part
 
       receives-brings : (run : Run) (held : Following) (frame : Option ℕ) (r : Reply) (received : List ℕ)
@@ -132,89 +137,91 @@ module _ (come : AggregatesComeAndGo) (own : CallsServeTheirDomain) (m n : State
       ending-new run None k len is = former_of (k == a) false is
       ending-new run (Some x) k len is = later_of (x.0 == a) (k == a) is
 
-      step-brings : (run : Run) (s : Step) (r : Reply) (received : List ℕ) → HasRun job m w o (Runs run s)
+      step-brings : (run : Run) (s : Step) (r : Reply) (received : List ℕ) → HasRun job m w o (InProgress run s)
           → StepsTo m (event.Call server (step_wants job fd w run s)) r n
           → uses_agg (after_step w run s r received) a ≡ true
-      step-brings run (Gives write) r received has step =
+      step-brings run (GivingPipe write) r received has step =
           absurd (given write (worker_domain run.worker) has.1.0.pipe r has.1.0.write_end step)
-      step-brings run (Makes f) r received has step =
-          made (call.AggMake (job f)) (job f) (λ k. after_step w run (Makes f) k received) r step
+      step-brings run (MakingJob f) r received has step =
+          made (call.AggMake (job f)) (job f) (λ k. after_step w run (MakingJob f) k received) r step
           (own.make m n server (job f) r order step) (λ x is. is) (λ x is. cc (is)) (λ x is. is)
-      step-brings run (Hands j f) r received has step =
+      step-brings run (WritingJob j f) r received has step =
           absurd (handed (run.worker + 1) has.0.0 j (job f) r has.0.1 has.1.1 step)
-      step-brings run (Lets j) r received has step = absurd (dropped j r step)
-      step-brings run Heads r received has step =
-          made (call.AggMake (script_text w)) (script_text w) (λ k. after_step w run Heads k received) r step
+      step-brings run (DroppingJob j) r received has step = absurd (dropped j r step)
+      step-brings run MakingHead r received has step =
+          made (call.AggMake (script_text w)) (script_text w) (λ k. after_step w run MakingHead k received) r step
           (own.make m n server (script_text w) r order step) (λ x is. is) (λ x is. cc (is))
           (λ x is. former_of ((x == a) || false) false (former_of (x == a) false is))
-      step-brings run (Sending d frame) r received has step = sending-brings run d frame r has.1 step
-      step-brings run (Receives held frame) r received has step = receives-brings run held frame r received has.1 step
-      step-brings run (Spills b frame) r received has step = absurd (dropped b r step)
-      step-brings run (Gathers held size piece len frame) r received has step =
+      step-brings run (SendingPart d frame) r received has step = sending-brings run d frame r has.1 step
+      step-brings run (ReadingOutput held frame) r received has step =
+          receives-brings run held frame r received has.1 step
+      step-brings run (DroppingOutput b frame) r received has step = absurd (dropped b r step)
+      step-brings run (JoiningOutput held size piece len frame) r received has step =
           made (call.AggJoin held piece) (has.1.bytes ++ has.1.more)
-          (λ k. after_step w run (Gathers held size piece len frame) k received) r step
+          (λ k. after_step w run (JoiningOutput held size piece len frame) k received) r step
           (own.join m n server held piece has.1.bytes has.1.more r order has.1.has.holds.is_readable has.1.is_readable
           step) (λ x is. is) (λ x is. cc (is)) (λ x is. holding-new x (both size len) frame a is)
-      step-brings run (Frames held) r received has step =
+      step-brings run (MakingFrame held) r received has step =
           made (call.AggMake (frame_of CHUNK_BYTES)) (frame_of CHUNK_BYTES)
-          (λ k. after_step w run (Frames held) k received) r step
+          (λ k. after_step w run (MakingFrame held) k received) r step
           (own.make m n server (frame_of CHUNK_BYTES) r order step) (λ x is. is) (λ x is. cc (is))
           (λ x is. later_of (held == a) (x == a) is)
-      step-brings run (Wraps held frame) r received has step =
+      step-brings run (FillingFrame held frame) r received has step =
           made (call.AggReplace frame (place_in_frame CHUNK_BYTES) (place_in_frame CHUNK_BYTES) held)
           (take (place_in_frame CHUNK_BYTES) (frame_of CHUNK_BYTES) ++ has.1.0.bytes
           ++ drop (place_in_frame CHUNK_BYTES) (frame_of CHUNK_BYTES))
-          (λ k. after_step w run (Wraps held frame) k received) r step
+          (λ k. after_step w run (FillingFrame held frame) k received) r step
           (own.replace m n server frame (place_in_frame CHUNK_BYTES) (place_in_frame CHUNK_BYTES) held
           (frame_of CHUNK_BYTES) has.1.0.bytes r order has.1.1 has.1.0.is_readable step) (λ x is. is)
           (λ x is. cc (is))
           (λ x is. later_of (held == a) ((x == a) || (frame == a)) (former_of (x == a) (frame == a) is))
-      step-brings run (Trims held chunk len frame) r received has step = absurd (dropped held r step)
-      step-brings run (Ended b held frame) r received has step = absurd (dropped b r step)
-      step-brings run (Unholds held frame) r received has step = absurd (dropped held r step)
-      step-brings run (Unframes f held) r received has step = absurd (dropped f r step)
-      step-brings run (Lasts held) r received has step =
-          made (call.AggMake (end_around held)) (end_around held) (λ k. after_step w run (Lasts held) k received) r step
+      step-brings run (DroppingHeld held chunk len frame) r received has step = absurd (dropped held r step)
+      step-brings run (DroppingEnd b held frame) r received has step = absurd (dropped b r step)
+      step-brings run (DiscardingHeld held frame) r received has step = absurd (dropped held r step)
+      step-brings run (DroppingFrame f held) r received has step = absurd (dropped f r step)
+      step-brings run (MakingEnd held) r received has step =
+          made (call.AggMake (end_around held)) (end_around held) (λ k. after_step w run (MakingEnd held) k received) r
+          step
           (own.make m n server (end_around held) r order step) (λ x is. is) (λ x is. cc (is))
           (λ x is. ending-new run held x (count_of received) is)
-      step-brings run (WrapsLast held size frame) r received has step =
+      step-brings run (FillingEnd held size frame) r received has step =
           made (call.AggReplace frame (place_in_frame size) (place_in_frame size) held)
           (take (place_in_frame size) (end_around (Some (held, size))) ++ has.1.bytes
           ++ drop (place_in_frame size) (end_around (Some (held, size))))
-          (λ k. after_step w run (WrapsLast held size frame) k received) r step
+          (λ k. after_step w run (FillingEnd held size frame) k received) r step
           (own.replace m n server frame (place_in_frame size) (place_in_frame size) held
           (end_around (Some (held, size))) has.1.bytes r order has.1.frames has.1.holds.is_readable step) (λ x is. is)
           (λ x is. cc (is))
           (λ x is. later_of (held == a) ((x == a) || (frame == a)) (former_of (x == a) (frame == a) is))
-      step-brings run (TrimsLast held chunk len frame) r received has step = absurd (dropped held r step)
-      step-brings run (Unwraps frame chunk len) r received has step = absurd (dropped frame r step)
-      step-brings run (Returns write) r received has step = absurd (shuts write r step)
-      step-brings run (Lapses j) r received has step = absurd (dropped j r step)
+      step-brings run (DroppingLast held chunk len frame) r received has step = absurd (dropped held r step)
+      step-brings run (DroppingLastFrame frame chunk len) r received has step = absurd (dropped frame r step)
+      step-brings run (ClosingPipe write) r received has step = absurd (shuts write r step)
+      step-brings run (DiscardingJob j) r received has step = absurd (dropped j r step)
       step-brings run x r received has step = absurd (shuts run.from r step)
 
       left-brings : (expected : List ℕ) (d : Phase) (r : Reply) (received : List ℕ) → is_left d ≡ true
           → Has m (serve w) expected d
           → StepsTo m (event.Call server (conn.wants fd (in_phase w d))) r n
           → conn.uses_agg (conn.after_reply (in_phase w d) r received).phase a ≡ true
-      left-brings expected (phase.Heads k) r received is has step =
+      left-brings expected (phase.MakingHead k) r received is has step =
           made (call.AggMake (conn.text_of (serve w) k)) (conn.text_of (serve w) k)
-          (λ z. Leaves (conn.after_reply (in_phase w (phase.Heads k)) z received).phase) r step
+          (λ z. Finishing (conn.after_reply (in_phase w (phase.MakingHead k)) z received).phase) r step
           (own.make m n server (conn.text_of (serve w) k) r order step) (λ x is. is) (λ x is. cc (is))
           (λ x is. headed-first x (count_of received) (conn.following k) a is)
-      left-brings expected (phase.Sends s) r received is has step =
+      left-brings expected (phase.SendingWhole s) r received is has step =
           absurd (written fd c s.agg has.0.bytes r open_on has.0.is_readable step)
-      left-brings expected (phase.Cuts s) r received is has step =
+      left-brings expected (phase.CuttingPiece s) r received is has step =
           made (call.AggCut s.agg s.from (piece_end s)) (slice_range has.0.bytes s.from (piece_end s))
-          (λ z. Leaves (conn.after_reply (in_phase w (phase.Cuts s)) z received).phase) r step
+          (λ z. Finishing (conn.after_reply (in_phase w (phase.CuttingPiece s)) z received).phase) r step
           (own.cut m n server s.agg s.from (piece_end s) has.0.bytes r order has.0.is_readable step) (λ x is. is)
           (λ x is. cc (is)) (λ x is. former_of (x == a) ((s.agg == a) || has_followed s.more a) is)
-      left-brings expected (phase.Offers s piece) r received is has step =
+      left-brings expected (phase.SendingPiece s piece) r received is has step =
           absurd (written fd c piece (slice_range has.whole.bytes s.from (piece_end s)) r open_on has.is_readable
           step)
-      left-brings expected (phase.Swaps s piece) r received is has step = absurd (dropped piece r step)
-      left-brings expected (phase.Sent b taken more) r received is has step = absurd (dropped b r step)
-      left-brings expected (phase.Breaks piece b more) r received is has step = absurd (dropped piece r step)
-      left-brings expected (phase.Drops b more) r received is has step = absurd (dropped b r step)
+      left-brings expected (phase.DroppingPiece s piece) r received is has step = absurd (dropped piece r step)
+      left-brings expected (phase.DroppingSent b taken more) r received is has step = absurd (dropped b r step)
+      left-brings expected (phase.AbortingPiece piece b more) r received is has step = absurd (dropped piece r step)
+      left-brings expected (phase.Aborting b more) r received is has step = absurd (dropped b r step)
       left-brings expected d r received is has step = absurd (cc (is))
 
       leaving-brings : (o : Progress) (d : Phase) (r : Reply) (received : List ℕ) → is_left d ≡ true → HasLeft m w o d
@@ -229,14 +236,15 @@ pub brought : (come : AggregatesComeAndGo) (own : CallsServeTheirDomain) (job : 
     → StepsTo m (event.Call server (wants job fd w x)) r n
     → readable_at m server a ≡ None → readable_at n server a ≡ Some bytes
     → uses_agg (after_reply worker w x r received) a ≡ true
-brought come own job m n fd c worker w Awaits o r received bytes a order open_on going has step before after =
+brought come own job m n fd c worker w AwaitingWorker o r received bytes a order open_on going has step before after =
     absurd (piped come own m n order a bytes before after w r step)
-brought come own job m n fd c worker w (Runs run s) o r received bytes a order open_on going has step before after =
+brought come own job m n fd c worker w (InProgress run s) o r received bytes a order open_on going has step before
+    after =
     step-brings come own m n order a bytes before after w job fd c open_on o run s r received has step
-brought come own job m n fd c worker w (Leaves d) o r received bytes a order open_on going has step before after =
+brought come own job m n fd c worker w (Finishing d) o r received bytes a order open_on going has step before after =
     leaving-brings come own m n order a bytes before after w job fd c open_on o o d r received
     (not-false (is_left d) going) has step
-brought come own job m n fd c worker w Closes o r received bytes a order open_on going has step before after =
+brought come own job m n fd c worker w Disconnecting o r received bytes a order open_on going has step before after =
     absurd (cc (going))
 
 pub runs_keep : AggregatesComeAndGo → CallsServeTheirDomain → RunsKeepNothing

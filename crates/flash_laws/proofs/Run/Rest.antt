@@ -46,7 +46,7 @@ abbrev pub SendsAll : State → Wanted → (expected : List ℕ) → Phase → T
 SendsAll s w expected d = Has s (serve w) expected d × IsPart s (sent_agg d) expected × (taken_of d ≤ length expected)
 
 abbrev pub is_sent : Phase → Bool
-is_sent (phase.Sent a taken more) = true
+is_sent (phase.DroppingSent a taken more) = true
 is_sent d = false
 
 -- no more of a part is taken than there is
@@ -78,19 +78,19 @@ none-left w x closes left = (left, inl closes)
 -- a part is sent as what is left is
 pub part-sends : (m : State) (expected : List ℕ) (d : Phase) → IsPart m (sent_agg d) expected
     → taken_of d ≤ length expected → IsSending m expected d
-part-sends m expected (phase.Heads (Error status)) is within = tt
+part-sends m expected (phase.MakingHead (Error status)) is within = tt
 part-sends m expected d is within = (is, within)
 
 pub busy : (m : State) (expected : List ℕ) (d : Phase) → IsSending m expected d → is_busy d ≡ true
-busy m expected phase.Rests is = absurd is.0
-busy m expected phase.Closes is = absurd is.0
-busy m expected phase.Over is = absurd is.0
+busy m expected phase.Receiving is = absurd is.0
+busy m expected phase.Disconnecting is = absurd is.0
+busy m expected phase.Closed is = absurd is.0
 busy m expected d is = refl
 
 -- what is to be sent yet is the rest
 pub is-rest : (m : State) (w : Wanted) (o : Progress) (d : Phase) → is_left d ≡ true → HasLeft m w o d → HasRest m w o d
-is-rest m w o phase.Rests is has = absurd (cc (is))
-is-rest m w o phase.Closes is has = absurd (cc (is))
+is-rest m w o phase.Receiving is has = absurd (cc (is))
+is-rest m w o phase.Disconnecting is has = absurd (cc (is))
 is-rest m w o d is has = has
 
 module _ (steps : EachStepLeavesTheRest) (own : CallsServeTheirDomain) (m n : State) (order : IsOrderly m) (w : Wanted)
@@ -112,14 +112,15 @@ module _ (steps : EachStepLeavesTheRest) (own : CallsServeTheirDomain) (m n : St
 
   stays-busy : (d : Phase) (r : Reply) (received : List ℕ) → Sends m d → is_sent d ≡ false → is_dropping d ≡ false
       → IsBusy (conn.after_reply (in_phase w d) r received).phase
-  stays-busy (phase.Sends s) r received has unsent at =
+  stays-busy (phase.SendingWhole s) r received has unsent at =
       after-write IsBusy r refl refl (λ k. either-next IsBusy (after_taking s k) refl refl)
-  stays-busy (phase.Cuts s) r received has unsent at = after-agg IsBusy r refl (λ x. refl)
-  stays-busy (phase.Offers s piece) r received has unsent at = after-write IsBusy r refl refl (λ k. refl)
-  stays-busy (phase.Swaps s piece) r received has unsent at = after-done IsBusy r refl (either-next IsBusy s refl refl)
-  stays-busy (phase.Sent a taken None) r received has unsent at = absurd (cc (unsent))
-  stays-busy (phase.Breaks piece a None) r received has unsent at = absurd (cc (at))
-  stays-busy (phase.Drops a None) r received has unsent at = absurd (cc (at))
+  stays-busy (phase.CuttingPiece s) r received has unsent at = after-agg IsBusy r refl (λ x. refl)
+  stays-busy (phase.SendingPiece s piece) r received has unsent at = after-write IsBusy r refl refl (λ k. refl)
+  stays-busy (phase.DroppingPiece s piece) r received has unsent at =
+      after-done IsBusy r refl (either-next IsBusy s refl refl)
+  stays-busy (phase.DroppingSent a taken None) r received has unsent at = absurd (cc (unsent))
+  stays-busy (phase.AbortingPiece piece a None) r received has unsent at = absurd (cc (at))
+  stays-busy (phase.Aborting a None) r received has unsent at = absurd (cc (at))
   stays-busy d r received has unsent at = absurd has.1
 
   -- a part that is sent, of which nothing is dropped
@@ -150,7 +151,7 @@ module _ (steps : EachStepLeavesTheRest) (own : CallsServeTheirDomain) (m n : St
       omega (arith, most, few, same)
 
   pub sends : (fd c : ℕ) (s : Sending) (r : Reply) → descriptor m server fd ≡ Some (on.Connection c)
-      → Sends m (phase.Sends s)
+      → Sends m (phase.SendingWhole s)
       → StepsTo m (event.Call server (call.IolWrite fd s.agg)) r n → Sends n (conn.after_send s r)
   sends fd c s r open_on has step =
       let here = is_readable (call.IolWrite fd s.agg) r step s.agg s.more refl has.1 in
@@ -161,7 +162,7 @@ module _ (steps : EachStepLeavesTheRest) (own : CallsServeTheirDomain) (m n : St
       (λ k puts. let fit = taking s k h has.2 (few-whole k s h.bytes has.0.1 puts.within) in
       either-next Goes (after_taking s k) (here, fit) (here, fit)))
 
-  pub cuts : (s : Sending) (r : Reply) → Sends m (phase.Cuts s)
+  pub cuts : (s : Sending) (r : Reply) → Sends m (phase.CuttingPiece s)
       → StepsTo m (event.Call server (call.AggCut s.agg s.from (piece_end s))) r n → Sends n (conn.after_cut s r)
   cuts s r has step =
       let here = is_readable (call.AggCut s.agg s.from (piece_end s)) r step s.agg s.more refl has.1 in
@@ -169,7 +170,7 @@ module _ (steps : EachStepLeavesTheRest) (own : CallsServeTheirDomain) (m n : St
       (after-agg Goes r (here, has.2) (λ x. (here, has.2)))
 
   pub offers : (fd c : ℕ) (s : Sending) (piece : ℕ) (r : Reply) → descriptor m server fd ≡ Some (on.Connection c)
-      → Sends m (phase.Offers s piece)
+      → Sends m (phase.SendingPiece s piece)
       → StepsTo m (event.Call server (call.IolWrite fd piece)) r n → Sends n (conn.after_offer s piece r)
   offers fd c s piece r open_on has step =
       let here = is_readable (call.IolWrite fd piece) r step s.agg s.more refl has.1 in
@@ -180,7 +181,7 @@ module _ (steps : EachStepLeavesTheRest) (own : CallsServeTheirDomain) (m n : St
       (λ same. (here, has.2)) (λ same. (here, omega arith))
       (λ k puts. (here, taking s k has.0.whole has.2 (few-taken k s has.0.whole.bytes puts.within))))
 
-  pub swaps : (s : Sending) (piece : ℕ) (r : Reply) → Sends m (phase.Swaps s piece)
+  pub swaps : (s : Sending) (piece : ℕ) (r : Reply) → Sends m (phase.DroppingPiece s piece)
       → StepsTo m (event.Call server (call.AggDrop piece)) r n → Sends n (conn.after_swap s piece r)
   swaps s piece r has step =
       let other = (or_parts (s.agg == piece) (has_followed s.more piece) has.0.1).0 in
@@ -188,7 +189,7 @@ module _ (steps : EachStepLeavesTheRest) (own : CallsServeTheirDomain) (m n : St
       both (conn.after_swap s piece r) (having.swaps steps own m n order (serve w) s piece expected r has.0 step)
       (after-done Goes r (here, has.2) (either-next Goes s (here, has.2) (here, has.2)))
 
-  pub breaks : (piece a : ℕ) (r : Reply) → Sends m (phase.Breaks piece a None)
+  pub breaks : (piece a : ℕ) (r : Reply) → Sends m (phase.AbortingPiece piece a None)
       → StepsTo m (event.Call server (call.AggDrop piece)) r n → Sends n (conn.after_break piece a None r)
   breaks piece a r has step =
       let here = is_readable (call.AggDrop piece) r step a None (turned a piece (or_parts (a == piece) false has.0.1).0)
@@ -204,7 +205,7 @@ module _ (steps : EachStepLeavesTheRest) (own : CallsServeTheirDomain) (m n : St
   AfterReply d e r before = (after : Progress) × PartLearns m d r before after × HasLeft n w after e
 
   heads : (status : ℕ) (r : Reply) (received : List ℕ) (o : Progress) → IsLeft w o expected
-      → Has m (serve w) expected (phase.Heads (Error status))
+      → Has m (serve w) expected (phase.MakingHead (Error status))
       → StepsTo m (event.Call server (call.AggMake (error_text status w.head_only (not w.keep)))) r n
       → Names n r received
       → HasRest n w o (conn.after_head (Error status) r received)
@@ -227,47 +228,48 @@ module _ (steps : EachStepLeavesTheRest) (own : CallsServeTheirDomain) (m n : St
       by r did next = absurd did
 
   -- all of it is sent
-  sent : (a taken : ℕ) (r : Reply) (o : Progress) → IsLeft w o expected → Sends m (phase.Sent a taken None)
+  sent : (a taken : ℕ) (r : Reply) (o : Progress) → IsLeft w o expected → Sends m (phase.DroppingSent a taken None)
       → StepsTo m (event.Call server (call.AggDrop a)) r n
-      → AfterReply (phase.Sent a taken None) (conn.after_taken (serve w) a taken None r) r o
+      → AfterReply (phase.DroppingSent a taken None) (conn.after_taken (serve w) a taken None r) r o
   sent a taken r o left has step = by r (own.drops m n server a r order step)
     where
-      over : (b : Bool) → w.keep ≡ b → HasLeft n w (takes_on o expected) (if b then phase.Rests else phase.Closes)
+      over : (b : Bool) → w.keep ≡ b
+          → HasLeft n w (takes_on o expected) (if b then phase.Receiving else phase.Disconnecting)
       over true is = (left-none w o expected left, is)
       over false is = none-left w (takes_on o expected) is (left-none w o expected left)
 
       by : (r : Reply) → caller.Drops m server a r n
-          → AfterReply (phase.Sent a taken None) (conn.after_taken (serve w) a taken None r) r o
+          → AfterReply (phase.DroppingSent a taken None) (conn.after_taken (serve w) a taken None r) r o
       by reply.Done did = (takes_on o expected, (expected, has.1, refl), over w.keep refl)
       by (reply.Refused y) did = (
         o,
         refl,
-        subst (λ (s : State). HasRest s w o (phase.Sent a taken None)) (sym did)
+        subst (λ (s : State). HasRest s w o (phase.DroppingSent a taken None)) (sym did)
             (record { expected = expected; left = left; has = has.0; sends = (has.1, has.2) }),
       )
       by r did = absurd did
 
   -- nobody takes it
-  drops : (a : ℕ) (r : Reply) (o : Progress) → IsLeft w o expected → Sends m (phase.Drops a None)
+  drops : (a : ℕ) (r : Reply) (o : Progress) → IsLeft w o expected → Sends m (phase.Aborting a None)
       → StepsTo m (event.Call server (call.AggDrop a)) r n
-      → AfterReply (phase.Drops a None) (conn.after_drop a None r) r o
+      → AfterReply (phase.Aborting a None) (conn.after_drop a None r) r o
   drops a r o left has step = by r (own.drops m n server a r order step)
     where
-      by : (r : Reply) → caller.Drops m server a r n → AfterReply (phase.Drops a None) (conn.after_drop a None r) r o
+      by : (r : Reply) → caller.Drops m server a r n → AfterReply (phase.Aborting a None) (conn.after_drop a None r) r o
       by reply.Done did = (Broken, refl, tt)
       by (reply.Refused y) did = (
         o,
         refl,
-        subst (λ (s : State). HasRest s w o (phase.Drops a None)) (sym did)
+        subst (λ (s : State). HasRest s w o (phase.Aborting a None)) (sym did)
             (record { expected = expected; left = left; has = has.0; sends = (has.1, has.2) }),
       )
       by r did = absurd did
 
   -- a phase that goes on sending
   proceeds-on : (o : Progress) → IsLeft w o expected → (e : Phase) → Sends n e → HasLeft n w o e
-  proceeds-on o left phase.Rests has = absurd has.1
-  proceeds-on o left phase.Closes has = absurd has.1
-  proceeds-on o left (phase.Heads (Error status)) has = absurd has.1
+  proceeds-on o left phase.Receiving has = absurd has.1
+  proceeds-on o left phase.Disconnecting has = absurd has.1
+  proceeds-on o left (phase.MakingHead (Error status)) has = absurd has.1
   proceeds-on o left e has = record { expected = expected; left = left; has = has.0; sends = (has.1, has.2) }
 
   pub leaving : (fd c : ℕ) (d : Phase) (r : Reply) (received : List ℕ) (o : Progress) → IsLeft w o expected
@@ -275,25 +277,25 @@ module _ (steps : EachStepLeavesTheRest) (own : CallsServeTheirDomain) (m n : St
       → descriptor m server fd ≡ Some (on.Connection c)
       → StepsTo m (event.Call server (conn.wants fd (in_phase w d))) r n → Names n r received
       → AfterReply d (conn.after_reply (in_phase w d) r received).phase r o
-  leaving fd c (phase.Heads (Error status)) r received o left has is open_on step names =
+  leaving fd c (phase.MakingHead (Error status)) r received o left has is open_on step names =
       (o, refl, by r (heads status r received o left has step names))
     where
       by : (r : Reply) → HasRest n w o (conn.after_head (Error status) r received)
           → HasLeft n w o (conn.after_head (Error status) r received)
       by (reply.Agg x) h = h
       by r h = h
-  leaving fd c (phase.Sends s) r received o left has is open_on step names =
+  leaving fd c (phase.SendingWhole s) r received o left has is open_on step names =
       (o, refl, proceeds-on o left (conn.after_send s r) (sends fd c s r open_on (has, is.0, is.1) step))
-  leaving fd c (phase.Cuts s) r received o left has is open_on step names =
+  leaving fd c (phase.CuttingPiece s) r received o left has is open_on step names =
       (o, refl, proceeds-on o left (conn.after_cut s r) (cuts s r (has, is.0, is.1) step))
-  leaving fd c (phase.Offers s piece) r received o left has is open_on step names =
+  leaving fd c (phase.SendingPiece s piece) r received o left has is open_on step names =
       (o, refl, proceeds-on o left (conn.after_offer s piece r) (offers fd c s piece r open_on (has, is.0, is.1) step))
-  leaving fd c (phase.Swaps s piece) r received o left has is open_on step names =
+  leaving fd c (phase.DroppingPiece s piece) r received o left has is open_on step names =
       (o, refl, proceeds-on o left (conn.after_swap s piece r) (swaps s piece r (has, is.0, is.1) step))
-  leaving fd c (phase.Breaks piece a None) r received o left has is open_on step names =
+  leaving fd c (phase.AbortingPiece piece a None) r received o left has is open_on step names =
       (o, refl, proceeds-on o left (conn.after_break piece a None r) (breaks piece a r (has, is.0, is.1) step))
-  leaving fd c (phase.Sent a taken None) r received o left has is open_on step names =
+  leaving fd c (phase.DroppingSent a taken None) r received o left has is open_on step names =
       sent a taken r o left (has, is.0, is.1) step
-  leaving fd c (phase.Drops a None) r received o left has is open_on step names =
+  leaving fd c (phase.Aborting a None) r received o left has is open_on step names =
       drops a r o left (has, is.0, is.1) step
   leaving fd c d r received o left has is open_on step names = absurd is.0

@@ -26,12 +26,16 @@ use Rattle.flash_laws.specs.declared.phase.Phase.TheVariants as phase
 use Rattle.flash_laws.specs.declared.script_run.TheConstants.{CHUNK_BYTES}
 use Rattle.flash_laws.specs.declared.script_run.Run.{Run}
 use Rattle.flash_laws.specs.declared.script_run.Step.{Step}
-use Rattle.flash_laws.specs.declared.script_run.Step.TheVariants.{Gives, Hands, Lets, Sending, Receives, Spills}
-use Rattle.flash_laws.specs.declared.script_run.Step.TheVariants.{Gathers, Frames, Wraps, Trims, Ended, Unholds, Stops}
-use Rattle.flash_laws.specs.declared.script_run.Step.TheVariants.{Unframes, Lasts, WrapsLast, TrimsLast, Unwraps}
-use Rattle.flash_laws.specs.declared.script_run.Step.TheVariants.{Returns, Lapses}
+use Rattle.flash_laws.specs.declared.script_run.Step.TheVariants.{GivingPipe, WritingJob, DroppingJob, SendingPart}
+use Rattle.flash_laws.specs.declared.script_run.Step.TheVariants.{ReadingOutput, DroppingOutput}
+use Rattle.flash_laws.specs.declared.script_run.Step.TheVariants.{JoiningOutput, MakingFrame, FillingFrame}
+use Rattle.flash_laws.specs.declared.script_run.Step.TheVariants.{DroppingHeld, DroppingEnd, DiscardingHeld}
+use Rattle.flash_laws.specs.declared.script_run.Step.TheVariants.{ClosingOutput}
+use Rattle.flash_laws.specs.declared.script_run.Step.TheVariants.{DroppingFrame, MakingEnd, FillingEnd, DroppingLast}
+use Rattle.flash_laws.specs.declared.script_run.Step.TheVariants.{DroppingLastFrame}
+use Rattle.flash_laws.specs.declared.script_run.Step.TheVariants.{ClosingPipe, DiscardingJob}
 use Rattle.flash_laws.specs.declared.script_run.Running.{Running}
-use Rattle.flash_laws.specs.declared.script_run.Running.TheVariants.{Runs, Leaves}
+use Rattle.flash_laws.specs.declared.script_run.Running.TheVariants.{InProgress, Finishing}
 use Rattle.flash_laws.proofs.Conn.Responses.{some-inj}
 use Rattle.flash_laws.proofs.Conn.ReadableBytes.{readable-stays, readable-on, has-stays}
 use Rattle.flash_laws.proofs.Lists.{not-equal, turned, self, first_of, later_of, amid, bare, former_of, swapped}
@@ -53,8 +57,8 @@ write-elsewhere m run write h =
 
 -- no phase that sends a part uses a descriptor of a file
 no-file : (m : State) (d : Phase) (part : List ℕ) → IsPart m (sent_agg d) part → (g : ℕ) → conn.uses_fd d g ≡ true → ⊥
-no-file m (phase.Reads f) part is g u = is
-no-file m (phase.Shuts f k) part is g u = is
+no-file m (phase.Reading f) part is g u = is
+no-file m (phase.ClosingFile f k) part is g u = is
 no-file m d part is g u = absurd (cc (u))
 
 after-piece : (piece a : ℕ) (more : Following) → ((piece == a) || ((a == a) || has_followed more a)) ≡ true
@@ -72,17 +76,17 @@ last-on m n a (Some x) part stays is = absurd is
 part-used : (m : State) (d : Phase) (part : List ℕ) (n : State) → ((a : ℕ) (bytes : List ℕ) → conn.uses_agg d a ≡ true
     → readable_at m server a ≡ Some bytes → readable_at n server a ≡ Some bytes) → IsPart m (sent_agg d) part
     → IsPart n (sent_agg d) part
-part-used m (phase.Sends s) part n is_readable is =
+part-used m (phase.SendingWhole s) part n is_readable is =
     last-on m n s.agg s.more part (is_readable s.agg part (first_of s.agg (has_followed s.more s.agg))) is
-part-used m (phase.Cuts s) part n is_readable is =
+part-used m (phase.CuttingPiece s) part n is_readable is =
     last-on m n s.agg s.more part (is_readable s.agg part (first_of s.agg (has_followed s.more s.agg))) is
-part-used m (phase.Offers s piece) part n is_readable is =
+part-used m (phase.SendingPiece s piece) part n is_readable is =
     last-on m n s.agg s.more part (is_readable s.agg part (after-piece piece s.agg s.more)) is
-part-used m (phase.Swaps s piece) part n is_readable is =
+part-used m (phase.DroppingPiece s piece) part n is_readable is =
     last-on m n s.agg s.more part (is_readable s.agg part (after-piece piece s.agg s.more)) is
-part-used m (phase.Sent a taken None) part n is_readable is = is_readable a part (first_of a (false)) is
-part-used m (phase.Breaks piece a None) part n is_readable is = is_readable a part (after-piece piece a None) is
-part-used m (phase.Drops a None) part n is_readable is = is_readable a part (first_of a (false)) is
+part-used m (phase.DroppingSent a taken None) part n is_readable is = is_readable a part (first_of a (false)) is
+part-used m (phase.AbortingPiece piece a None) part n is_readable is = is_readable a part (after-piece piece a None) is
+part-used m (phase.Aborting a None) part n is_readable is = is_readable a part (first_of a (false)) is
 part-used m d part n is_readable is = absurd is
 
 module _ (m n : State) where
@@ -184,19 +188,19 @@ module _ (m n : State) where
   reading-on run opens is = (is.0, opens (on.ReadEnd is.0) is.1)
 
   -- the read end is used
-  from-used : (run : Run) (step : Step) → is_reading step ≡ true → uses_fd (Runs run step) run.from ≡ true
+  from-used : (run : Run) (step : Step) → is_reading step ≡ true → uses_fd (InProgress run step) run.from ≡ true
   from-used run step open_yet =
       later_of (job_pipe run.worker == run.from) ((is_reading step && (run.from == run.from)) || step_fd step run.from)
       (former_of (is_reading step && (run.from == run.from)) (step_fd step run.from)
       (ap (λ b. b && (run.from == run.from)) open_yet ∙ self run.from))
 
-  reads : (run : Run) (step : Step) → is_reading step ≡ true → OpensOn (λ g. uses_fd (Runs run step) g)
+  reads : (run : Run) (step : Step) → is_reading step ≡ true → OpensOn (λ g. uses_fd (InProgress run step) g)
       → IsReading m run → IsReading n run
   reads run step open_yet opens is = reading-on run (λ x e. opens run.from x (from-used run step open_yet) e) is
 
   -- so is the write end
   pipe-on : (run : Run) (step : Step) (write : ℕ) → is_reading step ≡ true → step_fd step write ≡ true
-      → OpensOn (λ g. uses_fd (Runs run step) g)
+      → OpensOn (λ g. uses_fd (InProgress run step) g)
       → HasPipe m run write → HasPipe n run write
   pipe-on run step write open_yet is opens h = record {
     pipe = h.pipe;
@@ -212,25 +216,25 @@ module _ (m n : State) where
   readable-if u a is is_readable has = readable-on m n a (λ bytes e. is_readable a bytes is e) has
 
   step-on : (job : ℕ → List ℕ) (w : Wanted) (o : Progress) (run : Run) (step : Step)
-      → IsReadableOn (λ a. step_agg step a) → OpensOn (λ g. uses_fd (Runs run step) g)
+      → IsReadableOn (λ a. step_agg step a) → OpensOn (λ g. uses_fd (InProgress run step) g)
       → HasStep job m w o run step → HasStep job n w o run step
-  step-on job w o run (Gives write) is_readable opens has =
-      (pipe-on run (Gives write) write refl (self write) opens has.0, has.1)
-  step-on job w o run (Hands j f) is_readable opens has =
-      (reads run (Hands j f) refl opens has.0, is_readable j (job f) (self j) has.1, has.2)
-  step-on job w o run (Lets j) is_readable opens has =
-      (reads run (Lets j) refl opens has.0, readable-if (λ a. j == a) j (self j) is_readable has.1, has.2)
-  step-on job w o run (Sending d frame) is_readable opens has =
-      has-part-on w o run d frame (reads run (Sending d frame) refl opens) is_readable has
-  step-on job w o run (Receives held frame) is_readable opens has =
-      has-received-on w o run held frame (reads run (Receives held frame) refl opens) is_readable has
-  step-on job w o run (Spills a frame) is_readable opens has = (
+  step-on job w o run (GivingPipe write) is_readable opens has =
+      (pipe-on run (GivingPipe write) write refl (self write) opens has.0, has.1)
+  step-on job w o run (WritingJob j f) is_readable opens has =
+      (reads run (WritingJob j f) refl opens has.0, is_readable j (job f) (self j) has.1, has.2)
+  step-on job w o run (DroppingJob j) is_readable opens has =
+      (reads run (DroppingJob j) refl opens has.0, readable-if (λ a. j == a) j (self j) is_readable has.1, has.2)
+  step-on job w o run (SendingPart d frame) is_readable opens has =
+      has-part-on w o run d frame (reads run (SendingPart d frame) refl opens) is_readable has
+  step-on job w o run (ReadingOutput held frame) is_readable opens has =
+      has-received-on w o run held frame (reads run (ReadingOutput held frame) refl opens) is_readable has
+  step-on job w o run (DroppingOutput a frame) is_readable opens has = (
     (readable-if (λ b. (a == b) || has_frame frame b) a (first_of a (has_frame frame a)) is_readable has.0.0, has.0.1),
-    has-received-on w o run None frame (reads run (Spills a frame) refl opens)
+    has-received-on w o run None frame (reads run (DroppingOutput a frame) refl opens)
         (back (λ b. a == b) (λ b. has_frame frame b) is_readable) has.1,
   )
-  step-on job w o run (Gathers held size piece len frame) is_readable opens h = record {
-    reads = reads run (Gathers held size piece len frame) refl opens h.reads;
+  step-on job w o run (JoiningOutput held size piece len frame) is_readable opens h = record {
+    reads = reads run (JoiningOutput held size piece len frame) refl opens h.reads;
     bytes = h.bytes;
     more = h.more;
     has =
@@ -247,9 +251,9 @@ module _ (m n : State) where
     whole = h.whole;
     goes = h.goes;
   }
-  step-on job w o run (Frames held) is_readable opens h =
+  step-on job w o run (MakingFrame held) is_readable opens h =
       record {
-        reads = reads run (Frames held) refl opens h.reads;
+        reads = reads run (MakingFrame held) refl opens h.reads;
         bytes = h.bytes;
         is_readable =
             is_readable held h.bytes (self held) h.is_readable;
@@ -259,9 +263,9 @@ module _ (m n : State) where
         goes =
             h.goes;
       }
-  step-on job w o run (Wraps held frame) is_readable opens has = (
+  step-on job w o run (FillingFrame held frame) is_readable opens has = (
     record {
-      reads = reads run (Wraps held frame) refl opens has.0.reads;
+      reads = reads run (FillingFrame held frame) refl opens has.0.reads;
       bytes = has.0.bytes;
       is_readable =
           is_readable held has.0.bytes (first_of held (frame == held)) has.0.is_readable;
@@ -274,13 +278,13 @@ module _ (m n : State) where
     is_readable frame (frame_of CHUNK_BYTES) (later_of (held == frame) (frame == frame) (self frame)) has.1,
     has.2,
   )
-  step-on job w o run (Trims held chunk len frame) is_readable opens has = (
+  step-on job w o run (DroppingHeld held chunk len frame) is_readable opens has = (
     (
       readable-if (λ a. (held == a) || ((chunk == a) || (frame == a))) held
           (first_of held ((chunk == held) || (frame == held))) is_readable has.0.0,
       has.0.1,
     ),
-    has-part-on w o run (sends_part chunk len) (Some frame) (reads run (Trims held chunk len frame) refl opens)
+    has-part-on w o run (sends_part chunk len) (Some frame) (reads run (DroppingHeld held chunk len frame) refl opens)
         (λ a bytes u is. is_readable a bytes
         (later_of (held == a) ((chunk == a) || (frame == a)) (plain (chunk == a) (frame == a) u)) is) has.1,
   )
@@ -288,36 +292,36 @@ module _ (m n : State) where
       plain : (x z : Bool) → ((x || false) || z) ≡ true → (x || z) ≡ true
       plain true z u = refl
       plain false z u = u
-  step-on job w o run (Ended a held frame) is_readable opens has = (
+  step-on job w o run (DroppingEnd a held frame) is_readable opens has = (
     (
       readable-if (λ b. (a == b) || (has_followed held b || has_frame frame b)) a
           (first_of a (has_followed held a || has_frame frame a)) is_readable has.0.0,
       has.0.1,
     ),
-    reads run (Ended a held frame) refl opens has.1,
+    reads run (DroppingEnd a held frame) refl opens has.1,
     has-all-on w o run held frame (back (λ b. a == b) (λ b. has_followed held b || has_frame frame b) is_readable)
         has.2,
   )
-  step-on job w o run (Unholds held frame) is_readable opens has = (
+  step-on job w o run (DiscardingHeld held frame) is_readable opens has = (
     (
       readable-if (λ b. (held == b) || has_frame frame b) held (first_of held (has_frame frame held)) is_readable
           has.0.0,
       has.0.1,
     ),
-    reads run (Unholds held frame) refl opens has.1,
+    reads run (DiscardingHeld held frame) refl opens has.1,
     has-all-on w o run None frame (back (λ b. held == b) (λ b. has_frame frame b) is_readable) has.2,
   )
-  step-on job w o run (Stops held frame) is_readable opens has =
-      (reads run (Stops held frame) refl opens has.0, has-all-on w o run held frame is_readable has.1)
-  step-on job w o run (Unframes f held) is_readable opens has =
+  step-on job w o run (ClosingOutput held frame) is_readable opens has =
+      (reads run (ClosingOutput held frame) refl opens has.0, has-all-on w o run held frame is_readable has.1)
+  step-on job w o run (DroppingFrame f held) is_readable opens has =
       has-all-on w o run held (Some f) (λ a bytes u is. is_readable a bytes (swapped (has_followed held a) (f == a) u)
       is) has
-  step-on job w o run (Lasts held) is_readable opens has = (
+  step-on job w o run (MakingEnd held) is_readable opens has = (
     has.0,
     has.1,
     has-all-on w o run held None (λ a bytes u is. is_readable a bytes (bare (has_followed held a) u) is) has.2,
   )
-  step-on job w o run (WrapsLast held size frame) is_readable opens h = record {
+  step-on job w o run (FillingEnd held size frame) is_readable opens h = record {
     bytes = h.bytes;
     holds = output-on w held size h.bytes (λ is. is_readable held h.bytes (first_of held (frame == held)) is) h.holds;
     frames = is_readable frame (end_around (Some (held, size))) (later_of (held == frame) (frame == frame) (self frame))
@@ -325,7 +329,7 @@ module _ (m n : State) where
     apart = h.apart;
     left = h.left;
   }
-  step-on job w o run (TrimsLast held chunk len frame) is_readable opens has = (
+  step-on job w o run (DroppingLast held chunk len frame) is_readable opens has = (
     (
       readable-if (λ a. (held == a) || ((chunk == a) || (frame == a))) held
           (first_of held ((chunk == held) || (frame == held))) is_readable has.0.0,
@@ -341,7 +345,7 @@ module _ (m n : State) where
         (λ bytes is. is_readable chunk bytes
         (later_of (held == chunk) ((chunk == chunk) || (frame == chunk)) (first_of chunk (frame == chunk))) is) has.2,
   )
-  step-on job w o run (Unwraps frame chunk len) is_readable opens has = (
+  step-on job w o run (DroppingLastFrame frame chunk len) is_readable opens has = (
     (
       readable-if (λ a. (frame == a) || (chunk == a)) frame (first_of frame (chunk == frame)) is_readable has.0.0,
       has.0.1,
@@ -349,15 +353,15 @@ module _ (m n : State) where
     has-end-on w o chunk len
         (λ bytes is. is_readable chunk bytes (later_of (frame == chunk) (chunk == chunk) (self chunk)) is) has.1,
   )
-  step-on job w o run (Returns write) is_readable opens has =
-      (pipe-on run (Returns write) write refl (self write) opens has.0, has.1)
-  step-on job w o run (Lapses j) is_readable opens has =
-      (reads run (Lapses j) refl opens has.0, readable-if (λ a. j == a) j (self j) is_readable has.1, has.2)
+  step-on job w o run (ClosingPipe write) is_readable opens has =
+      (pipe-on run (ClosingPipe write) write refl (self write) opens has.0, has.1)
+  step-on job w o run (DiscardingJob j) is_readable opens has =
+      (reads run (DiscardingJob j) refl opens has.0, readable-if (λ a. j == a) j (self j) is_readable has.1, has.2)
   step-on job w o run step is_readable opens has = (reads run step refl opens has.0, has.1)
 
   sending-on : (expected : List ℕ) (d : Phase) → IsReadableOn (λ a. conn.uses_agg d a) → IsSending m expected d
       → IsSending n expected d
-  sending-on expected (phase.Heads (Error status)) is_readable has = tt
+  sending-on expected (phase.MakingHead (Error status)) is_readable has = tt
   sending-on expected d is_readable has = (part-used m d expected n is_readable has.0, has.1)
 
   rest-on : (w : Wanted) (o : Progress) (d : Phase) → IsReadableOn (λ a. conn.uses_agg d a)
@@ -374,16 +378,16 @@ module _ (m n : State) where
   left-on : (w : Wanted) (o : Progress) (d : Phase) → IsReadableOn (λ a. conn.uses_agg d a)
       → OpensOn (λ g. conn.uses_fd d g)
       → HasLeft m w o d → HasLeft n w o d
-  left-on w o phase.Rests is_readable opens has = has
-  left-on w o phase.Closes is_readable opens has = has
+  left-on w o phase.Receiving is_readable opens has = has
+  left-on w o phase.Disconnecting is_readable opens has = has
   left-on w o d is_readable opens has = rest-on w o d is_readable opens has
 
 pub run_stays : (steps : EachStepLeavesTheRest) (job : ℕ → List ℕ) (m n : State) (w : Wanted) (x : Running) (e : Event)
     (r : Reply) (o : Progress) → StepsTo m e r n
     → ((a : ℕ) → uses_agg x a ≡ true → gives_up e server a ≡ false)
     → ((g : ℕ) → uses_fd x g ≡ true → touches_fd m e server g ≡ false) → HasRun job m w o x → HasRun job n w o x
-run_stays steps job m n w (Runs run phase) e r o step un still has =
-    let opens : (g : ℕ) (x : Descriptor) → uses_fd (Runs run phase) g ≡ true → descriptor m server g ≡ Some x
+run_stays steps job m n w (InProgress run phase) e r o step un still has =
+    let opens : (g : ℕ) (x : Descriptor) → uses_fd (InProgress run phase) g ≡ true → descriptor m server g ≡ Some x
     → descriptor n server g ≡ Some x
     = λ g x u is. (steps.leaves m n e r step).fds server g x is (still g u) in (
       hired-on m n run.worker
@@ -392,7 +396,7 @@ run_stays steps job m n w (Runs run phase) e r o step un still has =
           || step_fd phase (job_pipe run.worker))) is) has.0,
       step-on m n job w o run phase (λ a bytes u is. readable-stays steps m n e r step a bytes is (un a u)) opens has.1,
     )
-run_stays steps job m n w (Leaves d) e r o step un still has =
+run_stays steps job m n w (Finishing d) e r o step un still has =
     left-on m n w o d (λ a bytes u is. readable-stays steps m n e r step a bytes is (un a u))
     (λ g x u is. (steps.leaves m n e r step).fds server g x is (still g u)) has
 run_stays steps job m n w x e r o step un still has = has

@@ -37,10 +37,12 @@ use Rattle.flash_laws.specs.Site.{server}
 use Rattle.flash_laws.specs.declared.script_run.TheConstants.{CHUNK_BYTES}
 use Rattle.flash_laws.specs.declared.script_run.Run.{Run}
 use Rattle.flash_laws.specs.declared.script_run.Step.{Step}
-use Rattle.flash_laws.specs.declared.script_run.Step.TheVariants.{Gives, Makes, Hands, Heads, Receives, Gathers, Frames}
-use Rattle.flash_laws.specs.declared.script_run.Step.TheVariants.{Wraps, Trims, Returns, Lapses}
+use Rattle.flash_laws.specs.declared.script_run.Step.TheVariants.{GivingPipe, MakingJob, WritingJob, MakingHead}
+use Rattle.flash_laws.specs.declared.script_run.Step.TheVariants.{ReadingOutput, JoiningOutput, MakingFrame}
+use Rattle.flash_laws.specs.declared.script_run.Step.TheVariants.{FillingFrame, DroppingHeld, ClosingPipe}
+use Rattle.flash_laws.specs.declared.script_run.Step.TheVariants.{DiscardingJob}
 use Rattle.flash_laws.specs.declared.script_run.Running.{Running}
-use Rattle.flash_laws.specs.declared.script_run.Running.TheVariants.{Awaits, Runs}
+use Rattle.flash_laws.specs.declared.script_run.Running.TheVariants.{AwaitingWorker, InProgress}
 use Rattle.flash_laws.proofs.Conn.Responses.{some-inj}
 use Rattle.flash_laws.proofs.Counts.{counted, made-short}
 use Rattle.flash_laws.proofs.Conn.ReadableBytes.{readable-stays, new-other}
@@ -85,11 +87,11 @@ module _ (steps : EachStepLeavesTheRest) (own : CallsServeTheirDomain) (m n : St
 
   pub awaits : (worker : ℕ) (r : Reply) (received : List ℕ) (o : Progress) → HasJobPipe m worker
       → o ≡ nothing_yet → StepsTo m (event.Call server call.Pipe) r n
-      → AfterReply Awaits (after_wait worker r) r received o
+      → AfterReply AwaitingWorker (after_wait worker r) r received o
   awaits worker r received o hired fresh step = by r (own.makes_pipe m n server r step) step
     where
       by : (r : Reply) → caller.MakesPipe m server r n → StepsTo m (event.Call server call.Pipe) r n
-          → AfterReply Awaits (after_wait worker r) r received o
+          → AfterReply AwaitingWorker (after_wait worker r) r received o
       by (reply.Fds from write) did step = (
         o,
         refl,
@@ -120,10 +122,10 @@ module _ (steps : EachStepLeavesTheRest) (own : CallsServeTheirDomain) (m n : St
     -- where it gives up nothing that the step uses, and moves no descriptor of it
     pub stay : (k : Call) (r : Reply) (o : Progress) (s : Step) → StepsTo m (event.Call server k) r n
         → ((a : ℕ) → step_agg s a ≡ true → gives_up (event.Call server k) server a ≡ false)
-        → ((g : ℕ) → uses_fd (Runs run s) g ≡ true → touches_fd m (event.Call server k) server g ≡ false)
-        → HasStep job m w o run s → HasRun job n w o (Runs run s)
+        → ((g : ℕ) → uses_fd (InProgress run s) g ≡ true → touches_fd m (event.Call server k) server g ≡ false)
+        → HasStep job m w o run s → HasRun job n w o (InProgress run s)
     stay k r o s step un still has =
-        run_stays steps job m n w (Runs run s) (event.Call server k) r o step un still (hired, has)
+        run_stays steps job m n w (InProgress run s) (event.Call server k) r o step un still (hired, has)
 
     pub still-hired : (k : Call) (r : Reply) → StepsTo m (event.Call server k) r n
         → touches_fd m (event.Call server k) server (job_pipe run.worker) ≡ false → HasJobPipe n run.worker
@@ -137,30 +139,33 @@ module _ (steps : EachStepLeavesTheRest) (own : CallsServeTheirDomain) (m n : St
         reading-on m n run (λ x e. (steps.leaves m n (event.Call server k) r step).fds server run.from x e still) is
 
     -- after an aggregate is dropped that the next step does not use, or was not
-    pub drops : (a : ℕ) (s t : Step) (r : Reply) (o : Progress) → HasRun job m w o (Runs run s) → step_agg t a ≡ false
+    pub drops : (a : ℕ) (s t : Step) (r : Reply) (o : Progress) → HasRun job m w o (InProgress run s)
+        → step_agg t a ≡ false
         → HasStep job m w o run t
-        → StepsTo m (event.Call server (call.AggDrop a)) r n → HasRun job n w o (Runs run (or_stay s (on_done r t)))
+        → StepsTo m (event.Call server (call.AggDrop a)) r n
+        → HasRun job n w o (InProgress run (or_stay s (on_done r t)))
     drops a s t r o has apart next step =
-        dropped m n (λ z. HasRun job n w o (Runs run z)) a r (own.drops m n server a r order step)
-        (same o (Runs run s) has)
+        dropped m n (λ z. HasRun job n w o (InProgress run z)) a r (own.drops m n server a r order step)
+        (same o (InProgress run s) has)
         (stay (call.AggDrop a) r o t step (λ b u. other (λ z. step_agg t z) a b apart u) (λ g u. refl) next)
 
     -- ---- the job
 
-    pub gives : (write : ℕ) (r : Reply) (o : Progress) → HasStep job m w o run (Gives write)
+    pub gives : (write : ℕ) (r : Reply) (o : Progress) → HasStep job m w o run (GivingPipe write)
         → StepsTo m (event.Call server (call.GiveFd write (worker_domain run.worker))) r n
-        → HasRun job n w o (Runs run (after_give write r))
+        → HasRun job n w o (InProgress run (after_give write r))
     gives write r o has step =
         by r (own.gives_fd m n server write (worker_domain run.worker) (on.WriteEnd has.0.pipe) r has.0.write_end step)
         step
       where
-        again : (b : Bool) → n ≡ m → HasRun job n w o (Runs run (if b then Gives write else Returns write))
-        again true is = same o (Runs run (Gives write)) (hired, has) is
-        again false is = same o (Runs run (Returns write)) (hired, has) is
+        again : (b : Bool) → n ≡ m
+            → HasRun job n w o (InProgress run (if b then GivingPipe write else ClosingPipe write))
+        again true is = same o (InProgress run (GivingPipe write)) (hired, has) is
+        again false is = same o (InProgress run (ClosingPipe write)) (hired, has) is
 
         by : (r : Reply) → caller.GivesFd m server write (worker_domain run.worker) (on.WriteEnd has.0.pipe) r n
             → StepsTo m (event.Call server (call.GiveFd write (worker_domain run.worker))) r n
-            → HasRun job n w o (Runs run (after_give write r))
+            → HasRun job n w o (InProgress run (after_give write r))
         by (reply.Fd f) did step = (
           still-hired (call.GiveFd write (worker_domain run.worker)) (reply.Fd f) step has.0.apart,
           (
@@ -172,29 +177,30 @@ module _ (steps : EachStepLeavesTheRest) (own : CallsServeTheirDomain) (m n : St
         by (reply.Refused y) did step = again (is_again y) did
         by r did step = absurd did
 
-    pub makes : (f : ℕ) (r : Reply) (o : Progress) → HasStep job m w o run (Makes f)
-        → StepsTo m (event.Call server (call.AggMake (job f))) r n → HasRun job n w o (Runs run (after_make f r))
+    pub makes : (f : ℕ) (r : Reply) (o : Progress) → HasStep job m w o run (MakingJob f)
+        → StepsTo m (event.Call server (call.AggMake (job f))) r n → HasRun job n w o (InProgress run (after_make f r))
     makes f r o has step =
-        let here = stay (call.AggMake (job f)) r o (Makes f) step (λ a u. refl) (λ g u. refl) has in
-        made m n (λ s. HasRun job n w o (Runs run s)) (job f) r (own.make m n server (job f) r order step)
-        (same o (Runs run (Makes f)) (hired, has))
+        let here = stay (call.AggMake (job f)) r o (MakingJob f) step (λ a u. refl) (λ g u. refl) has in
+        made m n (λ s. HasRun job n w o (InProgress run s)) (job f) r (own.make m n server (job f) r order step)
+        (same o (InProgress run (MakingJob f)) (hired, has))
         (λ x readable new. (here.0, (here.1.0, readable, here.1.1)))
 
-    pub hands : (j f : ℕ) (r : Reply) (o : Progress) → HasStep job m w o run (Hands j f)
+    pub hands : (j f : ℕ) (r : Reply) (o : Progress) → HasStep job m w o run (WritingJob j f)
         → StepsTo m (event.Call server (call.IolWrite (job_pipe run.worker) j)) r n
-        → HasRun job n w o (Runs run (after_hand j f r))
+        → HasRun job n w o (InProgress run (after_hand j f r))
     hands j f r o has step =
         by r (own.write_pipe m n server (job_pipe run.worker) hired.0 j (job f) r order hired.1 has.1 step) step
       where
-        again : (b : Bool) → n ≡ m → HasRun job n w o (Runs run (if b then Hands j f else Lapses j))
-        again true is = same o (Runs run (Hands j f)) (hired, has) is
-        again false is = same o (Runs run (Lapses j)) (hired, (has.0, (job f, has.1), has.2)) is
+        again : (b : Bool) → n ≡ m → HasRun job n w o (InProgress run (if b then WritingJob j f else DiscardingJob j))
+        again true is = same o (InProgress run (WritingJob j f)) (hired, has) is
+        again false is = same o (InProgress run (DiscardingJob j)) (hired, (has.0, (job f, has.1), has.2)) is
 
         by : (r : Reply) → caller.WritesPipe m hired.0 (job f) r n
             → StepsTo m (event.Call server (call.IolWrite (job_pipe run.worker) j)) r n
-            → HasRun job n w o (Runs run (after_hand j f r))
+            → HasRun job n w o (InProgress run (after_hand j f r))
         by (reply.Count k) did step =
-            let here = stay (call.IolWrite (job_pipe run.worker) j) (reply.Count k) o (Hands j f) step (λ a u. refl)
+            let here = stay (call.IolWrite (job_pipe run.worker) j) (reply.Count k) o (WritingJob j f) step
+            (λ a u. refl)
             (λ g u. no-position m (job_pipe run.worker) g (on.WriteEnd hired.0) hired.1 refl) has in
             (here.0, (here.1.0, (job f, here.1.1), here.1.2))
         by (reply.Refused y) did step = again (is_again y) did
@@ -202,13 +208,13 @@ module _ (steps : EachStepLeavesTheRest) (own : CallsServeTheirDomain) (m n : St
 
     -- ---- the head
 
-    pub heads : (r : Reply) (received : List ℕ) (o : Progress) → HasStep job m w o run Heads
+    pub heads : (r : Reply) (received : List ℕ) (o : Progress) → HasStep job m w o run MakingHead
         → StepsTo m (event.Call server (call.AggMake (script_text w))) r n → Names n r received
-        → HasRun job n w o (Runs run (after_head r received))
+        → HasRun job n w o (InProgress run (after_head r received))
     heads r received o has step names =
-        let here = stay (call.AggMake (script_text w)) r o Heads step (λ a u. refl) (λ g u. refl) has in
-        made-received m n (λ s. HasRun job n w o (Runs run s)) (script_text w) received r
-        (own.make m n server (script_text w) r order step) names (same o (Runs run Heads) (hired, has))
+        let here = stay (call.AggMake (script_text w)) r o MakingHead step (λ a u. refl) (λ g u. refl) has in
+        made-received m n (λ s. HasRun job n w o (InProgress run s)) (script_text w) received r
+        (own.make m n server (script_text w) r order step) names (same o (InProgress run MakingHead) (hired, has))
         (λ x is receives readable new. (
           here.0,
           record {
@@ -264,7 +270,7 @@ module _ (steps : EachStepLeavesTheRest) (own : CallsServeTheirDomain) (m n : St
         set (Some f) frames apart is = (full is, frames, apart)
 
         by : (b : Bool) → nat_lt size CHUNK_BYTES ≡ b
-            → HasStep job n w o run (if b then Receives (Some (a, size)) frame else filled a frame)
+            → HasStep job n w o run (if b then ReadingOutput (Some (a, size)) frame else filled a frame)
         by true is = record {
           reads = reads;
           bytes = bytes;
@@ -377,9 +383,9 @@ module _ (steps : EachStepLeavesTheRest) (own : CallsServeTheirDomain) (m n : St
     )
 
     pub receives : (held : Following) (frame : Option ℕ) (r : Reply) (received : List ℕ) (o : Progress)
-        → HasStep job m w o run (Receives held frame)
+        → HasStep job m w o run (ReadingOutput held frame)
         → StepsTo m (event.Call server (call.IolRead run.from (CHUNK_BYTES - held_size held))) r n → Names n r received
-        → AfterReply (Runs run (Receives held frame)) (after_output w run held frame r received) r received o
+        → AfterReply (InProgress run (ReadingOutput held frame)) (after_output w run held frame r received) r received o
     receives held frame r received o has step names =
         by r (own.read_pipe m n server run.from has.reads.0 (CHUNK_BYTES - held_size held) r order has.reads.1 step)
         step names
@@ -391,7 +397,8 @@ module _ (steps : EachStepLeavesTheRest) (own : CallsServeTheirDomain) (m n : St
         more : (x : ℕ) (received : List ℕ) → HasJobPipe n run.worker → HasReceived n w o run held frame
             → readable_at n server x ≡ Some received → length received ≤ count
             → has_followed held x ≡ false → has_frame frame x ≡ false
-            → AfterReply (Runs run (Receives held frame)) (after_output w run held frame (reply.Agg x) received)
+            → AfterReply (InProgress run (ReadingOutput held frame))
+            (after_output w run held frame (reply.Agg x) received)
             (reply.Agg x) received o
         more x [] hired here readable short off apart = (
           receives_on o [],
@@ -411,9 +418,10 @@ module _ (steps : EachStepLeavesTheRest) (own : CallsServeTheirDomain) (m n : St
         by : (r : Reply) → caller.ReadsPipe m server has.reads.0 (CHUNK_BYTES - held_size held) r n
             → StepsTo m (event.Call server (call.IolRead run.from (CHUNK_BYTES - held_size held))) r n
             → Names n r received
-            → AfterReply (Runs run (Receives held frame)) (after_output w run held frame r received) r received o
+            → AfterReply (InProgress run (ReadingOutput held frame)) (after_output w run held frame r received) r
+            received o
         by (reply.Agg x) did step names =
-            let here = stay (call.IolRead run.from count) (reply.Agg x) o (Receives held frame) step (λ a u. refl)
+            let here = stay (call.IolRead run.from count) (reply.Agg x) o (ReadingOutput held frame) step (λ a u. refl)
             (λ g u. no-position m run.from g (on.ReadEnd has.reads.0) has.reads.1 refl) has in
             more x received here.0 here.1 names
             (short-output (may_read m server) count (pipe_at m has.reads.0).queue did.text received did.most
@@ -425,17 +433,18 @@ module _ (steps : EachStepLeavesTheRest) (own : CallsServeTheirDomain) (m n : St
           subst (λ (s : State). HasJobPipe s run.worker × HasStep job s w Broken (broken run) (unread held frame))
               (sym did) (hired, barred held frame has.reads has.bytes has.has),
         )
-        by (reply.Refused y) did step names = (o, refl, same o (Runs run (Receives held frame)) (hired, has) did)
+        by (reply.Refused y) did step names =
+            (o, refl, same o (InProgress run (ReadingOutput held frame)) (hired, has) did)
         by r did step names = absurd did
 
     pub gathers : (held size piece len : ℕ) (frame : Option ℕ) (r : Reply) (o : Progress)
-        → HasStep job m w o run (Gathers held size piece len frame)
+        → HasStep job m w o run (JoiningOutput held size piece len frame)
         → StepsTo m (event.Call server (call.AggJoin held piece)) r n
-        → HasRun job n w o (Runs run (after_gather held size piece len frame r))
+        → HasRun job n w o (InProgress run (after_gather held size piece len frame r))
     gathers held size piece len frame r o has step =
-        made m n (λ s. HasRun job n w o (Runs run s)) (has.bytes ++ has.more) r
+        made m n (λ s. HasRun job n w o (InProgress run s)) (has.bytes ++ has.more) r
         (own.join m n server held piece has.bytes has.more r order has.has.holds.is_readable has.is_readable step)
-        (same o (Runs run (Gathers held size piece len frame)) (hired, has)) (λ x readable new. (
+        (same o (InProgress run (JoiningOutput held size piece len frame)) (hired, has)) (λ x readable new. (
           still-hired (call.AggJoin held piece) r step refl,
           held-now x (both size len) (has.bytes ++ has.more) frame o readable
               (let a = length-append has.bytes has.more in let b = has.has.holds.count in let c = has.count in
@@ -451,27 +460,29 @@ module _ (steps : EachStepLeavesTheRest) (own : CallsServeTheirDomain) (m n : St
 
     -- ---- a chunk is made
 
-    pub frames : (held : ℕ) (r : Reply) (o : Progress) → HasStep job m w o run (Frames held)
+    pub frames : (held : ℕ) (r : Reply) (o : Progress) → HasStep job m w o run (MakingFrame held)
         → StepsTo m (event.Call server (call.AggMake (frame_of CHUNK_BYTES))) r n
-        → HasRun job n w o (Runs run (after_frame held r))
+        → HasRun job n w o (InProgress run (after_frame held r))
     frames held r o has step =
-        let here = stay (call.AggMake (frame_of CHUNK_BYTES)) r o (Frames held) step (λ a u. refl) (λ g u. refl) has in
-        made m n (λ s. HasRun job n w o (Runs run s)) (frame_of CHUNK_BYTES) r
-        (own.make m n server (frame_of CHUNK_BYTES) r order step) (same o (Runs run (Frames held)) (hired, has))
+        let here = stay (call.AggMake (frame_of CHUNK_BYTES)) r o (MakingFrame held) step (λ a u. refl) (λ g u. refl)
+        has in
+        made m n (λ s. HasRun job n w o (InProgress run s)) (frame_of CHUNK_BYTES) r
+        (own.make m n server (frame_of CHUNK_BYTES) r order step)
+        (same o (InProgress run (MakingFrame held)) (hired, has))
         (λ x readable new.
         (here.0, (here.1, readable, turned held x (new-other m held x has.bytes has.is_readable new))))
 
     pub wraps : (held frame : ℕ) (r : Reply) (received : List ℕ) (o : Progress)
-        → HasStep job m w o run (Wraps held frame)
+        → HasStep job m w o run (FillingFrame held frame)
         → StepsTo m
         (event.Call server (call.AggReplace frame (place_in_frame CHUNK_BYTES) (place_in_frame CHUNK_BYTES) held)) r
         n → Names n r received
-        → HasRun job n w o (Runs run (after_wrap held frame r received))
+        → HasRun job n w o (InProgress run (after_wrap held frame r received))
     wraps held frame r received o has step names =
-        made-received m n (λ s. HasRun job n w o (Runs run s)) whole received r
+        made-received m n (λ s. HasRun job n w o (InProgress run s)) whole received r
         (own.replace m n server frame (place_in_frame CHUNK_BYTES) (place_in_frame CHUNK_BYTES) held
         (frame_of CHUNK_BYTES) has.0.bytes r order has.1 has.0.is_readable step) names
-        (same o (Runs run (Wraps held frame)) (hired, has)) new
+        (same o (InProgress run (FillingFrame held frame)) (hired, has)) new
       where
         whole : List ℕ
         whole = take (place_in_frame CHUNK_BYTES) (frame_of CHUNK_BYTES) ++ has.0.bytes
@@ -483,10 +494,10 @@ module _ (steps : EachStepLeavesTheRest) (own : CallsServeTheirDomain) (m n : St
 
         new : (x : ℕ) → r ≡ reply.Agg x → received ≡ whole → readable_at n server x ≡ Some whole
             → readable_at m server x ≡ None
-            → HasRun job n w o (Runs run (Trims held x (count_of received) frame))
+            → HasRun job n w o (InProgress run (DroppingHeld held x (count_of received) frame))
         new x is receives is_readable-whole fresh =
             let here = stay (call.AggReplace frame (place_in_frame CHUNK_BYTES) (place_in_frame CHUNK_BYTES) held) r o
-            (Wraps held frame) step (λ a u. refl) (λ g u. refl) has in
+            (FillingFrame held frame) step (λ a u. refl) (λ g u. refl) has in
             let readable : readable_at n server x ≡ Some (chunk has.0.bytes) = is_readable-whole
             ∙ ap (λ (l : List ℕ). Some l) is_chunk in
             let c = has.0.count in

@@ -33,10 +33,11 @@ use Rattle.flash_laws.specs.Site.{server}
 use Rattle.flash_laws.specs.declared.script_run.TheConstants.{CHUNK_BYTES}
 use Rattle.flash_laws.specs.declared.script_run.Run.{Run}
 use Rattle.flash_laws.specs.declared.script_run.Step.{Step}
-use Rattle.flash_laws.specs.declared.script_run.Step.TheVariants.{Stops, Unframes, Lasts, WrapsLast, TrimsLast, Unwraps}
-use Rattle.flash_laws.specs.declared.script_run.Step.TheVariants.{Returns, Fails}
+use Rattle.flash_laws.specs.declared.script_run.Step.TheVariants.{ClosingOutput, DroppingFrame, MakingEnd, FillingEnd}
+use Rattle.flash_laws.specs.declared.script_run.Step.TheVariants.{DroppingLast, DroppingLastFrame}
+use Rattle.flash_laws.specs.declared.script_run.Step.TheVariants.{ClosingPipe, Failing}
 use Rattle.flash_laws.specs.declared.script_run.Running.{Running}
-use Rattle.flash_laws.specs.declared.script_run.Running.TheVariants.{Runs, Leaves, Closes}
+use Rattle.flash_laws.specs.declared.script_run.Running.TheVariants.{InProgress, Finishing, Disconnecting}
 use Rattle.flash_laws.proofs.Counts.{counted, made-short}
 use Rattle.flash_laws.proofs.Conn.ReadableBytes.{new-other}
 use Rattle.flash_laws.proofs.Moves.{dropped, closed, made-received}
@@ -65,8 +66,8 @@ module _ (steps : EachStepLeavesTheRest) (own : CallsServeTheirDomain) (m n : St
   module _ (run : Run) (hired : HasJobPipe m run.worker) where
     stay : (k : Call) (r : Reply) (o : Progress) (s : Step) → StepsTo m (event.Call server k) r n
         → ((a : ℕ) → step_agg s a ≡ true → gives_up (event.Call server k) server a ≡ false)
-        → ((g : ℕ) → uses_fd (Runs run s) g ≡ true → touches_fd m (event.Call server k) server g ≡ false)
-        → HasStep job m w o run s → HasRun job n w o (Runs run s)
+        → ((g : ℕ) → uses_fd (InProgress run s) g ≡ true → touches_fd m (event.Call server k) server g ≡ false)
+        → HasStep job m w o run s → HasRun job n w o (InProgress run s)
     stay = acts.stay steps own m n order job w run hired
 
     still-hired : (k : Call) (r : Reply) → StepsTo m (event.Call server k) r n
@@ -119,14 +120,14 @@ module _ (steps : EachStepLeavesTheRest) (own : CallsServeTheirDomain) (m n : St
         over Broken left = absurd left
         over (NotRun status past) left = (subst (λ (l : List ℕ). IsLeft w (NotRun status past) l) none left, inr plain)
     finishes true c held bytes o hired gone chunked holds ends =
-        subst (λ (z : Progress). HasRun job n w z Closes) (sym (subst (λ b. Ends b w o bytes) gone ends).0) tt
+        subst (λ (z : Progress). HasRun job n w z Disconnecting) (sym (subst (λ b. Ends b w o bytes) gone ends).0) tt
 
     pub stops : (held : Following) (frame : Option ℕ) (r : Reply) (o : Progress)
-        → HasStep job m w o run (Stops held frame)
+        → HasStep job m w o run (ClosingOutput held frame)
         → StepsTo m (event.Call server (call.Close run.from)) r n → HasRun job n w o (after_stop w run held frame r)
     stops held frame r o has step =
         closed m n (HasRun job n w o) run.from r (own.closes m n server run.from r step)
-        (same o (Runs run (Stops held frame)) (hired, has))
+        (same o (InProgress run (ClosingOutput held frame)) (hired, has))
         (next frame
         (still-hired (call.Close run.from) r step
         (ends-differ m run.from (job_pipe run.worker) has.0.0 hired.0 has.0.1 hired.1))
@@ -138,11 +139,11 @@ module _ (steps : EachStepLeavesTheRest) (own : CallsServeTheirDomain) (m n : St
         next None hired all = finishes run.broken w.chunked held all.bytes o hired refl refl all.has.holds all.ends
         next (Some f) hired all = (hired, all)
 
-    pub unframes : (f : ℕ) (held : Following) (r : Reply) (o : Progress) → HasStep job m w o run (Unframes f held)
+    pub unframes : (f : ℕ) (held : Following) (r : Reply) (o : Progress) → HasStep job m w o run (DroppingFrame f held)
         → StepsTo m (event.Call server (call.AggDrop f)) r n → HasRun job n w o (after_release_frame w run f held r)
     unframes f held r o has step =
         dropped m n (HasRun job n w o) f r (own.drops m n server f r order step)
-        (same o (Runs run (Unframes f held)) (hired, has))
+        (same o (InProgress run (DroppingFrame f held)) (hired, has))
         (finishes run.broken w.chunked held has.bytes o (still-hired (call.AggDrop f) r step refl) refl refl
         (held-on m n w held has.bytes
         (λ a bytes u is. is_readable (call.AggDrop f) r step a bytes (off held has.has.apart a u) is) has.has.holds)
@@ -153,12 +154,14 @@ module _ (steps : EachStepLeavesTheRest) (own : CallsServeTheirDomain) (m n : St
         off (Some x) is a u = let e : x.0 ≡ a = grind (arith, nat_tests, u) in subst (λ z. (f == z) ≡ false) e is
 
     -- of a run that is not broken the end is left
-    pub lasts : (held : Following) (r : Reply) (received : List ℕ) (o : Progress) → HasStep job m w o run (Lasts held)
+    pub lasts : (held : Following) (r : Reply) (received : List ℕ) (o : Progress)
+        → HasStep job m w o run (MakingEnd held)
         → StepsTo m (event.Call server (call.AggMake (end_around held))) r n → Names n r received
         → HasRun job n w o (after_last run held r received)
     lasts held r received o has step names =
         made-received m n (HasRun job n w o) (end_around held) received r
-        (own.make m n server (end_around held) r order step) names (same o (Runs run (Lasts held)) (hired, has))
+        (own.make m n server (end_around held) r order step) names
+        (same o (InProgress run (MakingEnd held)) (hired, has))
         (λ x is receives readable new.
         let short =
         made-short m n server x (end_around held)
@@ -168,8 +171,8 @@ module _ (steps : EachStepLeavesTheRest) (own : CallsServeTheirDomain) (m n : St
         refl is) has.2.has.holds) (new-held held has.2.bytes x has.2.has.holds new) readable
         (ap (λ (l : List ℕ). count_of l) receives ∙ counted (end_around held) short) is_left)
       where
-        here : HasRun job n w o (Runs run (Lasts held))
-        here = stay (call.AggMake (end_around held)) r o (Lasts held) step (λ a u. refl) (λ g u. refl) has
+        here : HasRun job n w o (InProgress run (MakingEnd held))
+        here = stay (call.AggMake (end_around held)) r o (MakingEnd held) step (λ a u. refl) (λ g u. refl) has
 
         is_left : IsLeft w o (script_body true has.2.bytes)
         is_left =
@@ -199,15 +202,15 @@ module _ (steps : EachStepLeavesTheRest) (own : CallsServeTheirDomain) (m n : St
         )
 
     pub wraps_last : (held size frame : ℕ) (r : Reply) (received : List ℕ) (o : Progress)
-        → HasStep job m w o run (WrapsLast held size frame)
+        → HasStep job m w o run (FillingEnd held size frame)
         → StepsTo m (event.Call server (call.AggReplace frame (place_in_frame size) (place_in_frame size) held)) r n
         → Names n r received
-        → HasRun job n w o (Runs run (after_wrap_last held size frame r received))
+        → HasRun job n w o (InProgress run (after_wrap_last held size frame r received))
     wraps_last held size frame r received o has step names =
-        made-received m n (λ s. HasRun job n w o (Runs run s)) whole received r
+        made-received m n (λ s. HasRun job n w o (InProgress run s)) whole received r
         (own.replace m n server frame (place_in_frame size) (place_in_frame size) held
         (end_around (Some (held, size))) has.bytes r order has.frames has.holds.is_readable step) names
-        (same o (Runs run (WrapsLast held size frame)) (hired, has)) new
+        (same o (InProgress run (FillingEnd held size frame)) (hired, has)) new
       where
         whole : List ℕ
         whole = take (place_in_frame size) (end_around (Some (held, size))) ++ has.bytes
@@ -221,10 +224,10 @@ module _ (steps : EachStepLeavesTheRest) (own : CallsServeTheirDomain) (m n : St
 
         new : (x : ℕ) → r ≡ reply.Agg x → received ≡ whole → readable_at n server x ≡ Some whole
             → readable_at m server x ≡ None
-            → HasRun job n w o (Runs run (TrimsLast held x (count_of received) frame))
+            → HasRun job n w o (InProgress run (DroppingLast held x (count_of received) frame))
         new x is receives readable fresh =
             let here = stay (call.AggReplace frame (place_in_frame size) (place_in_frame size) held) r o
-            (WrapsLast held size frame) step (λ a u. refl) (λ g u. refl) has in
+            (FillingEnd held size frame) step (λ a u. refl) (λ g u. refl) has in
             let c = has.holds.count in
             let f = has.holds.few in
             let few : length has.bytes ≤ CHUNK_BYTES = omega (arith, c, f) in (
@@ -249,16 +252,16 @@ module _ (steps : EachStepLeavesTheRest) (own : CallsServeTheirDomain) (m n : St
               ),
             )
 
-    pub unwraps : (frame a len : ℕ) (r : Reply) (o : Progress) → HasStep job m w o run (Unwraps frame a len)
+    pub unwraps : (frame a len : ℕ) (r : Reply) (o : Progress) → HasStep job m w o run (DroppingLastFrame frame a len)
         → StepsTo m (event.Call server (call.AggDrop frame)) r n → HasRun job n w o (after_unwrap run frame a len r)
     unwraps frame a len r o has step =
         dropped m n (HasRun job n w o) frame r (own.drops m n server frame r order step)
-        (same o (Runs run (Unwraps frame a len)) (hired, has))
+        (same o (InProgress run (DroppingLastFrame frame a len)) (hired, has))
         (over o has.1.bytes has.1.left (is_readable (call.AggDrop frame) r step a has.1.bytes (turned a frame has.0.1)
         has.1.is_readable) has.1.count)
       where
         over : (o : Progress) (bytes : List ℕ) → IsLeft w o bytes → readable_at n server a ≡ Some bytes
-            → len ≡ length bytes → HasRun job n w o (Leaves (sends_part a len))
+            → len ≡ length bytes → HasRun job n w o (Finishing (sends_part a len))
         over o bytes left readable count =
             record {
               expected = bytes;
@@ -270,11 +273,12 @@ module _ (steps : EachStepLeavesTheRest) (own : CallsServeTheirDomain) (m n : St
 
     -- ---- a script that cannot be run
 
-    pub returns : (write : ℕ) (r : Reply) (o : Progress) → HasStep job m w o run (Returns write)
-        → StepsTo m (event.Call server (call.Close write)) r n → HasRun job n w o (Runs run (after_return write r))
+    pub returns : (write : ℕ) (r : Reply) (o : Progress) → HasStep job m w o run (ClosingPipe write)
+        → StepsTo m (event.Call server (call.Close write)) r n
+        → HasRun job n w o (InProgress run (after_return write r))
     returns write r o has step =
-        closed m n (λ s. HasRun job n w o (Runs run s)) write r (own.closes m n server write r step)
-        (same o (Runs run (Returns write)) (hired, has)) (
+        closed m n (λ s. HasRun job n w o (InProgress run s)) write r (own.closes m n server write r step)
+        (same o (InProgress run (ClosingPipe write)) (hired, has)) (
           still-hired (call.Close write) r step has.0.apart,
           (
             still-reading (call.Close write) r step (write-elsewhere m run write has.0) (has.0.pipe, has.0.read_end),
@@ -282,17 +286,17 @@ module _ (steps : EachStepLeavesTheRest) (own : CallsServeTheirDomain) (m n : St
           ),
         )
 
-    pub fails : (r : Reply) (received : List ℕ) (o : Progress) → HasStep job m w o run Fails
+    pub fails : (r : Reply) (received : List ℕ) (o : Progress) → HasStep job m w o run Failing
         → StepsTo m (event.Call server (call.Close run.from)) r n
-        → AfterReply (Runs run Fails) (after_fail run r) r received o
+        → AfterReply (InProgress run Failing) (after_fail run r) r received o
     fails r received o has step = by r (own.closes m n server run.from r step)
       where
         by : (r : Reply) → caller.Closes m server run.from r n
-            → AfterReply (Runs run Fails) (after_fail run r) r received o
+            → AfterReply (InProgress run Failing) (after_fail run r) r received o
         by reply.Done did = (
           NotRun 503 [],
           refl,
           record { expected = error_text 503 w.head_only (not w.keep); left = refl; has = refl; sends = tt },
         )
-        by (reply.Refused y) did = (o, refl, same o (Runs run Fails) (hired, has) did)
+        by (reply.Refused y) did = (o, refl, same o (InProgress run Failing) (hired, has) did)
         by r did = absurd did

@@ -37,10 +37,12 @@ use Rattle.flash_laws.specs.declared.phase.Phase.TheVariants as phase
 use Rattle.flash_laws.specs.declared.script_run.TheConstants.{CHUNK_BYTES}
 use Rattle.flash_laws.specs.declared.script_run.Run.{Run}
 use Rattle.flash_laws.specs.declared.script_run.Step.{Step}
-use Rattle.flash_laws.specs.declared.script_run.Step.TheVariants.{Gives, Hands, Sending, Receives, Returns, Lapses}
-use Rattle.flash_laws.specs.declared.script_run.Step.TheVariants.{Fails}
+use Rattle.flash_laws.specs.declared.script_run.Step.TheVariants.{GivingPipe, WritingJob, SendingPart, ReadingOutput}
+use Rattle.flash_laws.specs.declared.script_run.Step.TheVariants.{ClosingPipe, DiscardingJob}
+use Rattle.flash_laws.specs.declared.script_run.Step.TheVariants.{Failing}
 use Rattle.flash_laws.specs.declared.script_run.Running.{Running}
-use Rattle.flash_laws.specs.declared.script_run.Running.TheVariants.{Awaits, Runs, Leaves, Closes}
+use Rattle.flash_laws.specs.declared.script_run.Running.TheVariants.{AwaitingWorker, InProgress, Finishing}
+use Rattle.flash_laws.specs.declared.script_run.Running.TheVariants.{Disconnecting}
 use Rattle.flash_laws.proofs.Conn.Responses.{some-inj}
 use Rattle.flash_laws.proofs.Lists.{clash, not-equal, not-false}
 use Rattle.flash_laws.proofs.Run.Rest as left
@@ -60,12 +62,12 @@ past-grows (Ran was ended past) part whole = length-append past part
 past-grows Broken part whole = absurd (whole refl)
 past-grows (NotRun status past) part whole = length-append past part
 
-taken-plain : (run : Run) (s : Step) → is_part s ≡ false → taken_by (Runs run s) ≡ 0
-taken-plain run (Sending d frame) plain = absurd (cc (plain))
+taken-plain : (run : Run) (s : Step) → is_part s ≡ false → taken_by (InProgress run s) ≡ 0
+taken-plain run (SendingPart d frame) plain = absurd (cc (plain))
 taken-plain run s plain = refl
 
-broken-plain : (run : Run) (s : Step) → is_part s ≡ false → breaks_off (Runs run s) ≡ run.broken
-broken-plain run (Sending d frame) plain = absurd (cc (plain))
+broken-plain : (run : Run) (s : Step) → is_part s ≡ false → breaks_off (InProgress run s) ≡ run.broken
+broken-plain run (SendingPart d frame) plain = absurd (cc (plain))
 broken-plain run s plain = refl
 
 -- a response that goes on is not broken
@@ -80,20 +82,20 @@ left-whole w x expected left is = cc (is)
 -- the output may not be read: it is broken off
 bars-breaks : (w : Wanted) (run : Run) (s : Step) (r : Reply) (received : List ℕ) → Bars s r
     → breaks_off (after_step w run s r received) ≡ true
-bars-breaks w run (Receives None frame) (reply.Refused (no.Denied p)) received bars = refl
-bars-breaks w run (Receives (Some x) frame) (reply.Refused (no.Denied p)) received bars = refl
+bars-breaks w run (ReadingOutput None frame) (reply.Refused (no.Denied p)) received bars = refl
+bars-breaks w run (ReadingOutput (Some x) frame) (reply.Refused (no.Denied p)) received bars = refl
 bars-breaks w run s r received bars = absurd bars
 
 module _ (job : ℕ → List ℕ) (m : State) (w : Wanted) (run : Run) where
   past-step : (s : Step) (r : Reply) (received : List ℕ) (before after : Progress) → is_part s ≡ false
       → HasStep job m w before run s → (Bars s r → ⊥)
       → StepLearns m s r received before after → past_of after ≡ past_of before
-  past-step (Sending d frame) r received before after plain has open_yet learns = absurd (cc (plain))
-  past-step (Receives held frame) (reply.Agg n) received before after plain has open_yet learns =
+  past-step (SendingPart d frame) r received before after plain has open_yet learns = absurd (cc (plain))
+  past-step (ReadingOutput held frame) (reply.Agg n) received before after plain has open_yet learns =
       ap (λ (o : Progress). past_of o) learns ∙ past-receives before received
-  past-step (Receives held frame) (reply.Refused (no.Denied p)) received before after plain has open_yet learns =
+  past-step (ReadingOutput held frame) (reply.Refused (no.Denied p)) received before after plain has open_yet learns =
       absurd (open_yet tt)
-  past-step Fails reply.Done received before after plain has open_yet learns = ap (λ (o : Progress). past_of o) learns
+  past-step Failing reply.Done received before after plain has open_yet learns = ap (λ (o : Progress). past_of o) learns
       ∙ sym (ap (λ (o : Progress). past_of o) has.1.1)
   past-step s r received before after plain has open_yet learns = ap (λ (o : Progress). past_of o) learns
 
@@ -107,17 +109,17 @@ takes-nothing : (job : ℕ → List ℕ) (m : State) (w : Wanted) (run : Run) (f
     → is_part s ≡ false → descriptor m server fd ≡ Some (on.Connection c)
     → descriptor m server (job_pipe run.worker) ≡ Some (on.WriteEnd p)
     → newly_taken fd (step_wants job fd w run s) r ≡ 0
-takes-nothing job m w run fd c p (Sending d frame) r plain open_on hired = absurd (cc (plain))
-takes-nothing job m w run fd c p (Hands j f) (reply.Count k) plain open_on hired =
+takes-nothing job m w run fd c p (SendingPart d frame) r plain open_on hired = absurd (cc (plain))
+takes-nothing job m w run fd c p (WritingJob j f) (reply.Count k) plain open_on hired =
     ap (λ b. if b then k else 0) (job-elsewhere m fd c p run.worker open_on hired)
-takes-nothing job m w run fd c p (Hands j f) r plain open_on hired = refl
+takes-nothing job m w run fd c p (WritingJob j f) r plain open_on hired = refl
 takes-nothing job m w run fd c p s r plain open_on hired = refl
 
 taken-headed : (status : ℕ) (r : Reply) (received : List ℕ) → taken_of (conn.after_head (Error status) r received) ≡ 0
 taken-headed status (reply.Agg n) received = refl
 taken-headed status r received = refl
 
-taken-over : (b : Bool) → taken_of (if b then phase.Rests else phase.Closes) ≡ 0
+taken-over : (b : Bool) → taken_of (if b then phase.Receiving else phase.Disconnecting) ≡ 0
 taken-over true = refl
 taken-over false = refl
 
@@ -125,9 +127,10 @@ taken-over false = refl
 module _ (steps : EachStepLeavesTheRest) (own : CallsServeTheirDomain) (m n : State) (order : IsOrderly m) (w : Wanted)
     (fd c : ℕ) (open_on : descriptor m server fd ≡ Some (on.Connection c)) where
   -- all of a part
-  whole : (expected : List ℕ) (a taken : ℕ) (before after : Progress) → SendsAll m w expected (phase.Sent a taken None)
+  whole : (expected : List ℕ) (a taken : ℕ) (before after : Progress)
+      → SendsAll m w expected (phase.DroppingSent a taken None)
       → (before ≡ Broken → ⊥)
-      → PartLearns m (phase.Sent a taken None) reply.Done before after → past_of after ≡ past_of before + taken
+      → PartLearns m (phase.DroppingSent a taken None) reply.Done before after → past_of after ≡ past_of before + taken
   whole expected a taken before after has open_yet learns =
       let part = some-inj learns.0 expected (sym learns.1 ∙ has.1) in
       let grows = past-grows before expected open_yet in
@@ -154,14 +157,14 @@ module _ (steps : EachStepLeavesTheRest) (own : CallsServeTheirDomain) (m n : St
       → is_dropping (conn.after_reply (in_phase w d) r received).phase ≡ false
       → past_of after + taken_of (conn.after_reply (in_phase w d) r received).phase ≡ past_of before + taken_of d
       + newly_taken fd (conn.wants fd (in_phase w d)) r
-  rest (phase.Heads (Error status)) r received before after h step learns at on =
+  rest (phase.MakingHead (Error status)) r received before after h step learns at on =
       let is = ap (λ (o : Progress). past_of o) learns in
       let none = taken-headed status r received in
       omega (arith, is, none)
-  rest (phase.Sent a taken None) r received before after h step learns at on =
+  rest (phase.DroppingSent a taken None) r received before after h step learns at on =
       by r (own.drops m n server a r order step) learns
     where
-      by : (r : Reply) → caller.Drops m server a r n → PartLearns m (phase.Sent a taken None) r before after
+      by : (r : Reply) → caller.Drops m server a r n → PartLearns m (phase.DroppingSent a taken None) r before after
           → past_of after + taken_of (conn.after_taken (serve w) a taken None r) ≡ past_of before + taken + newly_taken
           fd (call.AggDrop a) r
       by reply.Done did learns =
@@ -172,8 +175,8 @@ module _ (steps : EachStepLeavesTheRest) (own : CallsServeTheirDomain) (m n : St
           omega (arith, all, none)
       by (reply.Refused y) did learns = let is = ap (λ (o : Progress). past_of o) learns in omega (arith, is)
       by r did learns = absurd did
-  rest (phase.Sent a taken (Some x)) r received before after h step learns at on = absurd h.sends.0
-  rest (phase.Drops a None) r received before after h step learns at on = absurd (cc (at))
+  rest (phase.DroppingSent a taken (Some x)) r received before after h step learns at on = absurd h.sends.0
+  rest (phase.Aborting a None) r received before after h step learns at on = absurd (cc (at))
   rest d r received before after h step learns at on =
       part h.expected d r received before after (h.has, h.sends.0, h.sends.1) step refl at on learns
 
@@ -185,39 +188,41 @@ module _ (steps : EachStepLeavesTheRest) (own : CallsServeTheirDomain) (m n : St
       → breaks_off (after_sending run d frame r) ≡ false
       → past_of after + taken_by (after_sending run d frame r) ≡ past_of before + taken_of d + newly_taken fd
       (conn.wants fd (in_phase w d)) r
-  sending run (phase.Sends s) frame r before after h step learns at on =
-      part h.part (phase.Sends s) r [] before after (h.has, h.is_part, h.within) step refl refl on learns
-  sending run (phase.Cuts s) frame r before after h step learns at on =
-      part h.part (phase.Cuts s) r [] before after (h.has, h.is_part, h.within) step refl refl on
+  sending run (phase.SendingWhole s) frame r before after h step learns at on =
+      part h.part (phase.SendingWhole s) r [] before after (h.has, h.is_part, h.within) step refl refl on learns
+  sending run (phase.CuttingPiece s) frame r before after h step learns at on =
+      part h.part (phase.CuttingPiece s) r [] before after (h.has, h.is_part, h.within) step refl refl on
       learns
-  sending run (phase.Offers s piece) frame r before after h step learns at on =
-      part h.part (phase.Offers s piece) r [] before after (h.has, h.is_part, h.within) step refl
+  sending run (phase.SendingPiece s piece) frame r before after h step learns at on =
+      part h.part (phase.SendingPiece s piece) r [] before after (h.has, h.is_part, h.within) step refl
       refl on learns
-  sending run (phase.Swaps s piece) frame r before after h step learns at on =
-      part h.part (phase.Swaps s piece) r [] before after (h.has, h.is_part, h.within) step refl
+  sending run (phase.DroppingPiece s piece) frame r before after h step learns at on =
+      part h.part (phase.DroppingPiece s piece) r [] before after (h.has, h.is_part, h.within) step refl
       refl on learns
-  sending run (phase.Sent a taken None) frame r before after h step learns at on =
+  sending run (phase.DroppingSent a taken None) frame r before after h step learns at on =
       by r (own.drops m n server a r order step) learns
     where
-      by : (r : Reply) → caller.Drops m server a r n → PartLearns m (phase.Sent a taken None) r before after
-          → past_of after + taken_by (after_sending run (phase.Sent a taken None) frame r) ≡ past_of before + taken
+      by : (r : Reply) → caller.Drops m server a r n → PartLearns m (phase.DroppingSent a taken None) r before after
+          → past_of after + taken_by (after_sending run (phase.DroppingSent a taken None) frame r) ≡ past_of before
+          + taken
           + newly_taken fd (call.AggDrop a) r
       by reply.Done did learns = let all =
           whole h.part a taken before after (h.has, h.is_part, h.within) (goes-whole w before h.part h.continues)
           learns in omega (arith, all)
       by (reply.Refused y) did learns = let is = ap (λ (o : Progress). past_of o) learns in omega (arith, is)
       by r did learns = absurd did
-  sending run (phase.Breaks piece a None) frame r before after h step learns at on = absurd (cc (at))
-  sending run (phase.Drops a None) frame r before after h step learns at on = absurd (cc (at))
+  sending run (phase.AbortingPiece piece a None) frame r before after h step learns at on = absurd (cc (at))
+  sending run (phase.Aborting a None) frame r before after h step learns at on = absurd (cc (at))
   sending run d frame r before after h step learns at on = absurd h.is_part
 
 -- any other step
 plain-takes : (job : ℕ → List ℕ) (m : State) (w : Wanted) (run : Run) (fd c : ℕ) (s : Step) (r : Reply)
     (received : List ℕ) (before after : Progress) → is_part s ≡ false
-    → descriptor m server fd ≡ Some (on.Connection c) → HasRun job m w before (Runs run s)
+    → descriptor m server fd ≡ Some (on.Connection c) → HasRun job m w before (InProgress run s)
     → StepLearns m s r received before after
     → breaks_off (after_step w run s r received) ≡ false
-    → past_of after + taken_by (after_step w run s r received) ≡ past_of before + taken_by (Runs run s) + newly_taken fd
+    → past_of after + taken_by (after_step w run s r received) ≡ past_of before + taken_by (InProgress run s)
+    + newly_taken fd
     (step_wants job fd w run s) r
 plain-takes job m w run fd c s r received before after plain open_on has learns on =
     let past =
@@ -235,21 +240,24 @@ pub takes : (steps : EachStepLeavesTheRest) (own : CallsServeTheirDomain) (job :
     → breaks_off x ≡ false → breaks_off (after_reply worker w x r received) ≡ false
     → past_of after + taken_by (after_reply worker w x r received) ≡ past_of before + taken_by x + newly_taken fd
     (wants job fd w x) r
-takes steps own job m n fd c worker w Awaits r received before after order open_on going has step learns at on = by r
+takes steps own job m n fd c worker w AwaitingWorker r received before after order open_on going has step learns at on =
+    by r
   where
-    by : (r : Reply) → past_of after + taken_by (after_reply worker w Awaits r received) ≡ past_of before + 0
+    by : (r : Reply) → past_of after + taken_by (after_reply worker w AwaitingWorker r received) ≡ past_of before + 0
         + newly_taken fd call.Pipe r
     by (reply.Fds from write) = let is = ap (λ (o : Progress). past_of o) learns in omega (arith, is)
     by r = let is = ap (λ (o : Progress). past_of o) learns in omega (arith, is)
-takes steps own job m n fd c worker w (Leaves d) r received before after order open_on going has step learns at on =
+takes steps own job m n fd c worker w (Finishing d) r received before after order open_on going has step learns at on =
     rest steps own m n order w fd c open_on d r received before after
     (is-rest m w before d (not-false (is_left d) going) has) step learns at on
-takes steps own job m n fd c worker w Closes r received before after order open_on going has step learns at on =
+takes steps own job m n fd c worker w Disconnecting r received before after order open_on going has step learns at on =
     absurd (cc (going))
-takes steps own job m n fd c worker w (Runs run (Sending d frame)) r received before after order open_on going has step
+takes steps own job m n fd c worker w (InProgress run (SendingPart d frame)) r received before after order open_on going
+    has step
     learns at on =
     sending steps own m n order w fd c open_on run d frame r before after has.1 step learns at on
-takes steps own job m n fd c worker w (Runs run s) r received before after order open_on going has step learns at on =
+takes steps own job m n fd c worker w (InProgress run s) r received before after order open_on going has step learns at
+    on =
     plain-takes job m w run fd c s r received before after refl open_on has learns on
 
 -- ---- why it is broken off
@@ -257,8 +265,8 @@ takes steps own job m n fd c worker w (Runs run s) r received before after order
 barred : (why : RefusalsTellWhy) (job : ℕ → List ℕ) (m n : State) (fd c : ℕ) (w : Wanted) (o : Progress) (run : Run)
     (s : Step) (r : Reply) → Bars s r
     → HasStep job m w o run s → StepsTo m (event.Call server (step_wants job fd w run s)) r n
-    → IsCutOff m c (Runs run s)
-barred why job m n fd c w o run (Receives held frame) (reply.Refused (no.Denied q)) bars has step =
+    → IsCutOff m c (InProgress run s)
+barred why job m n fd c w o run (ReadingOutput held frame) (reply.Refused (no.Denied q)) bars has step =
     inr (
       has.reads.0,
       q,
@@ -288,28 +296,29 @@ module _ (why : RefusalsTellWhy) (m n : State) (fd c : ℕ) (open_on : descripto
         → HasPart m w o run d frame
         → StepsTo m (event.Call server (conn.wants fd (in_phase w d))) r n → is_dropping d ≡ false
         → breaks_off (after_sending run d frame r) ≡ true → is_gone (conn_at m c).peer ≡ true
-    sending-drops w o run (phase.Sends s) frame r h step at off =
-        aborts w (phase.Sends s) r [] refl step at off
-    sending-drops w o run (phase.Cuts s) frame r h step at off =
-        aborts w (phase.Cuts s) r [] refl step at off
-    sending-drops w o run (phase.Offers s piece) frame r h step at off =
-        aborts w (phase.Offers s piece) r [] refl step at off
-    sending-drops w o run (phase.Swaps s piece) frame r h step at off =
-        aborts w (phase.Swaps s piece) r [] refl step at off
-    sending-drops w o run (phase.Sent a taken None) frame reply.Done h step at off =
+    sending-drops w o run (phase.SendingWhole s) frame r h step at off =
+        aborts w (phase.SendingWhole s) r [] refl step at off
+    sending-drops w o run (phase.CuttingPiece s) frame r h step at off =
+        aborts w (phase.CuttingPiece s) r [] refl step at off
+    sending-drops w o run (phase.SendingPiece s piece) frame r h step at off =
+        aborts w (phase.SendingPiece s piece) r [] refl step at off
+    sending-drops w o run (phase.DroppingPiece s piece) frame r h step at off =
+        aborts w (phase.DroppingPiece s piece) r [] refl step at off
+    sending-drops w o run (phase.DroppingSent a taken None) frame reply.Done h step at off =
         absurd (clash run.broken off h.whole)
-    sending-drops w o run (phase.Sent a taken None) frame r h step at off = absurd (cc (off))
-    sending-drops w o run (phase.Breaks piece a None) frame r h step at off = absurd (cc (at))
-    sending-drops w o run (phase.Drops a None) frame r h step at off = absurd (cc (at))
+    sending-drops w o run (phase.DroppingSent a taken None) frame r h step at off = absurd (cc (off))
+    sending-drops w o run (phase.AbortingPiece piece a None) frame r h step at off = absurd (cc (at))
+    sending-drops w o run (phase.Aborting a None) frame r h step at off = absurd (cc (at))
     sending-drops w o run d frame r h step at off = absurd h.is_part
 
 plain-breaks : (why : RefusalsTellWhy) (job : ℕ → List ℕ) (m n : State) (fd c : ℕ) (w : Wanted) (o : Progress)
     (run : Run) (s : Step) (r : Reply) (received : List ℕ) → is_part s ≡ false
     → HasStep job m w o run s → StepsTo m (event.Call server (step_wants job fd w run s)) r n
-    → breaks_off (Runs run s) ≡ false → breaks_off (after_step w run s r received) ≡ true → IsCutOff m c (Runs run s)
+    → breaks_off (InProgress run s) ≡ false → breaks_off (after_step w run s r received) ≡ true
+    → IsCutOff m c (InProgress run s)
 plain-breaks why job m n fd c w o run s r received plain has step at off = by ((quiet w run s r received plain).1 off)
   where
-    by : ((run.broken ≡ true) ⊎ Bars s r) → IsCutOff m c (Runs run s)
+    by : ((run.broken ≡ true) ⊎ Bars s r) → IsCutOff m c (InProgress run s)
     by (inl is) = absurd (clash run.broken is (sym (broken-plain run s plain) ∙ at))
     by (inr bars) = barred why job m n fd c w o run s r bars has step
 
@@ -318,17 +327,17 @@ pub breaks : (why : RefusalsTellWhy) (job : ℕ → List ℕ) (m n : State) (fd 
     → descriptor m server fd ≡ Some (on.Connection c) → is_over x ≡ false → HasRun job m w o x
     → StepsTo m (event.Call server (wants job fd w x)) r n
     → breaks_off x ≡ false → breaks_off (after_reply worker w x r received) ≡ true → IsCutOff m c x
-breaks why job m n fd c worker w Awaits r received o open_on going has step at off = absurd (by r off)
+breaks why job m n fd c worker w AwaitingWorker r received o open_on going has step at off = absurd (by r off)
   where
-    by : (r : Reply) → breaks_off (after_reply worker w Awaits r received) ≡ true → ⊥
+    by : (r : Reply) → breaks_off (after_reply worker w AwaitingWorker r received) ≡ true → ⊥
     by (reply.Fds from write) off = cc (off)
     by r off = cc (off)
-breaks why job m n fd c worker w (Leaves d) r received o open_on going has step at off =
+breaks why job m n fd c worker w (Finishing d) r received o open_on going has step at off =
     rest-drops why m n fd c open_on w o d r received (is-rest m w o d (not-false (is_left d) going) has) step at off
-breaks why job m n fd c worker w Closes r received o open_on going has step at off = absurd (cc (going))
-breaks why job m n fd c worker w (Runs run (Sending d frame)) r received o open_on going has step at off =
+breaks why job m n fd c worker w Disconnecting r received o open_on going has step at off = absurd (cc (going))
+breaks why job m n fd c worker w (InProgress run (SendingPart d frame)) r received o open_on going has step at off =
     inl (sending-drops why m n fd c open_on w o run d frame r has.1 step at off)
-breaks why job m n fd c worker w (Runs run s) r received o open_on going has step at off =
+breaks why job m n fd c worker w (InProgress run s) r received o open_on going has step at off =
     plain-breaks why job m n fd c w o run s r received refl has.1 step at off
 
 -- ---- why a script is given up
@@ -384,22 +393,24 @@ not-given m n write to p y lives open_on step is =
             last false true why = let e = ap (λ z. is_again z) why in absurd (cc (e, is))
             last false false why = late y why is
 
-gives-up : (write : ℕ) (run : Run) (r : Reply) → is_failing (Runs run (after_give write r)) ≡ true
+gives-up : (write : ℕ) (run : Run) (r : Reply) → is_failing (InProgress run (after_give write r)) ≡ true
     → (y : Refusal) × (r ≡ reply.Refused y) × (is_again y ≡ false)
 gives-up write run (reply.Refused y) off = by (is_again y) refl off
   where
-    by : (b : Bool) → is_again y ≡ b → is_failing (Runs run (if b then Gives write else Returns write)) ≡ true
+    by : (b : Bool) → is_again y ≡ b → is_failing (InProgress run (if b then GivingPipe write else ClosingPipe write))
+        ≡ true
         → (z : Refusal) × (reply.Refused y ≡ reply.Refused z) × (is_again z ≡ false)
     by true is off = absurd (cc (off))
     by false is off = (y, refl, is)
 gives-up write run (reply.Fd f) off = absurd (cc (off))
 gives-up write run r off = absurd (cc (off))
 
-hands-up : (j f : ℕ) (run : Run) (r : Reply) → is_failing (Runs run (after_hand j f r)) ≡ true
+hands-up : (j f : ℕ) (run : Run) (r : Reply) → is_failing (InProgress run (after_hand j f r)) ≡ true
     → (y : Refusal) × (r ≡ reply.Refused y) × (is_again y ≡ false)
 hands-up j f run (reply.Refused y) off = by (is_again y) refl off
   where
-    by : (b : Bool) → is_again y ≡ b → is_failing (Runs run (if b then Hands j f else Lapses j)) ≡ true
+    by : (b : Bool) → is_again y ≡ b → is_failing (InProgress run (if b then WritingJob j f else DiscardingJob j))
+        ≡ true
         → (z : Refusal) × (reply.Refused y ≡ reply.Refused z) × (is_again z ≡ false)
     by true is off = absurd (cc (off))
     by false is off = (y, refl, is)
@@ -418,15 +429,16 @@ not-written why m n fd p a y open_on step put is = absurd put
 
 plain-fails : (may : RefusalsThatAreLeft) (why : RefusalsTellWhy) (job : ℕ → List ℕ) (m n : State) (fd : ℕ) (w : Wanted)
     (o : Progress) (run : Run) (s : Step) (r : Reply) (received : List ℕ)
-    → is_live m server ≡ true → HasRun job m w o (Runs run s)
+    → is_live m server ≡ true → HasRun job m w o (InProgress run s)
     → StepsTo m (event.Call server (step_wants job fd w run s)) r n
-    → is_failing (Runs run s) ≡ false → is_failing (after_step w run s r received) ≡ true → IsLost m (Runs run s)
-plain-fails may why job m n fd w o run (Gives write) r received lives has step at off =
+    → is_failing (InProgress run s) ≡ false → is_failing (after_step w run s r received) ≡ true
+    → IsLost m (InProgress run s)
+plain-fails may why job m n fd w o run (GivingPipe write) r received lives has step at off =
     let up = gives-up write run r off in
     inl (not-given m n write (worker_domain run.worker) has.1.0.pipe up.0 lives has.1.0.write_end
     (subst (λ (z : Reply). StepsTo m (event.Call server (call.GiveFd write (worker_domain run.worker))) z n) up.1
     step) up.2)
-plain-fails may why job m n fd w o run (Hands j f) r received lives has step at off =
+plain-fails may why job m n fd w o run (WritingJob j f) r received lives has step at off =
     let up = hands-up j f run r off in
     let after_reply = subst (λ (z : Reply). StepsTo m (event.Call server (call.IolWrite (job_pipe run.worker) j)) z n)
     up.1 step in
@@ -437,14 +449,14 @@ plain-fails may why job m n fd w o run (Hands j f) r received lives has step at 
           (may.writes_queue m n server (job_pipe run.worker) j (on.WriteEnd has.0.0) (job f) up.0 lives has.0.1 refl
           refl has.1.1 after_reply) up.2,
     )
-plain-fails may why job m n fd w o run (Returns write) r received lives has step at off = absurd (cc (at))
-plain-fails may why job m n fd w o run (Lapses j) r received lives has step at off = absurd (cc (at))
-plain-fails may why job m n fd w o run Fails r received lives has step at off = absurd (cc (at))
-plain-fails may why job m n fd w o run (Sending d frame) r received lives has step at off = absurd (by d r off)
+plain-fails may why job m n fd w o run (ClosingPipe write) r received lives has step at off = absurd (cc (at))
+plain-fails may why job m n fd w o run (DiscardingJob j) r received lives has step at off = absurd (cc (at))
+plain-fails may why job m n fd w o run Failing r received lives has step at off = absurd (cc (at))
+plain-fails may why job m n fd w o run (SendingPart d frame) r received lives has step at off = absurd (by d r off)
   where
     by : (d : Phase) (r : Reply) → is_failing (after_sending run d frame r) ≡ true → ⊥
-    by (phase.Sent a taken None) reply.Done off = cc (off)
-    by (phase.Drops a None) reply.Done off = cc (off)
+    by (phase.DroppingSent a taken None) reply.Done off = cc (off)
+    by (phase.Aborting a None) reply.Done off = cc (off)
     by d r off = cc (off)
 plain-fails may why job m n fd w o run s r received lives has step at off = let e =
     (quiet w run s r received refl).2 off in absurd (cc (e))
@@ -453,11 +465,11 @@ pub fails : (may : RefusalsThatAreLeft) (why : RefusalsTellWhy) (job : ℕ → L
     (w : Wanted) (x : Running) (r : Reply) (received : List ℕ) (o : Progress)
     → is_live m server ≡ true → HasRun job m w o x → StepsTo m (event.Call server (wants job fd w x)) r n
     → is_failing x ≡ false → is_failing (after_reply worker w x r received) ≡ true → IsLost m x
-fails may why job m n fd worker w (Runs run s) r received o lives has step at off =
+fails may why job m n fd worker w (InProgress run s) r received o lives has step at off =
     plain-fails may why job m n fd w o run s r received lives has step at off
-fails may why job m n fd worker w Awaits r received o lives has step at off = absurd (by r off)
+fails may why job m n fd worker w AwaitingWorker r received o lives has step at off = absurd (by r off)
   where
-    by : (r : Reply) → is_failing (after_reply worker w Awaits r received) ≡ true → ⊥
+    by : (r : Reply) → is_failing (after_reply worker w AwaitingWorker r received) ≡ true → ⊥
     by (reply.Fds from write) off = cc (off)
     by r off = cc (off)
 fails may why job m n fd worker w x r received o lives has step at off = absurd (cc (off))
@@ -466,13 +478,13 @@ fails may why job m n fd worker w x r received o lives has step at off = absurd 
 
 pub in_turn : (worker : ℕ) (w : Wanted) (x : Running) (r : Reply) (received : List ℕ)
     → (after_reply worker w x r received ≡ x) ⊎ ComesAfter x r (after_reply worker w x r received)
-in_turn worker w Awaits (reply.Fds from write) received = inr tt
-in_turn worker w (Leaves d) r received = inr tt
-in_turn worker w (Runs run (Sending d frame)) r received = inr (by d r)
+in_turn worker w AwaitingWorker (reply.Fds from write) received = inr tt
+in_turn worker w (Finishing d) r received = inr tt
+in_turn worker w (InProgress run (SendingPart d frame)) r received = inr (by d r)
   where
-    by : (d : Phase) (r : Reply) → ComesAfter (Runs run (Sending d frame)) r (after_sending run d frame r)
-    by (phase.Sent a taken None) reply.Done = tt
-    by (phase.Drops a None) reply.Done = tt
+    by : (d : Phase) (r : Reply) → ComesAfter (InProgress run (SendingPart d frame)) r (after_sending run d frame r)
+    by (phase.DroppingSent a taken None) reply.Done = tt
+    by (phase.Aborting a None) reply.Done = tt
     by d r = refl
-in_turn worker w (Runs run s) r received = (quiet w run s r received refl).3
+in_turn worker w (InProgress run s) r received = (quiet w run s r received refl).3
 in_turn worker w x r received = inl refl

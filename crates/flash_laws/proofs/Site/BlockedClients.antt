@@ -29,12 +29,13 @@ use Rattle.flash_laws.specs.Run.{is_over, after_sending}
 use Rattle.flash_laws.specs.Site.OtherConns.{with_at, left_by}
 use Rattle.flash_laws.specs.declared.phase.Payload.TheVariants.{Error, Script}
 use Rattle.flash_laws.specs.declared.phase.Phase.{Phase}
-use Rattle.flash_laws.specs.declared.phase.Phase.TheVariants.{Rests, Reads as Reading, Spares, Sent, Drops, Over}
+use Rattle.flash_laws.specs.declared.phase.Phase.TheVariants.{Receiving, Reading as Reading, DroppingWhole}
+use Rattle.flash_laws.specs.declared.phase.Phase.TheVariants.{DroppingSent, Aborting, Closed}
 use Rattle.flash_laws.specs.declared.script_run.Run.{Run}
 use Rattle.flash_laws.specs.declared.script_run.Step.{Step}
 use Rattle.flash_laws.specs.declared.script_run.Step.TheVariants as act
 use Rattle.flash_laws.specs.declared.script_run.Running.{Running}
-use Rattle.flash_laws.specs.declared.script_run.Running.TheVariants.{Runs, Leaves}
+use Rattle.flash_laws.specs.declared.script_run.Running.TheVariants.{InProgress, Finishing}
 use Rattle.flash_laws.proofs.Forms.{at, of}
 use Rattle.flash_laws.proofs.Lists.{never_passed}
 
@@ -79,26 +80,27 @@ same-there clients fd x is =
 
 conn-blocked : (kept : List ℕ) (q : Answer) (d : Phase) (received : List ℕ)
     → conn.after_reply (at kept q d) (reply.Refused no.WouldBlock) received ≡ at kept q d
-conn-blocked kept q Rests received = refl
+conn-blocked kept q Receiving received = refl
 conn-blocked kept q d received = refl
 
 -- so is a run
 
 part-blocked : (run : Run) (d : Phase) (frame : Option ℕ)
-    → after_sending run d frame (reply.Refused no.WouldBlock) ≡ Runs run (act.Sending d frame)
-part-blocked run (Sent a taken None) frame = refl
-part-blocked run (Drops a None) frame = refl
+    → after_sending run d frame (reply.Refused no.WouldBlock) ≡ InProgress run (act.SendingPart d frame)
+part-blocked run (DroppingSent a taken None) frame = refl
+part-blocked run (Aborting a None) frame = refl
 part-blocked run d frame = refl
 
 step-blocked : (w : Wanted) (run : Run) (s : Step) (received : List ℕ)
-    → running.after_step w run s (reply.Refused no.WouldBlock) received ≡ Runs run s
-step-blocked w run (act.Sending d frame) received = part-blocked run d frame
+    → running.after_step w run s (reply.Refused no.WouldBlock) received ≡ InProgress run s
+step-blocked w run (act.SendingPart d frame) received = part-blocked run d frame
 step-blocked w run s received = refl
 
 run-blocked : (worker : ℕ) (w : Wanted) (y : Running) (received : List ℕ)
     → running.after_reply worker w y (reply.Refused no.WouldBlock) received ≡ y
-run-blocked worker w (Runs run s) received = step-blocked w run s received
-run-blocked worker w (Leaves d) received = ap (λ (x : Conn). Leaves x.phase) (conn-blocked [] (serve w) d received)
+run-blocked worker w (InProgress run s) received = step-blocked w run s received
+run-blocked worker w (Finishing d) received =
+    ap (λ (x : Conn). Finishing x.phase) (conn-blocked [] (serve w) d received)
 run-blocked worker w x received = refl
 
 -- one that stands still is neither over now, nor is its text kept no more
@@ -133,10 +135,10 @@ script-blocked kept q (Reading f) script received = by (is_head_only q)
         ≡ of (at kept q (Reading f)) None script
     by true = refl
     by false = refl
-script-blocked kept q (Spares a Script) script received = by (is_head_only q)
+script-blocked kept q (DroppingWhole a Script) script received = by (is_head_only q)
   where
-    by : (h : Bool) → of (at kept q (Spares a Script)) (after_drop_whole h (reply.Refused no.WouldBlock)) script
-        ≡ of (at kept q (Spares a Script)) None script
+    by : (h : Bool) → of (at kept q (DroppingWhole a Script)) (after_drop_whole h (reply.Refused no.WouldBlock)) script
+        ≡ of (at kept q (DroppingWhole a Script)) None script
     by true = refl
     by false = refl
 script-blocked kept q d script received = refl
@@ -160,8 +162,9 @@ after_reply-blocked scripts worker c (Some y) script received = by c.q
 -- and it is not over
 phase-blocked : WaitLaw → (m : State) (by fd : ℕ) (b : Bool) (kept : List ℕ) (q : Answer) (d : Phase) (x : Client)
     → WouldWait m by (conn_wants b fd (at kept q d)) → left_by d x ≡ Some x
-phase-blocked waits m by fd true kept q Over x step = absurd (let may = waits m m by (call.Close fd) step in cc (may))
-phase-blocked waits m by fd false kept q Over x step = absurd (let may = waits m m by (call.Close fd) step in cc (may))
+phase-blocked waits m by fd true kept q Closed x step = absurd (let may = waits m m by (call.Close fd) step in cc (may))
+phase-blocked waits m by fd false kept q Closed x step =
+    absurd (let may = waits m m by (call.Close fd) step in cc (may))
 phase-blocked waits m by fd b kept q d x step = refl
 
 left-blocked : WaitLaw
@@ -200,9 +203,9 @@ Begins y = (p : Answer) × (rest : List ℕ) × (y ≡ at rest p (begins p))
 
 pub conn-ready : (kept : List ℕ) (q : Answer) (d : Phase) (y : Conn) → conn.Readies (at kept q d) y
     → Stands (at kept q d) y ⊎ Begins y
-conn-ready kept q Rests y ready = by ready
+conn-ready kept q Receiving y ready = by ready
   where
-    by : Starts (at kept q Rests) y → Stands (at kept q Rests) y ⊎ Begins y
+    by : Starts (at kept q Receiving) y → Stands (at kept q Receiving) y ⊎ Begins y
     by (inl waits) = inl (waits.1, subst (λ (x : Conn). conn.IsAwaiting x) (sym waits.1) waits.0)
     by (inr some) = inr (some.0, some.1, some.3)
 conn-ready kept q d y ready = inl (ready, subst (λ (x : Conn). conn.IsAwaiting x) (sym ready) tt)

@@ -22,11 +22,11 @@ use Rattle.flash_laws.specs.Serves.Rounds.{leaves_off, place_after, goes_in, nex
 use Rattle.flash_laws.specs.Site.OtherConns.{left_by}
 use Rattle.flash_laws.specs.Site.Places.{filed, first_free, has_free, may_go, runs_scripts, after_reply_at}
 use Rattle.flash_laws.specs.declared.phase.Phase.{Phase}
-use Rattle.flash_laws.specs.declared.phase.Phase.TheVariants.{Rests, Sent, Closes}
+use Rattle.flash_laws.specs.declared.phase.Phase.TheVariants.{Receiving, DroppingSent, Disconnecting}
 use Rattle.flash_laws.specs.declared.phase.PendingCall.{PendingCall}
 use Rattle.flash_laws.specs.declared.phase.PendingCall.TheVariants.{Nothing, Accepting, At}
 use Rattle.flash_laws.specs.declared.script_run.Running.{Running}
-use Rattle.flash_laws.specs.declared.script_run.Running.TheVariants.{Leaves}
+use Rattle.flash_laws.specs.declared.script_run.Running.TheVariants.{Finishing}
 use Rattle.flash_laws.proofs.Conn.Responses.{some-inj}
 use Rattle.flash_laws.proofs.Forms.{at, of}
 use Rattle.flash_laws.proofs.Lists.{bare-none, clash, neither, not-false}
@@ -187,11 +187,11 @@ comes s (x ∷ xs) y fd gd turns home goes other away =
 
 -- nothing is in progress of a further request
 abbrev Still : List ℕ → Phase → Option Running → Type 0
-Still kept (Sent a taken None) None = Unit {0}
-Still kept Closes None = Unit {0}
-Still kept Rests None = kept ≡ []
+Still kept (DroppingSent a taken None) None = Unit {0}
+Still kept Disconnecting None = Unit {0}
+Still kept Receiving None = kept ≡ []
 Still kept d None = ⊥
-Still kept d (Some (Leaves (Sent a taken None))) = Unit {0}
+Still kept d (Some (Finishing (DroppingSent a taken None))) = Unit {0}
 Still kept d (Some y) = ⊥
 
 abbrev IsStill : Option Client → Type 0
@@ -200,20 +200,20 @@ IsStill (Some x) = Still x.conn.kept x.conn.phase x.run
 
 -- its call is out, and it has its turn still
 abbrev Busy : List ℕ → Phase → Option Running → Type 0
-Busy kept (Sent a taken None) None = kept ≡ []
-Busy kept Closes None = Unit {0}
+Busy kept (DroppingSent a taken None) None = kept ≡ []
+Busy kept Disconnecting None = Unit {0}
 Busy kept d None = ⊥
-Busy kept d (Some (Leaves (Sent a taken None))) = kept ≡ []
+Busy kept d (Some (Finishing (DroppingSent a taken None))) = kept ≡ []
 Busy kept d (Some y) = ⊥
 
 answered-still : (kept : List ℕ) (q : Answer) (d : Phase) (run : Option Running) (script : List ℕ)
     → is_answered (of (at kept q d) run script) ≡ true → Still kept d run
-answered-still kept q (Sent a taken None) None script is = tt
-answered-still kept q (Sent a taken (Some x)) None script is = absurd (cc (is))
+answered-still kept q (DroppingSent a taken None) None script is = tt
+answered-still kept q (DroppingSent a taken (Some x)) None script is = absurd (cc (is))
 answered-still kept q d None script is = absurd (cc (is))
-answered-still kept q d (Some (Leaves (Sent a taken None))) script is = tt
-answered-still kept q d (Some (Leaves (Sent a taken (Some x)))) script is = absurd (cc (is))
-answered-still kept q d (Some (Leaves e)) script is = absurd (cc (is))
+answered-still kept q d (Some (Finishing (DroppingSent a taken None))) script is = tt
+answered-still kept q d (Some (Finishing (DroppingSent a taken (Some x)))) script is = absurd (cc (is))
+answered-still kept q d (Some (Finishing e)) script is = absurd (cc (is))
 answered-still kept q d (Some y) script is = absurd (cc (is))
 
 none-kept : (kept : List ℕ) → (length kept == 0) ≡ true → kept ≡ []
@@ -230,17 +230,17 @@ on-sent kept later on =
 on-busy : (kept : List ℕ) (q : Answer) (d : Phase) (run : Option Running) (script : List ℕ) (r : Reply)
     → leaves_off (Some (of (at kept q d) run script)) r ≡ false
     → Still kept d run → Busy kept d run
-on-busy kept q (Sent a taken None) None script r on still = on-sent kept (is_later r) on
-on-busy kept q (Sent a taken (Some x)) None script r on still = absurd still
-on-busy kept q Closes None script r on still = tt
-on-busy kept q Rests None script r on still =
+on-busy kept q (DroppingSent a taken None) None script r on still = on-sent kept (is_later r) on
+on-busy kept q (DroppingSent a taken (Some x)) None script r on still = absurd still
+on-busy kept q Disconnecting None script r on still = tt
+on-busy kept q Receiving None script r on still =
     absurd
     (clash (length kept == 0) (ap (λ (l : List ℕ). length l == 0) still)
     (neither (is_later r) (length kept == 0) on).1)
 on-busy kept q d None script r on still = absurd still
-on-busy kept q d (Some (Leaves (Sent a taken None))) script r on still = on-sent kept (is_later r) on
-on-busy kept q d (Some (Leaves (Sent a taken (Some x)))) script r on still = absurd still
-on-busy kept q d (Some (Leaves e)) script r on still = absurd still
+on-busy kept q d (Some (Finishing (DroppingSent a taken None))) script r on still = on-sent kept (is_later r) on
+on-busy kept q d (Some (Finishing (DroppingSent a taken (Some x)))) script r on still = absurd still
+on-busy kept q d (Some (Finishing e)) script r on still = absurd still
 on-busy kept q d (Some y) script r on still = absurd still
 
 -- it may have the next turn
@@ -251,33 +251,35 @@ or-true false = refl
 busy-goes : (free : Bool) (kept : List ℕ) (q : Answer) (d : Phase) (run : Option Running) (script : List ℕ)
     → Busy kept d run → may_go free (of (at kept q d) run script) ≡ true
 busy-goes free kept q d None script busy = or-true free
-busy-goes free kept q d (Some (Leaves e)) script busy = or-true free
+busy-goes free kept q d (Some (Finishing e)) script busy = or-true free
 busy-goes free kept q d (Some y) script busy = absurd busy
 
 -- and is as it was
 busy-ready : (kept : List ℕ) (q : Answer) (d : Phase) (run : Option Running) (script : List ℕ) (y : Client)
     → Busy kept d run → Readies (of (at kept q d) run script) y
     → y ≡ of (at kept q d) run script
-busy-ready kept q (Sent a taken None) None script y busy ready = ready.2 ∙ ap (λ c. of c None script) ready.1
-busy-ready kept q (Sent a taken (Some x)) None script y busy ready = absurd busy
-busy-ready kept q Closes None script y busy ready = ready.2 ∙ ap (λ c. of c None script) ready.1
+busy-ready kept q (DroppingSent a taken None) None script y busy ready = ready.2 ∙ ap (λ c. of c None script) ready.1
+busy-ready kept q (DroppingSent a taken (Some x)) None script y busy ready = absurd busy
+busy-ready kept q Disconnecting None script y busy ready = ready.2 ∙ ap (λ c. of c None script) ready.1
 busy-ready kept q d None script y busy ready = absurd busy
 busy-ready kept q d (Some z) script y busy ready = ready
 
 -- it begins nothing
 busy-begins : (kept : List ℕ) (q : Answer) (d : Phase) (run : Option Running) → Busy kept d run → d ≡ begins q
     → run ≡ None → ⊥
-busy-begins kept (serve w) (Sent a taken None) None busy is none = cc (is)
-busy-begins kept (refuse status head_only close) (Sent a taken None) None busy is none = cc (is)
-busy-begins kept q (Sent a taken (Some x)) None busy is none = busy
-busy-begins kept (serve w) Closes None busy is none = cc (is)
-busy-begins kept (refuse status head_only close) Closes None busy is none = cc (is)
+busy-begins kept (serve w) (DroppingSent a taken None) None busy is none = cc (is)
+busy-begins kept (refuse status head_only close) (DroppingSent a taken None) None busy is none = cc (is)
+busy-begins kept q (DroppingSent a taken (Some x)) None busy is none = busy
+busy-begins kept (serve w) Disconnecting None busy is none = cc (is)
+busy-begins kept (refuse status head_only close) Disconnecting None busy is none = cc (is)
 busy-begins kept q d None busy is none = busy
 busy-begins kept q d (Some y) busy is none = cc (none)
 
 -- a response is over, and the connection rests or closes
 ends-still : (b : Bool) (kept : List ℕ) (q : Answer) (script : List ℕ) → kept ≡ []
-    → IsStill (left_by (if b then Rests else Closes) (of (at kept q (if b then Rests else Closes)) None script))
+    → IsStill
+    (left_by (if b then Receiving else Disconnecting)
+    (of (at kept q (if b then Receiving else Disconnecting)) None script))
 ends-still true kept q script none = none
 ends-still false kept q script none = tt
 
@@ -294,17 +296,17 @@ closes-still kept q script r = tt
 run-ends : (b : Bool) (kept : List ℕ) (q : Answer) (d : Phase) (a taken : ℕ) (script : List ℕ) → kept ≡ []
     → IsStill
     (left_over
-    (proceeds false (is_over (Leaves (if b then Rests else Closes)))
-    (of (at kept q d) (Some (Leaves (Sent a taken None))) script) (Leaves (Sent a taken None))
-    (Leaves (if b then Rests else Closes))))
+    (proceeds false (is_over (Finishing (if b then Receiving else Disconnecting)))
+    (of (at kept q d) (Some (Finishing (DroppingSent a taken None))) script) (Finishing (DroppingSent a taken None))
+    (Finishing (if b then Receiving else Disconnecting))))
 run-ends true kept q d a taken script none = none
 run-ends false kept q d a taken script none = tt
 
 run-still : (worker : ℕ) (kept : List ℕ) (q : Answer) (d : Phase) (a taken : ℕ) (script : List ℕ) (r : Reply)
     (received : List ℕ) → kept ≡ []
     → IsStill
-    (left_over (run_after_reply worker q (of (at kept q d) (Some (Leaves (Sent a taken None))) script)
-    (Leaves (Sent a taken None)) r received))
+    (left_over (run_after_reply worker q (of (at kept q d) (Some (Finishing (DroppingSent a taken None))) script)
+    (Finishing (DroppingSent a taken None)) r received))
 run-still worker kept (serve w) d a taken script reply.Done received none =
     run-ends (keeps (serve w)) kept (serve w) d a taken script none
 run-still worker kept (serve w) d a taken script r received none = tt
@@ -312,28 +314,29 @@ run-still worker kept (refuse status head_only close) d a taken script r receive
 
 after_reply-sent : (b : Bool) (kept : List ℕ) (q : Answer) (a taken : ℕ) (script : List ℕ) (r : Reply)
     (received : List ℕ) → kept ≡ []
-    → IsStill (left_over (file_after_reply b (of (at kept q (Sent a taken None)) None script) r received))
+    → IsStill (left_over (file_after_reply b (of (at kept q (DroppingSent a taken None)) None script) r received))
 after_reply-sent true kept q a taken script r received none = sent-still kept q a taken script r none
 after_reply-sent false kept q a taken script r received none = sent-still kept q a taken script r none
 
 after_reply-closed : (b : Bool) (kept : List ℕ) (q : Answer) (script : List ℕ) (r : Reply) (received : List ℕ)
-    → IsStill (left_over (file_after_reply b (of (at kept q Closes) None script) r received))
+    → IsStill (left_over (file_after_reply b (of (at kept q Disconnecting) None script) r received))
 after_reply-closed true kept q script r received = closes-still kept q script r
 after_reply-closed false kept q script r received = closes-still kept q script r
 
 busy-after_reply : (scripts : Bool) (worker : ℕ) (kept : List ℕ) (q : Answer) (d : Phase) (run : Option Running)
     (script : List ℕ) (r : Reply) (received : List ℕ) → Busy kept d run
     → IsStill (left_over (after_reply scripts worker (of (at kept q d) run script) r received))
-busy-after_reply scripts worker kept q (Sent a taken None) None script r received busy =
+busy-after_reply scripts worker kept q (DroppingSent a taken None) None script r received busy =
     after_reply-sent (is_for_script scripts q) kept q a taken script r received busy
-busy-after_reply scripts worker kept q (Sent a taken (Some x)) None script r received busy = absurd busy
-busy-after_reply scripts worker kept q Closes None script r received busy =
+busy-after_reply scripts worker kept q (DroppingSent a taken (Some x)) None script r received busy = absurd busy
+busy-after_reply scripts worker kept q Disconnecting None script r received busy =
     after_reply-closed (is_for_script scripts q) kept q script r received
 busy-after_reply scripts worker kept q d None script r received busy = absurd busy
-busy-after_reply scripts worker kept q d (Some (Leaves (Sent a taken None))) script r received busy =
+busy-after_reply scripts worker kept q d (Some (Finishing (DroppingSent a taken None))) script r received busy =
     run-still worker kept q d a taken script r received busy
-busy-after_reply scripts worker kept q d (Some (Leaves (Sent a taken (Some x)))) script r received busy = absurd busy
-busy-after_reply scripts worker kept q d (Some (Leaves e)) script r received busy = absurd busy
+busy-after_reply scripts worker kept q d (Some (Finishing (DroppingSent a taken (Some x)))) script r received busy =
+    absurd busy
+busy-after_reply scripts worker kept q d (Some (Finishing e)) script r received busy = absurd busy
 busy-after_reply scripts worker kept q d (Some y) script r received busy = absurd busy
 
 -- ---- turns

@@ -7,7 +7,7 @@ use Rattle.std.proofs.lemmas.Grind.{common_steps}
 use Rattle.iol_core.specs.NumberedLists.{in_place}
 use Rattle.flash_laws.specs.Site.OtherConns.{with_at, left_by}
 use Rattle.flash_laws.specs.declared.phase.Phase.{Phase}
-use Rattle.flash_laws.specs.declared.phase.Phase.TheVariants.{Over}
+use Rattle.flash_laws.specs.declared.phase.Phase.TheVariants.{Closed}
 use Rattle.flash_laws.proofs.Conn.Responses.{some-inj}
 
 -- ---- with one place changed
@@ -35,9 +35,9 @@ at-other xs fd gd x differ = let e = place-grown xs (fd + 1 - length xs) gd in
 -- ---- what is over is forgotten
 
 pub left-is : {A : Type 0} (d : Phase) (x y : A) → left_by d x ≡ Some y → x ≡ y
-left-is Over x y is = absurd (cc (is))
+left-is Closed x y is = absurd (cc (is))
 left-is d x y is = some-inj x y is
 
 pub left-map : {A B : Type 0} (f : A → B) (d : Phase) (x : A) → option_map f (left_by d x) ≡ left_by d (f x)
-left-map f Over x = refl
+left-map f Closed x = refl
 left-map f d x = refl

@@ -9,7 +9,7 @@ use Rattle.iol_core.specs.declared.descriptors.Descriptor.TheVariants as on
 use Rattle.flash_http.specs.Request.{Answer, serve, refuse}
 use Rattle.flash_laws.specs.Conn.{Conn, begins, Starts, Readies, IsAwaiting}
 use Rattle.flash_laws.specs.declared.phase.Phase.{Phase}
-use Rattle.flash_laws.specs.declared.phase.Phase.TheVariants.{Rests}
+use Rattle.flash_laws.specs.declared.phase.Phase.TheVariants.{Receiving}
 use Rattle.flash_laws.specs.Site.{server}
 
 pub no-true : (b : Bool) → (b ≡ true → ⊥) → b ≡ false
@@ -52,13 +52,13 @@ conn-same m fd c k is_c is_k = ap number_on (sym is_c ∙ is_k)
 -- one that is ready has no request that could begin, where it reads
 pub ready-awaits : (kept : List ℕ) (q : Answer) (d : Phase) (y : Conn)
     → Readies (record { kept = kept; q = q; phase = d }) y → IsAwaiting y
-ready-awaits kept q Rests y ready = starts ready
+ready-awaits kept q Receiving y ready = starts ready
   where
     begun : (p : Answer) (rest : List ℕ) → IsAwaiting (record { kept = rest; q = p; phase = begins p })
     begun (serve w) rest = tt
     begun (refuse status head_only close) rest = tt
 
-    starts : Starts (record { kept = kept; q = q; phase = Rests }) y → IsAwaiting y
+    starts : Starts (record { kept = kept; q = q; phase = Receiving }) y → IsAwaiting y
     starts (inl waits) = subst (λ (x : Conn). IsAwaiting x) (sym waits.1) waits.0
     starts (inr some) = subst (λ (x : Conn). IsAwaiting x) (sym some.3) (begun some.0 some.1)
 ready-awaits kept q d y ready = subst (λ (x : Conn). IsAwaiting x) (sym ready) tt

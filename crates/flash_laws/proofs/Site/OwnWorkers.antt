@@ -25,11 +25,11 @@ use Rattle.flash_laws.specs.Workers.OwnWorkers.{PendingCallGoes, RunsForAnother,
 use Rattle.flash_laws.specs.Site.OtherConns.{with_at}
 use Rattle.flash_laws.specs.declared.phase.Payload.TheVariants.{Script}
 use Rattle.flash_laws.specs.declared.phase.Phase.{Phase}
-use Rattle.flash_laws.specs.declared.phase.Phase.TheVariants.{Spares}
+use Rattle.flash_laws.specs.declared.phase.Phase.TheVariants.{DroppingWhole}
 use Rattle.flash_laws.specs.declared.phase.PendingCall.{PendingCall}
 use Rattle.flash_laws.specs.declared.phase.PendingCall.TheVariants.{Nothing, Accepting, At}
 use Rattle.flash_laws.specs.declared.script_run.Running.{Running}
-use Rattle.flash_laws.specs.declared.script_run.Running.TheVariants.{Awaits, Runs}
+use Rattle.flash_laws.specs.declared.script_run.Running.TheVariants.{AwaitingWorker, InProgress}
 use Rattle.flash_laws.proofs.Forms.{of}
 use Rattle.flash_laws.proofs.Conn.Responses.{some-inj}
 use Rattle.flash_laws.proofs.Site.Clients.{runs-filed, runs-picked}
@@ -86,25 +86,27 @@ awaits-on worker (reply.Fds from write) k u = sym (same-number worker k u)
 awaits-on worker r k u = absurd (cc (u))
 
 run-on : (z : Running) (worker k : ℕ) → HasWorker worker z → has_worker z k ≡ true → (worker == k) ≡ true
-run-on Awaits worker k has u = absurd has
-run-on (Runs run s) worker k has u = ap (λ j. j == k) (sym has) ∙ u
+run-on AwaitingWorker worker k has u = absurd has
+run-on (InProgress run s) worker k has u = ap (λ j. j == k) (sym has) ∙ u
 run-on x worker k has u = absurd (cc (u))
 
 on-run : (worker : ℕ) (w : Wanted) (c : Conn) (script : List ℕ) (y : Running) (r : Reply) (received : List ℕ) (k : ℕ)
     → has_worker (running.after_reply worker w y r received) k ≡ true → Had worker (of c (Some y) script) k
-on-run worker w c script Awaits r received k u = inr (refl, awaits-on worker r k u)
-on-run worker w c script (Runs run s) r received k u =
-    inl (run-on (running.after_reply worker w (Runs run s) r received) run.worker k (keeps worker w run s r received) u)
+on-run worker w c script AwaitingWorker r received k u = inr (refl, awaits-on worker r k u)
+on-run worker w c script (InProgress run s) r received k u =
+    inl (run-on (running.after_reply worker w (InProgress run s) r received) run.worker k
+    (keeps worker w run s r received) u)
 on-run worker w c script x r received k u = absurd (cc (u))
 
 -- one for which no script runs has none then
 on-script : (kept : List ℕ) (q : Answer) (d : Phase) (script : List ℕ) (r : Reply) (received : List ℕ) (k : ℕ)
     → is_run_by (file_after_reply true (of (record { kept = kept; q = q; phase = d }) None script) r received) k ≡ true
     → ⊥
-on-script kept q (Spares a Script) script r received k u = by (is_head_only q) r u
+on-script kept q (DroppingWhole a Script) script r received k u = by (is_head_only q) r u
   where
     by : (h : Bool) (r : Reply)
-        → is_run_by (of (record { kept = kept; q = q; phase = Spares a Script }) (after_drop_whole h r) script) k ≡ true
+        → is_run_by (of (record { kept = kept; q = q; phase = DroppingWhole a Script }) (after_drop_whole h r) script) k
+        ≡ true
         → ⊥
     by false reply.Done u = cc (u)
     by b r u = cc (u)
@@ -291,7 +293,7 @@ runs-for clients k busy =
 
 waits-none : (c : Conn) (run : Option Running) (script : List ℕ) (k : ℕ) → awaits (of c run script) ≡ true
     → is_run_by (of c run script) k ≡ false
-waits-none c (Some (Runs run s)) script k waits = absurd (cc (waits))
+waits-none c (Some (InProgress run s)) script k waits = absurd (cc (waits))
 waits-none c run script k waits = refl
 
 another : (clients : List (Option Client)) (fd k : ℕ) (x : Client) → in_place clients fd ≡ Some x → awaits x ≡ true
@@ -324,13 +326,13 @@ waits workers clients fd x there passed =
 
 going : (free : Bool) (k : ℕ) (c : Conn) (run : Option Running) (script : List ℕ) → is_run_by (of c run script) k ≡ true
     → may_go free (of c run script) ≡ true
-going true k c (Some (Runs run s)) script runs = refl
-going false k c (Some (Runs run s)) script runs = refl
+going true k c (Some (InProgress run s)) script runs = refl
+going false k c (Some (InProgress run s)) script runs = refl
 going free k c run script runs = absurd (cc (runs))
 
 waiting : (c : Conn) (run : Option Running) (script : List ℕ) → awaits (of c run script) ≡ true
     → ((a : ℕ) → uses_agg (of c run script) a ≡ false) × ((g : ℕ) → uses_fd (of c run script) g ≡ false)
-waiting c (Some Awaits) script waits = (λ a. refl, λ g. refl)
+waiting c (Some AwaitingWorker) script waits = (λ a. refl, λ g. refl)
 waiting c run script waits = absurd (cc (waits))
 
 pub workers_shared : WorkersAreShared

@@ -66,7 +66,7 @@ conn-readied x y ready = by x.phase refl ready
 
     by : (d : Phase) → x.phase ≡ d → conn.Readies (record x { phase = d }) y
         → (y ≡ x) ⊎ ((q : Answer) × (rest : List ℕ) × (y ≡ record { kept = rest; q = q; phase = begins q }))
-    by phase.Rests is r = began (subst (λ (d : Phase). conn.Starts (record x { phase = d }) y) (sym is) r)
+    by phase.Receiving is r = began (subst (λ (d : Phase). conn.Starts (record x { phase = d }) y) (sym is) r)
     by d is r = inl (r ∙ ap (λ (d : Phase). record x { phase = d }) (sym is))
 
 -- what is ready uses what it used, or nothing

@@ -83,7 +83,7 @@ kind-admits k p is = refl
 
 wants-kind : (fd : ℕ) (kept : List ℕ) (q : Answer) (d : Phase)
     → is_client_call (conn.wants fd (record { kept = kept; q = q; phase = d })) ≡ true
-wants-kind fd kept q (phase.Reads f) = either-way (λ (k : Call). is_client_call k ≡ true) (is_head_only q) refl refl
+wants-kind fd kept q (phase.Reading f) = either-way (λ (k : Call). is_client_call k ≡ true) (is_head_only q) refl refl
 wants-kind fd kept q d = refl
 
 module _ (m : State) (fd c : ℕ) (script : List ℕ) (kept : List ℕ) (q : Answer) (expected : List ℕ)
@@ -106,8 +106,8 @@ module _ (m : State) (fd c : ℕ) (script : List ℕ) (kept : List ℕ) (q : Ans
   left-of false b u = absurd (cc (u))
 
   -- a script is read whole, for HEAD too
-  reads : (f : ℕ) → Has m q expected (phase.Reads f)
-      → CallsAlone m fd c (of (at kept q (phase.Reads f)) None script) (call.IolRead f most_read)
+  reads : (f : ℕ) → Has m q expected (phase.Reading f)
+      → CallsAlone m fd c (of (at kept q (phase.Reading f)) None script) (call.IolRead f most_read)
   reads f has = record {
     kind = refl;
     aggs = λ a u. absurd (cc (u));
@@ -121,7 +121,7 @@ module _ (m : State) (fd c : ℕ) (script : List ℕ) (kept : List ℕ) (q : Ans
 
   scripted : (b : Bool) (d : Phase) → Has m q expected d
       → CallsAlone m fd c (of (at kept q d) None script) (conn_wants b fd (at kept q d))
-  scripted true (phase.Reads f) has = reads f has
+  scripted true (phase.Reading f) has = reads f has
   scripted b d has = plain d has
 
 -- ---- with a run

@@ -32,9 +32,10 @@ use Rattle.flash_laws.specs.Run.Stages.{HasWorkerAt}
 use Rattle.flash_laws.specs.declared.phase.Phase.{Phase}
 use Rattle.flash_laws.specs.declared.phase.FileResult.TheVariants.{Text as TextOf}
 use Rattle.flash_laws.specs.declared.phase.Payload.TheVariants.{Script}
-use Rattle.flash_laws.specs.declared.phase.Phase.TheVariants.{Reads as Reading, Shuts, Picks, Spares, Heads}
+use Rattle.flash_laws.specs.declared.phase.Phase.TheVariants.{Reading as Reading, ClosingFile, Slicing, DroppingWhole}
+use Rattle.flash_laws.specs.declared.phase.Phase.TheVariants.{MakingHead}
 use Rattle.flash_laws.specs.declared.script_run.Running.{Running}
-use Rattle.flash_laws.specs.declared.script_run.Running.TheVariants.{Runs}
+use Rattle.flash_laws.specs.declared.script_run.Running.TheVariants.{InProgress}
 use Rattle.flash_laws.proofs.Forms.{of}
 use Rattle.flash_laws.proofs.Conn.ReadableBytes.{readable-stays, has-stays, file-same, content-same}
 use Rattle.flash_laws.proofs.Lists.{self, later_of, both-or}
@@ -101,12 +102,12 @@ finds_on site_contents m n q script (Reading f) opens site may h = record {
   short = subst (λ (l : List ℕ). length l ≤ most_read) (sym (content-same m n h.number site.slots)) h.short;
   found = h.found ∙ ap (λ (l : List ℕ). Found l) (sym (content-same m n h.number site.slots));
 }
-finds_on site_contents m n q script (Shuts f (TextOf a true)) opens site may h = h
-finds_on site_contents m n q script (Shuts f k) opens site may h = h
-finds_on site_contents m n q script (Picks a from to len) opens site may h = h
-finds_on site_contents m n q script (Spares a Script) opens site may h = h
-finds_on site_contents m n q script (Spares a k) opens site may h = h
-finds_on site_contents m n q script (Heads k) opens site may h = h
+finds_on site_contents m n q script (ClosingFile f (TextOf a true)) opens site may h = h
+finds_on site_contents m n q script (ClosingFile f k) opens site may h = h
+finds_on site_contents m n q script (Slicing a from to len) opens site may h = h
+finds_on site_contents m n q script (DroppingWhole a Script) opens site may h = h
+finds_on site_contents m n q script (DroppingWhole a k) opens site may h = h
+finds_on site_contents m n q script (MakingHead k) opens site may h = h
 finds_on site_contents m n q script d opens site may h = tt
 
 -- ---- a client
@@ -146,7 +147,7 @@ module _ (site_contents : SiteContents) (worker_set : WorkerSet) (laws : AllLaws
       → LeavesOne worker_set m n e fd (of x (Some y) script)
       → HasRun job m w o y → HasWorkerAt worker_set m process_slots made o y
       → HasWorkerAt worker_set n process_slots made o y
-  job_queue_on x (Runs run s) script job w made o left has h =
+  job_queue_on x (InProgress run s) script job w made o left has h =
       let sits = job_queues.by run.worker h.process_slot h.sits in
       let reads : is_reading s ≡ true → ends_of run s run.from ≡ true =
       λ is. both-or (is_reading s) (run.from == run.from) (step_fd s run.from) is (self run.from) in

@@ -27,11 +27,14 @@ use Rattle.flash_laws.specs.declared.phase.Phase.{Phase}
 use Rattle.flash_laws.specs.declared.phase.Phase.TheVariants as phase
 use Rattle.flash_laws.specs.declared.script_run.Run.{Run}
 use Rattle.flash_laws.specs.declared.script_run.Step.{Step}
-use Rattle.flash_laws.specs.declared.script_run.Step.TheVariants.{Gives, Sending, Receives, Spills, Gathers, Frames}
-use Rattle.flash_laws.specs.declared.script_run.Step.TheVariants.{Wraps, Trims, Ended, Unholds, Unframes, Lasts}
-use Rattle.flash_laws.specs.declared.script_run.Step.TheVariants.{WrapsLast, TrimsLast, Unwraps, Returns}
+use Rattle.flash_laws.specs.declared.script_run.Step.TheVariants.{GivingPipe, SendingPart, ReadingOutput}
+use Rattle.flash_laws.specs.declared.script_run.Step.TheVariants.{DroppingOutput, JoiningOutput, MakingFrame}
+use Rattle.flash_laws.specs.declared.script_run.Step.TheVariants.{FillingFrame, DroppingHeld, DroppingEnd}
+use Rattle.flash_laws.specs.declared.script_run.Step.TheVariants.{DiscardingHeld, DroppingFrame, MakingEnd}
+use Rattle.flash_laws.specs.declared.script_run.Step.TheVariants.{FillingEnd, DroppingLast, DroppingLastFrame}
+use Rattle.flash_laws.specs.declared.script_run.Step.TheVariants.{ClosingPipe}
 use Rattle.flash_laws.specs.declared.script_run.Running.{Running}
-use Rattle.flash_laws.specs.declared.script_run.Running.TheVariants.{Runs, Leaves}
+use Rattle.flash_laws.specs.declared.script_run.Running.TheVariants.{InProgress, Finishing}
 use Rattle.flash_laws.proofs.Forms.{of}
 use Rattle.flash_laws.proofs.Conn.Responses.{some-inj}
 use Rattle.flash_laws.proofs.Lists.{self}
@@ -42,22 +45,22 @@ use Rattle.flash_laws.proofs.World.OwnRun.{wants-run}
 pub reads-from : (job : ℕ → List ℕ) (m : State) (w : Wanted) (o : Progress) (run : Run) (s : Step)
     → HasStep job m w o run s → is_reading s ≡ true
     → (q : ℕ) × (descriptor m server run.from ≡ Some (on.ReadEnd q))
-reads-from job m w o run (Gives write) has is = (has.0.pipe, has.0.read_end)
-reads-from job m w o run (Returns write) has is = (has.0.pipe, has.0.read_end)
-reads-from job m w o run (Sending d frame) has is = has.reads
-reads-from job m w o run (Receives held frame) has is = has.reads
-reads-from job m w o run (Spills b frame) has is = has.1.reads
-reads-from job m w o run (Gathers held size piece len frame) has is = has.reads
-reads-from job m w o run (Frames held) has is = has.reads
-reads-from job m w o run (Wraps held frame) has is = has.0.reads
-reads-from job m w o run (Trims held chunk len frame) has is = has.1.reads
-reads-from job m w o run (Ended b held frame) has is = has.1
-reads-from job m w o run (Unholds held frame) has is = has.1
-reads-from job m w o run (Unframes f held) has is = absurd (cc (is))
-reads-from job m w o run (Lasts held) has is = absurd (cc (is))
-reads-from job m w o run (WrapsLast held size frame) has is = absurd (cc (is))
-reads-from job m w o run (TrimsLast held chunk len frame) has is = absurd (cc (is))
-reads-from job m w o run (Unwraps frame chunk len) has is = absurd (cc (is))
+reads-from job m w o run (GivingPipe write) has is = (has.0.pipe, has.0.read_end)
+reads-from job m w o run (ClosingPipe write) has is = (has.0.pipe, has.0.read_end)
+reads-from job m w o run (SendingPart d frame) has is = has.reads
+reads-from job m w o run (ReadingOutput held frame) has is = has.reads
+reads-from job m w o run (DroppingOutput b frame) has is = has.1.reads
+reads-from job m w o run (JoiningOutput held size piece len frame) has is = has.reads
+reads-from job m w o run (MakingFrame held) has is = has.reads
+reads-from job m w o run (FillingFrame held frame) has is = has.0.reads
+reads-from job m w o run (DroppingHeld held chunk len frame) has is = has.1.reads
+reads-from job m w o run (DroppingEnd b held frame) has is = has.1
+reads-from job m w o run (DiscardingHeld held frame) has is = has.1
+reads-from job m w o run (DroppingFrame f held) has is = absurd (cc (is))
+reads-from job m w o run (MakingEnd held) has is = absurd (cc (is))
+reads-from job m w o run (FillingEnd held size frame) has is = absurd (cc (is))
+reads-from job m w o run (DroppingLast held chunk len frame) has is = absurd (cc (is))
+reads-from job m w o run (DroppingLastFrame frame chunk len) has is = absurd (cc (is))
 reads-from job m w o run s has is = has.0
 
 both-of : (a b : Bool) → (a && b) ≡ true → (a ≡ true) × (b ≡ true)
@@ -77,11 +80,11 @@ which-end job m w o run s g has u = elim (one-of (is_reading s && (run.from == g
 -- a call that touches a pipe is one of a run that reads, or the job's, or makes the pipe
 pub touches-reading : (job : ℕ → List ℕ) (m : State) (fd : ℕ) (w : Wanted) (run : Run) (s : Step) (p : ℕ)
     → touches_pipe m (event.Call server (step_wants job fd w run s)) p ≡ true → is_reading s ≡ true
-touches-reading job m fd w run (Unframes f held) p u = absurd (cc (u))
-touches-reading job m fd w run (Lasts held) p u = absurd (cc (u))
-touches-reading job m fd w run (WrapsLast held size frame) p u = absurd (cc (u))
-touches-reading job m fd w run (TrimsLast held chunk len frame) p u = absurd (cc (u))
-touches-reading job m fd w run (Unwraps frame chunk len) p u = absurd (cc (u))
+touches-reading job m fd w run (DroppingFrame f held) p u = absurd (cc (u))
+touches-reading job m fd w run (MakingEnd held) p u = absurd (cc (u))
+touches-reading job m fd w run (FillingEnd held size frame) p u = absurd (cc (u))
+touches-reading job m fd w run (DroppingLast held chunk len frame) p u = absurd (cc (u))
+touches-reading job m fd w run (DroppingLastFrame frame chunk len) p u = absurd (cc (u))
 touches-reading job m fd w run s p u = refl
 
 -- the read end that a reading run has is among its ends
@@ -100,7 +103,7 @@ module _ (site_contents : SiteContents) (worker_set : WorkerSet) (m : State) (ca
   -- a call that touches a pipe is one of a run that reads
   pub touches-from : (conn : Conn) (run : Option Running) (script : List ℕ)
       → Fits site_contents worker_set m came sent fd c (of conn run script) process_slots
-      → (v : Run) (s : Step) (q : ℕ) → run ≡ Some (Runs v s)
+      → (v : Run) (s : Step) (q : ℕ) → run ≡ Some (InProgress v s)
       → touches_pipe m (event.Call server (wants site_contents.scripts fd (of conn run script))) q ≡ true
       → is_reading s ≡ true
   touches-from conn None script f v s q is u = absurd (cc (is))
@@ -108,18 +111,19 @@ module _ (site_contents : SiteContents) (worker_set : WorkerSet) (m : State) (ca
       touches-reading (job_of f.wanted f.script.text) m fd f.wanted v s q
       (subst (λ (k : Call). touches_pipe m (event.Call server k) q ≡ true)
       (wants-run site_contents.scripts fd conn (Some y) script f.script.text y f.wanted refl f.script.asks f.kept
-      ∙ ap (λ (z : Running). running.wants (job_of f.wanted f.script.text) fd f.wanted z) (some-inj y (Runs v s) is)) u)
+      ∙ ap (λ (z : Running). running.wants (job_of f.wanted f.script.text) fd f.wanted z)
+      (some-inj y (InProgress v s) is)) u)
 
   -- no run gives its pipe back
   pub no-returns : (conn : Conn) (run : Option Running) (script : List ℕ)
       → Fits site_contents worker_set m came sent fd c (of conn run script) process_slots
-      → (v : Run) (write : ℕ) → run ≡ Some (Runs v (Returns write)) → ⊥
+      → (v : Run) (write : ℕ) → run ≡ Some (InProgress v (ClosingPipe write)) → ⊥
   no-returns conn None script f v write is = absurd (cc (is))
   no-returns conn (Some y) script f v write is =
       let at : AtJobQueue worker_set m process_slots v (made_of f.wanted f.script.lines f.shown) f.so_far
-      (Returns write) =
+      (ClosingPipe write) =
       subst (λ (z : Running). HasWorkerAt worker_set m process_slots (made_of f.wanted f.script.lines f.shown) f.so_far
-      z) (some-inj y (Runs v (Returns write)) is) f.job_queue in
+      z) (some-inj y (InProgress v (ClosingPipe write)) is) f.job_queue in
       at.stage
 
   -- a write end that a client has is no job queue's
@@ -127,7 +131,7 @@ module _ (site_contents : SiteContents) (worker_set : WorkerSet) (m : State) (ca
       → FitsRun site_contents worker_set m came sent fd c (of conn (Some y) script) y process_slots → has_end y g ≡ true
       → k < worker_set.count
       → descriptor m server g ≡ Some (on.WriteEnd (worker_set.job_queue k)) → ⊥
-  write-apart conn (Runs run s) script g k f u lt is =
+  write-apart conn (InProgress run s) script g k f u lt is =
       elim (which-end (job_of f.wanted f.script.text) m f.wanted f.so_far run s g f.has.1 u) [
         | inl from ↦ (let there = reads-from (job_of f.wanted f.script.text) m f.wanted f.so_far run s f.has.1 from.0 in
             let here = ap (λ h. descriptor m server h) from.1 in let e = there.1 in absurd (cc (here, e, is)))
@@ -143,13 +147,13 @@ module _ (site_contents : SiteContents) (worker_set : WorkerSet) (m : State) (ca
       by : (s : Step) → HasStep (job_of f.wanted f.script.text) m f.wanted f.so_far run s
           → AtJobQueue worker_set m process_slots run (made_of f.wanted f.script.lines f.shown) f.so_far s
           → step_fd s g ≡ true → ⊥
-      by (Gives write) has job_queue u =
+      by (GivingPipe write) has job_queue u =
           let here = ap (λ h. descriptor m server h) (same-number write g u) in
           let same : has.0.pipe ≡ worker_set.job_queue k =
           write-inj has.0.pipe (worker_set.job_queue k) (sym has.0.write_end ∙ (here ∙ is)) in
           job_queue.stage.has.apart k lt (sym same
           ∙ read-inj has.0.pipe job_queue.stage.has.pipe (sym has.0.read_end ∙ job_queue.stage.has.reads))
-      by (Returns write) has job_queue u = job_queue.stage
+      by (ClosingPipe write) has job_queue u = job_queue.stage
       by s has job_queue u = cc (u)
   write-apart conn y script g k f u lt is = cc (u)
 
@@ -164,19 +168,20 @@ module _ (site_contents : SiteContents) (worker_set : WorkerSet) (m : State) (ca
 
   -- a descriptor that a client uses it has, or it is that of its worker's job queue
   left-none : (w : Wanted) (o : Progress) (d : Phase) (g : ℕ) → HasLeft m w o d → conn.uses_fd d g ≡ true → ⊥
-  left-none w o (phase.Reads f) g has u = has.sends.0
-  left-none w o (phase.Shuts f k) g has u = has.sends.0
+  left-none w o (phase.Reading f) g has u = has.sends.0
+  left-none w o (phase.ClosingFile f k) g has u = has.sends.0
   left-none w o d g has u = cc (u)
 
   pub uses-or-job_queue : (conn : Conn) (run : Option Running) (script : List ℕ) (g : ℕ)
       → Fits site_contents worker_set m came sent fd c (of conn run script) process_slots
       → uses_fd (of conn run script) g ≡ true
       → (has_fd (of conn run script) g ≡ true)
-      ⊎ ((v : Run) × (s : Step) × (run ≡ Some (Runs v s)) × (job_pipe v.worker ≡ g))
+      ⊎ ((v : Run) × (s : Step) × (run ≡ Some (InProgress v s)) × (job_pipe v.worker ≡ g))
   uses-or-job_queue conn None script g f u = inl u
-  uses-or-job_queue conn (Some (Leaves d)) script g f u = absurd (left-none f.wanted f.so_far d g f.has u)
-  uses-or-job_queue conn (Some (Runs v s)) script g f u = elim (one-of (job_pipe v.worker == g) (ends_of v s g) u) [
-    | inl job_queue ↦ inr (v, s, refl, same-number (job_pipe v.worker) g job_queue)
-    | inr ends ↦ inl ends
-  ]
+  uses-or-job_queue conn (Some (Finishing d)) script g f u = absurd (left-none f.wanted f.so_far d g f.has u)
+  uses-or-job_queue conn (Some (InProgress v s)) script g f u =
+      elim (one-of (job_pipe v.worker == g) (ends_of v s g) u) [
+        | inl job_queue ↦ inr (v, s, refl, same-number (job_pipe v.worker) g job_queue)
+        | inr ends ↦ inl ends
+      ]
   uses-or-job_queue conn o script g f u = absurd (cc (u))

@@ -41,7 +41,7 @@ left-none : (c : Conn) (run : Option Running) (script : List ℕ) (a : ℕ) → 
 left-none c None script a is u = by c.phase is u
   where
     by : (d : Phase) → left_by d (of c None script) ≡ None → conn.uses_agg d a ≡ true → ⊥
-    by phase.Over is u = cc (u)
+    by phase.Closed is u = cc (u)
     by d is u = cc (is)
 left-none c (Some y) script a is u = cc (is)
 

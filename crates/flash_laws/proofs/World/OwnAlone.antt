@@ -98,7 +98,7 @@ module _ (site_contents : SiteContents) (worker_set : WorkerSet) (laws : AllLaws
 
       -- a request begins
       starts : (q : Answer) (p : Answer) (rest : List ℕ)
-          → FitsAlone site_contents m came sent fd c (alone x.conn.kept x.script q phase.Rests)
+          → FitsAlone site_contents m came sent fd c (alone x.conn.kept x.script q phase.Receiving)
           → Next x.conn.kept p rest → FitsAlone site_contents m came sent fd c (alone rest x.script p (begins p))
       starts q p rest f next =
           record {
@@ -122,7 +122,7 @@ module _ (site_contents : SiteContents) (worker_set : WorkerSet) (laws : AllLaws
           b = begun p proper
 
           consistencies : ConsistencyAlone site_contents f.expected (conn_at m c) f.took sent
-              (alone x.conn.kept x.script q phase.Rests)
+              (alone x.conn.kept x.script q phase.Receiving)
               → ConsistencyAlone site_contents (expected_to site_contents p) (conn_at m c) f.took sent
               (alone rest x.script p (begins p))
           consistencies (inl owes) = inl (
@@ -146,11 +146,11 @@ module _ (site_contents : SiteContents) (worker_set : WorkerSet) (laws : AllLaws
           → FitsAlone site_contents m came sent fd c (alone x.conn.kept x.script q d)
           → conn.Readies (record { kept = x.conn.kept; q = q; phase = d }) z
           → FitsAlone site_contents m came sent fd c (record { conn = z; run = None; script = x.script })
-      readied q phase.Rests z f (inl waits) =
+      readied q phase.Receiving z f (inl waits) =
           subst
           (λ (u : Conn). FitsAlone site_contents m came sent fd c (record { conn = u; run = None; script = x.script }))
           (sym waits.1) f
-      readied q phase.Rests z f (inr some) =
+      readied q phase.Receiving z f (inr some) =
           subst
           (λ (u : Conn). FitsAlone site_contents m came sent fd c
           (record { conn = u; run = None; script = x.script })) (sym some.3) (starts q some.0 some.1 f some.2)
@@ -172,7 +172,7 @@ module _ (site_contents : SiteContents) (worker_set : WorkerSet) (laws : AllLaws
   -- a connection that is closed keeps what was sent, which begins the answer, and is all of it unless the peer left
   -- before
   pub alone_closes : (m n : State) (came sent : List ℕ) (fd c : ℕ) (x : Client) → IsOrderly m
-      → x.conn.phase ≡ phase.Closes
+      → x.conn.phase ≡ phase.Disconnecting
       → FitsAlone site_contents m came sent fd c x → StepsTo m (event.Call server (call.Close fd)) reply.Done n
       → ((conn_at n c).closed ≡ true) × Begins site_contents came (sent ++ bytes_of (conn_at n c).outgoing)
       × ((is_gone (conn_at m c).peer ≡ true) ⊎ IsAnswer site_contents came (sent ++ bytes_of (conn_at n c).outgoing))

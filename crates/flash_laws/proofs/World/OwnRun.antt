@@ -33,7 +33,7 @@ use Rattle.flash_laws.specs.Site.{server}
 use Rattle.flash_laws.specs.declared.phase.Phase.{Phase}
 use Rattle.flash_laws.specs.declared.phase.Phase.TheVariants as phase
 use Rattle.flash_laws.specs.declared.script_run.Running.{Running}
-use Rattle.flash_laws.specs.declared.script_run.Running.TheVariants.{Awaits, Leaves, Closes}
+use Rattle.flash_laws.specs.declared.script_run.Running.TheVariants.{AwaitingWorker, Finishing, Disconnecting}
 use Rattle.flash_laws.proofs.Forms.{of}
 use Rattle.flash_laws.proofs.Conn.Responses.{some-inj}
 use Rattle.flash_laws.proofs.Run.Ends.{keeps-back, wants-text}
@@ -81,7 +81,7 @@ after_reply-run scripts worker c (Some z) script y w r received has asks =
     ap (λ (v : Running). run_after_reply worker c.q (of c (Some v) script) v r received) (some-inj z y has)
     ∙ ap (λ (q : Answer). run_after_reply worker q (of c (Some y) script) y r received) asks
 
-waits-run : (c : Conn) (run : Option Running) (script : List ℕ) (y : Running) → run ≡ Some y → y ≡ Awaits
+waits-run : (c : Conn) (run : Option Running) (script : List ℕ) (y : Running) → run ≡ Some y → y ≡ AwaitingWorker
     → awaits (of c run script) ≡ true
 waits-run c run script y has is =
     ap (λ (o : Option Running). awaits (of c o script)) (has ∙ ap (λ (v : Running). Some v) is)
@@ -98,7 +98,7 @@ text-kept false true script text back kept is = absurd (let e = back refl in cc 
 text-kept b false script text back kept is = absurd (cc (is))
 
 rests-has : (site_contents : SiteContents) (expected : List ℕ) (n : State) (q : Answer) (script : List ℕ) (d : Phase)
-    → (d ≡ phase.Rests) ⊎ (d ≡ phase.Closes)
+    → (d ≡ phase.Receiving) ⊎ (d ≡ phase.Disconnecting)
     → Has n q (expected_in expected q d) d × Finds site_contents n q script d
 rests-has site_contents expected n q script d (inl is) =
     subst (λ (e : Phase). Has n q (expected_in expected q e) e × Finds site_contents n q script e) (sym is) (tt, tt)
@@ -107,8 +107,8 @@ rests-has site_contents expected n q script d (inr is) =
 
 -- a run that is over has no worker
 over-none : (z : Running) (k : ℕ) → is_over z ≡ true → has_worker z k ≡ false
-over-none (Leaves d) k is = refl
-over-none Closes k is = refl
+over-none (Finishing d) k is = refl
+over-none Disconnecting k is = refl
 over-none x k is = absurd (cc (is))
 
 module _ (site_contents : SiteContents) (worker_set : WorkerSet) (laws : AllLaws worker_set) where
@@ -150,7 +150,7 @@ module _ (site_contents : SiteContents) (worker_set : WorkerSet) (laws : AllLaws
       calls : StepsTo m (event.Call server (running.wants (job_of f.wanted f.script.text) fd f.wanted y)) r n
       calls = subst (λ (k : Call). StepsTo m (event.Call server k) r n) call_is step
 
-      hires : y ≡ Awaits → (worker < worker_set.count) × ((process_slot : ProcessSlot worker_set.Worker)
+      hires : y ≡ AwaitingWorker → (worker < worker_set.count) × ((process_slot : ProcessSlot worker_set.Worker)
           → slice_get process_slots worker ≡ Some process_slot
           → worker_set.Free m (worker_set.job_queue worker) process_slot)
       hires is = hired (waits-run conn run script y has is)

@@ -39,9 +39,9 @@ use Rattle.flash_laws.specs.declared.phase.Phase.{Phase}
 use Rattle.flash_laws.specs.declared.phase.Phase.TheVariants as phase
 use Rattle.flash_laws.specs.declared.script_run.Run.{Run}
 use Rattle.flash_laws.specs.declared.script_run.Step.{Step}
-use Rattle.flash_laws.specs.declared.script_run.Step.TheVariants.{Hands, Returns}
+use Rattle.flash_laws.specs.declared.script_run.Step.TheVariants.{WritingJob, ClosingPipe}
 use Rattle.flash_laws.specs.declared.script_run.Running.{Running}
-use Rattle.flash_laws.specs.declared.script_run.Running.TheVariants.{Awaits, Runs}
+use Rattle.flash_laws.specs.declared.script_run.Running.TheVariants.{AwaitingWorker, InProgress}
 use Rattle.flash_laws.proofs.Forms.{of}
 use Rattle.flash_laws.proofs.Conn.Responses.{some-inj}
 use Rattle.flash_laws.proofs.Site.InPlaces.{at-same, at-other}
@@ -110,10 +110,10 @@ module _ (site_contents : SiteContents) (worker_set : WorkerSet) (laws : AllLaws
   own-site = site-stays site_contents.finds m n (event.Call server (wants site_contents.scripts fd x)) leaves
       t.fixed.site alone.files (λ q. kind-admits (wants site_contents.scripts fd x) q alone.kind)
 
-  none-returned : (v : Run) (write : ℕ) → run ≡ Some (Runs v (Returns write)) → ⊥
+  none-returned : (v : Run) (write : ℕ) → run ≡ Some (InProgress v (ClosingPipe write)) → ⊥
   none-returned = no-returns site_contents worker_set m (p.came c) (p.sent c) fd c process_slots conn run script f
 
-  among : (y : Running) (s : Step) (v : Run) → run ≡ Some (Runs v s) → v.worker < worker_set.count
+  among : (y : Running) (s : Step) (v : Run) → run ≡ Some (InProgress v s) → v.worker < worker_set.count
   among y s v is =
       t.fit.own.among fd v.worker x t.there (ap (λ (o : Option Running). is_run_by (of conn o script) v.worker) is
       ∙ self v.worker)
@@ -175,17 +175,17 @@ module _ (site_contents : SiteContents) (worker_set : WorkerSet) (laws : AllLaws
       by : (o : Option Running) → run ≡ o → MayTouchPipe m o q
           → touches_pipe m (event.Call server (wants site_contents.scripts fd (of conn run script))) q ≡ true → ⊥
       by None none may u = may
-      by (Some Awaits) is_run may u =
+      by (Some AwaitingWorker) is_run may u =
           no-reader-there m (ap (λ j. (pipe_at m j).reading) may ∙ t.order.all_stand server v.from (on.ReadEnd q) reads)
-      by (Some (Runs z (Hands j g))) is_run may u =
-          let here = t.fit.job_queues.job_queues z.worker (among Awaits (Hands j g) z is_run) in
-          apart z.worker (among Awaits (Hands j g) z is_run)
+      by (Some (InProgress z (WritingJob j g))) is_run may u =
+          let here = t.fit.job_queues.job_queues z.worker (among AwaitingWorker (WritingJob j g) z is_run) in
+          apart z.worker (among AwaitingWorker (WritingJob j g) z is_run)
           (write-inj (worker_set.job_queue z.worker) q (sym here ∙ may))
         where
           write-inj : (a b : ℕ) → Some (on.WriteEnd a) ≡ Some (on.WriteEnd b) → a ≡ b
           write-inj a b e = cc
-      by (Some (Runs z (Returns write))) is_run may u = none-returned z write is_run
-      by (Some (Runs z st)) is_run may u =
+      by (Some (InProgress z (ClosingPipe write))) is_run may u = none-returned z write is_run
+      by (Some (InProgress z st)) is_run may u =
           let reading = touches-from site_contents worker_set m (p.came c) (p.sent c) fd c process_slots conn run script
           f z st q is_run u in
           let same = (t.order.one server server z.from v.from (on.ReadEnd q) refl may reads).1 in
@@ -307,7 +307,7 @@ module _ (site_contents : SiteContents) (worker_set : WorkerSet) (laws : AllLaws
   none-runs is k runs = (let e = ap (λ (o : Option Running). is_run_by (of conn o script) k) is in cc (e, runs))
 
   -- its connection is to be closed
-  closing : run ≡ None → conn.phase ≡ phase.Closes → Became after
+  closing : run ≡ None → conn.phase ≡ phase.Disconnecting → Became after
   closing is_none is_closes =
       by r (laws.the.own.closes_conn m n server fd c r t.order open_on did_close) did_close (after_reply_is r)
     where
@@ -364,7 +364,7 @@ module _ (site_contents : SiteContents) (worker_set : WorkerSet) (laws : AllLaws
           (subst (λ (s : State). FitsAlone site_contents s (p.came c) (p.sent c) fd c (of conn None script)) (sym did)
           (alone-of None is_none (of-fits None is_none))))
         where
-          same : of (record conn { phase = phase.Closes }) None script ≡ of conn None script
+          same : of (record conn { phase = phase.Disconnecting }) None script ≡ of conn None script
           same = ap (λ (d : Phase). of (record conn { phase = d }) None script) (sym is_closes)
 
           alone-of : (o : Option Running) → run ≡ o
@@ -379,8 +379,8 @@ module _ (site_contents : SiteContents) (worker_set : WorkerSet) (laws : AllLaws
   becomes = by run refl
     where
       closed : (d : Phase) → conn.phase ≡ d → is_closing d ≡ true → run ≡ None → Became after
-      closed phase.Closes is closing_is none = closing none is
-      closed phase.Over is closing_is none =
+      closed phase.Disconnecting is closing_is none = closing none is
+      closed phase.Closed is closing_is none =
           absurd (subst (λ (d : Phase). Has m conn.q (expected_in (of-fits None none).expected conn.q d) d) is
           (of-fits None none).has)
       closed d is closing_is none = absurd (cc (closing_is))
@@ -413,7 +413,7 @@ module _ (site_contents : SiteContents) (worker_set : WorkerSet) (laws : AllLaws
   left-some None z text g is = by z.phase refl is
     where
       by : (d : Phase) → z.phase ≡ d → left_by d (of z None text) ≡ None → ⊥
-      by phase.Over over is = subst (λ (d : Phase). Has n z.q (expected_in g.expected z.q d) d) over g.has
+      by phase.Closed over is = subst (λ (d : Phase). Has n z.q (expected_in g.expected z.q d) d) over g.has
       by d over is = cc (is)
   left-some (Some y) z text g is = cc (is)
 
@@ -501,7 +501,7 @@ module _ (site_contents : SiteContents) (worker_set : WorkerSet) (laws : AllLaws
 
   asks-of : (o : Option Running)
       → FitsBy site_contents worker_set o m (p.came c) (p.sent c) fd c (of conn run script) process_slots
-      → o ≡ Some Awaits → (w : Wanted) × (conn.q ≡ serve w)
+      → o ≡ Some AwaitingWorker → (w : Wanted) × (conn.q ≡ serve w)
   asks-of None g is = absurd (cc (is))
   asks-of (Some v) g is = (g.wanted, g.script.asks)
 
@@ -514,7 +514,7 @@ module _ (site_contents : SiteContents) (worker_set : WorkerSet) (laws : AllLaws
         | inr made ↦ taken (new made)
       ]
     where
-      new : ((run ≡ None) × (o.is_fd r a ≡ true)) ⊎ ((run ≡ Some Awaits) × (is_fds r a ≡ true))
+      new : ((run ≡ None) × (o.is_fd r a ≡ true)) ⊎ ((run ≡ Some AwaitingWorker) × (is_fds r a ≡ true))
           → descriptor m server a ≡ None
       new (inl file) =
           fd-new laws.the m n site_contents.scripts fd conn run script

@@ -137,7 +137,7 @@ conn-keeps x y a ready u = by x.phase refl ready u
   where
     by : (d : Phase) → x.phase ≡ d → conn.Readies (record x { phase = d }) y → conn.uses_agg d a ≡ true
         → conn.uses_agg y.phase a ≡ true
-    by phase.Rests is r u = absurd (cc (u))
+    by phase.Receiving is r u = absurd (cc (u))
     by d is r u = ap (λ (z : Conn). conn.uses_agg z.phase a) r ∙ u
 
 client-keeps : (c : Conn) (run : Option Running) (script : List ℕ) (y : Client) (a : ℕ) → Readies (of c run script) y

@@ -24,13 +24,16 @@ use Rattle.flash_laws.specs.Run.{is_left, is_over, in_phase}
 use Rattle.flash_laws.specs.Site.{server}
 use Rattle.flash_laws.specs.declared.phase.Payload.TheVariants.{Script}
 use Rattle.flash_laws.specs.declared.phase.Phase.{Phase}
-use Rattle.flash_laws.specs.declared.phase.Phase.TheVariants.{Reads as Reading, Shuts, Spares, Heads, Sends, Cuts}
-use Rattle.flash_laws.specs.declared.phase.Phase.TheVariants.{Offers, Swaps, Sent, Breaks, Drops}
+use Rattle.flash_laws.specs.declared.phase.Phase.TheVariants.{Reading as Reading, ClosingFile, DroppingWhole}
+use Rattle.flash_laws.specs.declared.phase.Phase.TheVariants.{MakingHead, SendingWhole, CuttingPiece}
+use Rattle.flash_laws.specs.declared.phase.Phase.TheVariants.{SendingPiece, DroppingPiece, DroppingSent, AbortingPiece}
+use Rattle.flash_laws.specs.declared.phase.Phase.TheVariants.{Aborting}
 use Rattle.flash_laws.specs.declared.script_run.Run.{Run}
 use Rattle.flash_laws.specs.declared.script_run.Step.{Step}
 use Rattle.flash_laws.specs.declared.script_run.Step.TheVariants as step
 use Rattle.flash_laws.specs.declared.script_run.Running.{Running}
-use Rattle.flash_laws.specs.declared.script_run.Running.TheVariants.{Awaits, Runs, Leaves, Closes as Ends}
+use Rattle.flash_laws.specs.declared.script_run.Running.TheVariants.{AwaitingWorker, InProgress, Finishing}
+use Rattle.flash_laws.specs.declared.script_run.Running.TheVariants.{Disconnecting as Ends}
 use Rattle.flash_laws.proofs.Forms.{at, of}
 use Rattle.flash_laws.proofs.TheLaws.{TheLaws}
 use Rattle.flash_laws.proofs.Conn.Uses.{same-number, no-more, uses-after_reply, uses_fd-after_reply, one-of}
@@ -48,18 +51,19 @@ script-uses : (kept : List ℕ) (q : Answer) (d : Phase) (script : List ℕ) (r 
     → NewAgg r a (conn.uses_agg d a)
 script-uses kept q (Reading f) script (reply.Agg n) received a u = inr u
 script-uses kept q (Reading f) script r received a u = uses-after_reply kept q (Reading f) r received a u
-script-uses kept q (Spares b Script) script r received a u = by (is_head_only q) r u
+script-uses kept q (DroppingWhole b Script) script r received a u = by (is_head_only q) r u
   where
     by : (h : Bool) (r : Reply)
-        → uses_agg (of (conn.after_reply (at kept q (Spares b Script)) r received) (after_drop_whole h r) script) a
+        → uses_agg (of (conn.after_reply (at kept q (DroppingWhole b Script)) r received) (after_drop_whole h r) script)
+        a
         ≡ true → NewAgg r a ((b == a) || false)
     by false reply.Done u = absurd (cc (u))
-    by other r u = uses-after_reply kept q (Spares b Script) r received a u
+    by other r u = uses-after_reply kept q (DroppingWhole b Script) r received a u
 script-uses kept q d script r received a u = uses-after_reply kept q d r received a u
 
 over-uses : (z : Running) (a : ℕ) → is_over z ≡ true → conn.uses_agg (after_run z) a ≡ true
     → running.uses_agg z a ≡ true
-over-uses (Leaves d) a over u = u
+over-uses (Finishing d) a over u = u
 over-uses Ends a over u = absurd (cc (u))
 over-uses x a over u = absurd (cc (over))
 
@@ -101,7 +105,8 @@ agg-new laws m n k r a order kind step u = laws.fresh.agg m n server k r a order
 
 -- it had it, or the reply brought it: a file's, or both ends of a pipe
 abbrev NewFd : Option Running → Reply → (g : ℕ) → (was : Bool) → Type 0
-NewFd run r g was = (was ≡ true) ⊎ (((run ≡ None) × (is_fd r g ≡ true)) ⊎ ((run ≡ Some Awaits) × (is_fds r g ≡ true)))
+NewFd run r g was =
+    (was ≡ true) ⊎ (((run ≡ None) × (is_fd r g ≡ true)) ⊎ ((run ≡ Some AwaitingWorker) × (is_fds r g ≡ true)))
 
 plain-fds : (kept : List ℕ) (q : Answer) (d : Phase) (r : Reply) (received : List ℕ) (g : ℕ)
     → conn.uses_fd (conn.after_reply (at kept q d) r received).phase g ≡ true → NewFd None r g (conn.uses_fd d g)
@@ -113,13 +118,14 @@ script-fds : (kept : List ℕ) (q : Answer) (d : Phase) (script : List ℕ) (r :
     → NewFd None r g (conn.uses_fd d g)
 script-fds kept q (Reading f) script (reply.Agg n) received g u = inl u
 script-fds kept q (Reading f) script r received g u = plain-fds kept q (Reading f) r received g u
-script-fds kept q (Spares b Script) script r received g u = by (is_head_only q) r u
+script-fds kept q (DroppingWhole b Script) script r received g u = by (is_head_only q) r u
   where
     by : (h : Bool) (r : Reply)
-        → has_fd (of (conn.after_reply (at kept q (Spares b Script)) r received) (after_drop_whole h r) script) g ≡ true
+        → has_fd (of (conn.after_reply (at kept q (DroppingWhole b Script)) r received) (after_drop_whole h r) script) g
+        ≡ true
         → NewFd None r g false
     by false reply.Done u = absurd (cc (u))
-    by other r u = plain-fds kept q (Spares b Script) r received g u
+    by other r u = plain-fds kept q (DroppingWhole b Script) r received g u
 script-fds kept q d script r received g u = plain-fds kept q d r received g u
 
 -- what is left of a response uses no descriptor
@@ -132,19 +138,19 @@ left-fd w d r received g left u = elim (uses_fd-after_reply [] (serve w) d r rec
   where
     old : (d : Phase) → is_left d ≡ true → conn.uses_fd d g ≡ true → ⊥
     old (Reading f) left u = cc (left)
-    old (Shuts f k) left u = cc (left)
+    old (ClosingFile f k) left u = cc (left)
     old d left u = cc (u)
 
     made : (r : Reply) → is_fd r g ≡ true → (d : Phase) → is_left d ≡ true
         → conn.uses_fd (conn.after_reply (in_phase w d) r received).phase g ≡ true → ⊥
-    made (reply.Fd f) new (Heads k) left u = cc (u)
-    made (reply.Fd f) new (Sends s) left u = cc (u)
-    made (reply.Fd f) new (Cuts s) left u = cc (u)
-    made (reply.Fd f) new (Offers s piece) left u = cc (u)
-    made (reply.Fd f) new (Swaps s piece) left u = cc (u)
-    made (reply.Fd f) new (Sent a taken more) left u = cc (u)
-    made (reply.Fd f) new (Breaks piece a more) left u = cc (u)
-    made (reply.Fd f) new (Drops a more) left u = cc (u)
+    made (reply.Fd f) new (MakingHead k) left u = cc (u)
+    made (reply.Fd f) new (SendingWhole s) left u = cc (u)
+    made (reply.Fd f) new (CuttingPiece s) left u = cc (u)
+    made (reply.Fd f) new (SendingPiece s piece) left u = cc (u)
+    made (reply.Fd f) new (DroppingPiece s piece) left u = cc (u)
+    made (reply.Fd f) new (DroppingSent a taken more) left u = cc (u)
+    made (reply.Fd f) new (AbortingPiece piece a more) left u = cc (u)
+    made (reply.Fd f) new (Aborting a more) left u = cc (u)
     made (reply.Fd f) new d left u = cc (left)
     made r new d left u = cc (new)
 
@@ -159,8 +165,8 @@ module _ (w : Wanted) (run : Run) (g : ℕ) where
   finishing-fd true c held over u = cc (u)
 
   sending-fd : (d : Phase) (frame : Option ℕ) (r : Reply) → NoFd (running.after_sending run d frame r)
-  sending-fd (Sent a taken None) frame reply.Done over u = cc (over)
-  sending-fd (Drops a None) frame reply.Done over u = cc (over)
+  sending-fd (DroppingSent a taken None) frame reply.Done over u = cc (over)
+  sending-fd (Aborting a None) frame reply.Done over u = cc (over)
   sending-fd d frame r over u = cc (over)
 
   receives-fd : (held : conn.Following) (frame : Option ℕ) (r : Reply) (received : List ℕ)
@@ -171,34 +177,34 @@ module _ (w : Wanted) (run : Run) (g : ℕ) where
   receives-fd held frame r received over u = cc (over)
 
   step-fd : (s : Step) (r : Reply) (received : List ℕ) → NoFd (running.after_step w run s r received)
-  step-fd (step.Sending d frame) r received over u = sending-fd d frame r over u
-  step-fd (step.Receives held frame) r received over u = receives-fd held frame r received over u
-  step-fd (step.Stops held (Some f)) reply.Done received over u = cc (over)
-  step-fd (step.Stops held None) reply.Done received over u = finishing-fd run.broken w.chunked held over u
-  step-fd (step.Unframes f held) reply.Done received over u = finishing-fd run.broken w.chunked held over u
-  step-fd (step.Lasts None) (reply.Agg n) received over u = cc (over)
-  step-fd (step.Lasts (Some x)) (reply.Agg n) received over u = cc (over)
-  step-fd (step.Unwraps frame chunk len) reply.Done received over u = cc (over)
-  step-fd step.Fails reply.Done received over u = cc (over)
+  step-fd (step.SendingPart d frame) r received over u = sending-fd d frame r over u
+  step-fd (step.ReadingOutput held frame) r received over u = receives-fd held frame r received over u
+  step-fd (step.ClosingOutput held (Some f)) reply.Done received over u = cc (over)
+  step-fd (step.ClosingOutput held None) reply.Done received over u = finishing-fd run.broken w.chunked held over u
+  step-fd (step.DroppingFrame f held) reply.Done received over u = finishing-fd run.broken w.chunked held over u
+  step-fd (step.MakingEnd None) (reply.Agg n) received over u = cc (over)
+  step-fd (step.MakingEnd (Some x)) (reply.Agg n) received over u = cc (over)
+  step-fd (step.DroppingLastFrame frame chunk len) reply.Done received over u = cc (over)
+  step-fd step.Failing reply.Done received over u = cc (over)
   step-fd s r received over u = cc (over)
 
 over-fds : (worker : ℕ) (w : Wanted) (y : Running) (r : Reply) (received : List ℕ) (g : ℕ) → is_over y ≡ false
     → is_over (running.after_reply worker w y r received) ≡ true
     → conn.uses_fd (after_run (running.after_reply worker w y r received)) g ≡ true → ⊥
-over-fds worker w Awaits (reply.Fds from write) received g ongoing over u = cc (over)
-over-fds worker w Awaits r received g ongoing over u = cc (over)
-over-fds worker w (Leaves d) r received g ongoing over u = left-fd w d r received g (not-false (is_left d) ongoing) u
+over-fds worker w AwaitingWorker (reply.Fds from write) received g ongoing over u = cc (over)
+over-fds worker w AwaitingWorker r received g ongoing over u = cc (over)
+over-fds worker w (Finishing d) r received g ongoing over u = left-fd w d r received g (not-false (is_left d) ongoing) u
 over-fds worker w Ends r received g ongoing over u = cc (u)
-over-fds worker w (Runs run s) r received g ongoing over u = step-fd w run g s r received over u
+over-fds worker w (InProgress run s) r received g ongoing over u = step-fd w run g s r received over u
 
 run-fds : (worker : ℕ) (w : Wanted) (y : Running) (r : Reply) (received : List ℕ) (g : ℕ)
     → has_end (running.after_reply worker w y r received) g ≡ true → NewFd (Some y) r g (has_end y g)
-run-fds worker w Awaits (reply.Fds from write) received g u = inr (inr (refl, u))
-run-fds worker w (Runs run s) r received g u =
-    elim (run-ends worker w (Runs run s) r received g u) [ inl had ↦ inl had | inr new ↦ by r u new ]
+run-fds worker w AwaitingWorker (reply.Fds from write) received g u = inr (inr (refl, u))
+run-fds worker w (InProgress run s) r received g u =
+    elim (run-ends worker w (InProgress run s) r received g u) [ inl had ↦ inl had | inr new ↦ by r u new ]
   where
     by : (r : Reply) → has_end (running.after_step w run s r received) g ≡ true → is_fds r g ≡ true
-        → NewFd (Some (Runs run s)) r g (has_end (Runs run s) g)
+        → NewFd (Some (InProgress run s)) r g (has_end (InProgress run s) g)
     by r u new = inl (step-has w run g s r received u)
 run-fds worker w y r received g u = absurd (cc (u))
 
@@ -250,14 +256,16 @@ script-away true fd c = by c.phase
 
 pub fd-new : (laws : TheLaws) (m n : State) (scripts : Bool) (fd : ℕ) (c : Conn) (run : Option Running)
     (script : List ℕ) (w : Wanted) (r : Reply) (g : ℕ) → IsOrderly m
-    → (run ≡ Some Awaits → c.q ≡ serve w)
+    → (run ≡ Some AwaitingWorker → c.q ≡ serve w)
     → StepsTo m (event.Call server (wants scripts fd (of c run script))) r n
-    → ((run ≡ None) × (is_fd r g ≡ true)) ⊎ ((run ≡ Some Awaits) × (is_fds r g ≡ true)) → descriptor m server g ≡ None
+    → ((run ≡ None) × (is_fd r g ≡ true)) ⊎ ((run ≡ Some AwaitingWorker) × (is_fds r g ≡ true))
+    → descriptor m server g ≡ None
 fd-new laws m n scripts fd c None script w r g order asks step (inl new) =
     laws.fresh.fd m n server (conn_wants (is_for_script scripts c.q) fd c) r g order step
     (script-away (is_for_script scripts c.q) fd c) new.1
-fd-new laws m n scripts fd c (Some Awaits) script w r g order asks step (inr new) =
-    fds-new laws m n r g (subst (λ (q : Answer). StepsTo m (event.Call server (run_wants fd q script Awaits)) r n)
+fd-new laws m n scripts fd c (Some AwaitingWorker) script w r g order asks step (inr new) =
+    fds-new laws m n r g
+    (subst (λ (q : Answer). StepsTo m (event.Call server (run_wants fd q script AwaitingWorker)) r n)
     (asks refl) step) new.1
 fd-new laws m n scripts fd c (Some y) script w r g order asks step (inl new) = absurd (let e = new.0 in cc (e))
 fd-new laws m n scripts fd c run script w r g order asks step (inr new) = absurd (let e = new.0 in cc (e))

@@ -16,7 +16,7 @@ use Rattle.flash_laws.specs.Run.OfferedBytes.{past_of, taken_by}
 use Rattle.std.specs.List.{concat}
 use Rattle.flash_laws.specs.SiteContents.{SiteContents, MayBeExpected, AllMayBeExpected, Responds, Begins, IsAnswer}
 use Rattle.flash_laws.specs.declared.phase.Phase.{Phase}
-use Rattle.flash_laws.specs.declared.phase.Phase.TheVariants.{Rests, Got}
+use Rattle.flash_laws.specs.declared.phase.Phase.TheVariants.{Receiving, DroppingInput}
 use Rattle.flash_laws.specs.declared.script_run.Running.{Running}
 use Rattle.flash_laws.proofs.Conn.Responses.{WindowLaws, order-all, order-more, reads-append}
 
@@ -140,8 +140,8 @@ module _ (site_contents : SiteContents) (took out kept : List ℕ) (q : Answer) 
   pub begins-answers : (d : Phase)
       → Answers site_contents took out kept (asked q d) (given_of expected (is_at_rest d) (taken_of d))
       → Begins site_contents took out
-  begins-answers Rests o = begins-resting o
-  begins-answers (Got a) o = begins-resting o
+  begins-answers Receiving o = begins-resting o
+  begins-answers (DroppingInput a) o = begins-resting o
   begins-answers d o = begins-part (taken_of d) o
 
 -- of a client for which no script runs

@@ -33,7 +33,7 @@ use Rattle.flash_laws.specs.Site.{server}
 use Rattle.flash_laws.specs.declared.phase.Phase.{Phase}
 use Rattle.flash_laws.specs.declared.phase.Phase.TheVariants as phase
 use Rattle.flash_laws.specs.declared.script_run.Running.{Running}
-use Rattle.flash_laws.specs.declared.script_run.Running.TheVariants.{Leaves, Closes}
+use Rattle.flash_laws.specs.declared.script_run.Running.TheVariants.{Finishing, Disconnecting}
 use Rattle.flash_laws.proofs.Conn.Responses.{all-more, order-more, last-more}
 use Rattle.flash_laws.proofs.Lists.{bytes-append, clash, next-front, self, take-plus}
 use Rattle.flash_laws.proofs.World.AllLaws.{AllLaws}
@@ -50,7 +50,7 @@ pub record ConsistencyAfter (site_contents : SiteContents) (expected : List ℕ)
     (z : Running) : Type 0 where
   pub goes : is_over z ≡ false → ConsistencyRun site_contents expected (conn_at n c) took sent kept w after z
   pub ends : is_over z ≡ true → ConsistencyAlone site_contents expected (conn_at n c) took sent (past_run kept w z)
-  pub rests : is_over z ≡ true → (after_run z ≡ phase.Rests) ⊎ (after_run z ≡ phase.Closes)
+  pub rests : is_over z ≡ true → (after_run z ≡ phase.Receiving) ⊎ (after_run z ≡ phase.Disconnecting)
   -- nothing of the stream was read
   pub unread : bytes_of (conn_at n c).incoming ≡ bytes_of (conn_at m c).incoming
 
@@ -178,27 +178,28 @@ module _ (m n : State) (c : ℕ) (w : Wanted) (o : Progress) (taken new : ℕ) w
 abbrev Ending : Wanted → Progress → Running → Type 0
 Ending w o z =
     (taken_by z ≡ 0)
-    × (((after_run z ≡ phase.Rests) × IsLeft w o [] × (w.keep ≡ true)) ⊎ ((after_run z ≡ phase.Closes) × HasNone w o))
+    × (((after_run z ≡ phase.Receiving) × IsLeft w o [] × (w.keep ≡ true))
+    ⊎ ((after_run z ≡ phase.Disconnecting) × HasNone w o))
 
 -- of the phases in which nothing is left only these two have what a run needs
-leaving : (m : State) (w : Wanted) (o : Progress) (d : Phase) → is_over (Leaves d) ≡ true → HasLeft m w o d
-    → Ending w o (Leaves d)
-leaving m w o phase.Rests over has = (refl, inl (refl, has.0, has.1))
-leaving m w o phase.Closes over has = (refl, inr (refl, has))
-leaving m w o (phase.Heads k) over has = absurd (cc (over))
-leaving m w o (phase.Sends s) over has = absurd (cc (over))
-leaving m w o (phase.Cuts s) over has = absurd (cc (over))
-leaving m w o (phase.Offers s piece) over has = absurd (cc (over))
-leaving m w o (phase.Swaps s piece) over has = absurd (cc (over))
-leaving m w o (phase.Sent a taken more) over has = absurd (cc (over))
-leaving m w o (phase.Breaks piece a more) over has = absurd (cc (over))
-leaving m w o (phase.Drops a more) over has = absurd (cc (over))
+leaving : (m : State) (w : Wanted) (o : Progress) (d : Phase) → is_over (Finishing d) ≡ true → HasLeft m w o d
+    → Ending w o (Finishing d)
+leaving m w o phase.Receiving over has = (refl, inl (refl, has.0, has.1))
+leaving m w o phase.Disconnecting over has = (refl, inr (refl, has))
+leaving m w o (phase.MakingHead k) over has = absurd (cc (over))
+leaving m w o (phase.SendingWhole s) over has = absurd (cc (over))
+leaving m w o (phase.CuttingPiece s) over has = absurd (cc (over))
+leaving m w o (phase.SendingPiece s piece) over has = absurd (cc (over))
+leaving m w o (phase.DroppingPiece s piece) over has = absurd (cc (over))
+leaving m w o (phase.DroppingSent a taken more) over has = absurd (cc (over))
+leaving m w o (phase.AbortingPiece piece a more) over has = absurd (cc (over))
+leaving m w o (phase.Aborting a more) over has = absurd (cc (over))
 leaving m w o d over has = absurd has.sends.0
 
 ending : (job : ℕ → List ℕ) (m : State) (w : Wanted) (o : Progress) (z : Running) → is_over z ≡ true
     → HasRun job m w o z → Ending w o z
-ending job m w o (Leaves d) over has = leaving m w o d over has
-ending job m w o Closes over has = (refl, inr (refl, has))
+ending job m w o (Finishing d) over has = leaving m w o d over has
+ending job m w o Disconnecting over has = (refl, inr (refl, has))
 ending job m w o x over has = absurd (cc (over))
 
 -- once the end of the output was seen nothing follows
@@ -242,7 +243,7 @@ module _ (site_contents : SiteContents) (m n : State) (c : ℕ) (took sent kept 
       ConsistencyAlone site_contents response (conn_at n c) took sent
       (record { conn = record { kept = kept; q = serve w; phase = d }; run = None; script = [] })
 
-  rests_or_closes : Ending w after z → (after_run z ≡ phase.Rests) ⊎ (after_run z ≡ phase.Closes)
+  rests_or_closes : Ending w after z → (after_run z ≡ phase.Receiving) ⊎ (after_run z ≡ phase.Disconnecting)
   rests_or_closes e = (elim e.1 [ inl rest ↦ inl rest.0 | inr close ↦ inr close.0 ])
 
   -- all of the response is written
@@ -259,7 +260,7 @@ module _ (site_contents : SiteContents) (m n : State) (c : ℕ) (took sent kept 
   -- it goes on with the next request
   resting : Answers site_contents took out kept (serve w ∷ []) (take (past_of after + taken_by z) response)
       → taken_by z ≡ 0
-      → MayAnswer w after response → IsLeft w after [] → w.keep ≡ true → Alone phase.Rests
+      → MayAnswer w after response → IsLeft w after [] → w.keep ≡ true → Alone phase.Receiving
   resting a none may rest keep = inl (
     refl,
     record {
@@ -275,7 +276,7 @@ module _ (site_contents : SiteContents) (m n : State) (c : ℕ) (took sent kept 
   -- or this was the last one
   closing : Answers site_contents took out kept (serve w ∷ []) (take (past_of after + taken_by z) response)
       → taken_by z ≡ 0
-      → MayAnswer w after response → IsLeft w after [] → w.keep ≡ false → Alone phase.Closes
+      → MayAnswer w after response → IsLeft w after [] → w.keep ≡ false → Alone phase.Disconnecting
   closing a none may rest last = inr (inl (record {
     quits = refl;
     finished = record {
@@ -295,8 +296,8 @@ module _ (site_contents : SiteContents) (m n : State) (c : ℕ) (took sent kept 
       → MayAnswer w after response → Ending w after z → Alone (after_run z)
   ended proper a may e = by e.1
     where
-      by : ((after_run z ≡ phase.Rests) × IsLeft w after [] × (w.keep ≡ true))
-          ⊎ ((after_run z ≡ phase.Closes) × HasNone w after) → Alone (after_run z)
+      by : ((after_run z ≡ phase.Receiving) × IsLeft w after [] × (w.keep ≡ true))
+          ⊎ ((after_run z ≡ phase.Disconnecting) × HasNone w after) → Alone (after_run z)
       by (inl rest) = subst Alone (sym rest.0) (resting a e.0 may rest.1 rest.2)
       by (inr close) =
           (let whole = closed_whole w after response proper may close.1 in

@@ -24,9 +24,9 @@ use Rattle.flash_laws.specs.Site.{server}
 use Rattle.flash_laws.specs.Site.OtherConns.{with_at}
 use Rattle.flash_laws.specs.declared.script_run.Run.{Run}
 use Rattle.flash_laws.specs.declared.script_run.Step.{Step}
-use Rattle.flash_laws.specs.declared.script_run.Step.TheVariants.{Gives, Hands, Returns}
+use Rattle.flash_laws.specs.declared.script_run.Step.TheVariants.{GivingPipe, WritingJob, ClosingPipe}
 use Rattle.flash_laws.specs.declared.script_run.Running.{Running}
-use Rattle.flash_laws.specs.declared.script_run.Running.TheVariants.{Awaits, Runs}
+use Rattle.flash_laws.specs.declared.script_run.Running.TheVariants.{AwaitingWorker, InProgress}
 use Rattle.flash_laws.proofs.Site.InPlaces.{at-same, at-other}
 use Rattle.flash_laws.proofs.Site.Peers.{IsAfterReply}
 use Rattle.flash_laws.proofs.World.AllLaws.{AllLaws}
@@ -167,20 +167,22 @@ module _ (site_contents : SiteContents) (worker_set : WorkerSet) (laws : AllLaws
 
   -- a job queue that the call for a client may touch is that of its own worker
   pub own-job_queue : (run : Option Running) (k : ℕ) → k < worker_set.count
-      → ((y : Running) (s : Step) (v : Run) → run ≡ Some (Runs v s) → v.worker < worker_set.count)
-      → ((v : Run) (write : ℕ) → run ≡ Some (Runs v (Returns write)) → ⊥) → MayTouchPipe m run (worker_set.job_queue k)
-      → (v : Run) × (s : Step) × (run ≡ Some (Runs v s)) × (v.worker ≡ k)
-  own-job_queue (Some Awaits) k lt among no_returns may =
+      → ((y : Running) (s : Step) (v : Run) → run ≡ Some (InProgress v s) → v.worker < worker_set.count)
+      → ((v : Run) (write : ℕ) → run ≡ Some (InProgress v (ClosingPipe write)) → ⊥)
+      → MayTouchPipe m run (worker_set.job_queue k)
+      → (v : Run) × (s : Step) × (run ≡ Some (InProgress v s)) × (v.worker ≡ k)
+  own-job_queue (Some AwaitingWorker) k lt among no_returns may =
       absurd (no-pipe-there m (ap (λ j. (pipe_at m j).writing) may ∙ job_queue-writing k lt))
-  own-job_queue (Some (Runs v (Hands j f))) k lt among no_returns may =
-      let here = all.job_queues.job_queues v.worker (among Awaits (Hands j f) v refl) in
+  own-job_queue (Some (InProgress v (WritingJob j f))) k lt among no_returns may =
+      let here = all.job_queues.job_queues v.worker (among AwaitingWorker (WritingJob j f) v refl) in
       let same : worker_set.job_queue v.worker ≡ worker_set.job_queue k =
       write-inj (worker_set.job_queue v.worker) (worker_set.job_queue k) (sym here ∙ may) in
-      (v, Hands j f, refl, laws.apart v.worker k (among Awaits (Hands j f) v refl) lt same)
+      (v, WritingJob j f, refl, laws.apart v.worker k (among AwaitingWorker (WritingJob j f) v refl) lt same)
     where
       write-inj : (a b : ℕ) → Some (on.WriteEnd a) ≡ Some (on.WriteEnd b) → a ≡ b
       write-inj a b e = cc
-  own-job_queue (Some (Runs v (Returns write))) k lt among no_returns may = absurd (no_returns v write refl)
-  own-job_queue (Some (Runs v (Gives write))) k lt among no_returns may = absurd (not-job_queue k v.from lt may)
-  own-job_queue (Some (Runs v s)) k lt among no_returns may = absurd (not-job_queue k v.from lt may)
+  own-job_queue (Some (InProgress v (ClosingPipe write))) k lt among no_returns may = absurd (no_returns v write refl)
+  own-job_queue (Some (InProgress v (GivingPipe write))) k lt among no_returns may =
+      absurd (not-job_queue k v.from lt may)
+  own-job_queue (Some (InProgress v s)) k lt among no_returns may = absurd (not-job_queue k v.from lt may)
   own-job_queue run k lt among no_returns may = absurd may

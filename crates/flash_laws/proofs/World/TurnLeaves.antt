@@ -36,7 +36,7 @@ use Rattle.flash_laws.specs.Run.Stages.{HasWorkerAt}
 use Rattle.flash_laws.specs.declared.script_run.Run.{Run}
 use Rattle.flash_laws.specs.declared.script_run.Step.{Step}
 use Rattle.flash_laws.specs.declared.script_run.Running.{Running}
-use Rattle.flash_laws.specs.declared.script_run.Running.TheVariants.{Runs}
+use Rattle.flash_laws.specs.declared.script_run.Running.TheVariants.{InProgress}
 use Rattle.flash_laws.proofs.Forms.{of}
 use Rattle.flash_laws.proofs.Lists.{clash, not-equal, differ}
 use Rattle.flash_laws.proofs.World.AllLaws.{AllLaws}
@@ -95,7 +95,7 @@ pub record IsTurn (site_contents : SiteContents) (worker_set : WorkerSet) (m n :
 pub record IsItsOwn (worker_set : WorkerSet) (m : State) (clients : List (Option Client)) (k q : ℕ) : Type 0 where
   pub job_queues : (l : ℕ) → l < worker_set.count → l ≢ k → worker_set.job_queue l ≢ q
   pub pipes : (fd : ℕ) (y : Client) (run : Run) (step : Step) (p : ℕ) → in_place clients fd ≡ Some y
-      → y.run ≡ Some (Runs run step)
+      → y.run ≡ Some (InProgress run step)
       → is_run_by y k ≡ false → descriptor m server run.from ≡ Some (on.ReadEnd p) → has_fd y run.from ≡ true
       → ((l : ℕ) → l < worker_set.count → worker_set.job_queue l ≢ p) → p ≢ q
 
@@ -153,7 +153,7 @@ job_queue-in_slots_again : (worker_set : WorkerSet) (n : State) (k : ℕ)
     (o : Progress) (y : Running)
     → has_worker y k ≡ false → HasWorkerAt worker_set n process_slots made o y
     → HasWorkerAt worker_set n (slice_set process_slots k next) made o y
-job_queue-in_slots_again worker_set n k process_slots next made o (Runs run s) none h = record {
+job_queue-in_slots_again worker_set n k process_slots next made o (InProgress run s) none h = record {
   process_slot = h.process_slot;
   sits = set-other process_slots k run.worker next (λ same. differ run.worker k none (sym same)) ∙ h.sits;
   stage = h.stage;

@@ -45,8 +45,8 @@ IsProper (refuse status head_only close) = IsTrue (is_error_status status)
 
 -- whether there is no request
 abbrev pub is_at_rest : Phase → Bool
-is_at_rest phase.Rests = true
-is_at_rest (phase.Got a) = true
+is_at_rest phase.Receiving = true
+is_at_rest (phase.DroppingInput a) = true
 is_at_rest d = false
 
 -- All is answered: the last response closes the connection, or the stream is at its end, and no request is left.
@@ -102,13 +102,13 @@ module _ (site_contents : SiteContents) where
     pub found : site_contents.finds (name_of q) ≡ Found (content m number)
 
   abbrev pub Finds : State → Answer → (script : List ℕ) → Phase → Type 0
-  Finds m q script (phase.Reads f) = FindsFile m q f
-  Finds m q script (phase.Shuts f (Text a true)) = HasText q script
-  Finds m q script (phase.Shuts f k) = FileResultIsShort k
-  Finds m q script (phase.Picks a from to len) = len ≤ most_read
-  Finds m q script (phase.Spares a Script) = HasText q script
-  Finds m q script (phase.Spares a k) = ContentIsShort k
-  Finds m q script (phase.Heads k) = ContentIsShort k
+  Finds m q script (phase.Reading f) = FindsFile m q f
+  Finds m q script (phase.ClosingFile f (Text a true)) = HasText q script
+  Finds m q script (phase.ClosingFile f k) = FileResultIsShort k
+  Finds m q script (phase.Slicing a from to len) = len ≤ most_read
+  Finds m q script (phase.DroppingWhole a Script) = HasText q script
+  Finds m q script (phase.DroppingWhole a k) = ContentIsShort k
+  Finds m q script (phase.MakingHead k) = ContentIsShort k
   Finds m q script d = ⊤
 
   -- all is answered, and the connection will only be closed
@@ -153,7 +153,7 @@ module _ (site_contents : SiteContents) where
   -- The script that a client requested, and its output.
   pub record IsScript (x : Client) (w : Wanted) : Type 0 where
     pub asks : x.conn.q ≡ serve w
-    pub stands : x.conn.phase ≡ phase.Heads Script
+    pub stands : x.conn.phase ≡ phase.MakingHead Script
     pub get : IsFalse w.head_only
     pub is_for : IsTrue (is_for_script site_contents.scripts (serve w))
     pub text : List ℕ

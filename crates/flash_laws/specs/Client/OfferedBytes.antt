@@ -35,9 +35,9 @@ use Rattle.flash_laws.specs.Run.{job_pipe, is_over}
 use Rattle.flash_laws.specs.Site.{server}
 use Rattle.flash_laws.specs.declared.phase.Phase.{Phase}
 use Rattle.flash_laws.specs.declared.phase.Phase.TheVariants as phase
-use Rattle.flash_laws.specs.declared.script_run.Step.TheVariants.{Hands}
+use Rattle.flash_laws.specs.declared.script_run.Step.TheVariants.{WritingJob}
 use Rattle.flash_laws.specs.declared.script_run.Running.{Running}
-use Rattle.flash_laws.specs.declared.script_run.Running.TheVariants.{Runs}
+use Rattle.flash_laws.specs.declared.script_run.Running.TheVariants.{InProgress}
 
 -- a client for which this request begins
 abbrev pub begun : (kept : List ℕ) → Answer → Client
@@ -53,7 +53,7 @@ is_ending x = by x.run
 
 -- The result of the calls for a file or for the text of a script, after the reply to one.
 abbrev pub ConnLearns : (script : Bool) → Phase → Reply → (received : List ℕ) → (before after : Known) → Type 0
-ConnLearns true (phase.Reads f) (reply.Agg n) received before after = after ≡ of_text received
+ConnLearns true (phase.Reading f) (reply.Agg n) received before after = after ≡ of_text received
 ConnLearns script d r received (OfFile o) after = (p : Outcome) × file.Learns d r received o p × (after ≡ OfFile p)
 ConnLearns script d r received (OfScript text o) after = after ≡ OfScript text o
 
@@ -83,7 +83,7 @@ abbrev pub HandsJob : Client → (fd a : ℕ) → Type 0
 HandsJob x fd a = by x.run
   where
     by : Option Running → Type 0
-    by (Some (Runs y (Hands j f))) = (fd ≡ job_pipe y.worker) × (a ≡ j)
+    by (Some (InProgress y (WritingJob j f))) = (fd ≡ job_pipe y.worker) × (a ≡ j)
     by y = ⊥
 
 -- whether it has a phase that ends
@@ -115,7 +115,7 @@ abbrev pub kept_by : Client → Reply → (received : List ℕ) → List ℕ
 kept_by x r received = by x.run x.conn.phase r
   where
     by : Option Running → Phase → Reply → List ℕ
-    by None phase.Rests (reply.Agg n) = x.conn.kept ++ received
+    by None phase.Receiving (reply.Agg n) = x.conn.kept ++ received
     by y d r = x.conn.kept
 
 -- The client advances as its run does, with its connection unchanged; once the run is over, the connection continues
@@ -189,7 +189,7 @@ pub record ClientOffersTheResponse (scripts : Bool) : Type 0 where
       → IsAsItsRun scripts m x w y text o
   -- the text of a script is read whole, also for HEAD
   pub whole : (fd f : ℕ) (x : Client) → x.run ≡ None → IsTrue (is_for_script scripts x.conn.q)
-      → x.conn.phase ≡ phase.Reads f
+      → x.conn.phase ≡ phase.Reading f
       → wants scripts fd x ≡ call.IolRead f most_read
   -- replies leave its request unchanged, and append the bytes read to its buffered stream
   pub keeps : (worker : ℕ) (x : Client) (r : Reply) (received : List ℕ)

@@ -58,23 +58,23 @@ pub record IsNextOf (m : State) (q : Answer) (known : Known) (a taken : ℕ) : T
 
 -- whether the text of a script is read but has not begun to run
 abbrev pub is_read : Phase → Bool
-is_read (phase.Shuts f (Text a true)) = true
-is_read (phase.Spares a Script) = true
+is_read (phase.ClosingFile f (Text a true)) = true
+is_read (phase.DroppingWhole a Script) = true
 is_read d = false
 
 -- whether a file, or a script, is still to be opened or read
 abbrev pub is_opening : Phase → Bool
-is_opening phase.Opens = true
-is_opening (phase.Reads f) = true
+is_opening phase.Opening = true
+is_opening (phase.Reading f) = true
 is_opening d = false
 
 -- whether nothing of a response is being made or sent
 abbrev pub is_silent : Phase → Bool
-is_silent phase.Rests = true
-is_silent (phase.Got a) = true
-is_silent (phase.Breaks piece a more) = true
-is_silent (phase.Drops a more) = true
-is_silent phase.Closes = true
+is_silent phase.Receiving = true
+is_silent (phase.DroppingInput a) = true
+is_silent (phase.AbortingPiece piece a more) = true
+is_silent (phase.Aborting a more) = true
+is_silent phase.Disconnecting = true
 is_silent d = is_read d
 
 -- the run is to begin, with the text that was read
@@ -89,8 +89,8 @@ IsTaken w o = IsLeft w o []
 
 -- After the run the connection is idle if all of the response was taken and permits it; otherwise it is to be closed.
 abbrev pub IsAfter : Wanted → Progress → Phase → Type 0
-IsAfter w o phase.Rests = IsLeft w o [] × IsTrue w.keep
-IsAfter w o (phase.Got a) = IsLeft w o [] × IsTrue w.keep
+IsAfter w o phase.Receiving = IsLeft w o [] × IsTrue w.keep
+IsAfter w o (phase.DroppingInput a) = IsLeft w o [] × IsTrue w.keep
 IsAfter w o d = IsTaken w o
 
 abbrev pub ReadsOn : (read : Bool) → Wanted → Client → (text : List ℕ) → Progress → Type 0

@@ -7,12 +7,12 @@ use Rattle.flash_laws.specs.Serves.Rounds.{leaves_off}
 use Rattle.flash_laws.specs.Run.Wants.{makes_any}
 use Rattle.flash_laws.specs.Conn.Wants as wanting
 use Rattle.flash_laws.specs.declared.phase.Phase.{Phase}
-use Rattle.flash_laws.specs.declared.phase.Phase.TheVariants.{Reads}
+use Rattle.flash_laws.specs.declared.phase.Phase.TheVariants.{Reading}
 use Rattle.flash_laws.specs.declared.script_run.Running.{Running}
 
 -- it was reading, and a byte arrived: of its stream, or of the text of a script
 abbrev pub Receives : (script : Bool) → Phase → Reply → (received : List ℕ) → Type 0
-Receives true (Reads f) (reply.Agg n) received = 0 < length received
+Receives true (Reading f) (reply.Agg n) received = 0 < length received
 Receives script d r received = wanting.Receives d r received
 
 abbrev pub ClientReceives : (scripts : Bool) → Client → Reply → (received : List ℕ) → Type 0

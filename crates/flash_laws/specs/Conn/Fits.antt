@@ -18,9 +18,11 @@ use Rattle.flash_laws.specs.declared.phase.Payload.{Payload}
 use Rattle.flash_laws.specs.declared.phase.Payload.TheVariants.{Body, Bare, Error, Script}
 use Rattle.flash_laws.specs.declared.phase.Sending.{Sending}
 use Rattle.flash_laws.specs.declared.phase.Phase.{Phase}
-use Rattle.flash_laws.specs.declared.phase.Phase.TheVariants.{Rests, Got, Opens, Reads as Reading, Shuts, Picks, Spares}
-use Rattle.flash_laws.specs.declared.phase.Phase.TheVariants.{Heads, Joins, Sends, Cuts, Offers, Swaps, Sent, Breaks}
-use Rattle.flash_laws.specs.declared.phase.Phase.TheVariants.{Drops, Closes, Over}
+use Rattle.flash_laws.specs.declared.phase.Phase.TheVariants.{Receiving, DroppingInput, Opening, Reading as Reading}
+use Rattle.flash_laws.specs.declared.phase.Phase.TheVariants.{ClosingFile, Slicing, DroppingWhole}
+use Rattle.flash_laws.specs.declared.phase.Phase.TheVariants.{MakingHead, Joining, SendingWhole, CuttingPiece}
+use Rattle.flash_laws.specs.declared.phase.Phase.TheVariants.{SendingPiece, DroppingPiece, DroppingSent, AbortingPiece}
+use Rattle.flash_laws.specs.declared.phase.Phase.TheVariants.{Aborting, Disconnecting, Closed}
 
 -- ---- what the machine has of a response: the server offers the next bytes of the expected response
 
@@ -114,48 +116,48 @@ IsServed (refuse status head_only close) = ⊥
 
 -- The machine has what a phase needs; `expected` is the response to the request in progress.
 abbrev pub Has : State → Answer → (expected : List ℕ) → Phase → Type 0
-Has m q expected Rests = ⊤
-Has m q expected (Got a) = IsReadable m a
-Has m q expected Opens = IsServed q
+Has m q expected Receiving = ⊤
+Has m q expected (DroppingInput a) = IsReadable m a
+Has m q expected Opening = IsServed q
 Has m q expected (Reading f) = IsServed q × IsFile m f
-Has m q expected (Shuts f k) = IsFile m f × HasFileResult m q expected k
-Has m q expected (Picks a from to len) = HasPart m expected (text_of q (Body a 0 len)) a from to
-Has m q expected (Spares a k) = IsReadable m a × IsFalse (content_agg k a) × HasContent m q expected k
-Has m q expected (Heads k) = HasContent m q expected k
-Has m q expected (Joins a size body len) = HoldsRestFrom m expected (whole a size 0 (Some (body, len)))
+Has m q expected (ClosingFile f k) = IsFile m f × HasFileResult m q expected k
+Has m q expected (Slicing a from to len) = HasPart m expected (text_of q (Body a 0 len)) a from to
+Has m q expected (DroppingWhole a k) = IsReadable m a × IsFalse (content_agg k a) × HasContent m q expected k
+Has m q expected (MakingHead k) = HasContent m q expected k
+Has m q expected (Joining a size body len) = HoldsRestFrom m expected (whole a size 0 (Some (body, len)))
     × (size + len ≤ MAX_AGGREGATE_BYTES)
-Has m q expected (Sends s) = HoldsRestFrom m expected s × (s.from ≡ 0)
-Has m q expected (Cuts s) = HoldsRestFrom m expected s × (s.from < s.len)
-Has m q expected (Offers s piece) = HoldsPiece m expected s piece
-Has m q expected (Swaps s piece) = IsReadable m piece
+Has m q expected (SendingWhole s) = HoldsRestFrom m expected s × (s.from ≡ 0)
+Has m q expected (CuttingPiece s) = HoldsRestFrom m expected s × (s.from < s.len)
+Has m q expected (SendingPiece s piece) = HoldsPiece m expected s piece
+Has m q expected (DroppingPiece s piece) = IsReadable m piece
     × IsFalse ((s.agg == piece) || has_followed s.more piece) × HoldsRestFrom m expected s
-Has m q expected (Sent a taken more) = HoldsMore m expected a taken more
-Has m q expected (Breaks piece a more) = IsReadable m piece
+Has m q expected (DroppingSent a taken more) = HoldsMore m expected a taken more
+Has m q expected (AbortingPiece piece a more) = IsReadable m piece
     × IsFalse ((a == piece) || has_followed more piece) × HoldsUnsent m a more
-Has m q expected (Drops a more) = HoldsUnsent m a more
-Has m q expected Closes = ⊤
-Has m q expected Over = ⊥
+Has m q expected (Aborting a more) = HoldsUnsent m a more
+Has m q expected Disconnecting = ⊤
+Has m q expected Closed = ⊥
 
 -- ---- the answered requests
 
 -- whether nothing more is sent
 abbrev pub quits : Phase → Bool
-quits (Breaks piece a more) = true
-quits (Drops a more) = true
-quits Closes = true
-quits Over = true
+quits (AbortingPiece piece a more) = true
+quits (Aborting a more) = true
+quits Disconnecting = true
+quits Closed = true
 quits d = false
 
 -- whether the next call closes its descriptor
 abbrev pub is_closing : Phase → Bool
-is_closing Closes = true
-is_closing Over = true
+is_closing Disconnecting = true
+is_closing Closed = true
 is_closing d = false
 
 -- the request in progress
 abbrev pub asked : Answer → Phase → List Answer
-asked q Rests = []
-asked q (Got a) = []
+asked q Receiving = []
+asked q (DroppingInput a) = []
 asked q d = q ∷ []
 
 -- the contents of the aggregate in a reply

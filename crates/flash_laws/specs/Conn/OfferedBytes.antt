@@ -26,8 +26,9 @@ use Rattle.flash_http.specs.Request.{Answer, serve, refuse}
 use Rattle.flash_laws.specs.Answers.{Outcome, Found, Failed, error_text, response}
 use Rattle.flash_laws.specs.Conn.{Conn, uses_agg, uses_fd, wants, begins, status_of, after_reply}
 use Rattle.flash_laws.specs.declared.phase.Phase.{Phase}
-use Rattle.flash_laws.specs.declared.phase.Phase.TheVariants.{Rests, Opens, Reads, Sends, Cuts, Offers, Swaps, Sent}
-use Rattle.flash_laws.specs.declared.phase.Phase.TheVariants.{Breaks, Drops, Closes, Over}
+use Rattle.flash_laws.specs.declared.phase.Phase.TheVariants.{Receiving, Opening, Reading, SendingWhole, CuttingPiece}
+use Rattle.flash_laws.specs.declared.phase.Phase.TheVariants.{SendingPiece, DroppingPiece, DroppingSent}
+use Rattle.flash_laws.specs.declared.phase.Phase.TheVariants.{AbortingPiece, Aborting, Disconnecting, Closed}
 use Rattle.flash_laws.specs.Conn.Fits.{Has, Names, is_closing}
 use Rattle.flash_laws.specs.Conn.Progress.{Rank, Nears, CanMake, is_busy}
 use Rattle.flash_laws.specs.Conn.Policy.{is_later}
@@ -45,20 +46,20 @@ FirstCall (refuse status head_only close) k = k ≡ call.AggMake (error_text sta
 -- The outcome of the calls, after the reply to one: the file is refused, its bytes are read, or its length is returned,
 -- as that of some bytes; other calls leave it unchanged.
 abbrev pub Learns : Phase → Reply → (received : List ℕ) → (before after : Outcome) → Type 0
-Learns Opens (reply.Refused x) received before after = after ≡ Failed (status_of x)
-Learns (Reads f) (reply.Agg n) received before after = after ≡ Found received
-Learns (Reads f) (reply.Count n) received before after = (bytes : List ℕ) × (n ≡ length bytes)
+Learns Opening (reply.Refused x) received before after = after ≡ Failed (status_of x)
+Learns (Reading f) (reply.Agg n) received before after = after ≡ Found received
+Learns (Reading f) (reply.Count n) received before after = (bytes : List ℕ) × (n ≡ length bytes)
     × (after ≡ Found bytes)
-Learns (Reads f) (reply.Refused x) received before after = after ≡ Failed (status_of x)
+Learns (Reading f) (reply.Refused x) received before after = after ≡ Failed (status_of x)
 Learns d r received before after = after ≡ before
 
 -- the number of bytes of the response that are taken
 abbrev pub taken_of : Phase → ℕ
-taken_of (Sends s) = s.taken
-taken_of (Cuts s) = s.taken
-taken_of (Offers s piece) = s.taken
-taken_of (Swaps s piece) = s.taken
-taken_of (Sent a taken more) = taken
+taken_of (SendingWhole s) = s.taken
+taken_of (CuttingPiece s) = s.taken
+taken_of (SendingPiece s piece) = s.taken
+taken_of (DroppingPiece s piece) = s.taken
+taken_of (DroppingSent a taken more) = taken
 taken_of d = 0
 
 -- the number of bytes that the connection at fd takes by this reply
@@ -68,8 +69,8 @@ newly_taken fd k r = 0
 
 -- whether queued output is dropped
 abbrev pub is_dropping : Phase → Bool
-is_dropping (Breaks piece a more) = true
-is_dropping (Drops a more) = true
+is_dropping (AbortingPiece piece a more) = true
+is_dropping (Aborting a more) = true
 is_dropping d = false
 
 -- the bytes of an aggregate are the next of the response, after those that are taken
@@ -115,7 +116,7 @@ pub record OffersTheResponse : Type 0 where
       → IsTrue (is_busy (after_reply x r received).phase)
       → taken_of (after_reply x r received).phase ≡ taken_of x.phase + newly_taken fd (wants fd x) r
   -- after it is sent all of it is taken
-  pub whole : (m : State) (x : Conn) (o : Outcome) (a taken : ℕ) → x.phase ≡ Sent a taken None → HasAnswer m x o
+  pub whole : (m : State) (x : Conn) (o : Outcome) (a taken : ℕ) → x.phase ≡ DroppingSent a taken None → HasAnswer m x o
       → drop taken (response x.q o) ≡ []
   -- it is aborted only if its peer is gone
   pub breaks : (m n : State) (fd c : ℕ) (x : Conn) (r : Reply) (received : List ℕ) (o : Outcome)
@@ -125,9 +126,9 @@ pub record OffersTheResponse : Type 0 where
   -- a connection that is to be closed is closed by its next call, and then over
   pub closes : (m n : State) (fd c : ℕ) (x : Conn) (r : Reply) (received : List ℕ) → IsOrderly m
       → IsTrue (is_live m server)
-      → descriptor m server fd ≡ Some (on.Connection c) → x.phase ≡ Closes
+      → descriptor m server fd ≡ Some (on.Connection c) → x.phase ≡ Disconnecting
       → StepsTo m (event.Call server (wants fd x)) r n
-      → (r ≡ reply.Done) × ((after_reply x r received).phase ≡ Over) × IsTrue (conn_at n c).closed
+      → (r ≡ reply.Done) × ((after_reply x r received).phase ≡ Closed) × IsTrue (conn_at n c).closed
   -- each reply reduces the rank of a request, unless its call is retried later
   pub rank : Conn → Rank
   pub nears : (m n : State) (fd c : ℕ) (x : Conn) (r : Reply) (received : List ℕ) (o : Outcome) → IsOrderly m
@@ -136,7 +137,7 @@ pub record OffersTheResponse : Type 0 where
       → Nears rank x r (after_reply x r received)
   -- a connection that reads the stream retries only later, or if the bytes are not for the server
   pub reads : (m n : State) (fd c : ℕ) (x : Conn) (r : Reply) (received : List ℕ) → IsTrue (is_live m server)
-      → descriptor m server fd ≡ Some (on.Connection c) → x.phase ≡ Rests
+      → descriptor m server fd ≡ Some (on.Connection c) → x.phase ≡ Receiving
       → StepsTo m (event.Call server (wants fd x)) r n → after_reply x r received ≡ x
       → IsTrue (is_later r) ⊎ ((p : ℕ) × IsHidden m server p (conn_at m c).incoming)
   -- a successful call is not repeated

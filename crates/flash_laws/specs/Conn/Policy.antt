@@ -11,7 +11,7 @@ use Rattle.iol_core.specs.declared.events.Reply.{Reply}
 use Rattle.iol_core.specs.declared.events.Reply.TheVariants as reply
 use Rattle.flash_laws.specs.Conn.{Conn}
 use Rattle.flash_laws.specs.declared.phase.Phase.{Phase}
-use Rattle.flash_laws.specs.declared.phase.Phase.TheVariants.{Rests, Sent}
+use Rattle.flash_laws.specs.declared.phase.Phase.TheVariants.{Receiving, DroppingSent}
 use Rattle.flash_laws.specs.declared.phase.PendingCall.{PendingCall}
 use Rattle.flash_laws.specs.declared.phase.PendingCall.TheVariants.{Nothing, Accepting, At}
 
@@ -34,7 +34,7 @@ abbrev pub is_bare : Conn → Bool
 is_bare x = by x.phase
   where
     by : Phase → Bool
-    by Rests = length x.kept == 0
+    by Receiving = length x.kept == 0
     by d = false
 
 -- whether its response is taken whole, and more input is buffered, in which the next request may begin
@@ -42,7 +42,7 @@ abbrev pub has_answered : Conn → Bool
 has_answered x = by x.phase
   where
     by : Phase → Bool
-    by (Sent a taken None) = not (length x.kept == 0)
+    by (DroppingSent a taken None) = not (length x.kept == 0)
     by d = false
 
 -- whether its turn passes to the next: its call is to be retried later, its response is taken whole and more input is

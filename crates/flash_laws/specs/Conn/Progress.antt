@@ -11,7 +11,7 @@ use Rattle.iol_core.specs.declared.events.Reply.{Reply}
 use Rattle.flash_laws.specs.Conn.Policy.{is_later}
 use Rattle.flash_laws.specs.Site.{server}
 use Rattle.flash_laws.specs.declared.phase.Phase.{Phase}
-use Rattle.flash_laws.specs.declared.phase.Phase.TheVariants.{Rests, Closes, Over}
+use Rattle.flash_laws.specs.declared.phase.Phase.TheVariants.{Receiving, Disconnecting, Closed}
 
 abbrev pub Rank : Type 0
 Rank = ℕ × ℕ
@@ -37,7 +37,7 @@ CanMake m k = ⊤
 
 -- whether a phase that ends is in progress: not reading of the stream, or the end of the connection
 abbrev pub is_busy : Phase → Bool
-is_busy Rests = false
-is_busy Closes = false
-is_busy Over = false
+is_busy Receiving = false
+is_busy Disconnecting = false
+is_busy Closed = false
 is_busy d = true

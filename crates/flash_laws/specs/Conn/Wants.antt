@@ -9,12 +9,12 @@ use Rattle.flash_laws.specs.Conn.{Conn, after_reply}
 use Rattle.flash_laws.specs.Conn.Policy.{leaves_off}
 use Rattle.flash_laws.specs.Site.OtherConns.{left_over}
 use Rattle.flash_laws.specs.declared.phase.Phase.{Phase}
-use Rattle.flash_laws.specs.declared.phase.Phase.TheVariants.{Rests, Opens, Heads}
+use Rattle.flash_laws.specs.declared.phase.Phase.TheVariants.{Receiving, Opening, MakingHead}
 
 -- whether the call of a phase has bytes of its own: a name, or a head
 abbrev pub has_bytes : Phase → Bool
-has_bytes Opens = true
-has_bytes (Heads k) = true
+has_bytes Opening = true
+has_bytes (MakingHead k) = true
 has_bytes d = false
 
 -- whether a request can begin: its head is complete, or cannot become complete
@@ -27,12 +27,12 @@ abbrev pub needs_memory : Conn → Bool
 needs_memory x = by x.phase
   where
     by : Phase → Bool
-    by Rests = can_begin (window_in x.kept)
+    by Receiving = can_begin (window_in x.kept)
     by d = has_bytes d
 
 -- it was reading, and a byte arrived
 abbrev pub Receives : Phase → Reply → (received : List ℕ) → Type 0
-Receives Rests (reply.Agg n) received = 0 < length received
+Receives Receiving (reply.Agg n) received = 0 < length received
 Receives d r received = ⊥
 
 -- a connection needs memory after a reply: to buffer bytes, or to continue at once

@@ -20,12 +20,17 @@ use Rattle.flash_laws.specs.declared.phase.Phase.TheVariants as phase
 use Rattle.flash_laws.specs.declared.script_run.TheConstants.{CHUNK_BYTES}
 use Rattle.flash_laws.specs.declared.script_run.Run.{Run}
 use Rattle.flash_laws.specs.declared.script_run.Step.{Step}
-use Rattle.flash_laws.specs.declared.script_run.Step.TheVariants.{Gives, Makes, Hands, Lets, Heads, Sending, Receives}
-use Rattle.flash_laws.specs.declared.script_run.Step.TheVariants.{Spills, Gathers, Frames, Wraps, Trims, Ended, Unholds}
-use Rattle.flash_laws.specs.declared.script_run.Step.TheVariants.{Stops, Unframes, Lasts, WrapsLast, TrimsLast, Unwraps}
-use Rattle.flash_laws.specs.declared.script_run.Step.TheVariants.{Returns, Lapses, Fails}
+use Rattle.flash_laws.specs.declared.script_run.Step.TheVariants.{GivingPipe, MakingJob, WritingJob, DroppingJob}
+use Rattle.flash_laws.specs.declared.script_run.Step.TheVariants.{MakingHead, SendingPart, ReadingOutput}
+use Rattle.flash_laws.specs.declared.script_run.Step.TheVariants.{DroppingOutput, JoiningOutput, MakingFrame}
+use Rattle.flash_laws.specs.declared.script_run.Step.TheVariants.{FillingFrame, DroppingHeld, DroppingEnd}
+use Rattle.flash_laws.specs.declared.script_run.Step.TheVariants.{DiscardingHeld}
+use Rattle.flash_laws.specs.declared.script_run.Step.TheVariants.{ClosingOutput, DroppingFrame, MakingEnd, FillingEnd}
+use Rattle.flash_laws.specs.declared.script_run.Step.TheVariants.{DroppingLast, DroppingLastFrame}
+use Rattle.flash_laws.specs.declared.script_run.Step.TheVariants.{ClosingPipe, DiscardingJob, Failing}
 use Rattle.flash_laws.specs.declared.script_run.Running.{Running}
-use Rattle.flash_laws.specs.declared.script_run.Running.TheVariants.{Awaits, Runs, Leaves, Closes}
+use Rattle.flash_laws.specs.declared.script_run.Running.TheVariants.{AwaitingWorker, InProgress, Finishing}
+use Rattle.flash_laws.specs.declared.script_run.Running.TheVariants.{Disconnecting}
 
 -- ---- the results of the calls of a run so far
 
@@ -148,13 +153,13 @@ last_agg a (Some x) = None
 
 -- the aggregate that is being sent, with none to follow it
 abbrev pub sent_agg : Phase → Option ℕ
-sent_agg (phase.Sends s) = last_agg s.agg s.more
-sent_agg (phase.Cuts s) = last_agg s.agg s.more
-sent_agg (phase.Offers s piece) = last_agg s.agg s.more
-sent_agg (phase.Swaps s piece) = last_agg s.agg s.more
-sent_agg (phase.Sent a taken more) = last_agg a more
-sent_agg (phase.Breaks piece a more) = last_agg a more
-sent_agg (phase.Drops a more) = last_agg a more
+sent_agg (phase.SendingWhole s) = last_agg s.agg s.more
+sent_agg (phase.CuttingPiece s) = last_agg s.agg s.more
+sent_agg (phase.SendingPiece s piece) = last_agg s.agg s.more
+sent_agg (phase.DroppingPiece s piece) = last_agg s.agg s.more
+sent_agg (phase.DroppingSent a taken more) = last_agg a more
+sent_agg (phase.AbortingPiece piece a more) = last_agg a more
+sent_agg (phase.Aborting a more) = last_agg a more
 sent_agg d = None
 
 -- it has these bytes
@@ -224,7 +229,7 @@ IsSpare m a next = IsReadable m a × IsFalse (step_agg next a)
 
 -- an error is to be made, or the whole expected response is being sent, with nothing after it
 abbrev pub IsSending : State → (expected : List ℕ) → Phase → Type 0
-IsSending m expected (phase.Heads (Error status)) = ⊤
+IsSending m expected (phase.MakingHead (Error status)) = ⊤
 IsSending m expected d = IsPart m (sent_agg d) expected × (taken_of d ≤ length expected)
 
 -- The rest of the response is sent: for the phases of any response it is the whole expected response.
@@ -242,45 +247,47 @@ HasNone w o = IsLeft w o [] × (IsFalse w.keep ⊎ IsFalse w.chunked)
 -- the rest is sent; or nothing is left, and the connection continues if the response permits it, and is closed
 -- otherwise
 abbrev pub HasLeft : State → Wanted → Progress → Phase → Type 0
-HasLeft m w o phase.Rests = IsLeft w o [] × IsTrue w.keep
-HasLeft m w o phase.Closes = HasNone w o
+HasLeft m w o phase.Receiving = IsLeft w o [] × IsTrue w.keep
+HasLeft m w o phase.Disconnecting = HasNone w o
 HasLeft m w o d = HasRest m w o d
 
 -- `job` is the text of the job, by the descriptor that it names.
 module _ (job : (fd : ℕ) → List ℕ) where
   abbrev pub HasStep : State → Wanted → Progress → Run → Step → Type 0
-  HasStep m w o run (Gives write) = HasPipe m run write × IsFresh run o
-  HasStep m w o run (Makes f) = IsReading m run × IsFresh run o
-  HasStep m w o run (Hands j f) = IsReading m run × (readable_at m server j ≡ Some (job f)) × IsFresh run o
-  HasStep m w o run (Lets j) = IsReading m run × IsReadable m j × IsFresh run o
-  HasStep m w o run Heads = IsReading m run × IsFresh run o
-  HasStep m w o run (Sending d frame) = HasPart m w o run d frame
-  HasStep m w o run (Receives held frame) = HasReceived m w o run held frame
-  HasStep m w o run (Spills a frame) = IsSpare m a (Receives None frame) × HasReceived m w o run None frame
-  HasStep m w o run (Gathers held size piece len frame) = HasPiece m w o run held size piece len frame
-  HasStep m w o run (Frames held) = HasChunk m w o run held
-  HasStep m w o run (Wraps held frame) = HasChunk m w o run held × HasFrame m (Some frame) × IsFalse (frame == held)
-  HasStep m w o run (Trims held chunk len frame) = IsSpare m held (Sending (sends_part chunk len) (Some frame))
+  HasStep m w o run (GivingPipe write) = HasPipe m run write × IsFresh run o
+  HasStep m w o run (MakingJob f) = IsReading m run × IsFresh run o
+  HasStep m w o run (WritingJob j f) = IsReading m run × (readable_at m server j ≡ Some (job f)) × IsFresh run o
+  HasStep m w o run (DroppingJob j) = IsReading m run × IsReadable m j × IsFresh run o
+  HasStep m w o run MakingHead = IsReading m run × IsFresh run o
+  HasStep m w o run (SendingPart d frame) = HasPart m w o run d frame
+  HasStep m w o run (ReadingOutput held frame) = HasReceived m w o run held frame
+  HasStep m w o run (DroppingOutput a frame) = IsSpare m a (ReadingOutput None frame) × HasReceived m w o run None frame
+  HasStep m w o run (JoiningOutput held size piece len frame) = HasPiece m w o run held size piece len frame
+  HasStep m w o run (MakingFrame held) = HasChunk m w o run held
+  HasStep m w o run (FillingFrame held frame) = HasChunk m w o run held × HasFrame m (Some frame)
+      × IsFalse (frame == held)
+  HasStep m w o run (DroppingHeld held chunk len frame) =
+      IsSpare m held (SendingPart (sends_part chunk len) (Some frame))
       × HasPart m w o run (sends_part chunk len) (Some frame)
-  HasStep m w o run (Ended a held frame) = IsSpare m a (Stops held frame) × IsReading m run
+  HasStep m w o run (DroppingEnd a held frame) = IsSpare m a (ClosingOutput held frame) × IsReading m run
       × HasAll m w o run held frame
-  HasStep m w o run (Unholds held frame) = IsSpare m held (Stops None frame) × IsReading m run
+  HasStep m w o run (DiscardingHeld held frame) = IsSpare m held (ClosingOutput None frame) × IsReading m run
       × HasAll m w o run None frame
-  HasStep m w o run (Stops held frame) = IsReading m run × HasAll m w o run held frame
-  HasStep m w o run (Unframes f held) = HasAll m w o run held (Some f)
-  HasStep m w o run (Lasts held) = IsTrue w.chunked × IsFalse run.broken × HasAll m w o run held None
-  HasStep m w o run (WrapsLast held size frame) = HasLast m w o held size frame
-  HasStep m w o run (TrimsLast held chunk len frame) = IsSpare m held (Unwraps frame chunk len)
-      × IsSpare m frame (Lapses chunk)
+  HasStep m w o run (ClosingOutput held frame) = IsReading m run × HasAll m w o run held frame
+  HasStep m w o run (DroppingFrame f held) = HasAll m w o run held (Some f)
+  HasStep m w o run (MakingEnd held) = IsTrue w.chunked × IsFalse run.broken × HasAll m w o run held None
+  HasStep m w o run (FillingEnd held size frame) = HasLast m w o held size frame
+  HasStep m w o run (DroppingLast held chunk len frame) = IsSpare m held (DroppingLastFrame frame chunk len)
+      × IsSpare m frame (DiscardingJob chunk)
       × HasEnd m w o chunk len
-  HasStep m w o run (Unwraps frame chunk len) = IsSpare m frame (Lapses chunk) × HasEnd m w o chunk len
-  HasStep m w o run (Returns write) = HasPipe m run write × IsFresh run o
-  HasStep m w o run (Lapses j) = IsReading m run × IsReadable m j × IsFresh run o
-  HasStep m w o run Fails = IsReading m run × IsFresh run o
+  HasStep m w o run (DroppingLastFrame frame chunk len) = IsSpare m frame (DiscardingJob chunk) × HasEnd m w o chunk len
+  HasStep m w o run (ClosingPipe write) = HasPipe m run write × IsFresh run o
+  HasStep m w o run (DiscardingJob j) = IsReading m run × IsReadable m j × IsFresh run o
+  HasStep m w o run Failing = IsReading m run × IsFresh run o
 
   -- The machine has what a run needs, with these results of its calls.
   abbrev pub HasRun : State → Wanted → Progress → Running → Type 0
-  HasRun m w o Awaits = o ≡ nothing_yet
-  HasRun m w o (Runs run step) = HasJobPipe m run.worker × HasStep m w o run step
-  HasRun m w o (Leaves d) = HasLeft m w o d
-  HasRun m w o Closes = HasNone w o
+  HasRun m w o AwaitingWorker = o ≡ nothing_yet
+  HasRun m w o (InProgress run step) = HasJobPipe m run.worker × HasStep m w o run step
+  HasRun m w o (Finishing d) = HasLeft m w o d
+  HasRun m w o Disconnecting = HasNone w o

@@ -20,13 +20,13 @@ use Rattle.flash_http.specs.Request.{Wanted}
 use Rattle.flash_laws.specs.Run.Fits.{Progress, HasRun}
 use Rattle.flash_laws.specs.Run.{job_pipe, uses_agg, ends_of, wants, after_reply, is_over}
 use Rattle.flash_laws.specs.Site.{server}
-use Rattle.flash_laws.specs.declared.script_run.Step.TheVariants.{Hands, Returns}
+use Rattle.flash_laws.specs.declared.script_run.Step.TheVariants.{WritingJob, ClosingPipe}
 use Rattle.flash_laws.specs.declared.script_run.Running.{Running}
-use Rattle.flash_laws.specs.declared.script_run.Running.TheVariants.{Awaits, Runs}
+use Rattle.flash_laws.specs.declared.script_run.Running.TheVariants.{AwaitingWorker, InProgress}
 
 -- whether it has this end of its pipe
 abbrev pub has_end : Running → (g : ℕ) → Bool
-has_end (Runs run step) g = ends_of run step g
+has_end (InProgress run step) g = ends_of run step g
 has_end x g = false
 
 -- the calls that a run makes
@@ -45,10 +45,10 @@ may_make k = false
 
 -- the pipe that its call may touch: a new one, that of its worker's jobs, or that of its output
 abbrev pub MayTouch : State → Running → (p : ℕ) → Type 0
-MayTouch m Awaits p = lowest m.pipes ≡ p
-MayTouch m (Runs run (Hands j f)) p = descriptor m server (job_pipe run.worker) ≡ Some (on.WriteEnd p)
-MayTouch m (Runs run (Returns write)) p = descriptor m server write ≡ Some (on.WriteEnd p)
-MayTouch m (Runs run step) p = descriptor m server run.from ≡ Some (on.ReadEnd p)
+MayTouch m AwaitingWorker p = lowest m.pipes ≡ p
+MayTouch m (InProgress run (WritingJob j f)) p = descriptor m server (job_pipe run.worker) ≡ Some (on.WriteEnd p)
+MayTouch m (InProgress run (ClosingPipe write)) p = descriptor m server write ≡ Some (on.WriteEnd p)
+MayTouch m (InProgress run step) p = descriptor m server run.from ≡ Some (on.ReadEnd p)
 MayTouch m x p = ⊥
 
 -- a call that touches only what a run has

@@ -31,11 +31,14 @@ use Rattle.flash_laws.specs.declared.phase.Phase.TheVariants as phase
 use Rattle.flash_laws.specs.declared.script_run.TheConstants.{CHUNK_BYTES}
 use Rattle.flash_laws.specs.declared.script_run.Run.{Run}
 use Rattle.flash_laws.specs.declared.script_run.Step.{Step}
-use Rattle.flash_laws.specs.declared.script_run.Step.TheVariants.{Gives, Makes, Hands, Lets, Heads, Sending, Receives}
-use Rattle.flash_laws.specs.declared.script_run.Step.TheVariants.{Ended, Unholds, Stops, Unframes, Lasts, WrapsLast}
-use Rattle.flash_laws.specs.declared.script_run.Step.TheVariants.{TrimsLast, Unwraps, Returns, Lapses, Fails}
+use Rattle.flash_laws.specs.declared.script_run.Step.TheVariants.{GivingPipe, MakingJob, WritingJob, DroppingJob}
+use Rattle.flash_laws.specs.declared.script_run.Step.TheVariants.{MakingHead, SendingPart, ReadingOutput}
+use Rattle.flash_laws.specs.declared.script_run.Step.TheVariants.{DroppingEnd, DiscardingHeld, ClosingOutput}
+use Rattle.flash_laws.specs.declared.script_run.Step.TheVariants.{DroppingFrame, MakingEnd, FillingEnd}
+use Rattle.flash_laws.specs.declared.script_run.Step.TheVariants.{DroppingLast, DroppingLastFrame, ClosingPipe}
+use Rattle.flash_laws.specs.declared.script_run.Step.TheVariants.{DiscardingJob, Failing}
 use Rattle.flash_laws.specs.declared.script_run.Running.{Running}
-use Rattle.flash_laws.specs.declared.script_run.Running.TheVariants.{Awaits, Runs, Leaves}
+use Rattle.flash_laws.specs.declared.script_run.Running.TheVariants.{AwaitingWorker, InProgress, Finishing}
 
 -- more output was read, or its end: no bytes
 abbrev pub receives_on : Progress → (received : List ℕ) → Progress
@@ -51,28 +54,28 @@ takes_on (NotRun status past) part = NotRun status (past ++ part)
 
 -- The results of the calls that send a part: all its bytes are taken after it is sent, or it is aborted.
 abbrev pub PartLearns : State → Phase → Reply → (before after : Progress) → Type 0
-PartLearns m (phase.Sent a taken None) reply.Done before after = (part : List ℕ)
+PartLearns m (phase.DroppingSent a taken None) reply.Done before after = (part : List ℕ)
     × (readable_at m server a ≡ Some part) × (after ≡ takes_on before part)
-PartLearns m (phase.Drops a None) reply.Done before after = after ≡ Broken
+PartLearns m (phase.Aborting a None) reply.Done before after = after ≡ Broken
 PartLearns m d r before after = after ≡ before
 
 -- The results of the calls, after the reply to one.
 abbrev pub StepLearns : State → Step → Reply → (received : List ℕ) → (before after : Progress) → Type 0
-StepLearns m (Sending d frame) r received before after = PartLearns m d r before after
-StepLearns m (Receives held frame) (reply.Agg n) received before after = after ≡ receives_on before received
-StepLearns m (Receives held frame) (reply.Refused (no.Denied p)) received before after = after ≡ Broken
-StepLearns m Fails reply.Done received before after = after ≡ NotRun 503 []
+StepLearns m (SendingPart d frame) r received before after = PartLearns m d r before after
+StepLearns m (ReadingOutput held frame) (reply.Agg n) received before after = after ≡ receives_on before received
+StepLearns m (ReadingOutput held frame) (reply.Refused (no.Denied p)) received before after = after ≡ Broken
+StepLearns m Failing reply.Done received before after = after ≡ NotRun 503 []
 StepLearns m s r received before after = after ≡ before
 
 abbrev pub Learns : State → Running → Reply → (received : List ℕ) → (before after : Progress) → Type 0
-Learns m (Runs run step) r received before after = StepLearns m step r received before after
-Learns m (Leaves d) r received before after = PartLearns m d r before after
+Learns m (InProgress run step) r received before after = StepLearns m step r received before after
+Learns m (Finishing d) r received before after = PartLearns m d r before after
 Learns m x r received before after = after ≡ before
 
 -- the number of bytes taken of the part that is being sent
 abbrev pub taken_by : Running → ℕ
-taken_by (Runs run (Sending d frame)) = taken_of d
-taken_by (Leaves d) = taken_of d
+taken_by (InProgress run (SendingPart d frame)) = taken_of d
+taken_by (Finishing d) = taken_of d
 taken_by x = 0
 
 -- the number of bytes of the response that were taken before that part
@@ -89,36 +92,36 @@ pub record IsNextOf (m : State) (w : Wanted) (o : Progress) (a taken : ℕ) : Ty
 
 -- a run that continues has this worker
 abbrev pub HasWorker : (worker : ℕ) → Running → Type 0
-HasWorker worker Awaits = ⊥
-HasWorker worker (Runs run step) = run.worker ≡ worker
+HasWorker worker AwaitingWorker = ⊥
+HasWorker worker (InProgress run step) = run.worker ≡ worker
 HasWorker worker x = ⊤
 
 -- ---- the reasons for which a response is aborted, or a script not run
 
 -- whether the rest of the response is dropped
 abbrev pub breaks_off : Running → Bool
-breaks_off (Runs run (Sending d frame)) = is_dropping d
-breaks_off (Runs run step) = run.broken
-breaks_off (Leaves d) = is_dropping d
+breaks_off (InProgress run (SendingPart d frame)) = is_dropping d
+breaks_off (InProgress run step) = run.broken
+breaks_off (Finishing d) = is_dropping d
 breaks_off x = false
 
 -- the peer is gone, or the server may not read the output
 abbrev pub IsCutOff : State → (c : ℕ) → Running → Type 0
-IsCutOff m c (Runs run step) = IsTrue (is_gone (conn_at m c).peer)
+IsCutOff m c (InProgress run step) = IsTrue (is_gone (conn_at m c).peer)
     ⊎ ((p : ℕ) × (q : ℕ) × (descriptor m server run.from ≡ Some (on.ReadEnd p))
     × IsHidden m server q (pipe_at m p).queue)
 IsCutOff m c x = IsTrue (is_gone (conn_at m c).peer)
 
 -- whether the script is given up before it runs
 abbrev pub is_failing : Running → Bool
-is_failing (Runs run (Returns write)) = true
-is_failing (Runs run (Lapses job)) = true
-is_failing (Runs run Fails) = true
+is_failing (InProgress run (ClosingPipe write)) = true
+is_failing (InProgress run (DiscardingJob job)) = true
+is_failing (InProgress run Failing) = true
 is_failing x = false
 
 -- the domain of its worker has ended, or its job pipe has no reader
 abbrev pub IsLost : State → Running → Type 0
-IsLost m (Runs run step) = IsFalse (is_live m (worker_domain run.worker))
+IsLost m (InProgress run step) = IsFalse (is_live m (worker_domain run.worker))
     ⊎ ((p : ℕ) × (descriptor m server (job_pipe run.worker) ≡ Some (on.WriteEnd p)) × IsFalse (pipe_at m p).reading)
 IsLost m x = ⊥
 
@@ -126,58 +129,59 @@ IsLost m x = ⊥
 
 -- whether no more output is read
 abbrev pub is_stopping : Running → Bool
-is_stopping (Runs run (Ended a held frame)) = true
-is_stopping (Runs run (Unholds held frame)) = true
-is_stopping (Runs run (Stops held frame)) = true
-is_stopping (Runs run (Unframes frame held)) = true
-is_stopping (Runs run (Lasts held)) = true
-is_stopping (Runs run (WrapsLast held size frame)) = true
-is_stopping (Runs run (TrimsLast held chunk len frame)) = true
-is_stopping (Runs run (Unwraps frame chunk len)) = true
+is_stopping (InProgress run (DroppingEnd a held frame)) = true
+is_stopping (InProgress run (DiscardingHeld held frame)) = true
+is_stopping (InProgress run (ClosingOutput held frame)) = true
+is_stopping (InProgress run (DroppingFrame frame held)) = true
+is_stopping (InProgress run (MakingEnd held)) = true
+is_stopping (InProgress run (FillingEnd held size frame)) = true
+is_stopping (InProgress run (DroppingLast held chunk len frame)) = true
+is_stopping (InProgress run (DroppingLastFrame frame chunk len)) = true
 is_stopping x = false
 
 -- the end of the output was read, or the server may not read it
 abbrev pub StopsBy : Running → Reply → (received : List ℕ) → Type 0
-StopsBy (Runs run (Receives held frame)) (reply.Agg n) received = received ≡ []
-StopsBy (Runs run (Receives held frame)) (reply.Refused (no.Denied p)) received = ⊤
+StopsBy (InProgress run (ReadingOutput held frame)) (reply.Agg n) received = received ≡ []
+StopsBy (InProgress run (ReadingOutput held frame)) (reply.Refused (no.Denied p)) received = ⊤
 StopsBy x r received = ⊥
 
 -- ---- its rank
 
 -- more of the output was read
 abbrev pub ReceivesMore : Running → Reply → (received : List ℕ) → Type 0
-ReceivesMore (Runs run (Receives held frame)) (reply.Agg n) (b ∷ received) = ⊤
+ReceivesMore (InProgress run (ReadingOutput held frame)) (reply.Agg n) (b ∷ received) = ⊤
 ReceivesMore x r received = ⊥
 
 -- ---- the order of handing over the job
 
 -- whether its job is not yet handed over
 abbrev pub is_handing : Running → Bool
-is_handing Awaits = true
-is_handing (Runs run (Gives write)) = true
-is_handing (Runs run (Makes f)) = true
-is_handing (Runs run (Hands j f)) = true
-is_handing (Runs run (Lets j)) = true
+is_handing AwaitingWorker = true
+is_handing (InProgress run (GivingPipe write)) = true
+is_handing (InProgress run (MakingJob f)) = true
+is_handing (InProgress run (WritingJob j f)) = true
+is_handing (InProgress run (DroppingJob j)) = true
 is_handing x = false
 
 -- the pipe is given, the job made, written and dropped, and the head made: each only after the call before it
 -- succeeded; and nothing of the response is sent before
 abbrev pub ComesAfter : Running → Reply → Running → Type 0
-ComesAfter x r (Runs run (Makes f)) = (write : ℕ) × (x ≡ Runs run (Gives write)) × (r ≡ reply.Fd f)
-ComesAfter x r (Runs run (Hands j f)) = (x ≡ Runs run (Makes f)) × (r ≡ reply.Agg j)
-ComesAfter x r (Runs run (Lets j)) = (f : ℕ) × (k : ℕ) × (x ≡ Runs run (Hands j f)) × (r ≡ reply.Count k)
-ComesAfter x r (Runs run Heads) = (j : ℕ) × (x ≡ Runs run (Lets j)) × (r ≡ reply.Done)
-ComesAfter x r (Runs run (Sending d frame)) = IsFalse (is_handing x)
+ComesAfter x r (InProgress run (MakingJob f)) = (write : ℕ) × (x ≡ InProgress run (GivingPipe write)) × (r ≡ reply.Fd f)
+ComesAfter x r (InProgress run (WritingJob j f)) = (x ≡ InProgress run (MakingJob f)) × (r ≡ reply.Agg j)
+ComesAfter x r (InProgress run (DroppingJob j)) = (f : ℕ) × (k : ℕ) × (x ≡ InProgress run (WritingJob j f))
+    × (r ≡ reply.Count k)
+ComesAfter x r (InProgress run MakingHead) = (j : ℕ) × (x ≡ InProgress run (DroppingJob j)) × (r ≡ reply.Done)
+ComesAfter x r (InProgress run (SendingPart d frame)) = IsFalse (is_handing x)
 ComesAfter x r y = ⊤
 
 -- `job` is the text of the job, by the descriptor that it names.
 pub record RunOffersTheResponse (job : ℕ → List ℕ) : Type 0 where
   -- the beginning of a run
-  pub starts : (m : State) (w : Wanted) → HasRun job m w nothing_yet Awaits
+  pub starts : (m : State) (w : Wanted) → HasRun job m w nothing_yet AwaitingWorker
   -- after the reply to its call the machine has what is needed next; the worker that it gets is one with a job pipe
   pub replied : (m n : State) (fd c worker : ℕ) (w : Wanted) (x : Running) (r : Reply) (received : List ℕ)
       (before : Progress)
-      → IsOrderly m → descriptor m server fd ≡ Some (on.Connection c) → (x ≡ Awaits → HasJobPipe m worker)
+      → IsOrderly m → descriptor m server fd ≡ Some (on.Connection c) → (x ≡ AwaitingWorker → HasJobPipe m worker)
       → IsFalse (is_over x) → HasRun job m w before x
       → StepsTo m (event.Call server (wants job fd w x)) r n → Names n r received
       → (after : Progress) × Learns m x r received before after
@@ -223,13 +227,13 @@ pub record RunOffersTheResponse (job : ℕ → List ℕ) : Type 0 where
       → after_reply worker w x r received ≡ x → IsTrue (may_repeat (wants job fd w x) r)
   -- no output is read while the bytes of a whole chunk are buffered
   pub reads : (m : State) (w : Wanted) (o : Progress) (run : Run) (held : Option (ℕ × ℕ)) (frame : Option ℕ)
-      → HasRun job m w o (Runs run (Receives held frame)) → held_size held < CHUNK_BYTES
+      → HasRun job m w o (InProgress run (ReadingOutput held frame)) → held_size held < CHUNK_BYTES
   -- a read gives the first bytes of the pipe, at most as many as are missing from a chunk, and no bytes only if the
   -- pipe has no writer any more
   pub receives : (m n : State) (fd : ℕ) (w : Wanted) (o : Progress) (run : Run) (held : Option (ℕ × ℕ))
       (frame : Option ℕ) (r : Reply)
-      → IsOrderly m → HasRun job m w o (Runs run (Receives held frame))
-      → StepsTo m (event.Call server (wants job fd w (Runs run (Receives held frame)))) r n
+      → IsOrderly m → HasRun job m w o (InProgress run (ReadingOutput held frame))
+      → StepsTo m (event.Call server (wants job fd w (InProgress run (ReadingOutput held frame)))) r n
       → (p : ℕ) × (descriptor m server run.from ≡ Some (on.ReadEnd p))
       × ReadsPipe m server p (CHUNK_BYTES - held_size held) r n
   -- it reads until the end of the output, or until it may not read, also after the response is aborted
@@ -237,29 +241,29 @@ pub record RunOffersTheResponse (job : ℕ → List ℕ) : Type 0 where
       → IsTrue (is_stopping (after_reply worker w x r received)) → StopsBy x r received
   -- a run begins with a new pipe, which is empty, and with its worker
   pub opens : (m n : State) (fd worker : ℕ) (w : Wanted) (from write : ℕ) (received : List ℕ)
-      → StepsTo m (event.Call server (wants job fd w Awaits)) (reply.Fds from write) n
-      → (after_reply worker w Awaits (reply.Fds from write) received
-      ≡ Runs (record { worker = worker; from = from; broken = false }) (Gives write))
+      → StepsTo m (event.Call server (wants job fd w AwaitingWorker)) (reply.Fds from write) n
+      → (after_reply worker w AwaitingWorker (reply.Fds from write) received
+      ≡ InProgress (record { worker = worker; from = from; broken = false }) (GivingPipe write))
       × ((p : ℕ) × (pipe_at n p ≡ new_pipe) × (descriptor n server from ≡ Some (on.ReadEnd p))
       × (descriptor n server write ≡ Some (on.WriteEnd p)))
   -- the worker gets the write end of the pipe that the server reads, and the job names its descriptor of it
   pub gives : (m n : State) (fd worker : ℕ) (w : Wanted) (o : Progress) (run : Run) (write f : ℕ) (received : List ℕ)
-      → HasRun job m w o (Runs run (Gives write))
-      → StepsTo m (event.Call server (wants job fd w (Runs run (Gives write)))) (reply.Fd f) n
-      → (after_reply worker w (Runs run (Gives write)) (reply.Fd f) received ≡ Runs run (Makes f))
+      → HasRun job m w o (InProgress run (GivingPipe write))
+      → StepsTo m (event.Call server (wants job fd w (InProgress run (GivingPipe write)))) (reply.Fd f) n
+      → (after_reply worker w (InProgress run (GivingPipe write)) (reply.Fd f) received ≡ InProgress run (MakingJob f))
       × ((p : ℕ) × (descriptor n server run.from ≡ Some (on.ReadEnd p))
       × (descriptor n (worker_domain run.worker) f ≡ Some (on.WriteEnd p)))
   -- the job is appended to that worker's job pipe, as much of it as fits
   pub hands : (m n : State) (fd : ℕ) (w : Wanted) (o : Progress) (run : Run) (j f : ℕ) (r : Reply) → IsOrderly m
-      → HasRun job m w o (Runs run (Hands j f))
-      → StepsTo m (event.Call server (wants job fd w (Runs run (Hands j f)))) r n
+      → HasRun job m w o (InProgress run (WritingJob j f))
+      → StepsTo m (event.Call server (wants job fd w (InProgress run (WritingJob j f)))) r n
       → (p : ℕ) × (descriptor m server (job_pipe run.worker) ≡ Some (on.WriteEnd p)) × WritesPipe m p (job f) r n
   -- nothing of the response is made or sent before that
   pub in_turn : (worker : ℕ) (w : Wanted) (x : Running) (r : Reply) (received : List ℕ)
       → (after_reply worker w x r received ≡ x) ⊎ ComesAfter x r (after_reply worker w x r received)
   -- a run keeps its worker
   pub keeps : (worker : ℕ) (w : Wanted) (run : Run) (step : Step) (r : Reply) (received : List ℕ)
-      → HasWorker run.worker (after_reply worker w (Runs run step) r received)
+      → HasWorker run.worker (after_reply worker w (InProgress run step) r received)
 
 abbrev pub RunsOfferTheResponse : Type 0
 RunsOfferTheResponse = (job : ℕ → List ℕ) → RunOffersTheResponse job

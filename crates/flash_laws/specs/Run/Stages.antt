@@ -12,9 +12,10 @@ use Rattle.flash_laws.specs.Run.OfferedBytes.{is_stopping}
 use Rattle.flash_laws.specs.Site.{server}
 use Rattle.flash_laws.specs.declared.script_run.Run.{Run}
 use Rattle.flash_laws.specs.declared.script_run.Step.{Step}
-use Rattle.flash_laws.specs.declared.script_run.Step.TheVariants.{Gives, Makes, Hands, Returns, Lapses, Fails}
+use Rattle.flash_laws.specs.declared.script_run.Step.TheVariants.{GivingPipe, MakingJob, WritingJob, ClosingPipe}
+use Rattle.flash_laws.specs.declared.script_run.Step.TheVariants.{DiscardingJob, Failing}
 use Rattle.flash_laws.specs.declared.script_run.Running.{Running}
-use Rattle.flash_laws.specs.declared.script_run.Running.TheVariants.{Awaits, Runs}
+use Rattle.flash_laws.specs.declared.script_run.Running.TheVariants.{AwaitingWorker, InProgress}
 
 -- the rest of this output after the bytes read; arbitrary once the response is aborted
 abbrev pub IsToCome : Progress → (output more : List ℕ) → Type 0
@@ -30,10 +31,10 @@ IsReceivedWhole (NotRun status past) output = ⊥
 
 -- whether the worker does not yet have the job
 abbrev pub is_starting : Running → Bool
-is_starting Awaits = true
-is_starting (Runs run (Gives write)) = true
-is_starting (Runs run (Makes f)) = true
-is_starting (Runs run (Hands j f)) = true
+is_starting AwaitingWorker = true
+is_starting (InProgress run (GivingPipe write)) = true
+is_starting (InProgress run (MakingJob f)) = true
+is_starting (InProgress run (WritingJob j f)) = true
 is_starting y = false
 
 module _ (worker_set : WorkerSet) where
@@ -77,14 +78,14 @@ module _ (worker_set : WorkerSet) where
   -- What the worker in this process slot has of a run. It is impossible that the pipe or the job could not be handed
   -- over.
   abbrev pub Stage : State → ProcessSlot worker_set.Worker → Run → (made : Made) → Progress → Step → Type 0
-  Stage m process_slot run made o (Gives write) = IsReadyFor m process_slot run
-  Stage m process_slot run made o (Makes f) = IsGiven m process_slot run f
-  Stage m process_slot run made o (Hands j f) =
+  Stage m process_slot run made o (GivingPipe write) = IsReadyFor m process_slot run
+  Stage m process_slot run made o (MakingJob f) = IsGiven m process_slot run f
+  Stage m process_slot run made o (WritingJob j f) =
       IsGiven m process_slot run f × IsTrue (lie_in worker_set.jobs (text m server j))
-  Stage m process_slot run made o (Returns write) = ⊥
-  Stage m process_slot run made o (Lapses j) = ⊥
-  Stage m process_slot run made o Fails = ⊥
-  Stage m process_slot run made o step = OutputFrom (is_stopping (Runs run step)) m process_slot run made o
+  Stage m process_slot run made o (ClosingPipe write) = ⊥
+  Stage m process_slot run made o (DiscardingJob j) = ⊥
+  Stage m process_slot run made o Failing = ⊥
+  Stage m process_slot run made o step = OutputFrom (is_stopping (InProgress run step)) m process_slot run made o
 
   -- the worker of a run, and what it has of it
   pub record AtJobQueue (m : State) (process_slots : List (ProcessSlot worker_set.Worker)) (run : Run) (made : Made)
@@ -97,5 +98,5 @@ module _ (worker_set : WorkerSet) where
   -- the same for a run, if it has a worker
   abbrev pub HasWorkerAt : State → (process_slots : List (ProcessSlot worker_set.Worker)) → (made : Made) → Progress
       → Running → Type 0
-  HasWorkerAt m process_slots made o (Runs run step) = AtJobQueue m process_slots run made o step
+  HasWorkerAt m process_slots made o (InProgress run step) = AtJobQueue m process_slots run made o step
   HasWorkerAt m process_slots made o y = ⊤

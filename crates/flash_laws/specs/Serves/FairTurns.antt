@@ -9,10 +9,10 @@ use Rattle.flash_laws.specs.Site.Places.{has_free}
 use Rattle.flash_laws.specs.Serves.{Server, filed_in, server_turns}
 use Rattle.flash_laws.specs.Serves.Rounds.{goes_in, in_rounds}
 use Rattle.flash_laws.specs.declared.phase.Phase.{Phase}
-use Rattle.flash_laws.specs.declared.phase.Phase.TheVariants.{Sent}
+use Rattle.flash_laws.specs.declared.phase.Phase.TheVariants.{DroppingSent}
 use Rattle.flash_laws.specs.declared.phase.PendingCall.TheVariants.{At}
 use Rattle.flash_laws.specs.declared.script_run.Running.{Running}
-use Rattle.flash_laws.specs.declared.script_run.Running.TheVariants.{Leaves}
+use Rattle.flash_laws.specs.declared.script_run.Running.TheVariants.{Finishing}
 
 -- one turn of the server: the reply to its last call, the bytes that it may read, its action, and the server after it
 pub record OneTurn : Type 0 where
@@ -43,7 +43,7 @@ HasATurn gd (x ∷ xs) = (x.after.pending_call ≡ At gd) ⊎ HasATurn gd xs
 
 -- whether the response is taken whole
 abbrev pub is_taken : Phase → Bool
-is_taken (Sent a taken None) = true
+is_taken (DroppingSent a taken None) = true
 is_taken d = false
 
 abbrev pub is_answered : Client → Bool
@@ -51,7 +51,7 @@ is_answered x = by x.run
   where
     by : Option Running → Bool
     by None = is_taken x.conn.phase
-    by (Some (Leaves d)) = is_taken d
+    by (Some (Finishing d)) = is_taken d
     by (Some y) = false
 
 -- with this reply the response to the client at an index is taken whole

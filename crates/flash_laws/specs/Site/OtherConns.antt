@@ -6,7 +6,7 @@ use Rattle.iol_core.specs.Text.{bytes_of}
 use Rattle.iol_core.specs.State.{Connection}
 use Rattle.flash_laws.specs.Conn.{Conn}
 use Rattle.flash_laws.specs.declared.phase.Phase.{Phase}
-use Rattle.flash_laws.specs.declared.phase.Phase.TheVariants.{Over}
+use Rattle.flash_laws.specs.declared.phase.Phase.TheVariants.{Closed}
 use Rattle.flash_laws.specs.Site.Past.{Past}
 use Rattle.flash_laws.specs.Site.{net_pool}
 
@@ -19,7 +19,7 @@ with_at conns fd x = slice_set (grown conns fd) fd x
 
 -- a connection that is over is removed
 abbrev pub left_by : {A : Type 0} → Phase → A → Option A
-left_by Over x = None
+left_by Closed x = None
 left_by d x = Some x
 
 abbrev pub left_over : Conn → Option Conn

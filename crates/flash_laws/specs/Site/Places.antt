@@ -9,7 +9,7 @@ use Rattle.flash_laws.specs.Site.OtherConns.{with_at}
 use Rattle.flash_laws.specs.declared.phase.PendingCall.{PendingCall}
 use Rattle.flash_laws.specs.declared.phase.PendingCall.TheVariants.{Nothing, Accepting, At}
 use Rattle.flash_laws.specs.declared.script_run.Running.{Running}
-use Rattle.flash_laws.specs.declared.script_run.Running.TheVariants.{Runs}
+use Rattle.flash_laws.specs.declared.script_run.Running.TheVariants.{InProgress}
 
 -- no script runs for any of them
 abbrev pub NoneRuns : List (Option Client) → Type 0
@@ -18,7 +18,7 @@ NoneRuns clients = (fd : ℕ) (x : Client) → in_place clients fd ≡ Some x �
 -- ---- workers, counted from 0
 
 abbrev pub has_worker : Running → (worker : ℕ) → Bool
-has_worker (Runs run step) worker = run.worker == worker
+has_worker (InProgress run step) worker = run.worker == worker
 has_worker y worker = false
 
 abbrev pub is_run_by : Client → (worker : ℕ) → Bool

@@ -27,9 +27,11 @@ use Rattle.flash_laws.specs.Conn.Wants as wanting
 use Rattle.flash_laws.specs.declared.script_run.Running.{Running}
 use Rattle.flash_laws.specs.declared.phase.Payload.TheVariants.{Script}
 use Rattle.flash_laws.specs.declared.phase.Phase.{Phase}
-use Rattle.flash_laws.specs.declared.phase.Phase.TheVariants.{Rests, Got, Opens, Reads, Shuts, Picks, Spares, Heads}
-use Rattle.flash_laws.specs.declared.phase.Phase.TheVariants.{Joins, Sends, Cuts, Offers, Swaps, Sent, Breaks, Drops}
-use Rattle.flash_laws.specs.declared.phase.Phase.TheVariants.{Closes, Over}
+use Rattle.flash_laws.specs.declared.phase.Phase.TheVariants.{Receiving, DroppingInput, Opening, Reading, ClosingFile}
+use Rattle.flash_laws.specs.declared.phase.Phase.TheVariants.{Slicing, DroppingWhole, MakingHead}
+use Rattle.flash_laws.specs.declared.phase.Phase.TheVariants.{Joining, SendingWhole, CuttingPiece, SendingPiece}
+use Rattle.flash_laws.specs.declared.phase.Phase.TheVariants.{DroppingPiece, DroppingSent, AbortingPiece, Aborting}
+use Rattle.flash_laws.specs.declared.phase.Phase.TheVariants.{Disconnecting, Closed}
 use Rattle.flash_laws.proofs.Site.InPlaces.{left-map}
 use Rattle.flash_lite.specs.Course.{whole, found, runs, text_received, ended, left_with, Proceeds, IsLeft, IsCourse}
 use Rattle.flash_lite.specs.Onward as onward
@@ -51,24 +53,24 @@ plain c script = record { conn = c; run = None; script = script }
 wants-whole : (script : Bool) (fd : ℕ) (kept : List ℕ) (q : Answer) (d : Phase)
     → whole script d (conn.wants fd (at kept q d)) ≡ conn_wants script fd (at kept q d)
 wants-whole false fd kept q d = refl
-wants-whole true fd kept q Rests = refl
-wants-whole true fd kept q (Got a) = refl
-wants-whole true fd kept q Opens = refl
-wants-whole true fd kept q (Reads f) = refl
-wants-whole true fd kept q (Shuts f k) = refl
-wants-whole true fd kept q (Picks a from to len) = refl
-wants-whole true fd kept q (Spares a k) = refl
-wants-whole true fd kept q (Heads k) = refl
-wants-whole true fd kept q (Joins a size body len) = refl
-wants-whole true fd kept q (Sends s) = refl
-wants-whole true fd kept q (Cuts s) = refl
-wants-whole true fd kept q (Offers s piece) = refl
-wants-whole true fd kept q (Swaps s piece) = refl
-wants-whole true fd kept q (Sent a taken more) = refl
-wants-whole true fd kept q (Breaks piece a more) = refl
-wants-whole true fd kept q (Drops a more) = refl
-wants-whole true fd kept q Closes = refl
-wants-whole true fd kept q Over = refl
+wants-whole true fd kept q Receiving = refl
+wants-whole true fd kept q (DroppingInput a) = refl
+wants-whole true fd kept q Opening = refl
+wants-whole true fd kept q (Reading f) = refl
+wants-whole true fd kept q (ClosingFile f k) = refl
+wants-whole true fd kept q (Slicing a from to len) = refl
+wants-whole true fd kept q (DroppingWhole a k) = refl
+wants-whole true fd kept q (MakingHead k) = refl
+wants-whole true fd kept q (Joining a size body len) = refl
+wants-whole true fd kept q (SendingWhole s) = refl
+wants-whole true fd kept q (CuttingPiece s) = refl
+wants-whole true fd kept q (SendingPiece s piece) = refl
+wants-whole true fd kept q (DroppingPiece s piece) = refl
+wants-whole true fd kept q (DroppingSent a taken more) = refl
+wants-whole true fd kept q (AbortingPiece piece a more) = refl
+wants-whole true fd kept q (Aborting a more) = refl
+wants-whole true fd kept q Disconnecting = refl
+wants-whole true fd kept q Closed = refl
 
 pub whole_wants : (script : Bool) (fd : ℕ) (x : Conn) → whole script x.phase (conn.wants fd x) ≡ conn_wants script fd x
 whole_wants script fd x = wants-whole script fd x.kept x.q x.phase
@@ -218,17 +220,17 @@ text-found : (b : Bool) (kept : List ℕ) (q : Answer) (d : Phase) (run : Option
     (received : List ℕ) (h : Bool) (f n : ℕ)
     → found b d r h ≡ reports.Text f n → IsText b (of kept q d run script) r received f n
 text-found false kept q d run script r received h f n is = absurd (cc (is))
-text-found true kept q (Reads g) run script (reply.Agg m) received h f n is =
+text-found true kept q (Reading g) run script (reply.Agg m) received h f n is =
     let eg : g ≡ f = cc in
     let em : m ≡ n = cc in
     record {
-      after_reply = ap (λ k. text_received (of kept q (Reads g) run script) k m received) eg
-          ∙ ap (λ k. text_received (of kept q (Reads g) run script) f k received) em;
+      after_reply = ap (λ k. text_received (of kept q (Reading g) run script) k m received) eg
+          ∙ ap (λ k. text_received (of kept q (Reading g) run script) f k received) em;
       now = refl;
       receives = λ some. some;
     }
-text-found true kept q (Reads g) run script r received h f n is = absurd (cc (is))
-text-found true kept q (Spares a Script) run script r received h f n is = absurd (never (runs r h) f n is)
+text-found true kept q (Reading g) run script r received h f n is = absurd (cc (is))
+text-found true kept q (DroppingWhole a Script) run script r received h f n is = absurd (never (runs r h) f n is)
 text-found true kept q d run script r received h f n is = absurd (cc (is))
 
 record IsBegun (b : Bool) (x : Client) (r : Reply) (received : List ℕ) : Type 0 where
@@ -238,15 +240,20 @@ run-found : (b : Bool) (kept : List ℕ) (q : Answer) (d : Phase) (run : Option 
     (received : List ℕ) (h : Bool)
     → is_head_only q ≡ h → found b d r h ≡ reports.Runs → IsBegun b (of kept q d run script) r received
 run-found false kept q d run script r received h e is = absurd (cc (is))
-run-found true kept q (Reads g) run script (reply.Agg m) received h e is = absurd (cc (is))
-run-found true kept q (Reads g) run script r received h e is = absurd (cc (is))
-run-found true kept q (Spares a Script) run script reply.Done received true e is = absurd (cc (is))
-run-found true kept q (Spares a Script) run script reply.Done received false e is =
+run-found true kept q (Reading g) run script (reply.Agg m) received h e is = absurd (cc (is))
+run-found true kept q (Reading g) run script r received h e is = absurd (cc (is))
+run-found true kept q (DroppingWhole a Script) run script reply.Done received true e is = absurd (cc (is))
+run-found true kept q (DroppingWhole a Script) run script reply.Done received false e is =
     record {
       after_reply =
-          ap (λ b. record { conn = at kept q (Heads Script); run = after_drop_whole b reply.Done; script = script }) e;
+          ap (λ b. record {
+            conn = at kept q (MakingHead Script);
+            run = after_drop_whole b reply.Done;
+            script =
+                script;
+          }) e;
     }
-run-found true kept q (Spares a Script) run script r received h e is = absurd (cc (is))
+run-found true kept q (DroppingWhole a Script) run script r received h e is = absurd (cc (is))
 run-found true kept q d run script r received h e is = absurd (cc (is))
 
 file-found : (b : Bool) (kept : List ℕ) (q : Answer) (d : Phase) (run : Option Running) (script : List ℕ) (r : Reply)
@@ -254,15 +261,15 @@ file-found : (b : Bool) (kept : List ℕ) (q : Answer) (d : Phase) (run : Option
     → is_head_only q ≡ h → found b d r h ≡ reports.AsFile
     → file_after_reply b (of kept q d run script) r received ≡ conn_after_reply (of kept q d run script) r received
 file-found false kept q d run script r received h e is = refl
-file-found true kept q (Reads g) run script (reply.Agg m) received h e is = absurd (cc (is))
-file-found true kept q (Reads g) run script r received h e is = refl
-file-found true kept q (Spares a Script) run script reply.Done received true e is =
-    ap (λ b. record { conn = at kept q (Heads Script); run = after_drop_whole b reply.Done; script = script }) e
-file-found true kept q (Spares a Script) run script reply.Done received false e is = absurd (cc (is))
-file-found true kept q (Spares a Script) run script r received true e is =
-    ap (λ b. record { conn = at kept q (Spares a Script); run = after_drop_whole b r; script = script }) e
-file-found true kept q (Spares a Script) run script r received false e is =
-    ap (λ b. record { conn = at kept q (Spares a Script); run = after_drop_whole b r; script = script }) e
+file-found true kept q (Reading g) run script (reply.Agg m) received h e is = absurd (cc (is))
+file-found true kept q (Reading g) run script r received h e is = refl
+file-found true kept q (DroppingWhole a Script) run script reply.Done received true e is =
+    ap (λ b. record { conn = at kept q (MakingHead Script); run = after_drop_whole b reply.Done; script = script }) e
+file-found true kept q (DroppingWhole a Script) run script reply.Done received false e is = absurd (cc (is))
+file-found true kept q (DroppingWhole a Script) run script r received true e is =
+    ap (λ b. record { conn = at kept q (DroppingWhole a Script); run = after_drop_whole b r; script = script }) e
+file-found true kept q (DroppingWhole a Script) run script r received false e is =
+    ap (λ b. record { conn = at kept q (DroppingWhole a Script); run = after_drop_whole b r; script = script }) e
 file-found true kept q d run script r received h e is = refl
 
 -- one that begins waits for a worker
@@ -344,8 +351,8 @@ receives-none scripts c (Some y) script r received none receives = absurd (cc (n
 receives-more : (b : Bool) (d : Phase) (r : Reply) (received : List ℕ) → wanting.Receives d r received
     → Receives b d r received
 receives-more false d r received receives = receives
-receives-more true (Reads f) (reply.Agg n) received receives = absurd receives
-receives-more true (Reads f) r received receives = absurd receives
+receives-more true (Reading f) (reply.Agg n) received receives = absurd receives
+receives-more true (Reading f) r received receives = absurd receives
 receives-more true d r received receives = receives
 
 pub receives_wants : (scripts : Bool) (x : Client) (r : Reply) (received : List ℕ) (f n : ℕ) → x.run ≡ None
@@ -379,23 +386,23 @@ alone_wants scripts x r received none is (inr on) =
 pub rests_asks : (scripts : Bool) (fd : ℕ) (x y : Client) (c : Conn) (k j : Call)
     → onward.Frees fd x.conn (going.Asks j) c
     → y ≡ plain c [] → k ≡ conn_wants (is_for_script scripts y.conn.q) fd y.conn
-    → Proceeds (ended x Rests) reply.Done y × (k ≡ wants scripts fd y)
+    → Proceeds (ended x Receiving) reply.Done y × (k ≡ wants scripts fd y)
 rests_asks scripts fd x y c k j f is asks =
-    let goes : Proceeds (ended x Rests) reply.Done (plain c []) =
+    let goes : Proceeds (ended x Receiving) reply.Done (plain c []) =
     record { on = f.0; stays = refl; readies = (c, f.1, refl) } in (
-      subst (λ (z : Client). Proceeds (ended x Rests) reply.Done z) (sym is) goes,
+      subst (λ (z : Client). Proceeds (ended x Receiving) reply.Done z) (sym is) goes,
       asks
           ∙ wants-plain scripts fd y (ap (λ (z : Client). z.run) is),
     )
 
 pub rests_leaves : (fd : ℕ) (x y : Client) (c : Conn) (d : Phase) → onward.Frees fd x.conn (going.Leaves d) c
-    → y ≡ record { conn = c; run = x.run; script = x.script } → IsLeft (ended x Rests) x reply.Done (Ends d) y
+    → y ≡ record { conn = c; run = x.run; script = x.script } → IsLeft (ended x Receiving) x reply.Done (Ends d) y
 rests_leaves fd x y c d f is =
     let none : (length x.conn.kept == 0) ≡ true = ap (λ (l : List ℕ). length l == 0) f.1 in
     record {
       passed = none;
       after_reply_is = ap (λ (e : Phase). ended x e) (sym f.0);
-      remains_is = ap (λ (e : Phase). consistent.left_by e (ended x Rests)) (sym f.0);
+      remains_is = ap (λ (e : Phase). consistent.left_by e (ended x Receiving)) (sym f.0);
       can_rest = subst (λ (e : Phase). onward.CanRest x.conn e) (sym f.0) (record {
         small = omega arith;
         awaits = ap (λ (l : List ℕ). window_in l) f.1;
@@ -403,36 +410,36 @@ rests_leaves fd x y c d f is =
       as_it_was = is ∙ ap (λ (z : Conn). record { conn = z; run = x.run; script = x.script }) f.2;
     }
 
-pub rests_wants : (x : Client) → policy.is_bare (record x.conn { phase = Rests }) ≡ false
+pub rests_wants : (x : Client) → policy.is_bare (record x.conn { phase = Receiving }) ≡ false
     → wanting.can_begin (window_in x.conn.kept) ≡ true
-    → (leaves_off (left_over (ended x Rests)) reply.Done ≡ false) × (needs_memory (ended x Rests) ≡ true)
+    → (leaves_off (left_over (ended x Receiving)) reply.Done ≡ false) × (needs_memory (ended x Receiving) ≡ true)
 rests_wants x some begins = (some, begins)
 
-goes-ended : (kept : List ℕ) (q : Answer) (d : Phase) → d ≢ Rests → d ≢ Over → is_left d ≡ false
+goes-ended : (kept : List ℕ) (q : Answer) (d : Phase) → d ≢ Receiving → d ≢ Closed → is_left d ≡ false
     → Proceeds (plain (at kept q d) []) reply.Done (plain (at kept q d) [])
-goes-ended kept q Rests busy on over = absurd (busy refl)
-goes-ended kept q Over busy on over = absurd (on refl)
-goes-ended kept q (Sent a taken more) busy on over = absurd (cc (over))
+goes-ended kept q Receiving busy on over = absurd (busy refl)
+goes-ended kept q Closed busy on over = absurd (on refl)
+goes-ended kept q (DroppingSent a taken more) busy on over = absurd (cc (over))
 goes-ended kept q d busy on over = record { on = refl; stays = refl; readies = (at kept q d, refl, refl) }
 
-pub ends_asks : (scripts : Bool) (fd : ℕ) (x y : Client) (d : Phase) (k : Call) → d ≢ Rests → d ≢ Over
+pub ends_asks : (scripts : Bool) (fd : ℕ) (x y : Client) (d : Phase) (k : Call) → d ≢ Receiving → d ≢ Closed
     → is_left d ≡ false → y ≡ ended x d
     → k ≡ conn_wants (is_for_script scripts y.conn.q) fd y.conn → Proceeds (ended x d) reply.Done y
     × (k ≡ wants scripts fd y)
 ends_asks scripts fd x y d k busy on over is asks =
     goes_as scripts fd (ended x d) y reply.Done k (goes-ended x.conn.kept x.conn.q d busy on over) refl is asks
 
-pub ends_wants : (x : Client) (d : Phase) → d ≢ Rests → d ≢ Over → wanting.has_bytes d ≡ true
+pub ends_wants : (x : Client) (d : Phase) → d ≢ Receiving → d ≢ Closed → wanting.has_bytes d ≡ true
     → (leaves_off (left_over (ended x d)) reply.Done ≡ false) × (needs_memory (ended x d) ≡ true)
 ends_wants x d busy on bytes = by d bytes
   where
     by : (d : Phase) → wanting.has_bytes d ≡ true → (leaves_off (left_over (ended x d)) reply.Done ≡ false)
         × (needs_memory (ended x d) ≡ true)
-    by Opens is = (refl, refl)
-    by (Heads k) is = (refl, refl)
+    by Opening is = (refl, refl)
+    by (MakingHead k) is = (refl, refl)
     by d is = absurd (cc (is))
 
-pub over_leaves : (x : Client) → IsLeft (ended x Over) x reply.Done (Ends Over) x
+pub over_leaves : (x : Client) → IsLeft (ended x Closed) x reply.Done (Ends Closed) x
 over_leaves x = record {
   passed = refl;
   after_reply_is = refl;

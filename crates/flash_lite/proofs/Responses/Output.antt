@@ -6,19 +6,20 @@ use Rattle.flash_http.specs.Request.{Wanted}
 use Rattle.flash_laws.specs.Conn.{Following, count_of}
 use Rattle.flash_laws.specs.Run.{hearing, after_output}
 use Rattle.flash_laws.specs.declared.script_run.Run.{Run}
-use Rattle.flash_laws.specs.declared.script_run.Step.TheVariants.{Ended}
-use Rattle.flash_laws.specs.declared.script_run.Running.TheVariants.{Runs}
+use Rattle.flash_laws.specs.declared.script_run.Step.TheVariants.{DroppingEnd}
+use Rattle.flash_laws.specs.declared.script_run.Running.TheVariants.{InProgress}
 use Rattle.flash_lite.specs.Runs.{reading}
 
 -- ---- what is read
 
 pub receives_read : (w : Wanted) (run : Run) (held : Following) (frame : Option ℕ) (n : ℕ) (received : List ℕ)
     → after_output w run held frame (reply.Agg n) received
-    ≡ Runs run (reading run.broken w.chunked held frame n (count_of received))
+    ≡ InProgress run (reading run.broken w.chunked held frame n (count_of received))
 receives_read w run held frame n [] = refl
 receives_read w run held frame n (b ∷ received) =
     let e : (count_of (b ∷ received) == 0) ≡ false = grind (arith, nat_tests) in
     sym
     (ap
     (λ (t : Bool).
-    Runs run (cond t (Ended n held frame) (hearing run.broken w.chunked held frame n (count_of (b ∷ received))))) e)
+    InProgress run
+    (cond t (DroppingEnd n held frame) (hearing run.broken w.chunked held frame n (count_of (b ∷ received))))) e)

@@ -19,12 +19,14 @@ use Rattle.flash_laws.specs.Run.Wants.{makes_any}
 use Rattle.flash_laws.specs.Run as running
 use Rattle.flash_laws.specs.Run.{is_over, is_left, in_phase, after_wait, after_sending, after_step}
 use Rattle.flash_laws.specs.declared.phase.Phase.{Phase}
-use Rattle.flash_laws.specs.declared.phase.Phase.TheVariants.{Heads, Sends, Cuts, Offers, Swaps, Sent, Breaks, Drops}
+use Rattle.flash_laws.specs.declared.phase.Phase.TheVariants.{MakingHead, SendingWhole, CuttingPiece, SendingPiece}
+use Rattle.flash_laws.specs.declared.phase.Phase.TheVariants.{DroppingPiece, DroppingSent, AbortingPiece, Aborting}
 use Rattle.flash_laws.specs.declared.script_run.Run.{Run}
 use Rattle.flash_laws.specs.declared.script_run.Step.{Step}
 use Rattle.flash_laws.specs.declared.script_run.Step.TheVariants as act
 use Rattle.flash_laws.specs.declared.script_run.Running.{Running}
-use Rattle.flash_laws.specs.declared.script_run.Running.TheVariants.{Awaits, Runs, Leaves, Closes as Finished}
+use Rattle.flash_laws.specs.declared.script_run.Running.TheVariants.{AwaitingWorker, InProgress, Finishing}
+use Rattle.flash_laws.specs.declared.script_run.Running.TheVariants.{Disconnecting as Finished}
 use Rattle.flash_lite.specs.Course.{has_answered_by, left_with, run_after, ended, Proceeds, IsLeft, IsCourse}
 use Rattle.flash_lite.specs.Runs.{IsSmallRunning, waits}
 use Rattle.flash_lite.specs.declared.client.Course.{Course}
@@ -48,28 +50,28 @@ by-later f a (reply.Refused no.Memory) same is = same.4
 by-later f a r same is = absurd (cc (is))
 
 part-later : (run : Run) (d : Phase) (frame : Option ℕ)
-    → Later (λ r. after_sending run d frame r) (Runs run (act.Sending d frame))
-part-later run (Sent a taken None) frame = (refl, refl, λ p. refl, λ p. refl, refl)
-part-later run (Sent a taken (Some x)) frame = (refl, refl, λ p. refl, λ p. refl, refl)
-part-later run (Drops a None) frame = (refl, refl, λ p. refl, λ p. refl, refl)
-part-later run (Drops a (Some x)) frame = (refl, refl, λ p. refl, λ p. refl, refl)
+    → Later (λ r. after_sending run d frame r) (InProgress run (act.SendingPart d frame))
+part-later run (DroppingSent a taken None) frame = (refl, refl, λ p. refl, λ p. refl, refl)
+part-later run (DroppingSent a taken (Some x)) frame = (refl, refl, λ p. refl, λ p. refl, refl)
+part-later run (Aborting a None) frame = (refl, refl, λ p. refl, λ p. refl, refl)
+part-later run (Aborting a (Some x)) frame = (refl, refl, λ p. refl, λ p. refl, refl)
 part-later run d frame = (refl, refl, λ p. refl, λ p. refl, refl)
 
 step-later : (w : Wanted) (run : Run) (s : Step) (received : List ℕ)
-    → Later (λ r. after_step w run s r received) (Runs run s)
-step-later w run (act.Sending d frame) received = part-later run d frame
+    → Later (λ r. after_step w run s r received) (InProgress run s)
+step-later w run (act.SendingPart d frame) received = part-later run d frame
 step-later w run s received = (refl, refl, λ p. refl, λ p. refl, refl)
 
 left-later : (w : Wanted) (d : Phase) (received : List ℕ) → is_left d ≡ true
-    → Later (λ r. Leaves (conn.after_reply (in_phase w d) r received).phase) (Leaves d)
-left-later w (Heads k) received left = (refl, refl, λ p. refl, λ p. refl, refl)
-left-later w (Sends s) received left = (refl, refl, λ p. refl, λ p. refl, refl)
-left-later w (Cuts s) received left = (refl, refl, λ p. refl, λ p. refl, refl)
-left-later w (Offers s piece) received left = (refl, refl, λ p. refl, λ p. refl, refl)
-left-later w (Swaps s piece) received left = (refl, refl, λ p. refl, λ p. refl, refl)
-left-later w (Sent a taken more) received left = (refl, refl, λ p. refl, λ p. refl, refl)
-left-later w (Breaks piece a more) received left = (refl, refl, λ p. refl, λ p. refl, refl)
-left-later w (Drops a more) received left = (refl, refl, λ p. refl, λ p. refl, refl)
+    → Later (λ r. Finishing (conn.after_reply (in_phase w d) r received).phase) (Finishing d)
+left-later w (MakingHead k) received left = (refl, refl, λ p. refl, λ p. refl, refl)
+left-later w (SendingWhole s) received left = (refl, refl, λ p. refl, λ p. refl, refl)
+left-later w (CuttingPiece s) received left = (refl, refl, λ p. refl, λ p. refl, refl)
+left-later w (SendingPiece s piece) received left = (refl, refl, λ p. refl, λ p. refl, refl)
+left-later w (DroppingPiece s piece) received left = (refl, refl, λ p. refl, λ p. refl, refl)
+left-later w (DroppingSent a taken more) received left = (refl, refl, λ p. refl, λ p. refl, refl)
+left-later w (AbortingPiece piece a more) received left = (refl, refl, λ p. refl, λ p. refl, refl)
+left-later w (Aborting a more) received left = (refl, refl, λ p. refl, λ p. refl, refl)
 left-later w d received left = absurd (cc (left))
 
 still-left : (d : Phase) → not (is_left d) ≡ false → is_left d ≡ true
@@ -81,9 +83,9 @@ still-left d is = by (is_left d) is
 
 run-later : (worker : ℕ) (w : Wanted) (y : Running) (received : List ℕ) → is_over y ≡ false
     → Later (λ r. running.after_reply worker w y r received) y
-run-later worker w Awaits received going = (refl, refl, λ p. refl, λ p. refl, refl)
-run-later worker w (Runs run s) received going = step-later w run s received
-run-later worker w (Leaves d) received going = left-later w d received (still-left d going)
+run-later worker w AwaitingWorker received going = (refl, refl, λ p. refl, λ p. refl, refl)
+run-later worker w (InProgress run s) received going = step-later w run s received
+run-later worker w (Finishing d) received going = left-later w d received (still-left d going)
 run-later worker w Finished received going = absurd (cc (going))
 
 after-later : (worker : ℕ) (q : Answer) (y : Running) (r : Reply) (received : List ℕ) → is_over y ≡ false
@@ -118,37 +120,37 @@ after_reply-is worker (refuse status head_only close) x y r received is going =
 
 waits-is : (c : conn.Conn) (y : Running) (script : List ℕ) → awaits (record { conn = c; run = Some y; script = script })
     ≡ waits y
-waits-is c Awaits script = refl
-waits-is c (Runs run s) script = refl
-waits-is c (Leaves d) script = refl
+waits-is c AwaitingWorker script = refl
+waits-is c (InProgress run s) script = refl
+waits-is c (Finishing d) script = refl
 waits-is c Finished script = refl
 
 answered-is : (c : conn.Conn) (y : Running) (script : List ℕ)
     → has_answered (record { conn = c; run = Some y; script = script }) ≡ has_answered_by c y
-answered-is c Awaits script = refl
-answered-is c (Runs run s) script = refl
-answered-is c (Leaves d) script = refl
+answered-is c AwaitingWorker script = refl
+answered-is c (InProgress run s) script = refl
+answered-is c (Finishing d) script = refl
 answered-is c Finished script = refl
 
 kept-runs : (worker : ℕ) (z : Running) → HasWorker worker z → waits z ≡ false
-kept-runs worker Awaits has = absurd has
-kept-runs worker (Runs run s) has = refl
-kept-runs worker (Leaves d) has = refl
+kept-runs worker AwaitingWorker has = absurd has
+kept-runs worker (InProgress run s) has = refl
+kept-runs worker (Finishing d) has = refl
 kept-runs worker Finished has = refl
 
 -- one that waits after a reply waited before, and is as it was
 still-waits : (worker : ℕ) (q : Answer) (y : Running) (r : Reply) (received : List ℕ)
     → waits (run_after worker q y r received) ≡ true → run_after worker q y r received ≡ y
-still-waits worker (serve w) Awaits r received is = by r is
+still-waits worker (serve w) AwaitingWorker r received is = by r is
   where
-    by : (r : Reply) → waits (after_wait worker r) ≡ true → after_wait worker r ≡ Awaits
+    by : (r : Reply) → waits (after_wait worker r) ≡ true → after_wait worker r ≡ AwaitingWorker
     by (reply.Fds from write) is = absurd (cc (is))
     by r is = refl
-still-waits worker (serve w) (Runs run s) r received is =
+still-waits worker (serve w) (InProgress run s) r received is =
     absurd (let no : waits (after_step w run s r received) ≡ false =
     kept-runs run.worker (after_step w run s r received) (keeps worker w run s r received) in
     let never : false ≡ true = sym no ∙ is in cc (never))
-still-waits worker (serve w) (Leaves d) r received is = absurd (cc (is))
+still-waits worker (serve w) (Finishing d) r received is = absurd (cc (is))
 still-waits worker (serve w) Finished r received is = absurd (cc (is))
 still-waits worker (refuse status head_only close) y r received is = refl
 
@@ -233,40 +235,40 @@ run_waits worker x y z r received is going z_is waiting =
 
 -- its job was made long before
 no-text : (worker : ℕ) (q : Answer) (y : Running) (r : Reply) (received : List ℕ) (d : Phase)
-    → run_after worker q y r received ≡ Leaves d → keeps_text y ≡ false
-no-text worker (serve w) Awaits r received d is = by r is
+    → run_after worker q y r received ≡ Finishing d → keeps_text y ≡ false
+no-text worker (serve w) AwaitingWorker r received d is = by r is
   where
-    by : (r : Reply) → after_wait worker r ≡ Leaves d → true ≡ false
+    by : (r : Reply) → after_wait worker r ≡ Finishing d → true ≡ false
     by (reply.Fds from write) is = absurd (cc (is))
     by r is = absurd (cc (is))
-no-text worker (serve w) (Runs run (act.Gives write)) r received d is = absurd (cc (is))
-no-text worker (serve w) (Runs run (act.Makes f)) r received d is = absurd (cc (is))
-no-text worker (serve w) (Runs run s) r received d is = refl
-no-text worker (serve w) (Leaves e) r received d is = refl
+no-text worker (serve w) (InProgress run (act.GivingPipe write)) r received d is = absurd (cc (is))
+no-text worker (serve w) (InProgress run (act.MakingJob f)) r received d is = absurd (cc (is))
+no-text worker (serve w) (InProgress run s) r received d is = refl
+no-text worker (serve w) (Finishing e) r received d is = refl
 no-text worker (serve w) Finished r received d is = refl
 no-text worker (refuse status head_only close) y r received d is = ap (λ (v : Running). keeps_text v) is
 
 -- what is sent is left of a response
-answered-left : (c : conn.Conn) (d : Phase) → has_answered_by c (Leaves d) ≡ true → is_left d ≡ true
-answered-left c (Sent a taken more) has = refl
+answered-left : (c : conn.Conn) (d : Phase) → has_answered_by c (Finishing d) ≡ true → is_left d ≡ true
+answered-left c (DroppingSent a taken more) has = refl
 answered-left c d has = absurd (cc (has))
 
 pub run_answers : (worker : ℕ) (x : Client) (y z : Running) (d : Phase) (r : Reply) (received : List ℕ) → x.run ≡ Some y
     → is_over y ≡ false
-    → z ≡ run_after worker x.conn.q y r received → IsSmallRunning z → z ≡ Leaves d → has_answered_by x.conn z ≡ true
+    → z ≡ run_after worker x.conn.q y r received → IsSmallRunning z → z ≡ Finishing d → has_answered_by x.conn z ≡ true
     → IsLeft (run_after_reply worker x.conn.q x y r received) x r (Continues d) x
 run_answers worker x y z d r received is going z_is small phase has =
-    let now : has_answered_by x.conn (Leaves d) ≡ true = ap (λ (v : Running). has_answered_by x.conn v) (sym phase)
+    let now : has_answered_by x.conn (Finishing d) ≡ true = ap (λ (v : Running). has_answered_by x.conn v) (sym phase)
     ∙ has in
-    let on : is_over (Leaves d) ≡ false = ap (λ b. not b) (answered-left x.conn d now) in
+    let on : is_over (Finishing d) ≡ false = ap (λ b. not b) (answered-left x.conn d now) in
     let text : keeps_text y ≡ false = no-text worker x.conn.q y r received d (sym z_is ∙ phase) in
     let same : run_after_reply worker x.conn.q x y r received ≡ left_with x (Continues d) =
     on-after_reply worker x y z r received is going z_is (ap (λ (v : Running). is_over v) phase ∙ on)
     ∙ (ap (λ (v : Running). proceeds false false x y v) phase
-    ∙ ap (λ b. record { conn = x.conn; run = Some (Leaves d); script = text_on b false x.script }) text) in
+    ∙ ap (λ b. record { conn = x.conn; run = Some (Finishing d); script = text_on b false x.script }) text) in
     record {
       passed = ap (λ (t : Client). leaves_off (left_over t) r) same
-          ∙ (leaves-run x.conn (Some (Leaves d)) x.script (Leaves d) r refl
+          ∙ (leaves-run x.conn (Some (Finishing d)) x.script (Finishing d) r refl
           ∙ (ap (λ b. is_later r || (b || false)) now ∙ or-after (is_later r)));
       after_reply_is = same;
       remains_is = ap (λ (t : Client). left_over t) same ∙ ap (λ (t : Client). Some t) (sym same);

@@ -19,7 +19,8 @@ use Rattle.flash_laws.specs.Site.OtherConns.{left_by, with_at}
 use Rattle.flash_laws.specs.declared.phase.Phase.{Phase}
 use Rattle.flash_laws.specs.declared.phase.PendingCall.TheVariants.{At}
 use Rattle.flash_laws.specs.declared.script_run.Running.{Running}
-use Rattle.flash_laws.specs.declared.script_run.Running.TheVariants.{Awaits, Runs, Leaves, Closes as Finished}
+use Rattle.flash_laws.specs.declared.script_run.Running.TheVariants.{AwaitingWorker, InProgress, Finishing}
+use Rattle.flash_laws.specs.declared.script_run.Running.TheVariants.{Disconnecting as Finished}
 use Rattle.flash_laws.proofs.Site.InPlaces.{at-same, at-other, left-map}
 use Rattle.flash_laws.proofs.Lists.{clash}
 use Rattle.flash_lite.specs.Course.{left_with, worker_of}
@@ -134,9 +135,9 @@ module _ (workers : ℕ) (clients : List (Option Client)) (own : EachHasItsOwn w
 runs-worker : (c : Conn) (run : Option Running) (script : List ℕ) (k : ℕ)
     → is_run_by (of c run script) k ≡ is_worker (worker_of (of c run script)) k
 runs-worker c None script k = refl
-runs-worker c (Some Awaits) script k = refl
-runs-worker c (Some (Runs run s)) script k = refl
-runs-worker c (Some (Leaves d)) script k = refl
+runs-worker c (Some AwaitingWorker) script k = refl
+runs-worker c (Some (InProgress run s)) script k = refl
+runs-worker c (Some (Finishing d)) script k = refl
 runs-worker c (Some Finished) script k = refl
 
 runs-in : (o : Option Client) (k : ℕ) → runs_at k o ≡ is_worker (worker_in o) k
@@ -226,17 +227,17 @@ after_reply-same : (scripts : Bool) (a b : ℕ) (c : Conn) (run : Option Running
     (received : List ℕ) → awaits (of c run script) ≡ false
     → after_reply scripts a (of c run script) r received ≡ after_reply scripts b (of c run script) r received
 after_reply-same scripts a b c None script r received idle = refl
-after_reply-same scripts a b c (Some Awaits) script r received idle = absurd (cc (idle))
-after_reply-same scripts a b c (Some (Runs run s)) script r received idle = by c.q
+after_reply-same scripts a b c (Some AwaitingWorker) script r received idle = absurd (cc (idle))
+after_reply-same scripts a b c (Some (InProgress run s)) script r received idle = by c.q
   where
-    by : (q : Answer) → run_after_reply a q (of c (Some (Runs run s)) script) (Runs run s) r received
-        ≡ run_after_reply b q (of c (Some (Runs run s)) script) (Runs run s) r received
+    by : (q : Answer) → run_after_reply a q (of c (Some (InProgress run s)) script) (InProgress run s) r received
+        ≡ run_after_reply b q (of c (Some (InProgress run s)) script) (InProgress run s) r received
     by (serve w) = refl
     by (refuse status head_only close) = refl
-after_reply-same scripts a b c (Some (Leaves d)) script r received idle = by c.q
+after_reply-same scripts a b c (Some (Finishing d)) script r received idle = by c.q
   where
-    by : (q : Answer) → run_after_reply a q (of c (Some (Leaves d)) script) (Leaves d) r received
-        ≡ run_after_reply b q (of c (Some (Leaves d)) script) (Leaves d) r received
+    by : (q : Answer) → run_after_reply a q (of c (Some (Finishing d)) script) (Finishing d) r received
+        ≡ run_after_reply b q (of c (Some (Finishing d)) script) (Finishing d) r received
     by (serve w) = refl
     by (refuse status head_only close) = refl
 after_reply-same scripts a b c (Some Finished) script r received idle = by c.q
@@ -277,9 +278,9 @@ waits-as c d run other script text same =
   where
     by : (run : Option Running) → awaits (of c run script) ≡ awaits (of d run text)
     by None = refl
-    by (Some Awaits) = refl
-    by (Some (Runs r s)) = refl
-    by (Some (Leaves e)) = refl
+    by (Some AwaitingWorker) = refl
+    by (Some (InProgress r s)) = refl
+    by (Some (Finishing e)) = refl
     by (Some Finished) = refl
 
 pub ready-waits : (t y : Client) → Readies t y → awaits y ≡ awaits t

@@ -14,14 +14,15 @@ use Rattle.flash_laws.specs.Run as running
 use Rattle.flash_laws.specs.Run.{in_phase, step_wants}
 use Rattle.flash_laws.specs.Serves.{Picks}
 use Rattle.flash_laws.specs.declared.phase.Phase.{Phase}
-use Rattle.flash_laws.specs.declared.phase.Phase.TheVariants.{Reads}
+use Rattle.flash_laws.specs.declared.phase.Phase.TheVariants.{Reading}
 use Rattle.flash_laws.specs.declared.phase.PendingCall.{PendingCall}
 use Rattle.flash_laws.specs.declared.phase.PendingCall.TheVariants.{Nothing, Accepting, At}
 use Rattle.flash_laws.specs.declared.script_run.Run.{Run}
 use Rattle.flash_laws.specs.declared.script_run.Step.{Step}
 use Rattle.flash_laws.specs.declared.script_run.Step.TheVariants as act
 use Rattle.flash_laws.specs.declared.script_run.Running.{Running}
-use Rattle.flash_laws.specs.declared.script_run.Running.TheVariants.{Awaits, Runs, Leaves, Closes as Finished}
+use Rattle.flash_laws.specs.declared.script_run.Running.TheVariants.{AwaitingWorker, InProgress, Finishing}
+use Rattle.flash_laws.specs.declared.script_run.Running.TheVariants.{Disconnecting as Finished}
 use Rattle.flash_lite.specs.ServerTurn.{Turns, filed_by}
 use Rattle.flash_lite.specs.Table.{Table}
 
@@ -31,23 +32,23 @@ reading false f = tt
 
 phase : (fd : ℕ) (kept : List ℕ) (q : Answer) (d : Phase)
     → IsCopyFreeCall (conn.wants fd (record { kept = kept; q = q; phase = d }))
-phase fd kept q (Reads f) = reading (is_head_only q) f
+phase fd kept q (Reading f) = reading (is_head_only q) f
 phase fd kept q d = tt
 
 script-phase : (script : Bool) (fd : ℕ) (kept : List ℕ) (q : Answer) (d : Phase)
     → IsCopyFreeCall (conn_wants script fd (record { kept = kept; q = q; phase = d }))
-script-phase true fd kept q (Reads f) = tt
+script-phase true fd kept q (Reading f) = tt
 script-phase true fd kept q d = tt
 script-phase false fd kept q d = phase fd kept q d
 
 step : (job : ℕ → List ℕ) (fd : ℕ) (w : Wanted) (run : Run) (s : Step) → IsCopyFreeCall (step_wants job fd w run s)
-step job fd w run (act.Sending d frame) = phase fd (in_phase w d).kept (in_phase w d).q d
+step job fd w run (act.SendingPart d frame) = phase fd (in_phase w d).kept (in_phase w d).q d
 step job fd w run s = tt
 
 run : (job : ℕ → List ℕ) (fd : ℕ) (w : Wanted) (y : Running) → IsCopyFreeCall (running.wants job fd w y)
-run job fd w Awaits = tt
-run job fd w (Runs r s) = step job fd w r s
-run job fd w (Leaves d) = phase fd (in_phase w d).kept (in_phase w d).q d
+run job fd w AwaitingWorker = tt
+run job fd w (InProgress r s) = step job fd w r s
+run job fd w (Finishing d) = phase fd (in_phase w d).kept (in_phase w d).q d
 run job fd w Finished = tt
 
 quiet-wants : (scripts : Bool) (fd : ℕ) (c : Conn) (r : Option Running) (script : List ℕ)

@@ -95,8 +95,8 @@ pub(crate) fn reports(script: bool, phase: Phase, last: &Reply, head_only: bool)
         return Found::AsFile;
     }
     match phase {
-        Phase::Reads { file } => reads(file, last),
-        Phase::Spares { agg: _, content } => spares(content, last, head_only),
+        Phase::Reading { file } => reads(file, last),
+        Phase::DroppingWhole { agg: _, content } => spares(content, last, head_only),
         _ => Found::AsFile,
     }
 }
@@ -109,7 +109,7 @@ pub(crate) fn whole(script: bool, phase: Phase, call: Call) -> Call
         return call;
     }
     match phase {
-        Phase::Reads { file } => Call::IolRead {
+        Phase::Reading { file } => Call::IolRead {
             fd: file,
             count: MAX_READ_BYTES,
         },

@@ -33,12 +33,12 @@ pub(crate) fn begins(asked: &Asked) -> Phase
     ensures small { IsSmall result }
 {
     match asked {
-        Asked::Serve(_) => Phase::Opens,
+        Asked::Serve(_) => Phase::Opening,
         Asked::Refuse {
             status,
             head_only: _,
             close: _,
-        } => Phase::Heads {
+        } => Phase::MakingHead {
             content: Payload::Error { status: *status },
         },
     }
@@ -50,8 +50,8 @@ pub(crate) fn after_discard(agg: AggId, last: &Reply) -> Phase
     ensures small { IsSmall result }
 {
     match last {
-        Reply::Done => Phase::Rests,
-        _ => Phase::Got { agg },
+        Reply::Done => Phase::Receiving,
+        _ => Phase::DroppingInput { agg },
     }
 }
 
@@ -61,14 +61,14 @@ pub(crate) fn after_open(last: &Reply) -> Phase
     ensures small { IsSmall result }
 {
     match last {
-        Reply::Fd(file) => Phase::Reads { file: *file },
-        Reply::Refused(Refusal::WouldBlock) => Phase::Opens,
-        Reply::Refused(refusal) => Phase::Heads {
+        Reply::Fd(file) => Phase::Reading { file: *file },
+        Reply::Refused(Refusal::WouldBlock) => Phase::Opening,
+        Reply::Refused(refusal) => Phase::MakingHead {
             content: Payload::Error {
                 status: status_of(*refusal),
             },
         },
-        _ => Phase::Opens,
+        _ => Phase::Opening,
     }
 }
 
@@ -83,13 +83,13 @@ pub(crate) fn after_read(file: Fd, last: &Reply, parts: Option<Parts<'_>>) -> Ph
             len: count(parts),
         },
         Reply::Count(len) => FileResult::Length { len: *len },
-        Reply::Refused(Refusal::WouldBlock) => return Phase::Reads { file },
+        Reply::Refused(Refusal::WouldBlock) => return Phase::Reading { file },
         Reply::Refused(refusal) => FileResult::Fails {
             status: status_of(*refusal),
         },
-        _ => return Phase::Reads { file },
+        _ => return Phase::Reading { file },
     };
-    Phase::Shuts { file, file_result }
+    Phase::ClosingFile { file, file_result }
 }
 
 // The phase that sends the selected part of a file that was read.
@@ -98,20 +98,20 @@ fn sends_of(request: &Request, agg: AggId, len: u32) -> Phase
     ensures small { IsSmall result }
 {
     match select(request.range, u64::from(len)) {
-        Selection::Whole => Phase::Heads {
+        Selection::Whole => Phase::MakingHead {
             content: Payload::Body {
                 agg,
                 size: len,
                 len,
             },
         },
-        Selection::Bytes { first, last } => Phase::Picks {
+        Selection::Bytes { first, last } => Phase::Slicing {
             agg,
             first: first as u32,
             last: (last + 1) as u32,
             len,
         },
-        Selection::Unsatisfiable => Phase::Spares {
+        Selection::Unsatisfiable => Phase::DroppingWhole {
             agg,
             content: Payload::Bare { len },
         },
@@ -143,7 +143,7 @@ fn resolved(asked: &Asked, file_result: FileResult) -> Phase
                 status: _,
                 head_only: _,
                 close: _,
-            } => Phase::Heads {
+            } => Phase::MakingHead {
                 content: Payload::Body {
                     agg,
                     size: len,
@@ -151,13 +151,13 @@ fn resolved(asked: &Asked, file_result: FileResult) -> Phase
                 },
             },
         },
-        FileResult::Length { len } => Phase::Heads {
+        FileResult::Length { len } => Phase::MakingHead {
             content: Payload::Bare { len },
         },
-        FileResult::Fails { status } => Phase::Heads {
+        FileResult::Fails { status } => Phase::MakingHead {
             content: Payload::Error { status },
         },
-        FileResult::Text { agg, runs } => Phase::Spares {
+        FileResult::Text { agg, runs } => Phase::DroppingWhole {
             agg,
             content: put_out(runs),
         },
@@ -177,7 +177,7 @@ pub(crate) fn after_close_file(
 {
     match last {
         Reply::Done => resolved(asked, file_result),
-        _ => Phase::Shuts { file, file_result },
+        _ => Phase::ClosingFile { file, file_result },
     }
 }
 
@@ -187,7 +187,7 @@ pub(crate) fn after_slice(agg: AggId, from: u32, to: u32, len: u32, last: &Reply
     ensures small { IsSmall result }
 {
     match last {
-        Reply::Agg(part) => Phase::Spares {
+        Reply::Agg(part) => Phase::DroppingWhole {
             agg,
             content: Payload::Body {
                 agg: *part,
@@ -195,7 +195,7 @@ pub(crate) fn after_slice(agg: AggId, from: u32, to: u32, len: u32, last: &Reply
                 len,
             },
         },
-        _ => Phase::Picks {
+        _ => Phase::Slicing {
             agg,
             first: from,
             last: to,
@@ -210,7 +210,7 @@ pub(crate) fn after_drop_whole(agg: AggId, content: Payload, last: &Reply) -> Ph
     ensures small { IsSmall result }
 {
     match last {
-        Reply::Done => Phase::Heads { content },
-        _ => Phase::Spares { agg, content },
+        Reply::Done => Phase::MakingHead { content },
+        _ => Phase::DroppingWhole { agg, content },
     }
 }

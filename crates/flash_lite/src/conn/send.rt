@@ -6,7 +6,7 @@ ghost use Rattle.iol_core.specs.declared.refusals.Refusal.TheVariants.{BrokenPip
 ghost use Rattle.flash_http.specs.Prelude.{Answer, answer};
 ghost use Rattle.flash_laws.specs.Prelude.{keeps, after_part};
 ghost use Rattle.flash_laws.specs.Conn as spec;
-ghost use Rattle.flash_laws.specs.declared.phase.Phase.TheVariants.{Joins, Cuts, Sent};
+ghost use Rattle.flash_laws.specs.declared.phase.Phase.TheVariants.{Joining, CuttingPiece, DroppingSent};
 ghost use Rattle.flash_lite.specs.ReceivedBytes.{received};
 ghost use Rattle.flash_lite.specs.Runs.{IsGoing};
 ghost use Rattle.flash_lite.specs.Small.{IsSmall, size_of};
@@ -41,14 +41,14 @@ fn with_body(head: AggId, size: u32, body: AggId, len: u32) -> Phase
     ensures small { IsSmall result }
 {
     if u64::from(size) + u64::from(len) <= MAX_AGGREGATE_BYTES as u64 {
-        Phase::Joins {
+        Phase::Joining {
             head,
             size,
             body,
             len,
         }
     } else {
-        Phase::Sends {
+        Phase::SendingWhole {
             sending: Sending::whole(head, size, 0, Some((body, len))),
         }
     }
@@ -61,7 +61,7 @@ fn headed(head: AggId, size: u32, more: Following) -> Phase
 {
     match more {
         Some((body, len)) => with_body(head, size, body, len),
-        None => Phase::Sends {
+        None => Phase::SendingWhole {
             sending: Sending::whole(head, size, 0, None),
         },
     }
@@ -74,21 +74,21 @@ pub(crate) fn after_head(content: Payload, last: &Reply, parts: Option<Parts<'_>
 {
     match last {
         Reply::Agg(agg) => headed(*agg, count(parts), following(&content)),
-        _ => Phase::Heads { content },
+        _ => Phase::MakingHead { content },
     }
 }
 
 /// After joining head and body.
 pub(crate) fn after_join(head: AggId, size: u32, body: AggId, len: u32, last: &Reply) -> Phase
-    requires { IsSmall (Joins head size body len) }
+    requires { IsSmall (Joining head size body len) }
     ensures after_reply { result ≡ spec.after_join head size body len last.now }
     ensures small { IsSmall result }
 {
     match last {
-        Reply::Agg(agg) => Phase::Sends {
+        Reply::Agg(agg) => Phase::SendingWhole {
             sending: Sending::whole(*agg, size + len, 0, None),
         },
-        _ => Phase::Joins {
+        _ => Phase::Joining {
             head,
             size,
             body,
@@ -99,14 +99,14 @@ pub(crate) fn after_join(head: AggId, size: u32, body: AggId, len: u32, last: &R
 
 // The next piece is to be cut, or all is taken.
 fn next_piece(sending: Sending) -> Phase
-    requires { IsSmall (Cuts sending) }
+    requires { IsSmall (CuttingPiece sending) }
     ensures next { result ≡ spec.next_piece sending }
     ensures going { IsGoing result }
 {
     if sending.from < sending.len {
-        Phase::Cuts { sending }
+        Phase::CuttingPiece { sending }
     } else {
-        Phase::Sent {
+        Phase::DroppingSent {
             agg: sending.agg,
             taken: sending.taken,
             more: sending.more,
@@ -121,8 +121,8 @@ fn counted(phase: Phase, count: u32) -> Phase
     ensures going { IsGoing result }
 {
     match phase {
-        Phase::Sends { sending } => next_piece(sending.after_taking(count)),
-        Phase::Offers { sending, piece } => Phase::Swaps {
+        Phase::SendingWhole { sending } => next_piece(sending.after_taking(count)),
+        Phase::SendingPiece { sending, piece } => Phase::DroppingPiece {
             sending: sending.after_taking(count),
             piece,
         },
@@ -137,7 +137,7 @@ fn cut(phase: Phase, piece: AggId) -> Phase
     ensures going { IsGoing result }
 {
     match phase {
-        Phase::Cuts { sending } => Phase::Offers { sending, piece },
+        Phase::CuttingPiece { sending } => Phase::SendingPiece { sending, piece },
         _ => phase,
     }
 }
@@ -149,8 +149,8 @@ fn dropped(phase: Phase) -> Phase
     ensures going { IsGoing result }
 {
     match phase {
-        Phase::Swaps { sending, .. } => next_piece(sending),
-        Phase::Breaks { agg, more, .. } => Phase::Drops { agg, more },
+        Phase::DroppingPiece { sending, .. } => next_piece(sending),
+        Phase::AbortingPiece { agg, more, .. } => Phase::Aborting { agg, more },
         _ => phase,
     }
 }
@@ -162,11 +162,11 @@ fn broken_off(phase: Phase) -> Phase
     ensures going { IsGoing result }
 {
     match phase {
-        Phase::Sends { sending } => Phase::Drops {
+        Phase::SendingWhole { sending } => Phase::Aborting {
             agg: sending.agg,
             more: sending.more,
         },
-        Phase::Offers { sending, piece } => Phase::Breaks {
+        Phase::SendingPiece { sending, piece } => Phase::AbortingPiece {
             piece,
             agg: sending.agg,
             more: sending.more,
@@ -213,10 +213,16 @@ pub(crate) fn proceeds(keep: bool, taken: u64, more: Following) -> Phase
     ensures small { IsSmall result }
 {
     match more {
-        Some((agg, len)) => Phase::Sends {
+        Some((agg, len)) => Phase::SendingWhole {
             sending: Sending::whole(agg, len, taken, None),
         },
-        None => { if keep { Phase::Rests } else { Phase::Closes } }
+        None => {
+            if keep {
+                Phase::Receiving
+            } else {
+                Phase::Disconnecting
+            }
+        }
     }
 }
 
@@ -228,13 +234,13 @@ pub(crate) fn after_taken(
     more: Following,
     last: &Reply,
 ) -> Phase
-    requires { IsSmall (Sent agg taken more) }
+    requires { IsSmall (DroppingSent agg taken more) }
     ensures after_reply { result ≡ spec.after_taken (answer asked.now) agg taken more last.now }
     ensures small { IsSmall result }
 {
     match last {
         Reply::Done => proceeds(keeps(asked), taken, more),
-        _ => Phase::Sent { agg, taken, more },
+        _ => Phase::DroppingSent { agg, taken, more },
     }
 }
 
@@ -245,10 +251,10 @@ pub(crate) fn after_drop(agg: AggId, more: Following, last: &Reply) -> Phase
 {
     match last {
         Reply::Done => match more {
-            Some((agg, _)) => Phase::Drops { agg, more: None },
-            None => Phase::Closes,
+            Some((agg, _)) => Phase::Aborting { agg, more: None },
+            None => Phase::Disconnecting,
         },
-        _ => Phase::Drops { agg, more },
+        _ => Phase::Aborting { agg, more },
     }
 }
 
@@ -258,7 +264,7 @@ pub(crate) fn after_disconnect(last: &Reply) -> Phase
     ensures small { IsSmall result }
 {
     match last {
-        Reply::Done => Phase::Over,
-        _ => Phase::Closes,
+        Reply::Done => Phase::Closed,
+        _ => Phase::Disconnecting,
     }
 }

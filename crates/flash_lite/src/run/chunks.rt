@@ -18,11 +18,11 @@ pub(crate) fn after_frame(held: AggId, last: &Reply) -> Step
     ensures small { IsSmallStep result }
 {
     match last {
-        Reply::Agg(frame) => Step::Wraps {
+        Reply::Agg(frame) => Step::FillingFrame {
             held,
             frame: *frame,
         },
-        _ => Step::Frames { held },
+        _ => Step::MakingFrame { held },
     }
 }
 
@@ -32,13 +32,13 @@ pub(crate) fn after_wrap(held: AggId, frame: AggId, last: &Reply, parts: Option<
     ensures small { IsSmallStep result }
 {
     match last {
-        Reply::Agg(chunk) => Step::Trims {
+        Reply::Agg(chunk) => Step::DroppingHeld {
             held,
             chunk: *chunk,
             len: count(parts),
             frame,
         },
-        _ => Step::Wraps { held, frame },
+        _ => Step::FillingFrame { held, frame },
     }
 }
 
@@ -48,13 +48,13 @@ pub(crate) fn after_trim(held: AggId, chunk: AggId, len: u32, frame: AggId, last
     ensures small { IsSmallStep result }
 {
     match last {
-        Reply::Done => Step::Sending {
-            phase: Phase::Sends {
+        Reply::Done => Step::SendingPart {
+            phase: Phase::SendingWhole {
                 sending: Sending::whole(chunk, len, 0, None),
             },
             frame: Some(frame),
         },
-        _ => Step::Trims {
+        _ => Step::DroppingHeld {
             held,
             chunk,
             len,

@@ -21,8 +21,8 @@ pub(crate) fn after_ended(agg: AggId, held: Following, frame: Option<AggId>, las
     ensures small { IsSmallStep result }
 {
     match last {
-        Reply::Done => Step::Stops { held, frame },
-        _ => Step::Ended { agg, held, frame },
+        Reply::Done => Step::ClosingOutput { held, frame },
+        _ => Step::DroppingEnd { agg, held, frame },
     }
 }
 
@@ -32,8 +32,8 @@ pub(crate) fn after_release_held(held: AggId, frame: Option<AggId>, last: &Reply
     ensures small { IsSmallStep result }
 {
     match last {
-        Reply::Done => Step::Stops { held: None, frame },
-        _ => Step::Unholds { held, frame },
+        Reply::Done => Step::ClosingOutput { held: None, frame },
+        _ => Step::DiscardingHeld { held, frame },
     }
 }
 
@@ -44,14 +44,14 @@ fn finishing(chunked: bool, run: Run, held: Following) -> Running
     ensures small { IsSmallRunning result }
 {
     if run.broken {
-        Running::Closes
+        Running::Disconnecting
     } else if chunked {
-        Running::Runs {
+        Running::InProgress {
             run,
-            step: Step::Lasts { held },
+            step: Step::MakingEnd { held },
         }
     } else {
-        Running::Closes
+        Running::Disconnecting
     }
 }
 
@@ -62,9 +62,9 @@ fn stopped(request: &Request, run: Run, held: Following, frame: Option<AggId>) -
     ensures small { IsSmallRunning result }
 {
     match frame {
-        Some(frame) => Running::Runs {
+        Some(frame) => Running::InProgress {
             run,
-            step: Step::Unframes { frame, held },
+            step: Step::DroppingFrame { frame, held },
         },
         None => finishing(request.chunked, run, held),
     }
@@ -84,9 +84,9 @@ pub(crate) fn after_stop(
 {
     match last {
         Reply::Done => stopped(request, run, held, frame),
-        _ => Running::Runs {
+        _ => Running::InProgress {
             run,
-            step: Step::Stops { held, frame },
+            step: Step::ClosingOutput { held, frame },
         },
     }
 }
@@ -106,9 +106,9 @@ pub(crate) fn after_release_frame(
 {
     match last {
         Reply::Done => finishing(request.chunked, run, held),
-        _ => Running::Runs {
+        _ => Running::InProgress {
             run,
-            step: Step::Unframes { frame, held },
+            step: Step::DroppingFrame { frame, held },
         },
     }
 }
@@ -120,16 +120,16 @@ fn ending(run: Run, held: Following, agg: AggId, len: u32) -> Running
     ensures small { IsSmallRunning result }
 {
     match held {
-        Some((held, size)) => Running::Runs {
+        Some((held, size)) => Running::InProgress {
             run,
-            step: Step::WrapsLast {
+            step: Step::FillingEnd {
                 held,
                 size,
                 frame: agg,
             },
         },
-        None => Running::Leaves {
-            phase: Phase::Sends {
+        None => Running::Finishing {
+            phase: Phase::SendingWhole {
                 sending: Sending::whole(agg, len, 0, None),
             },
         },
@@ -149,9 +149,9 @@ pub(crate) fn after_last(
 {
     match last {
         Reply::Agg(agg) => ending(run, held, *agg, count(parts)),
-        _ => Running::Runs {
+        _ => Running::InProgress {
             run,
-            step: Step::Lasts { held },
+            step: Step::MakingEnd { held },
         },
     }
 }
@@ -170,13 +170,13 @@ pub(crate) fn after_wrap_last(
     ensures small { IsSmallStep result }
 {
     match last {
-        Reply::Agg(chunk) => Step::TrimsLast {
+        Reply::Agg(chunk) => Step::DroppingLast {
             held,
             chunk: *chunk,
             len: count(parts),
             frame,
         },
-        _ => Step::WrapsLast { held, size, frame },
+        _ => Step::FillingEnd { held, size, frame },
     }
 }
 
@@ -192,8 +192,8 @@ pub(crate) fn after_trim_last(
     ensures small { IsSmallStep result }
 {
     match last {
-        Reply::Done => Step::Unwraps { frame, chunk, len },
-        _ => Step::TrimsLast {
+        Reply::Done => Step::DroppingLastFrame { frame, chunk, len },
+        _ => Step::DroppingLast {
             held,
             chunk,
             len,
@@ -209,14 +209,14 @@ pub(crate) fn after_unwrap(run: Run, frame: AggId, chunk: AggId, len: u32, last:
     ensures small { IsSmallRunning result }
 {
     match last {
-        Reply::Done => Running::Leaves {
-            phase: Phase::Sends {
+        Reply::Done => Running::Finishing {
+            phase: Phase::SendingWhole {
                 sending: Sending::whole(chunk, len, 0, None),
             },
         },
-        _ => Running::Runs {
+        _ => Running::InProgress {
             run,
-            step: Step::Unwraps { frame, chunk, len },
+            step: Step::DroppingLastFrame { frame, chunk, len },
         },
     }
 }

@@ -22,8 +22,8 @@ fn filled(held: AggId, frame: Option<AggId>) -> Step
     ensures small { IsSmallStep result }
 {
     match frame {
-        Some(frame) => Step::Wraps { held, frame },
-        None => Step::Frames { held },
+        Some(frame) => Step::FillingFrame { held, frame },
+        None => Step::MakingFrame { held },
     }
 }
 
@@ -34,7 +34,7 @@ fn holding(held: AggId, size: u32, frame: Option<AggId>) -> Step
     ensures small { IsSmallStep result }
 {
     if size < CHUNK_BYTES {
-        Step::Receives {
+        Step::ReadingOutput {
             held: Some((held, size)),
             frame,
         }
@@ -50,7 +50,7 @@ fn gathering(held: Following, frame: Option<AggId>, agg: AggId, len: u32) -> Ste
     ensures small { IsSmallStep result }
 {
     match held {
-        Some((held, size)) => Step::Gathers {
+        Some((held, size)) => Step::JoiningOutput {
             held,
             size,
             piece: agg,
@@ -75,14 +75,14 @@ fn reading(
     ensures small { IsSmallStep result }
 {
     if len == 0 {
-        Step::Ended { agg, held, frame }
+        Step::DroppingEnd { agg, held, frame }
     } else if broken {
-        Step::Spills { agg, frame }
+        Step::DroppingOutput { agg, frame }
     } else if chunked {
         gathering(held, frame, agg, len)
     } else {
-        Step::Sending {
-            phase: Phase::Sends {
+        Step::SendingPart {
+            phase: Phase::SendingWhole {
                 sending: Sending::whole(agg, len, 0, None),
             },
             frame,
@@ -96,8 +96,8 @@ fn unread(held: Following, frame: Option<AggId>) -> Step
     ensures small { IsSmallStep result }
 {
     match held {
-        Some((held, _)) => Step::Unholds { held, frame },
-        None => Step::Stops { held: None, frame },
+        Some((held, _)) => Step::DiscardingHeld { held, frame },
+        None => Step::ClosingOutput { held: None, frame },
     }
 }
 
@@ -119,15 +119,15 @@ pub(crate) fn after_output(
     match last {
         Reply::Agg(agg) => {
             let step = reading(run.broken, request.chunked, held, frame, *agg, count(parts));
-            Running::Runs { run, step }
+            Running::InProgress { run, step }
         }
-        Reply::Refused(Refusal::Denied { pool: _ }) => Running::Runs {
+        Reply::Refused(Refusal::Denied { pool: _ }) => Running::InProgress {
             run: broken(run),
             step: unread(held, frame),
         },
-        _ => Running::Runs {
+        _ => Running::InProgress {
             run,
-            step: Step::Receives { held, frame },
+            step: Step::ReadingOutput { held, frame },
         },
     }
 }
@@ -138,8 +138,8 @@ pub(crate) fn after_spill(agg: AggId, frame: Option<AggId>, last: &Reply) -> Ste
     ensures small { IsSmallStep result }
 {
     match last {
-        Reply::Done => Step::Receives { held: None, frame },
-        _ => Step::Spills { agg, frame },
+        Reply::Done => Step::ReadingOutput { held: None, frame },
+        _ => Step::DroppingOutput { agg, frame },
     }
 }
 
@@ -158,7 +158,7 @@ pub(crate) fn after_gather(
 {
     match last {
         Reply::Agg(agg) => holding(*agg, size.saturating_add(len), frame),
-        _ => Step::Gathers {
+        _ => Step::JoiningOutput {
             held,
             size,
             piece,

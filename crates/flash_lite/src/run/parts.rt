@@ -6,7 +6,7 @@ ghost use Rattle.flash_http.specs.Prelude.{serve, wanted};
 ghost use Rattle.flash_laws.specs.Conn as conn;
 ghost use Rattle.flash_laws.specs.Run as spec;
 ghost use Rattle.flash_laws.specs.Prelude.{has_bytes};
-ghost use Rattle.flash_laws.specs.declared.phase.Phase.TheVariants.{Sent};
+ghost use Rattle.flash_laws.specs.declared.phase.Phase.TheVariants.{DroppingSent};
 ghost use Rattle.flash_lite.specs.ReceivedBytes.{received};
 ghost use Rattle.flash_lite.specs.Runs.{IsGoing, IsSmallRun, IsSmallRunning, part_call_for, after_reply_left};
 ghost use Rattle.flash_lite.specs.Small.{IsSmall};
@@ -43,23 +43,23 @@ pub(crate) fn after_sending(run: Run, phase: Phase, frame: Option<AggId>, last: 
 {
     match (phase, last) {
         (
-            Phase::Sent {
+            Phase::DroppingSent {
                 agg: _,
                 taken: _,
                 more: None,
             },
             Reply::Done,
-        ) => Running::Runs {
+        ) => Running::InProgress {
             run,
-            step: Step::Receives { held: None, frame },
+            step: Step::ReadingOutput { held: None, frame },
         },
-        (Phase::Drops { agg: _, more: None }, Reply::Done) => Running::Runs {
+        (Phase::Aborting { agg: _, more: None }, Reply::Done) => Running::InProgress {
             run: broken(run),
-            step: Step::Receives { held: None, frame },
+            step: Step::ReadingOutput { held: None, frame },
         },
-        _ => Running::Runs {
+        _ => Running::InProgress {
             run,
-            step: Step::Sending {
+            step: Step::SendingPart {
                 phase: after_part(phase, last),
                 frame,
             },
@@ -69,14 +69,14 @@ pub(crate) fn after_sending(run: Run, phase: Phase, frame: Option<AggId>, last: 
 
 // After dropping an aggregate that was taken whole.
 fn after_taken(request: &Request, agg: AggId, taken: u64, more: Following, last: &Reply) -> Phase
-    requires { IsSmall (Sent agg taken more) }
+    requires { IsSmall (DroppingSent agg taken more) }
     ensures after_reply { result
         ≡ conn.after_taken (serve (wanted request.now)) agg taken more last.now }
     ensures small { IsSmall result }
 {
     match last {
         Reply::Done => proceeds(request.keep, taken, more),
-        _ => Phase::Sent { agg, taken, more },
+        _ => Phase::DroppingSent { agg, taken, more },
     }
 }
 
@@ -93,9 +93,9 @@ pub(crate) fn after_reply_left(
     ensures small { IsSmall result }
 {
     match phase {
-        Phase::Heads { content } => after_head(content, last, parts),
-        Phase::Sent { agg, taken, more } => after_taken(request, agg, taken, more, last),
-        Phase::Drops { agg, more } => after_drop(agg, more, last),
+        Phase::MakingHead { content } => after_head(content, last, parts),
+        Phase::DroppingSent { agg, taken, more } => after_taken(request, agg, taken, more, last),
+        Phase::Aborting { agg, more } => after_drop(agg, more, last),
         _ => after_part(phase, last),
     }
 }
@@ -124,18 +124,18 @@ pub(crate) fn part_call(
     ensures wants { OnErr result (has_bytes phase ≡ true) }
 {
     Ok(match phase {
-        Phase::Heads { content } => make_call(alloc, request, &content)?,
-        Phase::Joins { head, body, .. } => join_call(head, body),
-        Phase::Sends { sending } => Call::IolWrite {
+        Phase::MakingHead { content } => make_call(alloc, request, &content)?,
+        Phase::Joining { head, body, .. } => join_call(head, body),
+        Phase::SendingWhole { sending } => Call::IolWrite {
             fd,
             agg: sending.agg,
         },
-        Phase::Cuts { sending } => cut_call(sending.agg, sending.from, sending.piece_end()),
-        Phase::Offers { piece, .. } => Call::IolWrite { fd, agg: piece },
-        Phase::Swaps { piece, .. } => Call::AggDrop { agg: piece },
-        Phase::Sent { agg, .. } => Call::AggDrop { agg },
-        Phase::Breaks { piece, .. } => Call::AggDrop { agg: piece },
-        Phase::Drops { agg, .. } => Call::AggDrop { agg },
+        Phase::CuttingPiece { sending } => cut_call(sending.agg, sending.from, sending.piece_end()),
+        Phase::SendingPiece { piece, .. } => Call::IolWrite { fd, agg: piece },
+        Phase::DroppingPiece { piece, .. } => Call::AggDrop { agg: piece },
+        Phase::DroppingSent { agg, .. } => Call::AggDrop { agg },
+        Phase::AbortingPiece { piece, .. } => Call::AggDrop { agg: piece },
+        Phase::Aborting { agg, .. } => Call::AggDrop { agg },
         _ => Call::Close { fd },
     })
 }

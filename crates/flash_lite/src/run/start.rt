@@ -36,15 +36,15 @@ pub(crate) fn after_wait(worker: u32, last: &Reply) -> Running
     ensures small { IsSmallRunning result }
 {
     match last {
-        Reply::Fds(from, write) => Running::Runs {
+        Reply::Fds(from, write) => Running::InProgress {
             run: Run {
                 worker,
                 from: *from,
                 broken: false,
             },
-            step: Step::Gives { write: *write },
+            step: Step::GivingPipe { write: *write },
         },
-        _ => Running::Awaits,
+        _ => Running::AwaitingWorker,
     }
 }
 
@@ -54,15 +54,15 @@ pub(crate) fn after_give(write: Fd, last: &Reply) -> Step
     ensures small { IsSmallStep result }
 {
     match last {
-        Reply::Fd(fd) => Step::Makes { fd: *fd },
+        Reply::Fd(fd) => Step::MakingJob { fd: *fd },
         Reply::Refused(refusal) => {
             if is_again(*refusal) {
-                Step::Gives { write }
+                Step::GivingPipe { write }
             } else {
-                Step::Returns { write }
+                Step::ClosingPipe { write }
             }
         }
-        _ => Step::Gives { write },
+        _ => Step::GivingPipe { write },
     }
 }
 
@@ -72,8 +72,8 @@ pub(crate) fn after_make(fd: Fd, last: &Reply) -> Step
     ensures small { IsSmallStep result }
 {
     match last {
-        Reply::Agg(job) => Step::Hands { job: *job, fd },
-        _ => Step::Makes { fd },
+        Reply::Agg(job) => Step::WritingJob { job: *job, fd },
+        _ => Step::MakingJob { fd },
     }
 }
 
@@ -83,15 +83,15 @@ pub(crate) fn after_hand(job: AggId, fd: Fd, last: &Reply) -> Step
     ensures small { IsSmallStep result }
 {
     match last {
-        Reply::Count(_) => Step::Lets { job },
+        Reply::Count(_) => Step::DroppingJob { job },
         Reply::Refused(refusal) => {
             if is_again(*refusal) {
-                Step::Hands { job, fd }
+                Step::WritingJob { job, fd }
             } else {
-                Step::Lapses { job }
+                Step::DiscardingJob { job }
             }
         }
-        _ => Step::Hands { job, fd },
+        _ => Step::WritingJob { job, fd },
     }
 }
 
@@ -101,8 +101,8 @@ pub(crate) fn after_release_job(job: AggId, last: &Reply) -> Step
     ensures small { IsSmallStep result }
 {
     match last {
-        Reply::Done => Step::Heads,
-        _ => Step::Lets { job },
+        Reply::Done => Step::MakingHead,
+        _ => Step::DroppingJob { job },
     }
 }
 
@@ -112,13 +112,13 @@ pub(crate) fn after_head(last: &Reply, parts: Option<Parts<'_>>) -> Step
     ensures small { IsSmallStep result }
 {
     match last {
-        Reply::Agg(agg) => Step::Sending {
-            phase: Phase::Sends {
+        Reply::Agg(agg) => Step::SendingPart {
+            phase: Phase::SendingWhole {
                 sending: Sending::whole(*agg, count(parts), 0, None),
             },
             frame: None,
         },
-        _ => Step::Heads,
+        _ => Step::MakingHead,
     }
 }
 
@@ -128,8 +128,8 @@ pub(crate) fn after_return(write: Fd, last: &Reply) -> Step
     ensures small { IsSmallStep result }
 {
     match last {
-        Reply::Done => Step::Fails,
-        _ => Step::Returns { write },
+        Reply::Done => Step::Failing,
+        _ => Step::ClosingPipe { write },
     }
 }
 
@@ -139,8 +139,8 @@ pub(crate) fn after_lapse(job: AggId, last: &Reply) -> Step
     ensures small { IsSmallStep result }
 {
     match last {
-        Reply::Done => Step::Fails,
-        _ => Step::Lapses { job },
+        Reply::Done => Step::Failing,
+        _ => Step::DiscardingJob { job },
     }
 }
 
@@ -151,16 +151,16 @@ pub(crate) fn after_fail(run: Run, last: &Reply) -> Running
     ensures small { IsSmallRunning result }
 {
     match last {
-        Reply::Done => Running::Leaves {
-            phase: Phase::Heads {
+        Reply::Done => Running::Finishing {
+            phase: Phase::MakingHead {
                 content: Payload::Error {
                     status: StatusCode::SERVICE_UNAVAILABLE,
                 },
             },
         },
-        _ => Running::Runs {
+        _ => Running::InProgress {
             run,
-            step: Step::Fails,
+            step: Step::Failing,
         },
     }
 }

@@ -51,8 +51,8 @@ pub(crate) fn ends(left: &Left) -> bool
     ensures { result ≡ ends left.now }
 {
     match *left {
-        Left::Goes { phase } => matches!(phase, Phase::Over),
-        Left::Ends { phase } => matches!(phase, Phase::Over),
+        Left::Goes { phase } => matches!(phase, Phase::Closed),
+        Left::Ends { phase } => matches!(phase, Phase::Closed),
         Left::Begins | Left::Continues { .. } | Left::Stays => false,
     }
 }

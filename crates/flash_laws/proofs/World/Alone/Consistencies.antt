@@ -12,7 +12,7 @@ use Rattle.flash_laws.specs.Conn.Fits.{asked, quits}
 use Rattle.flash_laws.specs.Conn.OfferedBytes.{taken_of}
 use Rattle.flash_laws.specs.SiteContents.{SiteContents, MayBeExpected, Responds}
 use Rattle.flash_laws.specs.declared.phase.Phase.{Phase}
-use Rattle.flash_laws.specs.declared.phase.Phase.TheVariants.{Rests, Sent, Closes}
+use Rattle.flash_laws.specs.declared.phase.Phase.TheVariants.{Receiving, DroppingSent, Disconnecting}
 use Rattle.flash_laws.proofs.Conn.Responses.{all-more, order-more, last-more}
 use Rattle.flash_laws.proofs.Lists.{clash}
 use Rattle.flash_laws.proofs.World.Responses.{responds-more, begins-consistency}
@@ -77,7 +77,7 @@ module _ (site_contents : SiteContents) (kept script : List ℕ) where
         (responds-more site_contents done q before expected were may)
 
     pub ends : (a taken : ℕ) → keeps q ≡ true → drop taken expected ≡ []
-        → ConsistenciesOn expected expected q (Sent a taken None) Rests
+        → ConsistenciesOn expected expected q (DroppingSent a taken None) Receiving
     ends a taken keep none k took sent (inl o) = inl (
       refl,
       record {
@@ -94,7 +94,7 @@ module _ (site_contents : SiteContents) (kept script : List ℕ) where
 
     -- and is the last one
     pub ends-last : (a taken : ℕ) → keeps q ≡ false → drop taken expected ≡ []
-        → ConsistenciesOn expected expected q (Sent a taken None) Closes
+        → ConsistenciesOn expected expected q (DroppingSent a taken None) Disconnecting
     ends-last a taken last none k took sent (inl o) = inr (inl (record {
       quits = refl;
       finished = record {
@@ -108,7 +108,8 @@ module _ (site_contents : SiteContents) (kept script : List ℕ) where
         no_more =
             inl (last-more o.1.done q last);
       };
-      begins = begins-consistency site_contents k took sent (alone kept script q (Sent a taken None)) expected may
+      begins = begins-consistency site_contents k took sent (alone kept script q (DroppingSent a taken None)) expected
+          may
           (inl o);
     }))
     ends-last a taken last none k took sent (inr (inl h)) = absurd (let bad = h.quits in cc (bad))

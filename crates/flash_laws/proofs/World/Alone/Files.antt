@@ -40,7 +40,7 @@ use Rattle.flash_laws.specs.Site.{server, found_in, IsFixed}
 use Rattle.flash_laws.specs.declared.phase.FileResult.TheVariants.{File, Length, Text as TextOf}
 use Rattle.flash_laws.specs.declared.phase.Payload.TheVariants.{Error, Script}
 use Rattle.flash_laws.specs.declared.phase.Phase.{Phase}
-use Rattle.flash_laws.specs.declared.phase.Phase.TheVariants.{Opens, Reads as Reading, Shuts, Heads}
+use Rattle.flash_laws.specs.declared.phase.Phase.TheVariants.{Opening, Reading as Reading, ClosingFile, MakingHead}
 use Rattle.flash_laws.proofs.Conn.Responses.{some-inj}
 use Rattle.flash_laws.proofs.Conn.ShortHeads.{refusal-status, finds-after_reply}
 use Rattle.flash_laws.proofs.Forms.{at}
@@ -150,7 +150,7 @@ module _ (site_contents : SiteContents) (worker_set : WorkerSet) (laws : AllLaws
           for_script is
       by false none = expected_of_file w (Failed status) none is
 
-  pub opens : (q : Answer) (r : Reply) (received : List ℕ) → IsFixed site_contents.finds m → Fitting m q Opens
+  pub opens : (q : Answer) (r : Reply) (received : List ℕ) → IsFixed site_contents.finds m → Fitting m q Opening
       → IsAmong site_contents.refuses.of_server r
       → StepsTo m (event.Call server (call.OpenFile (name_of q) modes.Read)) r n
       → Fitting n q (conn.after_open r)
@@ -174,7 +174,7 @@ module _ (site_contents : SiteContents) (worker_set : WorkerSet) (laws : AllLaws
           step in
           let here = file-same m n did.file_is (leaves.files refl).0 in
           let bytes = content-same m n did.file_is (leaves.files refl).1 in
-          goes (serve w) [] Opens (Reading g) (call.OpenFile w.name modes.Read) (reply.Fd g)
+          goes (serve w) [] Opening (Reading g) (call.OpenFile w.name modes.Read) (reply.Fd g)
           (expected_to site_contents (serve w)) (expected-may site_contents (serve w)) f step refl refl
           (refl, refl, refl) (refl, refl, refl)
           (tt, (did.file_is, 0, did.open_on)) (record {
@@ -188,17 +188,18 @@ module _ (site_contents : SiteContents) (worker_set : WorkerSet) (laws : AllLaws
             found = found did.file_is true did.may did.found ∙ ap (λ (l : List ℕ). Found l) (sym bytes);
           })
       by (reply.Refused no.NoFile) did step undisturbed =
-          goes (serve w) [] Opens (Heads (Error 404)) (call.OpenFile w.name modes.Read) (reply.Refused no.NoFile)
+          goes (serve w) [] Opening (MakingHead (Error 404)) (call.OpenFile w.name modes.Read) (reply.Refused no.NoFile)
           (expected_to site_contents (serve w)) (expected-may site_contents (serve w)) f step refl refl
           (refl, refl, refl) (refl, refl, refl) (failed w 404 (shelved None did.0)) refl
       by (reply.Refused (no.Denied p)) did step undisturbed =
           let may_not = ap (λ z. may_read m server z) did.0.pool_is ∙ did.0.may_not in
-          goes (serve w) [] Opens (Heads (Error 403)) (call.OpenFile w.name modes.Read) (reply.Refused (no.Denied p))
+          goes (serve w) [] Opening (MakingHead (Error 403)) (call.OpenFile w.name modes.Read)
+          (reply.Refused (no.Denied p))
           (expected_to site_contents (serve w)) (expected-may site_contents (serve w)) f step refl refl
           (refl, refl, refl) (refl, refl, refl) (failed w 403 (found did.0.file_is false may_not did.0.found)) refl
       by (reply.Refused no.WouldBlock) did step undisturbed = absurd (let bad = did.0 in cc (bad))
       by (reply.Refused y) did step undisturbed =
-          goes (serve w) [] Opens (conn.after_open (reply.Refused y)) (call.OpenFile w.name modes.Read)
+          goes (serve w) [] Opening (conn.after_open (reply.Refused y)) (call.OpenFile w.name modes.Read)
           (reply.Refused y)
           (text_of (serve w) (Error (status_of y))) (error-may site_contents w y (undisturbed did.0)) f step refl refl
           (refl, refl, refl) (refl, refl, refl) refl (refusal-status y)
@@ -226,7 +227,7 @@ module _ (site_contents : SiteContents) (worker_set : WorkerSet) (laws : AllLaws
           → StepsTo m (event.Call server (call.Length g)) r n
           → Fitting n (serve w) (conn.after_read g r received)
       measured (reply.Count k) is did step =
-          goes (serve w) [] (Reading g) (Shuts g (Length k)) (call.Length g) (reply.Count k)
+          goes (serve w) [] (Reading g) (ClosingFile g (Length k)) (call.Length g) (reply.Count k)
           (expected_to site_contents (serve w)) (expected-may site_contents (serve w)) f step refl refl
           (refl, refl, refl) (refl, refl, refl) (
             (
@@ -252,7 +253,8 @@ module _ (site_contents : SiteContents) (worker_set : WorkerSet) (laws : AllLaws
           let bytes : received ≡ content m f.finds.number = some-inj _ _ (sym names ∙ did.is_readable)
           ∙ take_all most_read (content m f.finds.number) f.finds.short in
           let apart = reads_apart g f.finds.number most_read f.finds.open_on f.open_on in
-          goes (serve w) [] (Reading g) (Shuts g (File a (count_of received))) (call.IolRead g most_read) (reply.Agg a)
+          goes (serve w) [] (Reading g) (ClosingFile g (File a (count_of received))) (call.IolRead g most_read)
+          (reply.Agg a)
           (expected_to site_contents (serve w)) (expected-may site_contents (serve w)) f step apart.0 apart.1
           (refl, refl, refl) (refl, refl, refl) (
             (f.finds.number, 0 + length (take most_read (content m f.finds.number)), did.moves),
@@ -340,13 +342,13 @@ module _ (site_contents : SiteContents) (worker_set : WorkerSet) (laws : AllLaws
 
           runs : (b : Bool) → can_run received ≡ b
               → FitsAlone site_contents n came sent fd c
-              (alone kept (kept_if w.head_only b received) (serve w) (Shuts g (TextOf a b)))
+              (alone kept (kept_if w.head_only b received) (serve w) (ClosingFile g (TextOf a b)))
           runs true is =
-              moves_to (kept_if w.head_only true received) (serve w) (Reading g) (Shuts g (TextOf a true))
+              moves_to (kept_if w.head_only true received) (serve w) (Reading g) (ClosingFile g (TextOf a true))
               (call.IolRead g most_read) (reply.Agg a) (expected_to site_contents (serve w))
               (expected-may site_contents (serve w)) f step apart.0 apart.1
               (consistency_on site_contents kept script f.expected (expected_to site_contents (serve w)) (serve w)
-              (Reading g) (Shuts g (TextOf a true)) refl refl refl refl) (
+              (Reading g) (ClosingFile g (TextOf a true)) refl refl refl refl) (
                 (f.finds.number, 0 + length (take most_read (content m f.finds.number)), did.moves),
                 ((received, names), refl),
               )
@@ -359,11 +361,11 @@ module _ (site_contents : SiteContents) (worker_set : WorkerSet) (laws : AllLaws
                     λ get. kept_whole true w.head_only refl get;
               })
           runs false is =
-              moves_to (kept_if w.head_only false received) (serve w) (Reading g) (Shuts g (TextOf a false))
+              moves_to (kept_if w.head_only false received) (serve w) (Reading g) (ClosingFile g (TextOf a false))
               (call.IolRead g most_read) (reply.Agg a) (expected_to site_contents (serve w))
               (expected-may site_contents (serve w)) f step apart.0 apart.1
               (consistency_on site_contents kept script f.expected (expected_to site_contents (serve w)) (serve w)
-              (Reading g) (Shuts g (TextOf a false)) refl refl refl refl) (
+              (Reading g) (ClosingFile g (TextOf a false)) refl refl refl refl) (
                 (f.finds.number, 0 + length (take most_read (content m f.finds.number)), did.moves),
                 ((received, names), may false is),
               ) tt

@@ -47,10 +47,12 @@ use Rattle.flash_laws.specs.declared.phase.FileResult.TheVariants.{File, Text as
 use Rattle.flash_laws.specs.declared.phase.Payload.TheVariants.{Script}
 use Rattle.flash_laws.specs.declared.phase.Sending.{Sending}
 use Rattle.flash_laws.specs.declared.phase.Phase.{Phase}
-use Rattle.flash_laws.specs.declared.phase.Phase.TheVariants.{Rests, Got, Opens, Reads as Reading, Shuts, Picks, Spares}
-use Rattle.flash_laws.specs.declared.phase.Phase.TheVariants.{Heads, Joins, Sends, Cuts, Offers, Swaps, Sent, Breaks}
-use Rattle.flash_laws.specs.declared.phase.Phase.TheVariants.{Drops, Closes, Over}
-use Rattle.flash_laws.specs.declared.script_run.Running.TheVariants.{Awaits}
+use Rattle.flash_laws.specs.declared.phase.Phase.TheVariants.{Receiving, DroppingInput, Opening, Reading as Reading}
+use Rattle.flash_laws.specs.declared.phase.Phase.TheVariants.{ClosingFile, Slicing, DroppingWhole}
+use Rattle.flash_laws.specs.declared.phase.Phase.TheVariants.{MakingHead, Joining, SendingWhole, CuttingPiece}
+use Rattle.flash_laws.specs.declared.phase.Phase.TheVariants.{SendingPiece, DroppingPiece, DroppingSent, AbortingPiece}
+use Rattle.flash_laws.specs.declared.phase.Phase.TheVariants.{Aborting, Disconnecting, Closed}
+use Rattle.flash_laws.specs.declared.script_run.Running.TheVariants.{AwaitingWorker}
 use Rattle.flash_laws.proofs.Forms.{at}
 use Rattle.flash_laws.proofs.Moves.{after-done, after-agg, either-way, either-next}
 use Rattle.flash_laws.proofs.Conn.AnswerParts as having
@@ -156,22 +158,22 @@ module _ (site_contents : SiteContents) (worker_set : WorkerSet) (laws : AllLaws
       → Stands expected q [] (after_close_file q g k r)
   shuts-stands expected q g k r = after-done (Stands expected q []) r (refl, refl, refl) (resolved-stands expected q k)
 
-  shuts : (q : Answer) (g : ℕ) (k : FileResult) (r : Reply) (received : List ℕ) → is_read (Shuts g k) ≡ false
-      → Fitting m q (Shuts g k)
+  shuts : (q : Answer) (g : ℕ) (k : FileResult) (r : Reply) (received : List ℕ) → is_read (ClosingFile g k) ≡ false
+      → Fitting m q (ClosingFile g k)
       → StepsTo m (event.Call server (call.Close g)) r n → Names n r received → Fitting n q (after_close_file q g k r)
   shuts q g k r received unread f step names =
-      on-stands [] q (Shuts g k) r received f refl refl unread step names (unused g f.has.0.0 f.has.0.1 f.has.0.2)
+      on-stands [] q (ClosingFile g k) r received f refl refl unread step names (unused g f.has.0.0 f.has.0.1 f.has.0.2)
       (differ-fds g f.has.0.0 f.has.0.1 f.has.0.2 f.open_on) (refl, refl, refl) (shuts-stands f.expected q g k r)
 
   -- the text of a script was read
-  shuts_text : (q : Answer) (g a : ℕ) (r : Reply) → Fitting m q (Shuts g (TextOf a true))
+  shuts_text : (q : Answer) (g a : ℕ) (r : Reply) → Fitting m q (ClosingFile g (TextOf a true))
       → StepsTo m (event.Call server (call.Close g)) r n
       → Fitting n q (after_close_file q g (TextOf a true) r)
   shuts_text q g a r f step =
       let on =
       still q r (having.shuts laws.the.steps laws.the.own m n order q g (TextOf a true) (text_of q Script) r f.has
       step) f.finds in
-      goes q [] (Shuts g (TextOf a true)) (after_close_file q g (TextOf a true) r) (call.Close g) r f step
+      goes q [] (ClosingFile g (TextOf a true)) (after_close_file q g (TextOf a true) r) (call.Close g) r f step
       (unused g f.has.0.0 f.has.0.1 f.has.0.2) (differ-fds g f.has.0.0 f.has.0.1 f.has.0.2 f.open_on)
       (refl, refl, refl) (shuts-stands f.expected q g (TextOf a true) r)
       on.0 on.1
@@ -187,10 +189,10 @@ module _ (site_contents : SiteContents) (worker_set : WorkerSet) (laws : AllLaws
 
   -- the text that was read is dropped: but for HEAD the script begins to run
   runs : (process_slots : List (ProcessSlot worker_set.Worker)) (q : Answer) (a : ℕ) (r : Reply) (received : List ℕ)
-      → Fitting m q (Spares a Script)
+      → Fitting m q (DroppingWhole a Script)
       → StepsTo m (event.Call server (call.AggDrop a)) r n
       → Fits site_contents worker_set n came sent fd c
-      (script_after_reply (alone kept script q (Spares a Script)) r received) process_slots
+      (script_after_reply (alone kept script q (DroppingWhole a Script)) r received) process_slots
   runs process_slots (refuse status head_only close) a r received f step = absurd (let bad = f.finds.asks in cc (bad))
   runs process_slots (serve w) a r received f step =
       by w.head_only r refl (laws.the.own.drops m n server a r order step) step
@@ -208,19 +210,20 @@ module _ (site_contents : SiteContents) (worker_set : WorkerSet) (laws : AllLaws
       may_be b is = subst (λ (t : Bool). MayPutOut t w nothing_yet (expected_to site_contents (serve w))) is may
 
       consistencies : (k : Connection) (took sent : List ℕ) → w.head_only ≡ false
-          → ConsistencyAlone site_contents f.expected k took sent (alone kept script (serve w) (Spares a Script))
-          → ConsistencyRun site_contents (expected_to site_contents (serve w)) k took sent kept w nothing_yet Awaits
+          → ConsistencyAlone site_contents f.expected k took sent (alone kept script (serve w) (DroppingWhole a Script))
+          → ConsistencyRun site_contents (expected_to site_contents (serve w)) k took sent kept w nothing_yet
+          AwaitingWorker
       consistencies k took sent get (inl owes) = inl (record { answers = owes.1; may = may_be false get; whole = refl })
       consistencies k took sent get (inr (inl finished)) = absurd (let bad = finished.quits in cc (bad))
       consistencies k took sent get (inr (inr gone)) = inr gone
 
       begins : w.head_only ≡ false → StepsTo m (event.Call server (call.AggDrop a)) reply.Done n
           → FitsRun site_contents worker_set n came sent fd c (record {
-            conn = at kept (serve w) (Heads Script);
+            conn = at kept (serve w) (MakingHead Script);
             run =
-                Some Awaits;
+                Some AwaitingWorker;
             script = script;
-          }) Awaits process_slots
+          }) AwaitingWorker process_slots
       begins get step =
           let leaves = laws.the.steps.leaves m n (event.Call server (call.AggDrop a)) reply.Done step in
           let conn = leaves.conns c refl in
@@ -254,9 +257,9 @@ module _ (site_contents : SiteContents) (worker_set : WorkerSet) (laws : AllLaws
             ongoing = refl;
             consistency =
                 subst (λ (l : List ℕ). ConsistencyRun site_contents l (conn_at n c) f.took sent kept w nothing_yet
-                Awaits) is_expected
+                AwaitingWorker) is_expected
                 (subst (λ (x : Connection). ConsistencyRun site_contents (expected_to site_contents (serve w)) x f.took
-                sent kept w nothing_yet Awaits) (sym conn)
+                sent kept w nothing_yet AwaitingWorker) (sym conn)
                 (consistencies (conn_at m c) f.took sent get f.consistency));
             job_queue = tt;
           }
@@ -270,12 +273,13 @@ module _ (site_contents : SiteContents) (worker_set : WorkerSet) (laws : AllLaws
             script = script;
           }) process_slots
       by true reply.Done is did step =
-          files.goes site_contents worker_set laws m n came sent fd c kept script order (serve w) [] (Spares a Script)
-          (Heads Script) (call.AggDrop a) reply.Done (expected_to site_contents (serve w))
+          files.goes site_contents worker_set laws m n came sent fd c kept script order (serve w) []
+          (DroppingWhole a Script)
+          (MakingHead Script) (call.AggDrop a) reply.Done (expected_to site_contents (serve w))
           (expected-may site_contents (serve w)) f step refl refl (refl, refl, refl) (refl, refl, refl)
           (may_be true is) tt
       by false reply.Done is did step = begins is step
-      by other (reply.Refused y) is did step = same (serve w) (Spares a Script) f did
+      by other (reply.Refused y) is did step = same (serve w) (DroppingWhole a Script) f did
       by b r is did step = absurd did
 
   headed-stands : (expected : List ℕ) (q : Answer) (a size : ℕ) (more : Following)
@@ -294,21 +298,23 @@ module _ (site_contents : SiteContents) (worker_set : WorkerSet) (laws : AllLaws
   drops-quit None = refl
   drops-quit (Some x) = refl
 
-  sent-consistencies : (q : Answer) (a taken : ℕ) (more : Following) (f : Fitting m q (Sent a taken more))
-      → ConsistenciesOn site_contents kept script f.expected f.expected q (Sent a taken more) (proceeds q taken more)
+  sent-consistencies : (q : Answer) (a taken : ℕ) (more : Following) (f : Fitting m q (DroppingSent a taken more))
+      → ConsistenciesOn site_contents kept script f.expected f.expected q (DroppingSent a taken more)
+      (proceeds q taken more)
   sent-consistencies q a taken more f = after more f.has
     where
       ended : (b : Bool) → keeps q ≡ b → drop taken f.expected ≡ []
-          → ConsistenciesOn site_contents kept script f.expected f.expected q (Sent a taken None)
-          (if b then Rests else Closes)
+          → ConsistenciesOn site_contents kept script f.expected f.expected q (DroppingSent a taken None)
+          (if b then Receiving else Disconnecting)
       ended true keep none = ends site_contents kept script f.expected q f.may a taken keep none
       ended false keep none = ends-last site_contents kept script f.expected q f.may a taken keep none
 
       after : (more : Following) → HoldsMore m f.expected a taken more
-          → ConsistenciesOn site_contents kept script f.expected f.expected q (Sent a taken more)
+          → ConsistenciesOn site_contents kept script f.expected f.expected q (DroppingSent a taken more)
           (proceeds q taken more)
-      after (Some x) h = consistency_on site_contents kept script f.expected f.expected q (Sent a taken (Some x))
-          (Sends (whole x.0 x.1 taken None)) refl refl refl refl
+      after (Some x) h =
+          consistency_on site_contents kept script f.expected f.expected q (DroppingSent a taken (Some x))
+          (SendingWhole (whole x.0 x.1 taken None)) refl refl refl refl
       after None h = ended (keeps q) refl (sym h.next ∙ h.follows)
 
   -- ---- any call of it but the last
@@ -316,7 +322,7 @@ module _ (site_contents : SiteContents) (worker_set : WorkerSet) (laws : AllLaws
   -- whether it reads a file, or a script's text was read that is now dropped
   abbrev is_of_text : Phase → Bool
   is_of_text (Reading g) = true
-  is_of_text (Spares a Script) = true
+  is_of_text (DroppingWhole a Script) = true
   is_of_text d = false
 
   phase : (q : Answer) (d : Phase) (r : Reply) (received : List ℕ) → is_of_text d ≡ false
@@ -324,67 +330,70 @@ module _ (site_contents : SiteContents) (worker_set : WorkerSet) (laws : AllLaws
       → conn.IsAwaiting (at kept q d) → is_closing d ≡ false → IsAmong site_contents.refuses.of_server r
       → StepsTo m (event.Call server (conn.wants fd (at kept q d))) r n → Names n r received
       → FitsAlone site_contents n came sent fd c (conn_after_reply (alone kept script q d) r received)
-  phase q Rests r received plain fixed f waits busy undisturbed step names =
+  phase q Receiving r received plain fixed f waits busy undisturbed step names =
       rests site_contents laws.the m n came sent fd c kept script order q r received f waits step names
-  phase q (Got a) r received plain fixed f waits busy undisturbed step names =
-      on-consistency q (Got a) r received f refl refl refl step names refl refl
-      (after-done (ConsistenciesOn site_contents kept script f.expected f.expected q (Got a)) r
-      (consistency_on site_contents kept script f.expected f.expected q (Got a) (Got a) refl refl refl refl)
-      (consistency_on site_contents kept script f.expected f.expected q (Got a) Rests refl refl refl refl))
-  phase q Opens r received plain fixed f waits busy undisturbed step names =
+  phase q (DroppingInput a) r received plain fixed f waits busy undisturbed step names =
+      on-consistency q (DroppingInput a) r received f refl refl refl step names refl refl
+      (after-done (ConsistenciesOn site_contents kept script f.expected f.expected q (DroppingInput a)) r
+      (consistency_on site_contents kept script f.expected f.expected q (DroppingInput a) (DroppingInput a) refl refl
+      refl refl)
+      (consistency_on site_contents kept script f.expected f.expected q (DroppingInput a) Receiving refl refl refl
+      refl))
+  phase q Opening r received plain fixed f waits busy undisturbed step names =
       files.opens site_contents worker_set laws m n came sent fd c kept script order q r received fixed f undisturbed
       step
   phase q (Reading g) r received plain fixed f waits busy undisturbed step names = absurd (cc (plain))
-  phase q (Shuts g (TextOf a true)) r received plain fixed f waits busy undisturbed step names =
+  phase q (ClosingFile g (TextOf a true)) r received plain fixed f waits busy undisturbed step names =
       shuts_text q g a r f step
-  phase q (Shuts g k) r received plain fixed f waits busy undisturbed step names =
+  phase q (ClosingFile g k) r received plain fixed f waits busy undisturbed step names =
       shuts q g k r received refl f step names
-  phase q (Picks a first last len) r received plain fixed f waits busy undisturbed step names =
-      on-stands [] q (Picks a first last len) r received f refl refl refl step names refl refl (refl, refl, refl)
+  phase q (Slicing a first last len) r received plain fixed f waits busy undisturbed step names =
+      on-stands [] q (Slicing a first last len) r received f refl refl refl step names refl refl (refl, refl, refl)
       (after-agg (Stands f.expected q []) r (refl, refl, refl) (λ x. (refl, refl, refl)))
-  phase q (Spares a Script) r received plain fixed f waits busy undisturbed step names = absurd (cc (plain))
-  phase q (Spares a k) r received plain fixed f waits busy undisturbed step names =
-      on-stands [] q (Spares a k) r received f refl refl refl step names refl refl (refl, refl, refl)
+  phase q (DroppingWhole a Script) r received plain fixed f waits busy undisturbed step names = absurd (cc (plain))
+  phase q (DroppingWhole a k) r received plain fixed f waits busy undisturbed step names =
+      on-stands [] q (DroppingWhole a k) r received f refl refl refl step names refl refl (refl, refl, refl)
       (after-done (Stands f.expected q []) r (refl, refl, refl) (refl, refl, refl))
-  phase q (Heads k) r received plain fixed f waits busy undisturbed step names =
-      on-stands [] q (Heads k) r received f refl refl refl step names refl refl (refl, refl, refl)
+  phase q (MakingHead k) r received plain fixed f waits busy undisturbed step names =
+      on-stands [] q (MakingHead k) r received f refl refl refl step names refl refl (refl, refl, refl)
       (after-agg (Stands f.expected q []) r (refl, refl, refl)
       (λ x. headed-stands f.expected q x (count_of received) (following k)))
-  phase q (Joins a size body len) r received plain fixed f waits busy undisturbed step names =
-      on-stands [] q (Joins a size body len) r received f refl refl refl step names refl refl (refl, refl, refl)
+  phase q (Joining a size body len) r received plain fixed f waits busy undisturbed step names =
+      on-stands [] q (Joining a size body len) r received f refl refl refl step names refl refl (refl, refl, refl)
       (after-agg (Stands f.expected q []) r (refl, refl, refl) (λ x. (refl, refl, refl)))
-  phase q (Sends s) r received plain fixed f waits busy undisturbed step names =
+  phase q (SendingWhole s) r received plain fixed f waits busy undisturbed step names =
       sends site_contents laws.the m n came sent fd c kept script order q s r f step
-      (has_after_reply q (Sends s) r received f refl refl refl step names)
-      (finds_after_reply q (Sends s) r received refl refl f.finds)
-  phase q (Cuts s) r received plain fixed f waits busy undisturbed step names =
-      on-stands (take s.taken f.expected) q (Cuts s) r received f refl refl refl step names refl refl
+      (has_after_reply q (SendingWhole s) r received f refl refl refl step names)
+      (finds_after_reply q (SendingWhole s) r received refl refl f.finds)
+  phase q (CuttingPiece s) r received plain fixed f waits busy undisturbed step names =
+      on-stands (take s.taken f.expected) q (CuttingPiece s) r received f refl refl refl step names refl refl
       (refl, refl, refl) (after-agg (Stands f.expected q (take s.taken f.expected)) r (refl, refl, refl)
       (λ x. (refl, refl, refl)))
-  phase q (Offers s piece) r received plain fixed f waits busy undisturbed step names =
+  phase q (SendingPiece s piece) r received plain fixed f waits busy undisturbed step names =
       offers site_contents laws.the m n came sent fd c kept script order q s piece r f step
-      (has_after_reply q (Offers s piece) r received f refl refl refl step names)
-      (finds_after_reply q (Offers s piece) r received refl refl f.finds)
-  phase q (Swaps s piece) r received plain fixed f waits busy undisturbed step names =
-      on-stands (take s.taken f.expected) q (Swaps s piece) r received f refl refl refl step names
+      (has_after_reply q (SendingPiece s piece) r received f refl refl refl step names)
+      (finds_after_reply q (SendingPiece s piece) r received refl refl f.finds)
+  phase q (DroppingPiece s piece) r received plain fixed f waits busy undisturbed step names =
+      on-stands (take s.taken f.expected) q (DroppingPiece s piece) r received f refl refl refl step names
       refl refl (refl, refl, refl) (after-done (Stands f.expected q (take s.taken f.expected)) r (refl, refl, refl)
       (swaps-stands f.expected q s))
-  phase q (Sent a taken more) r received plain fixed f waits busy undisturbed step names =
-      on-consistency q (Sent a taken more) r received f refl refl refl step names refl refl
-      (after-done (ConsistenciesOn site_contents kept script f.expected f.expected q (Sent a taken more)) r
-      (consistency_on site_contents kept script f.expected f.expected q (Sent a taken more) (Sent a taken more) refl
+  phase q (DroppingSent a taken more) r received plain fixed f waits busy undisturbed step names =
+      on-consistency q (DroppingSent a taken more) r received f refl refl refl step names refl refl
+      (after-done (ConsistenciesOn site_contents kept script f.expected f.expected q (DroppingSent a taken more)) r
+      (consistency_on site_contents kept script f.expected f.expected q (DroppingSent a taken more)
+      (DroppingSent a taken more) refl
       refl refl refl) (sent-consistencies q a taken more f))
-  phase q (Breaks piece a more) r received plain fixed f waits busy undisturbed step names =
-      on-consistency q (Breaks piece a more) r received f refl refl refl step names refl refl
-      (hush site_contents kept script f.expected f.expected q (Breaks piece a more)
+  phase q (AbortingPiece piece a more) r received plain fixed f waits busy undisturbed step names =
+      on-consistency q (AbortingPiece piece a more) r received f refl refl refl step names refl refl
+      (hush site_contents kept script f.expected f.expected q (AbortingPiece piece a more)
       (conn.after_break piece a more r) refl
       (after-done (λ e. quits e ≡ true) r refl refl))
-  phase q (Drops a more) r received plain fixed f waits busy undisturbed step names =
-      on-consistency q (Drops a more) r received f refl refl refl step names refl refl
-      (hush site_contents kept script f.expected f.expected q (Drops a more) (conn.after_drop a more r) refl
+  phase q (Aborting a more) r received plain fixed f waits busy undisturbed step names =
+      on-consistency q (Aborting a more) r received f refl refl refl step names refl refl
+      (hush site_contents kept script f.expected f.expected q (Aborting a more) (conn.after_drop a more r) refl
       (after-done (λ e. quits e ≡ true) r refl (drops-quit more)))
-  phase q Closes r received plain fixed f waits busy undisturbed step names = absurd (cc (busy))
-  phase q Over r received plain fixed f waits busy undisturbed step names = absurd (cc (busy))
+  phase q Disconnecting r received plain fixed f waits busy undisturbed step names = absurd (cc (busy))
+  phase q Closed r received plain fixed f waits busy undisturbed step names = absurd (cc (busy))
 
   pub alone_phase : (process_slots : List (ProcessSlot worker_set.Worker)) (b : Bool) (q : Answer) (d : Phase)
       (r : Reply) (received : List ℕ)
@@ -396,12 +405,12 @@ module _ (site_contents : SiteContents) (worker_set : WorkerSet) (laws : AllLaws
   alone_phase process_slots false q (Reading g) r received is fixed f waits busy undisturbed step names =
       files.reads site_contents worker_set laws m n came sent fd c kept script order q g r received is fixed f
       undisturbed step names
-  alone_phase process_slots false q (Spares a Script) r received is fixed f waits busy undisturbed step names =
+  alone_phase process_slots false q (DroppingWhole a Script) r received is fixed f waits busy undisturbed step names =
       absurd (clash (is_for_script site_contents.scripts q) f.finds.asks is)
   alone_phase process_slots true q (Reading g) r received is fixed f waits busy undisturbed step names =
       files.reads_text site_contents worker_set laws m n came sent fd c kept script order q g r received is fixed f
       undisturbed step names
-  alone_phase process_slots true q (Spares a Script) r received is fixed f waits busy undisturbed step names =
+  alone_phase process_slots true q (DroppingWhole a Script) r received is fixed f waits busy undisturbed step names =
       runs process_slots q a r received f step
   alone_phase process_slots b q d r received is fixed f waits busy undisturbed step names =
       phase q d r received refl fixed f waits busy undisturbed step names

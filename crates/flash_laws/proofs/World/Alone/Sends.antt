@@ -32,7 +32,8 @@ use Rattle.flash_laws.specs.SiteContents.{SiteContents, Responds}
 use Rattle.flash_laws.specs.Site.{server}
 use Rattle.flash_laws.specs.declared.phase.Sending.{Sending}
 use Rattle.flash_laws.specs.declared.phase.Phase.{Phase}
-use Rattle.flash_laws.specs.declared.phase.Phase.TheVariants.{Rests, Got, Sends, Offers, Swaps, Breaks, Drops}
+use Rattle.flash_laws.specs.declared.phase.Phase.TheVariants.{Receiving, DroppingInput, SendingWhole, SendingPiece}
+use Rattle.flash_laws.specs.declared.phase.Phase.TheVariants.{DroppingPiece, AbortingPiece, Aborting}
 use Rattle.flash_laws.proofs.Conn.Responses.{some-inj, order-all, reads-append}
 use Rattle.flash_laws.proofs.Lists.{clash, bytes-append, none-bytes, take-plus, next-front, take-slice, few-taken}
 use Rattle.flash_laws.proofs.Lists.{few-whole, least-taken}
@@ -140,7 +141,7 @@ module _ (site_contents : SiteContents) (the : TheLaws) (m n : State) (came sent
     proper = f.proper;
   }
 
-  pub sends : (q : Answer) (s : Sending) (r : Reply) → (f : Fitting m q (Sends s))
+  pub sends : (q : Answer) (s : Sending) (r : Reply) → (f : Fitting m q (SendingWhole s))
       → StepsTo m (event.Call server (call.IolWrite fd s.agg)) r n
       → Has n q (expected_in f.expected q (conn.after_send s r)) (conn.after_send s r)
       → Finds site_contents n q script (conn.after_send s r) → Fitting n q (conn.after_send s r)
@@ -154,7 +155,7 @@ module _ (site_contents : SiteContents) (the : TheLaws) (m n : State) (came sent
           → Has n q (expected_in f.expected q (conn.after_send s r)) (conn.after_send s r)
           → Finds site_contents n q script (conn.after_send s r) → Fitting n q (conn.after_send s r)
       by (reply.Count k) puts step has finds =
-          took_on q (Sends s) (next_piece (after_taking s k)) s.agg s.taken k h.bytes f step puts
+          took_on q (SendingWhole s) (next_piece (after_taking s k)) s.agg s.taken k h.bytes f step puts
           (next-front k h.bytes h.after (drop s.taken f.expected) (at-start h f.has.1) puts.within) (refl, refl, refl)
           (either-next (λ (e : Phase). Stands f.expected q (take (s.taken + k) f.expected) e) (after_taking s k)
           (refl, all, refl) (refl, all, refl)) has finds
@@ -164,11 +165,11 @@ module _ (site_contents : SiteContents) (the : TheLaws) (m n : State) (came sent
               ap (λ z. take (s.taken + z) f.expected)
               (least-taken k s.from s.len h.bytes h.size (few-whole k s h.bytes f.has.1 puts.within))
       by (reply.Refused no.BrokenPipe) did step has finds =
-          broken_off q (Sends s) (Drops s.agg s.more) s.agg f step did has finds
-      by (reply.Refused y) did step has finds = same q (Sends s) f did
+          broken_off q (SendingWhole s) (Aborting s.agg s.more) s.agg f step did has finds
+      by (reply.Refused y) did step has finds = same q (SendingWhole s) f did
       by r did step has finds = absurd did
 
-  pub offers : (q : Answer) (s : Sending) (piece : ℕ) (r : Reply) → (f : Fitting m q (Offers s piece))
+  pub offers : (q : Answer) (s : Sending) (piece : ℕ) (r : Reply) → (f : Fitting m q (SendingPiece s piece))
       → StepsTo m (event.Call server (call.IolWrite fd piece)) r n
       → Has n q (expected_in f.expected q (conn.after_offer s piece r)) (conn.after_offer s piece r)
       → Finds site_contents n q script (conn.after_offer s piece r) → Fitting n q (conn.after_offer s piece r)
@@ -185,7 +186,7 @@ module _ (site_contents : SiteContents) (the : TheLaws) (m n : State) (came sent
           → Finds site_contents n q script (conn.after_offer s piece r) → Fitting n q (conn.after_offer s piece r)
       by (reply.Count k) puts step has finds =
           let few = few-taken k s h.bytes puts.within in
-          took_on q (Offers s piece) (Swaps (after_taking s k) piece) piece s.taken k
+          took_on q (SendingPiece s piece) (DroppingPiece (after_taking s k) piece) piece s.taken k
           (slice_range h.bytes s.from (piece_end s)) f step puts
           (next-front k (drop s.from h.bytes) h.after (drop s.taken f.expected) h.next few
           ∙ take-slice k s.from (piece_end s) h.bytes puts.within) (refl, refl, refl) (
@@ -194,14 +195,14 @@ module _ (site_contents : SiteContents) (the : TheLaws) (m n : State) (came sent
             refl,
           ) has finds
       by (reply.Refused no.BrokenPipe) did step has finds =
-          broken_off q (Offers s piece) (Breaks piece s.agg s.more) piece f step did has finds
-      by (reply.Refused y) did step has finds = same q (Offers s piece) f did
+          broken_off q (SendingPiece s piece) (AbortingPiece piece s.agg s.more) piece f step did has finds
+      by (reply.Refused y) did step has finds = same q (SendingPiece s piece) f did
       by r did step has finds = absurd did
 
   -- what came on the stream is kept, or its end was seen
-  pub rests : (q : Answer) (r : Reply) (received : List ℕ) → Fitting m q Rests → window_in kept ≡ Wait
+  pub rests : (q : Answer) (r : Reply) (received : List ℕ) → Fitting m q Receiving → window_in kept ≡ Wait
       → StepsTo m (event.Call server (call.IolRead fd (most_kept - length kept))) r n → Names n r received
-      → FitsAlone site_contents n came sent fd c (conn_after_reply (alone kept script q Rests) r received)
+      → FitsAlone site_contents n came sent fd c (conn_after_reply (alone kept script q Receiving) r received)
   rests q r received f waits step names =
       by r (the.own.read_conn m n server fd c count r order f.open_on step) step names
     where
@@ -215,7 +216,7 @@ module _ (site_contents : SiteContents) (the : TheLaws) (m n : State) (came sent
       got_some : (a : ℕ) (takes : o.Takes m server c (most_kept - length kept) a n)
           → StepsTo m (event.Call server (call.IolRead fd (most_kept - length kept))) (reply.Agg a) n
           → (bytes : List ℕ) → readable_at n server a ≡ Some bytes → (after : List ℕ) (d : Phase)
-          → (ConsistencyAlone site_contents f.expected (conn_at m c) f.took sent (alone kept script q Rests)
+          → (ConsistencyAlone site_contents f.expected (conn_at m c) f.took sent (alone kept script q Receiving)
           → ConsistencyAlone site_contents f.expected (record (conn_at m c) { incoming = takes.incoming })
           (f.took ++ bytes) sent (alone after script q d))
           → Has n q (expected_in f.expected q d) d → Finds site_contents n q script d
@@ -247,13 +248,14 @@ module _ (site_contents : SiteContents) (the : TheLaws) (m n : State) (came sent
       by : (r : Reply) → o.ReadsConn m server c (most_kept - length kept) r n
           → StepsTo m (event.Call server (call.IolRead fd (most_kept - length kept))) r n
           → Names n r received
-          → FitsAlone site_contents n came sent fd c (conn_after_reply (alone kept script q Rests) r received)
+          → FitsAlone site_contents n came sent fd c (conn_after_reply (alone kept script q Receiving) r received)
       by (reply.Agg a) takes step names = ended received names
         where
           ended : (l : List ℕ) → readable_at n server a ≡ Some l
-              → FitsAlone site_contents n came sent fd c (conn_after_reply (alone kept script q Rests) (reply.Agg a) l)
+              → FitsAlone site_contents n came sent fd c
+              (conn_after_reply (alone kept script q Receiving) (reply.Agg a) l)
           ended [] names =
-              got_some a takes step [] names kept (Drops a None) consistencies
+              got_some a takes step [] names kept (Aborting a None) consistencies
               (record { after = []; readable = ([], names); follows = refl; apart = refl }) tt
             where
               text_none : takes.text ≡ []
@@ -264,9 +266,9 @@ module _ (site_contents : SiteContents) (the : TheLaws) (m n : State) (came sent
                   ∙ (sym takes.was ∙ (takes.ended some text_none).0)
 
               consistencies : ConsistencyAlone site_contents f.expected (conn_at m c) f.took sent
-                  (alone kept script q Rests)
+                  (alone kept script q Receiving)
                   → ConsistencyAlone site_contents f.expected (record (conn_at m c) { incoming = takes.incoming })
-                  (f.took ++ []) sent (alone kept script q (Drops a None))
+                  (f.took ++ []) sent (alone kept script q (Aborting a None))
               consistencies (inl owes) = inr (inl (record {
                 quits = refl;
                 finished = record {
@@ -282,7 +284,8 @@ module _ (site_contents : SiteContents) (the : TheLaws) (m n : State) (came sent
                   no_more = inr (waits, rest_none, (takes.ended some text_none).1);
                 };
                 begins = begins-append the.windows site_contents f.took [] (sent ++ bytes_of (conn_at m c).outgoing)
-                    (begins-consistency site_contents (conn_at m c) f.took sent (alone kept script q Rests) f.expected
+                    (begins-consistency site_contents (conn_at m c) f.took sent (alone kept script q Receiving)
+                    f.expected
                     f.may f.consistency);
               }))
               consistencies (inr (inl finished)) = absurd (let bad = finished.quits in cc (bad))
@@ -296,12 +299,12 @@ module _ (site_contents : SiteContents) (the : TheLaws) (m n : State) (came sent
                         gone.begins;
                   }))
           ended (b ∷ l) names =
-              got_some a takes step (b ∷ l) names (kept ++ (b ∷ l)) (Got a) consistencies (b ∷ l, names) tt
+              got_some a takes step (b ∷ l) names (kept ++ (b ∷ l)) (DroppingInput a) consistencies (b ∷ l, names) tt
             where
               consistencies : ConsistencyAlone site_contents f.expected (conn_at m c) f.took sent
-                  (alone kept script q Rests)
+                  (alone kept script q Receiving)
                   → ConsistencyAlone site_contents f.expected (record (conn_at m c) { incoming = takes.incoming })
-                  (f.took ++ (b ∷ l)) sent (alone (kept ++ (b ∷ l)) script q (Got a))
+                  (f.took ++ (b ∷ l)) sent (alone (kept ++ (b ∷ l)) script q (DroppingInput a))
               consistencies (inl owes) =
                   inl (
                     refl,
@@ -325,5 +328,5 @@ module _ (site_contents : SiteContents) (the : TheLaws) (m n : State) (came sent
                         begins-append the.windows site_contents f.took (b ∷ l) (sent ++ bytes_of (conn_at m c).outgoing)
                         gone.begins;
                   }))
-      by (reply.Refused y) did step names = same q Rests f did
+      by (reply.Refused y) did step names = same q Receiving f did
       by r did step names = absurd did

@@ -23,9 +23,11 @@ use Rattle.flash_laws.specs.SiteContents.{SiteContents, Responds, IsAnswer}
 use Rattle.flash_laws.specs.Site.{server}
 use Rattle.flash_laws.specs.World.Done.{IsHeldUp}
 use Rattle.flash_laws.specs.declared.phase.Phase.{Phase}
-use Rattle.flash_laws.specs.declared.phase.Phase.TheVariants.{Rests, Got, Opens, Reads as Reading, Shuts, Picks, Spares}
-use Rattle.flash_laws.specs.declared.phase.Phase.TheVariants.{Heads, Joins, Sends, Cuts, Offers, Swaps, Sent, Breaks}
-use Rattle.flash_laws.specs.declared.phase.Phase.TheVariants.{Drops, Closes, Over}
+use Rattle.flash_laws.specs.declared.phase.Phase.TheVariants.{Receiving, DroppingInput, Opening, Reading as Reading}
+use Rattle.flash_laws.specs.declared.phase.Phase.TheVariants.{ClosingFile, Slicing, DroppingWhole}
+use Rattle.flash_laws.specs.declared.phase.Phase.TheVariants.{MakingHead, Joining, SendingWhole, CuttingPiece}
+use Rattle.flash_laws.specs.declared.phase.Phase.TheVariants.{SendingPiece, DroppingPiece, DroppingSent, AbortingPiece}
+use Rattle.flash_laws.specs.declared.phase.Phase.TheVariants.{Aborting, Disconnecting, Closed}
 use Rattle.flash_laws.proofs.Forms.{at}
 use Rattle.flash_laws.proofs.Conn.Responses.{order-all}
 use Rattle.flash_laws.proofs.Lists.{clash}
@@ -58,15 +60,15 @@ module _ (site_contents : SiteContents) (worker_set : WorkerSet) (laws : AllLaws
 
   -- a connection at rest whose bytes are all taken
   rests : (came sent : List ℕ) (fd c : ℕ) (kept : List ℕ) (q : Answer) (script : List ℕ)
-      → FitsAlone site_contents m came sent fd c (alone kept script q Rests)
-      → IsAwaiting (alone kept script q Rests) → ((conn_at m c).incoming ≡ []) × ((conn_at m c).peer ≡ None)
+      → FitsAlone site_contents m came sent fd c (alone kept script q Receiving)
+      → IsAwaiting (alone kept script q Receiving) → ((conn_at m c).incoming ≡ []) × ((conn_at m c).peer ≡ None)
       → IsAnsweredSoFar site_contents m came sent c
   rests came sent fd c kept q script f waits empty = by f.consistency
     where
       came-is : came ≡ f.took
       came-is = f.came_is ∙ (ap (λ (t : Text). f.took ++ bytes_of t) empty.0 ∙ append-nil f.took)
 
-      by : ConsistencyAlone site_contents f.expected (conn_at m c) f.took sent (alone kept script q Rests)
+      by : ConsistencyAlone site_contents f.expected (conn_at m c) f.took sent (alone kept script q Receiving)
           → IsAnsweredSoFar site_contents m came sent c
       by (inl o) =
           let reads : Reads f.took o.1.done kept =
@@ -103,43 +105,44 @@ module _ (site_contents : SiteContents) (worker_set : WorkerSet) (laws : AllLaws
       → FitsAlone site_contents m came sent fd c (alone kept script q d)
       → IsAwaiting (alone kept script q d) → WouldWait m server (wants fd (at kept q d))
       → AloneLeft came sent c kept script q d
-  by-phase came sent fd c kept script q Rests f waits step =
+  by-phase came sent fd c kept script q Receiving f waits step =
       let empty = laws.the.reasons.conn_is_empty m m server fd c (most_kept - length kept) f.open_on step in
       inl (rests came sent fd c kept q script f waits empty, λ a. refl)
-  by-phase came sent fd c kept script q (Sends s) f waits step =
+  by-phase came sent fd c kept script q (SendingWhole s) f waits step =
       inr (laws.the.reasons.conn_is_full m m server fd c s.agg f.open_on step)
-  by-phase came sent fd c kept script q (Offers s piece) f waits step =
+  by-phase came sent fd c kept script q (SendingPiece s piece) f waits step =
       inr (laws.the.reasons.conn_is_full m m server fd c piece f.open_on step)
-  by-phase came sent fd c kept script q (Got a) f waits step =
+  by-phase came sent fd c kept script q (DroppingInput a) f waits step =
       absurd (goes worker_set laws m (call.AggDrop a) refl step)
-  by-phase came sent fd c kept script q Opens f waits step =
+  by-phase came sent fd c kept script q Opening f waits step =
       absurd (goes worker_set laws m (call.OpenFile (name_of q) modes.Read) refl step)
   by-phase came sent fd c kept script q (Reading g) f waits step =
       absurd (either-of (λ (k : Call). WouldWait m server k → ⊥) (is_head_only q) (call.Length g)
       (call.IolRead g most_read) (λ step. goes worker_set laws m (call.Length g) refl step)
       (λ step. reads-on came sent fd c g kept q script f step) step)
-  by-phase came sent fd c kept script q (Shuts g k) f waits step =
+  by-phase came sent fd c kept script q (ClosingFile g k) f waits step =
       absurd (goes worker_set laws m (call.Close g) refl step)
-  by-phase came sent fd c kept script q (Picks a first last len) f waits step =
+  by-phase came sent fd c kept script q (Slicing a first last len) f waits step =
       absurd (goes worker_set laws m (call.AggCut a first last) refl step)
-  by-phase came sent fd c kept script q (Spares a k) f waits step =
+  by-phase came sent fd c kept script q (DroppingWhole a k) f waits step =
       absurd (goes worker_set laws m (call.AggDrop a) refl step)
-  by-phase came sent fd c kept script q (Heads k) f waits step =
+  by-phase came sent fd c kept script q (MakingHead k) f waits step =
       absurd (goes worker_set laws m (call.AggMake (text_of q k)) refl step)
-  by-phase came sent fd c kept script q (Joins a size body len) f waits step =
+  by-phase came sent fd c kept script q (Joining a size body len) f waits step =
       absurd (goes worker_set laws m (call.AggJoin a body) refl step)
-  by-phase came sent fd c kept script q (Cuts s) f waits step =
+  by-phase came sent fd c kept script q (CuttingPiece s) f waits step =
       absurd (goes worker_set laws m (call.AggCut s.agg s.from (piece_end s)) refl step)
-  by-phase came sent fd c kept script q (Swaps s piece) f waits step =
+  by-phase came sent fd c kept script q (DroppingPiece s piece) f waits step =
       absurd (goes worker_set laws m (call.AggDrop piece) refl step)
-  by-phase came sent fd c kept script q (Sent a taken more) f waits step =
+  by-phase came sent fd c kept script q (DroppingSent a taken more) f waits step =
       absurd (goes worker_set laws m (call.AggDrop a) refl step)
-  by-phase came sent fd c kept script q (Breaks piece a more) f waits step =
+  by-phase came sent fd c kept script q (AbortingPiece piece a more) f waits step =
       absurd (goes worker_set laws m (call.AggDrop piece) refl step)
-  by-phase came sent fd c kept script q (Drops a more) f waits step =
+  by-phase came sent fd c kept script q (Aborting a more) f waits step =
       absurd (goes worker_set laws m (call.AggDrop a) refl step)
-  by-phase came sent fd c kept script q Closes f waits step = absurd (goes worker_set laws m (call.Close fd) refl step)
-  by-phase came sent fd c kept script q Over f waits step = absurd f.has
+  by-phase came sent fd c kept script q Disconnecting f waits step =
+      absurd (goes worker_set laws m (call.Close fd) refl step)
+  by-phase came sent fd c kept script q Closed f waits step = absurd f.has
 
   -- so it is of one whose request is for a script, whose text is read whole
   for-script : (came sent : List ℕ) (fd c : ℕ) (kept script : List ℕ) (q : Answer) (d : Phase)

@@ -29,12 +29,17 @@ use Rattle.flash_laws.specs.declared.phase.Phase.TheVariants as phase
 use Rattle.flash_laws.specs.declared.script_run.TheConstants.{CHUNK_BYTES}
 use Rattle.flash_laws.specs.declared.script_run.Run.{Run}
 use Rattle.flash_laws.specs.declared.script_run.Step.{Step}
-use Rattle.flash_laws.specs.declared.script_run.Step.TheVariants.{Gives, Makes, Hands, Lets, Heads, Sending, Receives}
-use Rattle.flash_laws.specs.declared.script_run.Step.TheVariants.{Spills, Gathers, Frames, Wraps, Trims, Ended, Unholds}
-use Rattle.flash_laws.specs.declared.script_run.Step.TheVariants.{Unframes, Lasts, WrapsLast, TrimsLast, Unwraps}
-use Rattle.flash_laws.specs.declared.script_run.Step.TheVariants.{Returns, Lapses}
+use Rattle.flash_laws.specs.declared.script_run.Step.TheVariants.{GivingPipe, MakingJob, WritingJob, DroppingJob}
+use Rattle.flash_laws.specs.declared.script_run.Step.TheVariants.{MakingHead, SendingPart, ReadingOutput}
+use Rattle.flash_laws.specs.declared.script_run.Step.TheVariants.{DroppingOutput, JoiningOutput, MakingFrame}
+use Rattle.flash_laws.specs.declared.script_run.Step.TheVariants.{FillingFrame, DroppingHeld, DroppingEnd}
+use Rattle.flash_laws.specs.declared.script_run.Step.TheVariants.{DiscardingHeld}
+use Rattle.flash_laws.specs.declared.script_run.Step.TheVariants.{DroppingFrame, MakingEnd, FillingEnd, DroppingLast}
+use Rattle.flash_laws.specs.declared.script_run.Step.TheVariants.{DroppingLastFrame}
+use Rattle.flash_laws.specs.declared.script_run.Step.TheVariants.{ClosingPipe, DiscardingJob}
 use Rattle.flash_laws.specs.declared.script_run.Running.{Running}
-use Rattle.flash_laws.specs.declared.script_run.Running.TheVariants.{Awaits, Runs, Leaves, Closes}
+use Rattle.flash_laws.specs.declared.script_run.Running.TheVariants.{AwaitingWorker, InProgress, Finishing}
+use Rattle.flash_laws.specs.declared.script_run.Running.TheVariants.{Disconnecting}
 use Rattle.flash_laws.proofs.Lists.{clash}
 use Rattle.flash_laws.proofs.World.AllLaws.{AllLaws}
 use Rattle.flash_laws.proofs.World.Idle.Clients.{goes}
@@ -51,18 +56,18 @@ not-full t none full = (let e : length t ≡ 0 = ap (λ (u : Text). length u) no
 
 -- a phase that reads neither its connection nor a file
 abbrev OnlySends : Phase → Type 0
-OnlySends phase.Rests = ⊥
-OnlySends (phase.Reads f) = ⊥
+OnlySends phase.Receiving = ⊥
+OnlySends (phase.Reading f) = ⊥
 OnlySends d = Unit {0}
 
 only-part : (m : State) (part : List ℕ) (d : Phase) → IsPart m (sent_agg d) part → OnlySends d
-only-part m part phase.Rests is = is
-only-part m part (phase.Reads f) is = is
+only-part m part phase.Receiving is = is
+only-part m part (phase.Reading f) is = is
 only-part m part d is = tt
 
-only-left : (d : Phase) → is_over (Leaves d) ≡ false → OnlySends d
-only-left phase.Rests going = absurd (cc (going))
-only-left (phase.Reads f) going = absurd (cc (going))
+only-left : (d : Phase) → is_over (Finishing d) ≡ false → OnlySends d
+only-left phase.Receiving going = absurd (cc (going))
+only-left (phase.Reading f) going = absurd (cc (going))
 only-left d going = tt
 
 module _ (site_contents : SiteContents) (worker_set : WorkerSet) (laws : AllLaws worker_set) (m : State)
@@ -70,38 +75,39 @@ module _ (site_contents : SiteContents) (worker_set : WorkerSet) (laws : AllLaws
   -- a part of the response is offered
   sending : (fd c : ℕ) (w : Wanted) (d : Phase) → descriptor m server fd ≡ Some (on.Connection c) → OnlySends d
       → WouldWait m server (conn.wants fd (in_phase w d)) → IsHeldUp m c
-  sending fd c w (phase.Sends s) open_on may step =
+  sending fd c w (phase.SendingWhole s) open_on may step =
       laws.the.reasons.conn_is_full m m server fd c s.agg open_on step
-  sending fd c w (phase.Offers s piece) open_on may step =
+  sending fd c w (phase.SendingPiece s piece) open_on may step =
       laws.the.reasons.conn_is_full m m server fd c piece open_on step
-  sending fd c w (phase.Got a) open_on may step = absurd (goes worker_set laws m (call.AggDrop a) refl step)
-  sending fd c w phase.Opens open_on may step =
+  sending fd c w (phase.DroppingInput a) open_on may step = absurd (goes worker_set laws m (call.AggDrop a) refl step)
+  sending fd c w phase.Opening open_on may step =
       absurd (goes worker_set laws m (call.OpenFile (name_of (serve w)) modes.Read) refl step)
-  sending fd c w (phase.Shuts g k) open_on may step = absurd (goes worker_set laws m (call.Close g) refl step)
-  sending fd c w (phase.Picks a first last len) open_on may step =
+  sending fd c w (phase.ClosingFile g k) open_on may step = absurd (goes worker_set laws m (call.Close g) refl step)
+  sending fd c w (phase.Slicing a first last len) open_on may step =
       absurd (goes worker_set laws m (call.AggCut a first last) refl step)
-  sending fd c w (phase.Spares a k) open_on may step = absurd (goes worker_set laws m (call.AggDrop a) refl step)
-  sending fd c w (phase.Heads k) open_on may step =
+  sending fd c w (phase.DroppingWhole a k) open_on may step = absurd (goes worker_set laws m (call.AggDrop a) refl step)
+  sending fd c w (phase.MakingHead k) open_on may step =
       absurd (goes worker_set laws m (call.AggMake (text_of (serve w) k)) refl step)
-  sending fd c w (phase.Joins a size body len) open_on may step =
+  sending fd c w (phase.Joining a size body len) open_on may step =
       absurd (goes worker_set laws m (call.AggJoin a body) refl step)
-  sending fd c w (phase.Cuts s) open_on may step =
+  sending fd c w (phase.CuttingPiece s) open_on may step =
       absurd (goes worker_set laws m (call.AggCut s.agg s.from (piece_end s)) refl step)
-  sending fd c w (phase.Swaps s piece) open_on may step =
+  sending fd c w (phase.DroppingPiece s piece) open_on may step =
       absurd (goes worker_set laws m (call.AggDrop piece) refl step)
-  sending fd c w (phase.Sent a taken more) open_on may step = absurd (goes worker_set laws m (call.AggDrop a) refl step)
-  sending fd c w (phase.Breaks piece a more) open_on may step =
+  sending fd c w (phase.DroppingSent a taken more) open_on may step =
+      absurd (goes worker_set laws m (call.AggDrop a) refl step)
+  sending fd c w (phase.AbortingPiece piece a more) open_on may step =
       absurd (goes worker_set laws m (call.AggDrop piece) refl step)
-  sending fd c w (phase.Drops a more) open_on may step = absurd (goes worker_set laws m (call.AggDrop a) refl step)
-  sending fd c w phase.Closes open_on may step = absurd (goes worker_set laws m (call.Close fd) refl step)
-  sending fd c w phase.Over open_on may step = absurd (goes worker_set laws m (call.Close fd) refl step)
+  sending fd c w (phase.Aborting a more) open_on may step = absurd (goes worker_set laws m (call.AggDrop a) refl step)
+  sending fd c w phase.Disconnecting open_on may step = absurd (goes worker_set laws m (call.Close fd) refl step)
+  sending fd c w phase.Closed open_on may step = absurd (goes worker_set laws m (call.Close fd) refl step)
   sending fd c w x open_on may step = absurd may
 
   module _ (process_slots : List (ProcessSlot worker_set.Worker))
       (job_queues : AreAtJobQueues worker_set m process_slots)
       (quiescent : WorkersAreQuiescent worker_set m process_slots) (made : Made) (o : Progress) (run : Run) where
     -- the pipe of a job is empty while its worker is free
-    hands : (j f : ℕ) → AtJobQueue worker_set m process_slots run made o (Hands j f)
+    hands : (j f : ℕ) → AtJobQueue worker_set m process_slots run made o (WritingJob j f)
         → WouldWait m server (call.IolWrite (job_pipe run.worker) j) → ⊥
     hands j f job_queue step =
         let among = (job_queues.by run.worker job_queue.process_slot job_queue.sits).0 in
@@ -113,7 +119,7 @@ module _ (site_contents : SiteContents) (worker_set : WorkerSet) (laws : AllLaws
 
     -- while a worker puts out its pipe is full where all is idle, and once all is there its end is there, too
     receives : (held : conn.Following) (frame : Option ℕ) (n : ℕ)
-        → AtJobQueue worker_set m process_slots run made o (Receives held frame)
+        → AtJobQueue worker_set m process_slots run made o (ReadingOutput held frame)
         → WouldWait m server (call.IolRead run.from n) → ⊥
     receives held frame n job_queue step =
         let has = job_queue.stage.has in
@@ -130,48 +136,49 @@ module _ (site_contents : SiteContents) (worker_set : WorkerSet) (laws : AllLaws
         → HasStep job m w o run s
         → AtJobQueue worker_set m process_slots run made o s → WouldWait m server (step_wants job fd w run s)
         → IsHeldUp m c
-    by-step job fd c w (Sending d frame) open_on has job_queue step =
+    by-step job fd c w (SendingPart d frame) open_on has job_queue step =
         sending fd c w d open_on (only-part m has.part d has.is_part) step
-    by-step job fd c w (Receives held frame) open_on has job_queue step =
+    by-step job fd c w (ReadingOutput held frame) open_on has job_queue step =
         absurd (receives held frame (CHUNK_BYTES - held_size held) job_queue step)
-    by-step job fd c w (Hands j f) open_on has job_queue step = absurd (hands j f job_queue step)
-    by-step job fd c w (Gives write) open_on has job_queue step =
+    by-step job fd c w (WritingJob j f) open_on has job_queue step = absurd (hands j f job_queue step)
+    by-step job fd c w (GivingPipe write) open_on has job_queue step =
         absurd (goes worker_set laws m (call.GiveFd write (worker_domain run.worker)) refl step)
-    by-step job fd c w (Makes f) open_on has job_queue step =
+    by-step job fd c w (MakingJob f) open_on has job_queue step =
         absurd (goes worker_set laws m (call.AggMake (job f)) refl step)
-    by-step job fd c w (Lets j) open_on has job_queue step = absurd (goes worker_set laws m (call.AggDrop j) refl step)
-    by-step job fd c w Heads open_on has job_queue step =
+    by-step job fd c w (DroppingJob j) open_on has job_queue step =
+        absurd (goes worker_set laws m (call.AggDrop j) refl step)
+    by-step job fd c w MakingHead open_on has job_queue step =
         absurd (goes worker_set laws m (call.AggMake (script_text w)) refl step)
-    by-step job fd c w (Spills a frame) open_on has job_queue step =
+    by-step job fd c w (DroppingOutput a frame) open_on has job_queue step =
         absurd (goes worker_set laws m (call.AggDrop a) refl step)
-    by-step job fd c w (Gathers held size piece len frame) open_on has job_queue step =
+    by-step job fd c w (JoiningOutput held size piece len frame) open_on has job_queue step =
         absurd (goes worker_set laws m (call.AggJoin held piece) refl step)
-    by-step job fd c w (Frames held) open_on has job_queue step =
+    by-step job fd c w (MakingFrame held) open_on has job_queue step =
         absurd (goes worker_set laws m (call.AggMake (frame_of CHUNK_BYTES)) refl step)
-    by-step job fd c w (Wraps held frame) open_on has job_queue step =
+    by-step job fd c w (FillingFrame held frame) open_on has job_queue step =
         absurd
         (goes worker_set laws m (call.AggReplace frame (place_in_frame CHUNK_BYTES) (place_in_frame CHUNK_BYTES) held)
         refl step)
-    by-step job fd c w (Trims held chunk len frame) open_on has job_queue step =
+    by-step job fd c w (DroppingHeld held chunk len frame) open_on has job_queue step =
         absurd (goes worker_set laws m (call.AggDrop held) refl step)
-    by-step job fd c w (Ended a held frame) open_on has job_queue step =
+    by-step job fd c w (DroppingEnd a held frame) open_on has job_queue step =
         absurd (goes worker_set laws m (call.AggDrop a) refl step)
-    by-step job fd c w (Unholds held frame) open_on has job_queue step =
+    by-step job fd c w (DiscardingHeld held frame) open_on has job_queue step =
         absurd (goes worker_set laws m (call.AggDrop held) refl step)
-    by-step job fd c w (Unframes frame held) open_on has job_queue step =
+    by-step job fd c w (DroppingFrame frame held) open_on has job_queue step =
         absurd (goes worker_set laws m (call.AggDrop frame) refl step)
-    by-step job fd c w (Lasts held) open_on has job_queue step =
+    by-step job fd c w (MakingEnd held) open_on has job_queue step =
         absurd (goes worker_set laws m (call.AggMake (end_around held)) refl step)
-    by-step job fd c w (WrapsLast held size frame) open_on has job_queue step =
+    by-step job fd c w (FillingEnd held size frame) open_on has job_queue step =
         absurd (goes worker_set laws m (call.AggReplace frame (place_in_frame size) (place_in_frame size) held) refl
         step)
-    by-step job fd c w (TrimsLast held chunk len frame) open_on has job_queue step =
+    by-step job fd c w (DroppingLast held chunk len frame) open_on has job_queue step =
         absurd (goes worker_set laws m (call.AggDrop held) refl step)
-    by-step job fd c w (Unwraps frame chunk len) open_on has job_queue step =
+    by-step job fd c w (DroppingLastFrame frame chunk len) open_on has job_queue step =
         absurd (goes worker_set laws m (call.AggDrop frame) refl step)
-    by-step job fd c w (Returns write) open_on has job_queue step =
+    by-step job fd c w (ClosingPipe write) open_on has job_queue step =
         absurd (goes worker_set laws m (call.Close write) refl step)
-    by-step job fd c w (Lapses j) open_on has job_queue step =
+    by-step job fd c w (DiscardingJob j) open_on has job_queue step =
         absurd (goes worker_set laws m (call.AggDrop j) refl step)
     by-step job fd c w x open_on has job_queue step = absurd (goes worker_set laws m (call.Close run.from) refl step)
 
@@ -182,11 +189,11 @@ module _ (site_contents : SiteContents) (worker_set : WorkerSet) (laws : AllLaws
       → descriptor m server fd ≡ Some (on.Connection c) → is_over y ≡ false
       → HasRun job m w o y → HasWorkerAt worker_set m process_slots made o y → WouldWait m server (wants job fd w y)
       → IsHeldUp m c
-  run-left fd c w job Awaits process_slots made o job_queues quiescent open_on going has job_queue step =
+  run-left fd c w job AwaitingWorker process_slots made o job_queues quiescent open_on going has job_queue step =
       absurd (goes worker_set laws m call.Pipe refl step)
-  run-left fd c w job (Runs run s) process_slots made o job_queues quiescent open_on going has job_queue step =
+  run-left fd c w job (InProgress run s) process_slots made o job_queues quiescent open_on going has job_queue step =
       by-step process_slots job_queues quiescent made o run job fd c w s open_on has.1 job_queue step
-  run-left fd c w job (Leaves d) process_slots made o job_queues quiescent open_on going has job_queue step =
+  run-left fd c w job (Finishing d) process_slots made o job_queues quiescent open_on going has job_queue step =
       sending fd c w d open_on (only-left d going) step
-  run-left fd c w job Closes process_slots made o job_queues quiescent open_on going has job_queue step =
+  run-left fd c w job Disconnecting process_slots made o job_queues quiescent open_on going has job_queue step =
       absurd (goes worker_set laws m (call.Close fd) refl step)

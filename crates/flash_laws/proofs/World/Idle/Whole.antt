@@ -36,7 +36,7 @@ use Rattle.flash_laws.specs.World.{as_actor}
 use Rattle.flash_laws.specs.World.Done.{IsHeldUp, IsHeldUpAt, AsksForScript, RunsForHeldUp, AwaitsWorker, IsDone}
 use Rattle.flash_laws.specs.World.Done.{IdleIsDone}
 use Rattle.flash_laws.specs.declared.script_run.Running.{Running}
-use Rattle.flash_laws.specs.declared.script_run.Running.TheVariants.{Awaits}
+use Rattle.flash_laws.specs.declared.script_run.Running.TheVariants.{AwaitingWorker}
 use Rattle.flash_laws.proofs.Forms.{of}
 use Rattle.flash_laws.proofs.Conn.Responses.{reads-append}
 use Rattle.flash_laws.proofs.Lists.{clash, never_passed}
@@ -186,11 +186,11 @@ module _ (site_contents : SiteContents) (worker_set : WorkerSet) (laws : AllLaws
   waiter-asks : (fd c : ℕ) (conn : Conn) (run : Option Running) (script : List ℕ)
       → Fits site_contents worker_set m (p.came c) (p.sent c) fd c (of conn run script) process_slots
       → awaits (of conn run script) ≡ true → AsksForScript site_contents m p c []
-  waiter-asks fd c conn (Some Awaits) script f waits =
+  waiter-asks fd c conn (Some AwaitingWorker) script f waits =
       subst (λ (l : List ℕ). AsksForScript site_contents m p c l)
       (ap
       (λ (o : Progress). take (past_taken o + 0) (response_to f.wanted (made_of f.wanted f.script.lines f.shown)))
-      f.has) (run-asks fd c (of conn (Some Awaits) script) Awaits f)
+      f.has) (run-asks fd c (of conn (Some AwaitingWorker) script) AwaitingWorker f)
   waiter-asks fd c conn o script f waits = absurd (cc (waits))
 
   -- one that is passed over waits for a worker, while each runs the script of one that is held up

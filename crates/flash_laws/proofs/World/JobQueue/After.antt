@@ -14,7 +14,7 @@ use Rattle.flash_laws.specs.Run.Stages.{HasWorkerAt, Stage}
 use Rattle.flash_laws.specs.declared.script_run.Run.{Run}
 use Rattle.flash_laws.specs.declared.script_run.Step.{Step}
 use Rattle.flash_laws.specs.declared.script_run.Running.{Running}
-use Rattle.flash_laws.specs.declared.script_run.Running.TheVariants.{Runs}
+use Rattle.flash_laws.specs.declared.script_run.Running.TheVariants.{InProgress}
 use Rattle.flash_laws.proofs.Lists.{clash}
 
 -- after the call
@@ -60,9 +60,9 @@ module _ (worker_set : WorkerSet) (m n : State) (c : ℕ) (process_slots : List 
   pub proceeds : (run next : Run) (step later : Step) (process_slot : ProcessSlot worker_set.Worker)
       → next.worker ≡ run.worker → slice_get process_slots next.worker ≡ Some process_slot
       → Stage worker_set n process_slot next made after later
-      → MayOn (response_to w made) w (Runs run step) (Runs next later) o after
-      → CutBy m c (Runs run step) (Runs next later)
-      → After (Runs run step) (Runs next later)
+      → MayOn (response_to w made) w (InProgress run step) (InProgress next later) o after
+      → CutBy m c (InProgress run step) (InProgress next later)
+      → After (InProgress run step) (InProgress next later)
   proceeds run next step later process_slot same sits stage may cut = record {
     job_queue = record { process_slot = process_slot; sits = sits; stage = stage };
     freed = λ k other at was now. absurd (clash (run.worker == k) was (ap (λ j. j == k) (sym same) ∙ now));
@@ -72,8 +72,9 @@ module _ (worker_set : WorkerSet) (m n : State) (c : ℕ) (process_slots : List 
 
   -- with what its calls gave before
   pub same_on : (run : Run) (step later : Step) (process_slot : ProcessSlot worker_set.Worker)
-      → slice_get process_slots run.worker ≡ Some process_slot → after ≡ o → CutBy m c (Runs run step) (Runs run later)
-      → Stage worker_set n process_slot run made after later → After (Runs run step) (Runs run later)
+      → slice_get process_slots run.worker ≡ Some process_slot → after ≡ o
+      → CutBy m c (InProgress run step) (InProgress run later)
+      → Stage worker_set n process_slot run made after later → After (InProgress run step) (InProgress run later)
   same_on run step later process_slot sits same cut stage =
       proceeds run run step later process_slot refl sits stage
-      (may_same (response_to w made) w (Runs run step) (Runs run later) o after same) cut
+      (may_same (response_to w made) w (InProgress run step) (InProgress run later) o after same) cut

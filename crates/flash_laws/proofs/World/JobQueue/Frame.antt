@@ -37,10 +37,12 @@ use Rattle.flash_laws.specs.Site.{server, KeepsSite}
 use Rattle.flash_laws.specs.Run.Stages.{HasPipeOf, IsReadyFor, IsGiven, IsPuttingOut, HasPutOut, Stage}
 use Rattle.flash_laws.specs.declared.script_run.Run.{Run}
 use Rattle.flash_laws.specs.declared.script_run.Step.{Step}
-use Rattle.flash_laws.specs.declared.script_run.Step.TheVariants.{Gives, Makes, Hands, Ended, Unholds, Stops, Unframes}
-use Rattle.flash_laws.specs.declared.script_run.Step.TheVariants.{Lasts, WrapsLast, TrimsLast, Unwraps, Returns, Lapses}
-use Rattle.flash_laws.specs.declared.script_run.Step.TheVariants.{Fails}
-use Rattle.flash_laws.specs.declared.script_run.Running.TheVariants.{Runs}
+use Rattle.flash_laws.specs.declared.script_run.Step.TheVariants.{GivingPipe, MakingJob, WritingJob, DroppingEnd}
+use Rattle.flash_laws.specs.declared.script_run.Step.TheVariants.{DiscardingHeld, ClosingOutput, DroppingFrame}
+use Rattle.flash_laws.specs.declared.script_run.Step.TheVariants.{MakingEnd, FillingEnd, DroppingLast}
+use Rattle.flash_laws.specs.declared.script_run.Step.TheVariants.{DroppingLastFrame, ClosingPipe, DiscardingJob}
+use Rattle.flash_laws.specs.declared.script_run.Step.TheVariants.{Failing}
+use Rattle.flash_laws.specs.declared.script_run.Running.TheVariants.{InProgress}
 use Rattle.flash_laws.proofs.Conn.ReadableBytes.{file-same, content-same}
 use Rattle.flash_laws.proofs.Lists.{self}
 use Rattle.flash_laws.proofs.World.AllLaws.{AllLaws}
@@ -113,10 +115,10 @@ pub record LeavesOne (worker_set : WorkerSet) (m n : State) (e : Event) (fd : �
   pub others : (k : ℕ) → k < worker_set.count → is_run_by x k ≡ true → is_call_of e (worker_domain k) ≡ false
   pub job_queues : (k : ℕ) → k < worker_set.count → is_run_by x k ≡ true
       → pipe_at n (worker_set.job_queue k) ≡ pipe_at m (worker_set.job_queue k)
-  pub pipe : (run : Run) (step : Step) (p : ℕ) → x.run ≡ Some (Runs run step)
+  pub pipe : (run : Run) (step : Step) (p : ℕ) → x.run ≡ Some (InProgress run step)
       → descriptor m server run.from ≡ Some (on.ReadEnd p)
       → has_fd x run.from ≡ true → ((k : ℕ) → k < worker_set.count → worker_set.job_queue k ≢ p)
-      → is_stopping (Runs run step) ≡ false
+      → is_stopping (InProgress run step) ≡ false
       → pipe_at n p ≡ pipe_at m p
 
 -- ---- what its worker has
@@ -185,25 +187,25 @@ module _ (worker_set : WorkerSet) (laws : AllLaws worker_set) (m n : State) (e :
     pub stage-on : (job : ℕ → List ℕ) (w : Wanted) (made : Made) (o : Progress) (s : Step)
         → ((a : ℕ) → step_agg s a ≡ true → gives_up e server a ≡ false)
         → (is_reading s ≡ true → touches_fd m e server run.from ≡ false)
-        → (is_reading s ≡ true → is_stopping (Runs run s) ≡ false → SamePipe run)
+        → (is_reading s ≡ true → is_stopping (InProgress run s) ≡ false → SamePipe run)
         → HasStep job m w o run s → Stage worker_set m process_slot run made o s
         → Stage worker_set n process_slot run made o s
-    stage-on job w made o (Gives write) un undisturbed same has h = ready-on (undisturbed refl) (same refl refl) h
-    stage-on job w made o (Makes f) un undisturbed same has h = given-on f (undisturbed refl) (same refl refl) h
-    stage-on job w made o (Hands j f) un undisturbed same has h = (
+    stage-on job w made o (GivingPipe write) un undisturbed same has h = ready-on (undisturbed refl) (same refl refl) h
+    stage-on job w made o (MakingJob f) un undisturbed same has h = given-on f (undisturbed refl) (same refl refl) h
+    stage-on job w made o (WritingJob j f) un undisturbed same has h = (
       given-on f (undisturbed refl) (same refl refl) h.0,
       subst (λ (t : Text). lie_in worker_set.jobs t ≡ true)
           (sym (text-stays laws.the.steps m n e r step j (job f) has.1 (un j (self j)))) h.1,
     )
-    stage-on job w made o (Ended a held frame) un undisturbed same has h = put-on made o h
-    stage-on job w made o (Unholds held frame) un undisturbed same has h = put-on made o h
-    stage-on job w made o (Stops held frame) un undisturbed same has h = put-on made o h
-    stage-on job w made o (Unframes frame held) un undisturbed same has h = put-on made o h
-    stage-on job w made o (Lasts held) un undisturbed same has h = put-on made o h
-    stage-on job w made o (WrapsLast held size frame) un undisturbed same has h = put-on made o h
-    stage-on job w made o (TrimsLast held chunk len frame) un undisturbed same has h = put-on made o h
-    stage-on job w made o (Unwraps frame chunk len) un undisturbed same has h = put-on made o h
-    stage-on job w made o (Returns write) un undisturbed same has h = h
-    stage-on job w made o (Lapses j) un undisturbed same has h = h
-    stage-on job w made o Fails un undisturbed same has h = h
+    stage-on job w made o (DroppingEnd a held frame) un undisturbed same has h = put-on made o h
+    stage-on job w made o (DiscardingHeld held frame) un undisturbed same has h = put-on made o h
+    stage-on job w made o (ClosingOutput held frame) un undisturbed same has h = put-on made o h
+    stage-on job w made o (DroppingFrame frame held) un undisturbed same has h = put-on made o h
+    stage-on job w made o (MakingEnd held) un undisturbed same has h = put-on made o h
+    stage-on job w made o (FillingEnd held size frame) un undisturbed same has h = put-on made o h
+    stage-on job w made o (DroppingLast held chunk len frame) un undisturbed same has h = put-on made o h
+    stage-on job w made o (DroppingLastFrame frame chunk len) un undisturbed same has h = put-on made o h
+    stage-on job w made o (ClosingPipe write) un undisturbed same has h = h
+    stage-on job w made o (DiscardingJob j) un undisturbed same has h = h
+    stage-on job w made o Failing un undisturbed same has h = h
     stage-on job w made o s un undisturbed same has h = putting-on made o (undisturbed refl) (same refl refl) h

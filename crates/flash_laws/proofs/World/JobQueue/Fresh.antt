@@ -47,9 +47,10 @@ use Rattle.flash_laws.specs.Site.{server}
 use Rattle.flash_laws.specs.Run.Stages.{IsReadyFor, IsGiven, IsPuttingOut}
 use Rattle.flash_laws.specs.declared.script_run.Run.{Run}
 use Rattle.flash_laws.specs.declared.script_run.Step.{Step}
-use Rattle.flash_laws.specs.declared.script_run.Step.TheVariants.{Gives, Makes, Hands, Lets, Returns, Lapses}
+use Rattle.flash_laws.specs.declared.script_run.Step.TheVariants.{GivingPipe, MakingJob, WritingJob, DroppingJob}
+use Rattle.flash_laws.specs.declared.script_run.Step.TheVariants.{ClosingPipe, DiscardingJob}
 use Rattle.flash_laws.specs.declared.script_run.Running.{Running}
-use Rattle.flash_laws.specs.declared.script_run.Running.TheVariants.{Awaits, Runs}
+use Rattle.flash_laws.specs.declared.script_run.Running.TheVariants.{AwaitingWorker, InProgress}
 use Rattle.flash_laws.proofs.Lists.{not-equal, clash, self}
 use Rattle.flash_laws.proofs.Run.Stays.{write-elsewhere}
 use Rattle.flash_laws.proofs.World.AllLaws.{AllLaws}
@@ -127,7 +128,7 @@ module _ (site_contents : SiteContents) (worker_set : WorkerSet) (laws : AllLaws
   pub not_lost : IsOrderly m → AreAtJobQueues worker_set m process_slots
       → (run : Run) (step : Step) (process_slot : ProcessSlot worker_set.Worker)
       → slice_get process_slots run.worker ≡ Some process_slot
-      → worker_set.Free m (worker_set.job_queue run.worker) process_slot → IsLost m (Runs run step) → ⊥
+      → worker_set.Free m (worker_set.job_queue run.worker) process_slot → IsLost m (InProgress run step) → ⊥
   not_lost order job_queues run step process_slot sits free lost = by lost
     where
       at : (run.worker < worker_set.count) × (process_slot.by ≡ worker_domain run.worker)
@@ -138,7 +139,7 @@ module _ (site_contents : SiteContents) (worker_set : WorkerSet) (laws : AllLaws
           order.all_stand process_slot.by 0 (on.ReadEnd (worker_set.job_queue run.worker))
           (laws.workers.none m (worker_set.job_queue run.worker) process_slot free).jobs
 
-      by : IsLost m (Runs run step) → ⊥
+      by : IsLost m (InProgress run step) → ⊥
       by (inl dead) =
           clash (is_live m (worker_domain run.worker))
           (subst (λ d. is_live m d ≡ true) at.1
@@ -158,7 +159,7 @@ module _ (site_contents : SiteContents) (worker_set : WorkerSet) (laws : AllLaws
         → (worker < worker_set.count) × ((process_slot : ProcessSlot worker_set.Worker)
         → slice_get process_slots worker ≡ Some process_slot
         → worker_set.Free m (worker_set.job_queue worker) process_slot)
-        → after ≡ o → After Awaits (after_wait worker r)
+        → after ≡ o → After AwaitingWorker (after_wait worker r)
     awaits worker (reply.Fds from write) h now hired same =
         let did = laws.the.own.makes_pipe m n server (reply.Fds from write) h.step in
         let left = leaves site_contents worker_set laws m n call.Pipe (reply.Fds from write) process_slots h in
@@ -192,14 +193,14 @@ module _ (site_contents : SiteContents) (worker_set : WorkerSet) (laws : AllLaws
             };
           };
           freed = λ k process_slot at was gone. absurd (cc (was));
-          may = may_same (response_to w made) w Awaits (after_wait worker (reply.Fds from write)) o after same;
-          cut = cut_whole m c Awaits (after_wait worker (reply.Fds from write)) refl;
+          may = may_same (response_to w made) w AwaitingWorker (after_wait worker (reply.Fds from write)) o after same;
+          cut = cut_whole m c AwaitingWorker (after_wait worker (reply.Fds from write)) refl;
         }
     awaits worker r h now hired same = record {
       job_queue = tt;
       freed = λ k process_slot at was gone. absurd (cc (was));
-      may = may_same (response_to w made) w Awaits Awaits o after same;
-      cut = cut_whole m c Awaits Awaits refl;
+      may = may_same (response_to w made) w AwaitingWorker AwaitingWorker o after same;
+      cut = cut_whole m c AwaitingWorker AwaitingWorker refl;
     }
 
     -- ---- it is given the pipe
@@ -209,8 +210,8 @@ module _ (site_contents : SiteContents) (worker_set : WorkerSet) (laws : AllLaws
         (ready : IsReadyFor worker_set m process_slot run)
         → HasPipe m run write → OwnCall site_contents worker_set m n (call.GiveFd write (worker_domain run.worker)) r
         process_slots
-        → (is_failing (Runs run (after_give write r)) ≡ true → ⊥) → after ≡ o
-        → After (Runs run (Gives write)) (Runs run (after_give write r))
+        → (is_failing (InProgress run (after_give write r)) ≡ true → ⊥) → after ≡ o
+        → After (InProgress run (GivingPipe write)) (InProgress run (after_give write r))
     gives run write r process_slot sits ready has h kept same = by r h kept
       where
         again : (r : Reply) (h : OwnCall site_contents worker_set m n (call.GiveFd write (worker_domain run.worker)) r
@@ -253,31 +254,38 @@ module _ (site_contents : SiteContents) (worker_set : WorkerSet) (laws : AllLaws
             }
 
         by : (r : Reply) → OwnCall site_contents worker_set m n (call.GiveFd write (worker_domain run.worker)) r
-            process_slots → (is_failing (Runs run (after_give write r)) ≡ true → ⊥)
-            → After (Runs run (Gives write)) (Runs run (after_give write r))
+            process_slots → (is_failing (InProgress run (after_give write r)) ≡ true → ⊥)
+            → After (InProgress run (GivingPipe write)) (InProgress run (after_give write r))
         by (reply.Fd f) h kept =
-            same_on worker_set m n c process_slots w made o after run (Gives write) (Makes f) process_slot sits same
-            (cut_same m c (Runs run (Gives write)) (Runs run (Makes f)) refl) (handed f h)
+            same_on worker_set m n c process_slots w made o after run (GivingPipe write) (MakingJob f) process_slot sits
+            same
+            (cut_same m c (InProgress run (GivingPipe write)) (InProgress run (MakingJob f)) refl) (handed f h)
         by (reply.Refused x) h kept = either (is_again x) kept
           where
-            either : (b : Bool) → (is_failing (Runs run (if b then Gives write else Returns write)) ≡ true → ⊥)
-                → After (Runs run (Gives write)) (Runs run (if b then Gives write else Returns write))
-            either true kept = same_on worker_set m n c process_slots w made o after run (Gives write) (Gives write)
-                process_slot sits same (cut_same m c (Runs run (Gives write)) (Runs run (Gives write)) refl)
+            either : (b : Bool)
+                → (is_failing (InProgress run (if b then GivingPipe write else ClosingPipe write)) ≡ true → ⊥)
+                → After (InProgress run (GivingPipe write))
+                (InProgress run (if b then GivingPipe write else ClosingPipe write))
+            either true kept =
+                same_on worker_set m n c process_slots w made o after run (GivingPipe write) (GivingPipe write)
+                process_slot sits same
+                (cut_same m c (InProgress run (GivingPipe write)) (InProgress run (GivingPipe write)) refl)
                 (again (reply.Refused x) h)
             either false kept = absurd (kept refl)
-        by r h kept = same_on worker_set m n c process_slots w made o after run (Gives write) (Gives write) process_slot
-            sits same (cut_same m c (Runs run (Gives write)) (Runs run (Gives write)) refl) (again r h)
+        by r h kept = same_on worker_set m n c process_slots w made o after run (GivingPipe write) (GivingPipe write)
+            process_slot
+            sits same (cut_same m c (InProgress run (GivingPipe write)) (InProgress run (GivingPipe write)) refl)
+            (again r h)
 
     -- ---- its job is made
 
     pub makes : (bytes : List ℕ) (run : Run) (f : ℕ) (r : Reply) (process_slot : ProcessSlot worker_set.Worker)
         (sits : slice_get process_slots run.worker ≡ Some process_slot) → IsGiven worker_set m process_slot run f
         → OwnCall site_contents worker_set m n (call.AggMake bytes) r process_slots → Still m n → after ≡ o
-        → After (Runs run (Makes f)) (Runs run (after_make f r))
+        → After (InProgress run (MakingJob f)) (InProgress run (after_make f r))
     makes bytes run f (reply.Agg j) process_slot sits given h stays same =
-        same_on worker_set m n c process_slots w made o after run (Makes f) (Hands j f) process_slot sits same
-        (cut_same m c (Runs run (Makes f)) (Runs run (Hands j f)) refl) (
+        same_on worker_set m n c process_slots w made o after run (MakingJob f) (WritingJob j f) process_slot sits same
+        (cut_same m c (InProgress run (MakingJob f)) (InProgress run (WritingJob j f)) refl) (
           given_on site_contents worker_set laws m n (call.AggMake bytes) (reply.Agg j) process_slots h run process_slot
               sits stays f given,
           laws.labels.aggs worker_set.jobs m n (event.Call server (call.AggMake bytes)) (reply.Agg j) server j h.order
@@ -286,8 +294,8 @@ module _ (site_contents : SiteContents) (worker_set : WorkerSet) (laws : AllLaws
               (λ u. absurd (clash (j == j) (self j) u)),
         )
     makes bytes run f r process_slot sits given h stays same =
-        same_on worker_set m n c process_slots w made o after run (Makes f) (Makes f) process_slot sits same
-        (cut_same m c (Runs run (Makes f)) (Runs run (Makes f)) refl)
+        same_on worker_set m n c process_slots w made o after run (MakingJob f) (MakingJob f) process_slot sits same
+        (cut_same m c (InProgress run (MakingJob f)) (InProgress run (MakingJob f)) refl)
         (given_on site_contents worker_set laws m n (call.AggMake bytes) r process_slots h run process_slot sits stays f
         given)
 
@@ -371,13 +379,15 @@ module _ (site_contents : SiteContents) (worker_set : WorkerSet) (laws : AllLaws
         }
 
     abbrev AfterReply : Step → Type 0
-    AfterReply later = JobQueueAfter worker_set m n c process_slots w (made_of w s.lines shown) (Runs run (Hands j f))
-        (Runs run later) o after
+    AfterReply later =
+        JobQueueAfter worker_set m n c process_slots w (made_of w s.lines shown) (InProgress run (WritingJob j f))
+        (InProgress run later) o after
 
     pub hands : (r : Reply)
         → OwnCall site_contents worker_set m n (call.IolWrite (job_pipe run.worker) j) r process_slots
         → ((p : ℕ) → p ≢ job_queue → pipe_at n p ≡ pipe_at m p)
-        → descriptor n server run.from ≡ Some (on.ReadEnd pipe) → (is_failing (Runs run (after_hand j f r)) ≡ true → ⊥)
+        → descriptor n server run.from ≡ Some (on.ReadEnd pipe)
+        → (is_failing (InProgress run (after_hand j f r)) ≡ true → ⊥)
         → o ≡ nothing_yet → after ≡ o
         → AfterReply (after_hand j f r)
     hands r h stays reads kept begins same = by r h kept
@@ -388,24 +398,27 @@ module _ (site_contents : SiteContents) (worker_set : WorkerSet) (laws : AllLaws
         wrote r h = laws.the.own.write_pipe m n server (job_pipe run.worker) job_queue j (job_of w s.text f) r h.order
             (h.job_queues.job_queues run.worker (h.job_queues.by run.worker process_slot sits).0) is_readable h.step
 
-        again : n ≡ m → AfterReply (Hands j f)
-        again is = same_on worker_set m n c process_slots w (made_of w s.lines shown) o after run (Hands j f)
-            (Hands j f) process_slot sits same (cut_same m c (Runs run (Hands j f)) (Runs run (Hands j f)) refl)
+        again : n ≡ m → AfterReply (WritingJob j f)
+        again is = same_on worker_set m n c process_slots w (made_of w s.lines shown) o after run (WritingJob j f)
+            (WritingJob j f) process_slot sits same
+            (cut_same m c (InProgress run (WritingJob j f)) (InProgress run (WritingJob j f)) refl)
             (subst (λ (u : State). IsGiven worker_set u process_slot run f
             × (lie_in worker_set.jobs (text u server j) ≡ true)) (sym is) (given, lies))
 
         by : (r : Reply) → OwnCall site_contents worker_set m n (call.IolWrite (job_pipe run.worker) j) r process_slots
-            → (is_failing (Runs run (after_hand j f r)) ≡ true → ⊥) → AfterReply (after_hand j f r)
+            → (is_failing (InProgress run (after_hand j f r)) ≡ true → ⊥) → AfterReply (after_hand j f r)
         by (reply.Count k) h kept =
-            same_on worker_set m n c process_slots w (made_of w s.lines shown) o after run (Hands j f) (Lets j)
+            same_on worker_set m n c process_slots w (made_of w s.lines shown) o after run (WritingJob j f)
+            (DroppingJob j)
             process_slot sits same
-            (cut_same m c (Runs run (Hands j f)) (Runs run (Lets j)) refl)
+            (cut_same m c (InProgress run (WritingJob j f)) (InProgress run (DroppingJob j)) refl)
             (subst (λ (p : Progress). IsPuttingOut worker_set n process_slot run (made_of w s.lines shown) p)
             (sym (same ∙ begins)) (begun k h stays reads))
         by (reply.Refused y) h kept = either (is_again y) kept
           where
-            either : (b : Bool) → (is_failing (Runs run (if b then Hands j f else Lapses j)) ≡ true → ⊥)
-                → AfterReply (if b then Hands j f else Lapses j)
+            either : (b : Bool) → (is_failing (InProgress run (if b then WritingJob j f else DiscardingJob j)) ≡ true
+                → ⊥)
+                → AfterReply (if b then WritingJob j f else DiscardingJob j)
             either true kept = again (wrote (reply.Refused y) h)
             either false kept = absurd (kept refl)
         by r h kept = absurd (wrote r h)

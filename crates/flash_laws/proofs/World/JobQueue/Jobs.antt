@@ -18,10 +18,12 @@ use Rattle.flash_laws.specs.SiteContents.{SiteContents}
 use Rattle.flash_laws.specs.Run.Stages.{IsPuttingOut, Stage}
 use Rattle.flash_laws.specs.declared.script_run.Run.{Run}
 use Rattle.flash_laws.specs.declared.script_run.Step.{Step}
-use Rattle.flash_laws.specs.declared.script_run.Step.TheVariants.{Makes, Hands, Lets, Heads, Sending, Receives, Spills}
-use Rattle.flash_laws.specs.declared.script_run.Step.TheVariants.{Gathers, Frames, Wraps, Trims, Returns, Lapses, Fails}
+use Rattle.flash_laws.specs.declared.script_run.Step.TheVariants.{MakingJob, WritingJob, DroppingJob, MakingHead}
+use Rattle.flash_laws.specs.declared.script_run.Step.TheVariants.{SendingPart, ReadingOutput, DroppingOutput}
+use Rattle.flash_laws.specs.declared.script_run.Step.TheVariants.{JoiningOutput, MakingFrame, FillingFrame}
+use Rattle.flash_laws.specs.declared.script_run.Step.TheVariants.{DroppingHeld, ClosingPipe, DiscardingJob, Failing}
 use Rattle.flash_laws.specs.declared.script_run.Running.{Running}
-use Rattle.flash_laws.specs.declared.script_run.Running.TheVariants.{Runs}
+use Rattle.flash_laws.specs.declared.script_run.Running.TheVariants.{InProgress}
 use Rattle.flash_laws.proofs.Forms.{of}
 use Rattle.flash_laws.proofs.Conn.Responses.{some-inj}
 use Rattle.flash_laws.proofs.Conn.Uses.{same-number}
@@ -48,22 +50,23 @@ module _ (worker_set : WorkerSet) (laws : AllLaws worker_set) where
   stage-reads : (m : State) (process_slot : ProcessSlot worker_set.Worker) (run : Run) (made : Made) (o : Progress)
       (s : Step) → Stage worker_set m process_slot run made o s
       → descriptor m process_slot.by 0 ≡ Some (on.ReadEnd (worker_set.job_queue run.worker))
-  stage-reads m process_slot run made o (Makes f) h =
+  stage-reads m process_slot run made o (MakingJob f) h =
       free-reads m (worker_set.job_queue run.worker) process_slot h.ready.free
-  stage-reads m process_slot run made o (Hands j f) h =
+  stage-reads m process_slot run made o (WritingJob j f) h =
       free-reads m (worker_set.job_queue run.worker) process_slot h.0.ready.free
-  stage-reads m process_slot run made o (Lets j) h = puts-reads m process_slot run made o h
-  stage-reads m process_slot run made o Heads h = puts-reads m process_slot run made o h
-  stage-reads m process_slot run made o (Sending d frame) h = puts-reads m process_slot run made o h
-  stage-reads m process_slot run made o (Receives held frame) h = puts-reads m process_slot run made o h
-  stage-reads m process_slot run made o (Spills a frame) h = puts-reads m process_slot run made o h
-  stage-reads m process_slot run made o (Gathers held size piece len frame) h = puts-reads m process_slot run made o h
-  stage-reads m process_slot run made o (Frames held) h = puts-reads m process_slot run made o h
-  stage-reads m process_slot run made o (Wraps held frame) h = puts-reads m process_slot run made o h
-  stage-reads m process_slot run made o (Trims held chunk len frame) h = puts-reads m process_slot run made o h
-  stage-reads m process_slot run made o (Returns write) h = absurd h
-  stage-reads m process_slot run made o (Lapses j) h = absurd h
-  stage-reads m process_slot run made o Fails h = absurd h
+  stage-reads m process_slot run made o (DroppingJob j) h = puts-reads m process_slot run made o h
+  stage-reads m process_slot run made o MakingHead h = puts-reads m process_slot run made o h
+  stage-reads m process_slot run made o (SendingPart d frame) h = puts-reads m process_slot run made o h
+  stage-reads m process_slot run made o (ReadingOutput held frame) h = puts-reads m process_slot run made o h
+  stage-reads m process_slot run made o (DroppingOutput a frame) h = puts-reads m process_slot run made o h
+  stage-reads m process_slot run made o (JoiningOutput held size piece len frame) h =
+      puts-reads m process_slot run made o h
+  stage-reads m process_slot run made o (MakingFrame held) h = puts-reads m process_slot run made o h
+  stage-reads m process_slot run made o (FillingFrame held frame) h = puts-reads m process_slot run made o h
+  stage-reads m process_slot run made o (DroppingHeld held chunk len frame) h = puts-reads m process_slot run made o h
+  stage-reads m process_slot run made o (ClosingPipe write) h = absurd h
+  stage-reads m process_slot run made o (DiscardingJob j) h = absurd h
+  stage-reads m process_slot run made o Failing h = absurd h
   stage-reads m process_slot run made o s h = free-reads m (worker_set.job_queue run.worker) process_slot h.free
 
 module _ (site_contents : SiteContents) (worker_set : WorkerSet) (laws : AllLaws worker_set) where
@@ -74,7 +77,7 @@ module _ (site_contents : SiteContents) (worker_set : WorkerSet) (laws : AllLaws
       → Fits site_contents worker_set m came sent fd c (of x run script) process_slots
       → slice_get process_slots j ≡ Some process_slot
       → descriptor m process_slot.by 0 ≡ Some (on.ReadEnd (worker_set.job_queue j))
-  run-reads m came sent fd c x (Some (Runs run s)) script process_slots j process_slot runs f sits =
+  run-reads m came sent fd c x (Some (InProgress run s)) script process_slots j process_slot runs f sits =
       let here : run.worker ≡ j = same-number run.worker j runs in
       let mine : f.job_queue.process_slot ≡ process_slot =
       some-inj f.job_queue.process_slot process_slot (sym f.job_queue.sits

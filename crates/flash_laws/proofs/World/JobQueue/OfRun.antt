@@ -25,11 +25,15 @@ use Rattle.flash_laws.specs.Site.{server}
 use Rattle.flash_laws.specs.Run.Stages.{HasWorkerAt, AtJobQueue, is_starting, IsPuttingOut, HasPutOut, IsToCome}
 use Rattle.flash_laws.specs.declared.script_run.Run.{Run}
 use Rattle.flash_laws.specs.declared.script_run.Step.{Step}
-use Rattle.flash_laws.specs.declared.script_run.Step.TheVariants.{Gives, Makes, Hands, Sending, Receives, Ended}
-use Rattle.flash_laws.specs.declared.script_run.Step.TheVariants.{Unholds, Stops, Unframes, Lasts, WrapsLast, TrimsLast}
-use Rattle.flash_laws.specs.declared.script_run.Step.TheVariants.{Unwraps, Returns, Lapses, Fails}
+use Rattle.flash_laws.specs.declared.script_run.Step.TheVariants.{GivingPipe, MakingJob, WritingJob, SendingPart}
+use Rattle.flash_laws.specs.declared.script_run.Step.TheVariants.{ReadingOutput, DroppingEnd}
+use Rattle.flash_laws.specs.declared.script_run.Step.TheVariants.{DiscardingHeld, ClosingOutput, DroppingFrame}
+use Rattle.flash_laws.specs.declared.script_run.Step.TheVariants.{MakingEnd, FillingEnd, DroppingLast}
+use Rattle.flash_laws.specs.declared.script_run.Step.TheVariants.{DroppingLastFrame, ClosingPipe, DiscardingJob}
+use Rattle.flash_laws.specs.declared.script_run.Step.TheVariants.{Failing}
 use Rattle.flash_laws.specs.declared.script_run.Running.{Running}
-use Rattle.flash_laws.specs.declared.script_run.Running.TheVariants.{Awaits, Runs, Leaves as Left, Closes}
+use Rattle.flash_laws.specs.declared.script_run.Running.TheVariants.{AwaitingWorker, InProgress, Finishing as Left}
+use Rattle.flash_laws.specs.declared.script_run.Running.TheVariants.{Disconnecting}
 use Rattle.flash_laws.proofs.Run.Rest.{part-sends}
 use Rattle.flash_laws.proofs.Run.Parts.{no-position}
 use Rattle.flash_laws.proofs.World.AllLaws.{AllLaws}
@@ -71,33 +75,34 @@ module _ (site_contents : SiteContents) (worker_set : WorkerSet) (laws : AllLaws
 
     module _ (run : Run) where
       -- it is broken off only where the peer is gone
-      cut_off : (step : Step) (process_slot : ProcessSlot worker_set.Worker) → HasRun job m w o (Runs run step)
-          → Done (Runs run step) → IsPuttingOut worker_set m process_slot run made o
-          → CutBy m c (Runs run step) (after_step w run step r received)
+      cut_off : (step : Step) (process_slot : ProcessSlot worker_set.Worker) → HasRun job m w o (InProgress run step)
+          → Done (InProgress run step) → IsPuttingOut worker_set m process_slot run made o
+          → CutBy m c (InProgress run step) (after_step w run step r received)
       cut_off step process_slot has did was on gone =
           not_cut site_contents worker_set laws m n c process_slots w o after made run step process_slot was fixed.wide
-          ((laws.runs job).breaks m n fd c worker w (Runs run step) r received o open_on refl has did on gone)
+          ((laws.runs job).breaks m n fd c worker w (InProgress run step) r received o open_on refl has did on gone)
 
       -- the steps that touch no pipe
-      undisturbed : (step : Step) → Quiet fd (step_wants job fd w run step) → Done (Runs run step) → Still m n
+      undisturbed : (step : Step) → Quiet fd (step_wants job fd w run step) → Done (InProgress run step) → Still m n
       undisturbed step quiet did =
-          still m fd c open_on n (step_wants job fd w run step) (left (Runs run step) did) quiet
+          still m fd c open_on n (step_wants job fd w run step) (left (InProgress run step) did) quiet
 
       putting : (step : Step) (process_slot : ProcessSlot worker_set.Worker)
           → slice_get process_slots run.worker ≡ Some process_slot → Quiet fd (step_wants job fd w run step)
-          → HasRun job m w o (Runs run step)
-          → Done (Runs run step) → (was : IsPuttingOut worker_set m process_slot run made o)
+          → HasRun job m w o (InProgress run step)
+          → Done (InProgress run step) → (was : IsPuttingOut worker_set m process_slot run made o)
           → IsToCome after (text_of made) was.more → IsPuttingOut worker_set n process_slot run made after
       putting step process_slot sits quiet has did was come =
           putting_on site_contents worker_set laws m n (step_wants job fd w run step) r process_slots
-          (own (Runs run step) refl has did) run process_slot sits (undisturbed step quiet did) made o after was
+          (own (InProgress run step) refl has did) run process_slot sits (undisturbed step quiet did) made o after was
           come
 
       reading_on : (step : Step) (process_slot : ProcessSlot worker_set.Worker)
           → slice_get process_slots run.worker ≡ Some process_slot → ReceivesNothing step
           → Quiet fd (step_wants job fd w run step)
-          → HasRun job m w o (Runs run step) → Done (Runs run step) → IsPuttingOut worker_set m process_slot run made o
-          → after ≡ o → After (Runs run step)
+          → HasRun job m w o (InProgress run step) → Done (InProgress run step)
+          → IsPuttingOut worker_set m process_slot run made o
+          → after ≡ o → After (InProgress run step)
       reading_on step process_slot sits nothing quiet has did was same =
           quiet_steps site_contents worker_set laws m n c process_slots w o after made run process_slot sits
           (putting step process_slot sits quiet has did was
@@ -106,52 +111,56 @@ module _ (site_contents : SiteContents) (worker_set : WorkerSet) (laws : AllLaws
 
       ending : (step : Step) (process_slot : ProcessSlot worker_set.Worker)
           → slice_get process_slots run.worker ≡ Some process_slot → HasReceivedAll step
-          → HasRun job m w o (Runs run step) → Done (Runs run step)
+          → HasRun job m w o (InProgress run step) → Done (InProgress run step)
           → pipe_at n (worker_set.job_queue run.worker) ≡ pipe_at m (worker_set.job_queue run.worker)
-          → HasPutOut worker_set m process_slot run made o → after ≡ o → After (Runs run step)
+          → HasPutOut worker_set m process_slot run made o → after ≡ o → After (InProgress run step)
       ending step process_slot sits all has did job_queue was same =
           last_steps site_contents worker_set laws m n c process_slots w o after made run process_slot sits
           (put_on site_contents worker_set laws m n (step_wants job fd w run step) r process_slots
-          (own (Runs run step) refl has did) run process_slot sits job_queue made o after same was) same step r
+          (own (InProgress run step) refl has did) run process_slot sits job_queue made o after same was) same step r
           received all
 
       ending_undisturbed : (step : Step) (process_slot : ProcessSlot worker_set.Worker)
           → slice_get process_slots run.worker ≡ Some process_slot → HasReceivedAll step
           → Quiet fd (step_wants job fd w run step)
-          → HasRun job m w o (Runs run step) → Done (Runs run step) → HasPutOut worker_set m process_slot run made o
-          → after ≡ o → After (Runs run step)
+          → HasRun job m w o (InProgress run step) → Done (InProgress run step)
+          → HasPutOut worker_set m process_slot run made o
+          → after ≡ o → After (InProgress run step)
       ending_undisturbed step process_slot sits all quiet has did was same =
           ending step process_slot sits all has did
           ((undisturbed step quiet did).pipes (worker_set.job_queue run.worker)) was same
 
       -- a script that is not given up
       kept : (step : Step) (process_slot : ProcessSlot worker_set.Worker)
-          → slice_get process_slots run.worker ≡ Some process_slot → is_failing (Runs run step) ≡ false
-          → HasRun job m w o (Runs run step)
-          → Done (Runs run step) → worker_set.Free m (worker_set.job_queue run.worker) process_slot
+          → slice_get process_slots run.worker ≡ Some process_slot → is_failing (InProgress run step) ≡ false
+          → HasRun job m w o (InProgress run step)
+          → Done (InProgress run step) → worker_set.Free m (worker_set.job_queue run.worker) process_slot
           → is_failing (after_step w run step r received) ≡ true → ⊥
       kept step process_slot sits going has did free fails =
           not_lost site_contents worker_set laws m n c process_slots w o after order job_queues run step process_slot
-          sits free ((laws.runs job).fails m n fd worker w (Runs run step) r received o fixed.site.lives has did
+          sits free ((laws.runs job).fails m n fd worker w (InProgress run step) r received o fixed.site.lives has did
           going fails)
 
-      running : (step : Step) → (is_starting (Runs run step) ≡ true → shown ≡ outcomes_by site_contents.shows s.lines)
-          → HasRun job m w o (Runs run step) → AtJobQueue worker_set m process_slots run made o step
-          → Done (Runs run step) → Learns m (Runs run step) r received o after
-          → After (Runs run step)
-      running (Gives write) fresh has job_queue did learns =
+      running : (step : Step)
+          → (is_starting (InProgress run step) ≡ true → shown ≡ outcomes_by site_contents.shows s.lines)
+          → HasRun job m w o (InProgress run step) → AtJobQueue worker_set m process_slots run made o step
+          → Done (InProgress run step) → Learns m (InProgress run step) r received o after
+          → After (InProgress run step)
+      running (GivingPipe write) fresh has job_queue did learns =
           gives site_contents worker_set laws m n c process_slots w o after made run write r job_queue.process_slot
-          job_queue.sits job_queue.stage has.1.0 (own (Runs run (Gives write)) refl has did)
-          (kept (Gives write) job_queue.process_slot job_queue.sits refl has did job_queue.stage.free) learns
-      running (Makes f) fresh has job_queue did learns =
+          job_queue.sits job_queue.stage has.1.0 (own (InProgress run (GivingPipe write)) refl has did)
+          (kept (GivingPipe write) job_queue.process_slot job_queue.sits refl has did job_queue.stage.free) learns
+      running (MakingJob f) fresh has job_queue did learns =
           makes site_contents worker_set laws m n c process_slots w o after made (job f) run f r job_queue.process_slot
-          job_queue.sits job_queue.stage (own (Runs run (Makes f)) refl has did) (undisturbed (Makes f) tt did)
+          job_queue.sits job_queue.stage (own (InProgress run (MakingJob f)) refl has did)
+          (undisturbed (MakingJob f) tt did)
           learns
-      running (Hands j f) fresh has job_queue did learns =
+      running (WritingJob j f) fresh has job_queue did learns =
           hands site_contents worker_set laws m n c process_slots w o after x s shown (fresh refl) run f j
           job_queue.process_slot job_queue.sits job_queue.stage.0 job_queue.stage.1 has.1.1 r
-          (own (Runs run (Hands j f)) refl has did) stays from
-          (kept (Hands j f) job_queue.process_slot job_queue.sits refl has did job_queue.stage.0.ready.free) has.1.2.1
+          (own (InProgress run (WritingJob j f)) refl has did) stays from
+          (kept (WritingJob j f) job_queue.process_slot job_queue.sits refl has did job_queue.stage.0.ready.free)
+          has.1.2.1
           learns
         where
           writes : descriptor m server (job_pipe run.worker) ≡ Some (on.WriteEnd (worker_set.job_queue run.worker))
@@ -159,86 +168,94 @@ module _ (site_contents : SiteContents) (worker_set : WorkerSet) (laws : AllLaws
 
           stays : (p : ℕ) → p ≢ worker_set.job_queue run.worker → pipe_at n p ≡ pipe_at m p
           stays p differ =
-              (left (Runs run (Hands j f)) did).pipes p
+              (left (InProgress run (WritingJob j f)) did).pipes p
               (apart_write (descriptor m server (job_pipe run.worker)) (worker_set.job_queue run.worker) p writes
               (λ e. differ (sym e)))
 
           from : descriptor n server run.from ≡ Some (on.ReadEnd job_queue.stage.0.ready.has.pipe)
-          from = (left (Runs run (Hands j f)) did).fds server run.from (on.ReadEnd job_queue.stage.0.ready.has.pipe)
+          from =
+              (left (InProgress run (WritingJob j f)) did).fds server run.from
+              (on.ReadEnd job_queue.stage.0.ready.has.pipe)
               job_queue.stage.0.ready.has.reads
               (no-position m (job_pipe run.worker) run.from (on.WriteEnd (worker_set.job_queue run.worker)) writes refl)
-      running (Sending d frame) fresh has job_queue did learns =
+      running (SendingPart d frame) fresh has job_queue did learns =
           sending site_contents worker_set laws m n c process_slots w o after made run job_queue.process_slot
           job_queue.sits
-          (putting (Sending d frame) job_queue.process_slot job_queue.sits
+          (putting (SendingPart d frame) job_queue.process_slot job_queue.sits
           (quiet_part m fd w has.1.part d (part-sends m has.1.part d has.1.is_part has.1.within)) has did
           job_queue.stage
           (part_to_come m d r o after (text_of made) job_queue.stage.more learns job_queue.stage.to_come)) d frame r
-          learns (cut_off (Sending d frame) job_queue.process_slot has did job_queue.stage)
-      running (Receives held frame) fresh has job_queue did learns =
+          learns (cut_off (SendingPart d frame) job_queue.process_slot has did job_queue.stage)
+      running (ReadingOutput held frame) fresh has job_queue did learns =
           receives site_contents worker_set laws m n c process_slots w o after made run held frame
           job_queue.process_slot job_queue.sits job_queue.stage ((laws.runs job).reads m w o run held frame has) r
           received
-          (own (Runs run (Receives held frame)) refl has did) names learns stays from
-          (cut_off (Receives held frame) job_queue.process_slot has did job_queue.stage)
+          (own (InProgress run (ReadingOutput held frame)) refl has did) names learns stays from
+          (cut_off (ReadingOutput held frame) job_queue.process_slot has did job_queue.stage)
         where
           stays : pipe_at n (worker_set.job_queue run.worker) ≡ pipe_at m (worker_set.job_queue run.worker)
-          stays = (left (Runs run (Receives held frame)) did).pipes (worker_set.job_queue run.worker)
+          stays = (left (InProgress run (ReadingOutput held frame)) did).pipes (worker_set.job_queue run.worker)
               (apart_read (descriptor m server run.from) job_queue.stage.has.pipe (worker_set.job_queue run.worker)
               job_queue.stage.has.reads
               (λ e. job_queue.stage.has.apart run.worker
               (job_queues.by run.worker job_queue.process_slot job_queue.sits).0 (sym e)))
 
           from : descriptor n server run.from ≡ Some (on.ReadEnd job_queue.stage.has.pipe)
-          from = (left (Runs run (Receives held frame)) did).fds server run.from (on.ReadEnd job_queue.stage.has.pipe)
+          from =
+              (left (InProgress run (ReadingOutput held frame)) did).fds server run.from
+              (on.ReadEnd job_queue.stage.has.pipe)
               job_queue.stage.has.reads
               (no-position m run.from run.from (on.ReadEnd job_queue.stage.has.pipe) job_queue.stage.has.reads refl)
-      running (Ended a held frame) fresh has job_queue did learns =
-          ending_undisturbed (Ended a held frame) job_queue.process_slot job_queue.sits tt tt has did job_queue.stage
+      running (DroppingEnd a held frame) fresh has job_queue did learns =
+          ending_undisturbed (DroppingEnd a held frame) job_queue.process_slot job_queue.sits tt tt has did
+          job_queue.stage
           learns
-      running (Unholds held frame) fresh has job_queue did learns =
-          ending_undisturbed (Unholds held frame) job_queue.process_slot job_queue.sits tt tt has did job_queue.stage
+      running (DiscardingHeld held frame) fresh has job_queue did learns =
+          ending_undisturbed (DiscardingHeld held frame) job_queue.process_slot job_queue.sits tt tt has did
+          job_queue.stage
           learns
-      running (Stops held frame) fresh has job_queue did learns =
-          ending (Stops held frame) job_queue.process_slot job_queue.sits tt has did
+      running (ClosingOutput held frame) fresh has job_queue did learns =
+          ending (ClosingOutput held frame) job_queue.process_slot job_queue.sits tt has did
           (shut_stays site_contents worker_set laws m n c process_slots w o after run has.1.0.0 r job_queue.process_slot
-          job_queue.sits (own (Runs run (Stops held frame)) refl has did) has.1.0.1 job_queue.stage.free)
+          job_queue.sits (own (InProgress run (ClosingOutput held frame)) refl has did) has.1.0.1 job_queue.stage.free)
           job_queue.stage learns
-      running (Unframes f held) fresh has job_queue did learns =
-          ending_undisturbed (Unframes f held) job_queue.process_slot job_queue.sits tt tt has did job_queue.stage
+      running (DroppingFrame f held) fresh has job_queue did learns =
+          ending_undisturbed (DroppingFrame f held) job_queue.process_slot job_queue.sits tt tt has did job_queue.stage
           learns
-      running (Lasts held) fresh has job_queue did learns =
-          ending_undisturbed (Lasts held) job_queue.process_slot job_queue.sits tt tt has did job_queue.stage learns
-      running (WrapsLast held size frame) fresh has job_queue did learns =
-          ending_undisturbed (WrapsLast held size frame) job_queue.process_slot job_queue.sits tt tt has did
+      running (MakingEnd held) fresh has job_queue did learns =
+          ending_undisturbed (MakingEnd held) job_queue.process_slot job_queue.sits tt tt has did job_queue.stage learns
+      running (FillingEnd held size frame) fresh has job_queue did learns =
+          ending_undisturbed (FillingEnd held size frame) job_queue.process_slot job_queue.sits tt tt has did
           job_queue.stage learns
-      running (TrimsLast held chunk len frame) fresh has job_queue did learns =
-          ending_undisturbed (TrimsLast held chunk len frame) job_queue.process_slot job_queue.sits tt tt has did
+      running (DroppingLast held chunk len frame) fresh has job_queue did learns =
+          ending_undisturbed (DroppingLast held chunk len frame) job_queue.process_slot job_queue.sits tt tt has did
           job_queue.stage learns
-      running (Unwraps frame chunk len) fresh has job_queue did learns =
-          ending_undisturbed (Unwraps frame chunk len) job_queue.process_slot job_queue.sits tt tt has did
+      running (DroppingLastFrame frame chunk len) fresh has job_queue did learns =
+          ending_undisturbed (DroppingLastFrame frame chunk len) job_queue.process_slot job_queue.sits tt tt has did
           job_queue.stage learns
-      running (Returns write) fresh has job_queue did learns = absurd job_queue.stage
-      running (Lapses j) fresh has job_queue did learns = absurd job_queue.stage
-      running Fails fresh has job_queue did learns = absurd job_queue.stage
+      running (ClosingPipe write) fresh has job_queue did learns = absurd job_queue.stage
+      running (DiscardingJob j) fresh has job_queue did learns = absurd job_queue.stage
+      running Failing fresh has job_queue did learns = absurd job_queue.stage
       running step fresh has job_queue did learns =
           reading_on step job_queue.process_slot job_queue.sits tt tt has did job_queue.stage learns
 
     by_step : (y : Running) → is_over y ≡ false
         → (is_starting y ≡ true → shown ≡ outcomes_by site_contents.shows s.lines) → HasRun job m w o y
         → HasWorkerAt worker_set m process_slots made o y
-        → (y ≡ Awaits → (worker < worker_set.count) × ((process_slot : ProcessSlot worker_set.Worker)
+        → (y ≡ AwaitingWorker → (worker < worker_set.count) × ((process_slot : ProcessSlot worker_set.Worker)
         → slice_get process_slots worker ≡ Some process_slot
         → worker_set.Free m (worker_set.job_queue worker) process_slot))
         → Done y → Learns m y r received o after → After y
-    by_step Awaits going fresh has job_queue hired did learns =
-        awaits site_contents worker_set laws m n c process_slots w o after made worker r (own Awaits refl has did) now
+    by_step AwaitingWorker going fresh has job_queue hired did learns =
+        awaits site_contents worker_set laws m n c process_slots w o after made worker r
+        (own AwaitingWorker refl has did) now
         (hired refl) learns
-    by_step (Runs run step) going fresh has job_queue hired did learns = running run step fresh has job_queue did learns
+    by_step (InProgress run step) going fresh has job_queue hired did learns =
+        running run step fresh has job_queue did learns
     by_step (Left d) going fresh has job_queue hired did learns =
         leaving site_contents worker_set laws m n c process_slots w o after made d r received learns
         (λ on gone. (laws.runs job).breaks m n fd c worker w (Left d) r received o open_on going has did on gone)
-    by_step Closes going fresh has job_queue hired did learns = absurd (cc (going))
+    by_step Disconnecting going fresh has job_queue hired did learns = absurd (cc (going))
 
   pub job_queue_step : (m n : State) (fd c worker : ℕ) (x : Client) (w : Wanted) (s : IsScript site_contents x w)
       (y : Running) (r : Reply)
@@ -248,7 +265,7 @@ module _ (site_contents : SiteContents) (worker_set : WorkerSet) (laws : AllLaws
       → descriptor m server fd ≡ Some (on.Connection c)
       → is_over y ≡ false → (is_starting y ≡ true → shown ≡ outcomes_by site_contents.shows s.lines)
       → HasRun (job_of w s.text) m w o y → HasWorkerAt worker_set m process_slots (made_of w s.lines shown) o y
-      → (y ≡ Awaits → (worker < worker_set.count)
+      → (y ≡ AwaitingWorker → (worker < worker_set.count)
       × ((process_slot : ProcessSlot worker_set.Worker) → slice_get process_slots worker ≡ Some process_slot
       → worker_set.Free m (worker_set.job_queue worker) process_slot))
       → StepsTo m (event.Call server (wants (job_of w s.text) fd w y)) r n → Names n r received

@@ -38,10 +38,11 @@ use Rattle.flash_laws.specs.declared.phase.Phase.TheVariants as phase
 use Rattle.flash_laws.specs.declared.script_run.TheConstants.{CHUNK_BYTES}
 use Rattle.flash_laws.specs.declared.script_run.Run.{Run}
 use Rattle.flash_laws.specs.declared.script_run.Step.{Step}
-use Rattle.flash_laws.specs.declared.script_run.Step.TheVariants.{Lets, Heads, Sending, Receives, Spills, Gathers}
-use Rattle.flash_laws.specs.declared.script_run.Step.TheVariants.{Frames, Wraps, Trims, Ended}
+use Rattle.flash_laws.specs.declared.script_run.Step.TheVariants.{DroppingJob, MakingHead, SendingPart, ReadingOutput}
+use Rattle.flash_laws.specs.declared.script_run.Step.TheVariants.{DroppingOutput, JoiningOutput}
+use Rattle.flash_laws.specs.declared.script_run.Step.TheVariants.{MakingFrame, FillingFrame, DroppingHeld, DroppingEnd}
 use Rattle.flash_laws.specs.declared.script_run.Running.{Running}
-use Rattle.flash_laws.specs.declared.script_run.Running.TheVariants.{Runs}
+use Rattle.flash_laws.specs.declared.script_run.Running.TheVariants.{InProgress}
 use Rattle.flash_laws.proofs.Lists.{clash}
 use Rattle.flash_laws.proofs.World.AllLaws.{AllLaws}
 use Rattle.flash_laws.proofs.World.JobQueue.After.{JobQueueAfter, MayOn, CutBy, may_same, cut_same, proceeds, same_on}
@@ -56,9 +57,9 @@ taken_may w x part expected may = may
 
 pub part_may : (m : State) (w : Wanted) (d : Phase) (r : Reply) (o after : Progress) (expected : List ℕ)
     → PartLearns m d r o after → is_dropping d ≡ false → MayAnswer w o expected → MayAnswer w after expected
-part_may m w (phase.Sent a taken None) reply.Done o after expected learns whole may =
+part_may m w (phase.DroppingSent a taken None) reply.Done o after expected learns whole may =
     subst (λ (p : Progress). MayAnswer w p expected) (sym learns.2) (taken_may w o learns.0 expected may)
-part_may m w (phase.Drops a None) reply.Done o after expected learns whole may = absurd (cc (whole))
+part_may m w (phase.Aborting a None) reply.Done o after expected learns whole may = absurd (cc (whole))
 part_may m w d r o after expected learns whole may = subst (λ (p : Progress). MayAnswer w p expected) (sym learns) may
 
 taken_to_come : (o : Progress) (part output more : List ℕ) → IsToCome o output more
@@ -68,34 +69,34 @@ taken_to_come x part output more come = come
 
 pub part_to_come : (m : State) (d : Phase) (r : Reply) (o after : Progress) (output more : List ℕ)
     → PartLearns m d r o after → IsToCome o output more → IsToCome after output more
-part_to_come m (phase.Sent a taken None) reply.Done o after output more learns come =
+part_to_come m (phase.DroppingSent a taken None) reply.Done o after output more learns come =
     subst (λ (p : Progress). IsToCome p output more) (sym learns.2) (taken_to_come o learns.0 output more come)
-part_to_come m (phase.Drops a None) reply.Done o after output more learns come =
+part_to_come m (phase.Aborting a None) reply.Done o after output more learns come =
     subst (λ (p : Progress). IsToCome p output more) (sym learns) tt
 part_to_come m d r o after output more learns come = subst (λ (p : Progress). IsToCome p output more) (sym learns) come
 
 -- what sends it touches no pipe
 pub quiet_part : (m : State) (fd : ℕ) (w : Wanted) (expected : List ℕ) (d : Phase) → IsSending m expected d
     → Quiet fd (conn.wants fd (in_phase w d))
-quiet_part m fd w expected (phase.Heads (Error status)) is = tt
-quiet_part m fd w expected (phase.Sends s) is = refl
-quiet_part m fd w expected (phase.Cuts s) is = tt
-quiet_part m fd w expected (phase.Offers s piece) is = refl
-quiet_part m fd w expected (phase.Swaps s piece) is = tt
-quiet_part m fd w expected (phase.Sent a taken None) is = tt
-quiet_part m fd w expected (phase.Breaks piece a None) is = tt
-quiet_part m fd w expected (phase.Drops a None) is = tt
+quiet_part m fd w expected (phase.MakingHead (Error status)) is = tt
+quiet_part m fd w expected (phase.SendingWhole s) is = refl
+quiet_part m fd w expected (phase.CuttingPiece s) is = tt
+quiet_part m fd w expected (phase.SendingPiece s piece) is = refl
+quiet_part m fd w expected (phase.DroppingPiece s piece) is = tt
+quiet_part m fd w expected (phase.DroppingSent a taken None) is = tt
+quiet_part m fd w expected (phase.AbortingPiece piece a None) is = tt
+quiet_part m fd w expected (phase.Aborting a None) is = tt
 quiet_part m fd w expected d is = absurd is.0
 
 -- the steps between the reads
 abbrev pub ReceivesNothing : Step → Type 0
-ReceivesNothing (Lets j) = Unit {0}
-ReceivesNothing Heads = Unit {0}
-ReceivesNothing (Spills a frame) = Unit {0}
-ReceivesNothing (Gathers held size piece len frame) = Unit {0}
-ReceivesNothing (Frames held) = Unit {0}
-ReceivesNothing (Wraps held frame) = Unit {0}
-ReceivesNothing (Trims held chunk len frame) = Unit {0}
+ReceivesNothing (DroppingJob j) = Unit {0}
+ReceivesNothing MakingHead = Unit {0}
+ReceivesNothing (DroppingOutput a frame) = Unit {0}
+ReceivesNothing (JoiningOutput held size piece len frame) = Unit {0}
+ReceivesNothing (MakingFrame held) = Unit {0}
+ReceivesNothing (FillingFrame held frame) = Unit {0}
+ReceivesNothing (DroppingHeld held chunk len frame) = Unit {0}
 ReceivesNothing step = ⊥
 
 -- ---- what is received is the front of what is to come
@@ -165,7 +166,7 @@ module _ (site_contents : SiteContents) (worker_set : WorkerSet) (laws : AllLaws
     (process_slots : List (ProcessSlot worker_set.Worker)) (w : Wanted) (o after : Progress) where
   pub not_cut : (made : Made) (run : Run) (step : Step) (process_slot : ProcessSlot worker_set.Worker)
       → IsPuttingOut worker_set m process_slot run made o → MayReadAll m server worker_set.pools
-      → IsCutOff m c (Runs run step) → is_gone (conn_at m c).peer ≡ true
+      → IsCutOff m c (InProgress run step) → is_gone (conn_at m c).peer ≡ true
   not_cut made run step process_slot was wide cut = by cut
     where
       lies : PutsOut worker_set.turns worker_set.pools worker_set.Free worker_set.Expected m
@@ -178,7 +179,7 @@ module _ (site_contents : SiteContents) (worker_set : WorkerSet) (laws : AllLaws
       one : (p q : ℕ) (u : Option Descriptor) → u ≡ Some (on.ReadEnd p) → u ≡ Some (on.ReadEnd q) → p ≡ q
       one p q u x y = cc (x, y)
 
-      by : IsCutOff m c (Runs run step) → is_gone (conn_at m c).peer ≡ true
+      by : IsCutOff m c (InProgress run step) → is_gone (conn_at m c).peer ≡ true
       by (inl gone) = gone
       by (inr hides) = absurd (not_hidden worker_set.pools m hides.1 (pipe_at m hides.0).queue wide
           (subst (λ p. lie_in worker_set.pools (pipe_at m p).queue ≡ true)
@@ -195,85 +196,99 @@ module _ (site_contents : SiteContents) (worker_set : WorkerSet) (laws : AllLaws
       -- ---- what is held
 
       held_on : (step : Step) (a size : ℕ) (frame : Option ℕ)
-          → ((z : Running) → MayOn (response_to w made) w (Runs run step) z o after)
-          → CutBy m c (Runs run step) (Runs run (holding a size frame))
-          → After (Runs run step) (Runs run (holding a size frame))
+          → ((z : Running) → MayOn (response_to w made) w (InProgress run step) z o after)
+          → CutBy m c (InProgress run step) (InProgress run (holding a size frame))
+          → After (InProgress run step) (InProgress run (holding a size frame))
       held_on step a size frame may cut = by (nat_lt size CHUNK_BYTES) frame cut
         where
           by : (t : Bool) (f : Option ℕ)
-              → CutBy m c (Runs run step) (Runs run (if t then Receives (Some (a, size)) f else filled a f))
-              → After (Runs run step) (Runs run (if t then Receives (Some (a, size)) f else filled a f))
+              → CutBy m c (InProgress run step)
+              (InProgress run (if t then ReadingOutput (Some (a, size)) f else filled a f))
+              → After (InProgress run step)
+              (InProgress run (if t then ReadingOutput (Some (a, size)) f else filled a f))
           by true f cut =
-              proceeds worker_set m n c process_slots w made o after run run step (Receives (Some (a, size)) f)
-              process_slot refl sits now (may (Runs run (Receives (Some (a, size)) f))) cut
+              proceeds worker_set m n c process_slots w made o after run run step (ReadingOutput (Some (a, size)) f)
+              process_slot refl sits now (may (InProgress run (ReadingOutput (Some (a, size)) f))) cut
           by false None cut =
-              proceeds worker_set m n c process_slots w made o after run run step (Frames a) process_slot refl sits now
-              (may (Runs run (Frames a))) cut
+              proceeds worker_set m n c process_slots w made o after run run step (MakingFrame a) process_slot refl sits
+              now
+              (may (InProgress run (MakingFrame a))) cut
           by false (Some f) cut =
-              proceeds worker_set m n c process_slots w made o after run run step (Wraps a f) process_slot refl sits now
-              (may (Runs run (Wraps a f))) cut
+              proceeds worker_set m n c process_slots w made o after run run step (FillingFrame a f) process_slot refl
+              sits now
+              (may (InProgress run (FillingFrame a f))) cut
 
       hearing_on : (step : Step) (b chunked : Bool) (held : Following) (frame : Option ℕ) (a len : ℕ)
-          → ((z : Running) → MayOn (response_to w made) w (Runs run step) z o after)
-          → CutBy m c (Runs run step) (Runs run (hearing b chunked held frame a len))
-          → After (Runs run step) (Runs run (hearing b chunked held frame a len))
+          → ((z : Running) → MayOn (response_to w made) w (InProgress run step) z o after)
+          → CutBy m c (InProgress run step) (InProgress run (hearing b chunked held frame a len))
+          → After (InProgress run step) (InProgress run (hearing b chunked held frame a len))
       hearing_on step true chunked held frame a len may cut =
-          proceeds worker_set m n c process_slots w made o after run run step (Spills a frame) process_slot refl sits
-          now (may (Runs run (Spills a frame))) cut
+          proceeds worker_set m n c process_slots w made o after run run step (DroppingOutput a frame) process_slot refl
+          sits
+          now (may (InProgress run (DroppingOutput a frame))) cut
       hearing_on step false false held frame a len may cut =
-          proceeds worker_set m n c process_slots w made o after run run step (Sending (sends_part a len) frame)
-          process_slot refl sits now (may (Runs run (Sending (sends_part a len) frame))) cut
+          proceeds worker_set m n c process_slots w made o after run run step (SendingPart (sends_part a len) frame)
+          process_slot refl sits now (may (InProgress run (SendingPart (sends_part a len) frame))) cut
       hearing_on step false true None frame a len may cut = held_on step a len frame may cut
       hearing_on step false true (Some y) frame a len may cut =
-          proceeds worker_set m n c process_slots w made o after run run step (Gathers y.0 y.1 a len frame) process_slot
-          refl sits now (may (Runs run (Gathers y.0 y.1 a len frame))) cut
+          proceeds worker_set m n c process_slots w made o after run run step (JoiningOutput y.0 y.1 a len frame)
+          process_slot
+          refl sits now (may (InProgress run (JoiningOutput y.0 y.1 a len frame))) cut
 
       -- ---- steps that hear nothing
 
       module _ (same : after ≡ o) where
-        to : (step later : Step) → CutBy m c (Runs run step) (Runs run later)
-            → Stage worker_set n process_slot run made after later → After (Runs run step) (Runs run later)
+        to : (step later : Step) → CutBy m c (InProgress run step) (InProgress run later)
+            → Stage worker_set n process_slot run made after later → After (InProgress run step) (InProgress run later)
         to step later cut stage = same_on worker_set m n c process_slots w made o after run step later process_slot sits
             same cut stage
 
         pub quiet_steps : (step : Step) (r : Reply) (received : List ℕ) → ReceivesNothing step
-            → CutBy m c (Runs run step) (after_step w run step r received)
-            → After (Runs run step) (after_step w run step r received)
-        quiet_steps (Lets j) reply.Done received is cut = to (Lets j) Heads cut now
-        quiet_steps (Lets j) r received is cut = to (Lets j) (Lets j) cut now
-        quiet_steps Heads (reply.Agg a) received is cut =
-            to Heads (Sending (sends_part a (count_of received)) None) cut now
-        quiet_steps Heads r received is cut = to Heads Heads cut now
-        quiet_steps (Spills a frame) reply.Done received is cut = to (Spills a frame) (Receives None frame) cut now
-        quiet_steps (Spills a frame) r received is cut = to (Spills a frame) (Spills a frame) cut now
-        quiet_steps (Gathers held size piece len frame) (reply.Agg a) received is cut =
-            held_on (Gathers held size piece len frame) a (both size len) frame
-            (λ z. may_same (response_to w made) w (Runs run (Gathers held size piece len frame)) z o after same) cut
-        quiet_steps (Gathers held size piece len frame) r received is cut =
-            to (Gathers held size piece len frame) (Gathers held size piece len frame) cut now
-        quiet_steps (Frames held) (reply.Agg a) received is cut = to (Frames held) (Wraps held a) cut now
-        quiet_steps (Frames held) r received is cut = to (Frames held) (Frames held) cut now
-        quiet_steps (Wraps held frame) (reply.Agg a) received is cut =
-            to (Wraps held frame) (Trims held a (count_of received) frame) cut now
-        quiet_steps (Wraps held frame) r received is cut = to (Wraps held frame) (Wraps held frame) cut now
-        quiet_steps (Trims held chunk len frame) reply.Done received is cut =
-            to (Trims held chunk len frame) (Sending (sends_part chunk len) (Some frame)) cut now
-        quiet_steps (Trims held chunk len frame) r received is cut =
-            to (Trims held chunk len frame) (Trims held chunk len frame) cut now
+            → CutBy m c (InProgress run step) (after_step w run step r received)
+            → After (InProgress run step) (after_step w run step r received)
+        quiet_steps (DroppingJob j) reply.Done received is cut = to (DroppingJob j) MakingHead cut now
+        quiet_steps (DroppingJob j) r received is cut = to (DroppingJob j) (DroppingJob j) cut now
+        quiet_steps MakingHead (reply.Agg a) received is cut =
+            to MakingHead (SendingPart (sends_part a (count_of received)) None) cut now
+        quiet_steps MakingHead r received is cut = to MakingHead MakingHead cut now
+        quiet_steps (DroppingOutput a frame) reply.Done received is cut =
+            to (DroppingOutput a frame) (ReadingOutput None frame) cut now
+        quiet_steps (DroppingOutput a frame) r received is cut =
+            to (DroppingOutput a frame) (DroppingOutput a frame) cut now
+        quiet_steps (JoiningOutput held size piece len frame) (reply.Agg a) received is cut =
+            held_on (JoiningOutput held size piece len frame) a (both size len) frame
+            (λ z. may_same (response_to w made) w (InProgress run (JoiningOutput held size piece len frame)) z o after
+            same) cut
+        quiet_steps (JoiningOutput held size piece len frame) r received is cut =
+            to (JoiningOutput held size piece len frame) (JoiningOutput held size piece len frame) cut now
+        quiet_steps (MakingFrame held) (reply.Agg a) received is cut =
+            to (MakingFrame held) (FillingFrame held a) cut now
+        quiet_steps (MakingFrame held) r received is cut = to (MakingFrame held) (MakingFrame held) cut now
+        quiet_steps (FillingFrame held frame) (reply.Agg a) received is cut =
+            to (FillingFrame held frame) (DroppingHeld held a (count_of received) frame) cut now
+        quiet_steps (FillingFrame held frame) r received is cut =
+            to (FillingFrame held frame) (FillingFrame held frame) cut now
+        quiet_steps (DroppingHeld held chunk len frame) reply.Done received is cut =
+            to (DroppingHeld held chunk len frame) (SendingPart (sends_part chunk len) (Some frame)) cut now
+        quiet_steps (DroppingHeld held chunk len frame) r received is cut =
+            to (DroppingHeld held chunk len frame) (DroppingHeld held chunk len frame) cut now
         quiet_steps step r received is cut = absurd is
 
       -- a part is sent
       pub sending : (d : Phase) (frame : Option ℕ) (r : Reply) → PartLearns m d r o after
-          → CutBy m c (Runs run (Sending d frame)) (after_sending run d frame r)
-          → After (Runs run (Sending d frame)) (after_sending run d frame r)
-      sending (phase.Sent a taken None) frame reply.Done learns cut =
-          proceeds worker_set m n c process_slots w made o after run run (Sending (phase.Sent a taken None) frame)
-          (Receives None frame) process_slot refl sits now
-          (λ was gone may. part_may m w (phase.Sent a taken None) reply.Done o after (response_to w made) learns was
+          → CutBy m c (InProgress run (SendingPart d frame)) (after_sending run d frame r)
+          → After (InProgress run (SendingPart d frame)) (after_sending run d frame r)
+      sending (phase.DroppingSent a taken None) frame reply.Done learns cut =
+          proceeds worker_set m n c process_slots w made o after run run
+          (SendingPart (phase.DroppingSent a taken None) frame)
+          (ReadingOutput None frame) process_slot refl sits now
+          (λ was gone may. part_may m w (phase.DroppingSent a taken None) reply.Done o after (response_to w made) learns
+          was
           may) cut
-      sending (phase.Drops a None) frame reply.Done learns cut =
-          proceeds worker_set m n c process_slots w made o after run (broken run) (Sending (phase.Drops a None) frame)
-          (Receives None frame) process_slot refl sits (record {
+      sending (phase.Aborting a None) frame reply.Done learns cut =
+          proceeds worker_set m n c process_slots w made o after run (broken run)
+          (SendingPart (phase.Aborting a None) frame)
+          (ReadingOutput None frame) process_slot refl sits (record {
             has = record { pipe = now.has.pipe; reads = now.has.reads; apart = now.has.apart };
             more = now.more;
             puts_out = now.puts_out;
@@ -281,8 +296,8 @@ module _ (site_contents : SiteContents) (worker_set : WorkerSet) (laws : AllLaws
           })
           (λ was gone may. absurd (cc (was))) cut
       sending d frame r learns cut =
-          proceeds worker_set m n c process_slots w made o after run run (Sending d frame)
-          (Sending (after_part d r) frame) process_slot refl sits now
+          proceeds worker_set m n c process_slots w made o after run run (SendingPart d frame)
+          (SendingPart (after_part d r) frame) process_slot refl sits now
           (λ was gone may. part_may m w d r o after (response_to w made) learns was may) cut
 
   -- ---- made is read, or its end
@@ -291,7 +306,8 @@ module _ (site_contents : SiteContents) (worker_set : WorkerSet) (laws : AllLaws
       (process_slot : ProcessSlot worker_set.Worker) (sits : slice_get process_slots run.worker ≡ Some process_slot)
       (was : IsPuttingOut worker_set m process_slot run made o) (few : held_size held < CHUNK_BYTES) where
     abbrev Received : Running → Type 0
-    Received z = JobQueueAfter worker_set m n c process_slots w made (Runs run (Receives held frame)) z o after
+    Received z = JobQueueAfter worker_set m n c process_slots w made (InProgress run (ReadingOutput held frame)) z o
+        after
 
     abbrev count : ℕ
     count = CHUNK_BYTES - held_size held
@@ -302,15 +318,16 @@ module _ (site_contents : SiteContents) (worker_set : WorkerSet) (laws : AllLaws
     ended : (a : ℕ) → OwnCall site_contents worker_set m n reads (reply.Agg a) process_slots
         → readable_at n server a ≡ Some [] → after ≡ receives_on o []
         → pipe_at n (worker_set.job_queue run.worker) ≡ pipe_at m (worker_set.job_queue run.worker)
-        → CutBy m c (Runs run (Receives held frame)) (Runs run (Ended a held frame))
-        → Received (Runs run (Ended a held frame))
+        → CutBy m c (InProgress run (ReadingOutput held frame)) (InProgress run (DroppingEnd a held frame))
+        → Received (InProgress run (DroppingEnd a held frame))
     ended a h is_readable learns job_queue cut =
         let all = laws.texts.ends m n (worker_set.job_queue run.worker) was.has.pipe server run.from count a
         process_slot made was.more h.order h.fixed.placed (omega (arith, few)) h.step
         (other site_contents worker_set laws m n reads (reply.Agg a) process_slots h run.worker process_slot sits)
         was.has.reads (own_files site_contents worker_set laws m n reads (reply.Agg a) process_slots h run.worker
         process_slot sits) job_queue is_readable was.puts_out in
-        proceeds worker_set m n c process_slots w made o after run run (Receives held frame) (Ended a held frame)
+        proceeds worker_set m n c process_slots w made o after run run (ReadingOutput held frame)
+        (DroppingEnd a held frame)
         process_slot refl sits
         (record { free = all.1; whole = received_whole o after (text_of made) was.more learns was.to_come all.0 })
         (λ on gone may. end_may w made o after was.more learns was.to_come all.0 may) cut
@@ -319,7 +336,8 @@ module _ (site_contents : SiteContents) (worker_set : WorkerSet) (laws : AllLaws
         → readable_at n server a ≡ Some (b ∷ bytes) → after ≡ receives_on o (b ∷ bytes)
         → pipe_at n (worker_set.job_queue run.worker) ≡ pipe_at m (worker_set.job_queue run.worker)
         → descriptor n server run.from ≡ Some (on.ReadEnd was.has.pipe)
-        → CutBy m c (Runs run (Receives held frame)) (after_output w run held frame (reply.Agg a) (b ∷ bytes))
+        → CutBy m c (InProgress run (ReadingOutput held frame))
+        (after_output w run held frame (reply.Agg a) (b ∷ bytes))
         → Received (after_output w run held frame (reply.Agg a) (b ∷ bytes))
     more a b bytes h is_readable learns job_queue from cut =
         let did = laws.texts.reads m n (worker_set.job_queue run.worker) was.has.pipe server run.from count a
@@ -333,23 +351,23 @@ module _ (site_contents : SiteContents) (worker_set : WorkerSet) (laws : AllLaws
           puts_out = did.puts_out;
           to_come = received_more o after (text_of made) was.more did.rest bytes b learns was.to_come did.splits;
         } in
-        hearing_on made run process_slot sits now (Receives held frame) run.broken w.chunked held frame a
+        hearing_on made run process_slot sits now (ReadingOutput held frame) run.broken w.chunked held frame a
         (count_of (b ∷ bytes))
         (λ z on gone may. more_may w made o after was.more did.rest bytes b learns was.to_come did.splits may) cut
 
-    again : n ≡ m → after ≡ o → Received (Runs run (Receives held frame))
+    again : n ≡ m → after ≡ o → Received (InProgress run (ReadingOutput held frame))
     again is same =
-        same_on worker_set m n c process_slots w made o after run (Receives held frame) (Receives held frame)
+        same_on worker_set m n c process_slots w made o after run (ReadingOutput held frame) (ReadingOutput held frame)
         process_slot sits same
-        (cut_same m c (Runs run (Receives held frame)) (Runs run (Receives held frame)) refl)
+        (cut_same m c (InProgress run (ReadingOutput held frame)) (InProgress run (ReadingOutput held frame)) refl)
         (subst (λ (u : State). IsPuttingOut worker_set u process_slot run made after) (sym is)
         (subst (λ (p : Progress). IsPuttingOut worker_set m process_slot run made p) (sym same) was))
 
     pub receives : (r : Reply) (received : List ℕ) → OwnCall site_contents worker_set m n reads r process_slots
-        → Names n r received → StepLearns m (Receives held frame) r received o after
+        → Names n r received → StepLearns m (ReadingOutput held frame) r received o after
         → pipe_at n (worker_set.job_queue run.worker) ≡ pipe_at m (worker_set.job_queue run.worker)
         → descriptor n server run.from ≡ Some (on.ReadEnd was.has.pipe)
-        → CutBy m c (Runs run (Receives held frame)) (after_output w run held frame r received)
+        → CutBy m c (InProgress run (ReadingOutput held frame)) (after_output w run held frame r received)
         → Received (after_output w run held frame r received)
     receives (reply.Agg a) [] h names learns job_queue from cut = ended a h names learns job_queue cut
     receives (reply.Agg a) (b ∷ bytes) h names learns job_queue from cut =

@@ -27,10 +27,11 @@ use Rattle.flash_laws.specs.declared.phase.Phase.{Phase}
 use Rattle.flash_laws.specs.declared.phase.Phase.TheVariants as phase
 use Rattle.flash_laws.specs.declared.script_run.Run.{Run}
 use Rattle.flash_laws.specs.declared.script_run.Step.{Step}
-use Rattle.flash_laws.specs.declared.script_run.Step.TheVariants.{Ended, Unholds, Stops, Unframes, Lasts, WrapsLast}
-use Rattle.flash_laws.specs.declared.script_run.Step.TheVariants.{TrimsLast, Unwraps}
+use Rattle.flash_laws.specs.declared.script_run.Step.TheVariants.{DroppingEnd, DiscardingHeld, ClosingOutput}
+use Rattle.flash_laws.specs.declared.script_run.Step.TheVariants.{DroppingFrame, MakingEnd, FillingEnd}
+use Rattle.flash_laws.specs.declared.script_run.Step.TheVariants.{DroppingLast, DroppingLastFrame}
 use Rattle.flash_laws.specs.declared.script_run.Running.{Running}
-use Rattle.flash_laws.specs.declared.script_run.Running.TheVariants.{Runs, Leaves, Closes}
+use Rattle.flash_laws.specs.declared.script_run.Running.TheVariants.{InProgress, Finishing, Disconnecting}
 use Rattle.flash_laws.proofs.Lists.{not-equal}
 use Rattle.flash_laws.proofs.Conn.Uses.{same-number}
 use Rattle.flash_laws.proofs.World.AllLaws.{AllLaws}
@@ -52,14 +53,14 @@ apart_write o p q is differ = ap (λ u. list_any (is_end q) (u ∷ []) || false)
 
 -- the steps once no more made is read
 abbrev pub HasReceivedAll : Step → Type 0
-HasReceivedAll (Ended a held frame) = Unit {0}
-HasReceivedAll (Unholds held frame) = Unit {0}
-HasReceivedAll (Stops held frame) = Unit {0}
-HasReceivedAll (Unframes frame held) = Unit {0}
-HasReceivedAll (Lasts held) = Unit {0}
-HasReceivedAll (WrapsLast held size frame) = Unit {0}
-HasReceivedAll (TrimsLast held chunk len frame) = Unit {0}
-HasReceivedAll (Unwraps frame chunk len) = Unit {0}
+HasReceivedAll (DroppingEnd a held frame) = Unit {0}
+HasReceivedAll (DiscardingHeld held frame) = Unit {0}
+HasReceivedAll (ClosingOutput held frame) = Unit {0}
+HasReceivedAll (DroppingFrame frame held) = Unit {0}
+HasReceivedAll (MakingEnd held) = Unit {0}
+HasReceivedAll (FillingEnd held size frame) = Unit {0}
+HasReceivedAll (DroppingLast held chunk len frame) = Unit {0}
+HasReceivedAll (DroppingLastFrame frame chunk len) = Unit {0}
 HasReceivedAll step = ⊥
 
 some_one : {A : Type 0} (a b : A) → Some a ≡ Some b → a ≡ b
@@ -96,8 +97,8 @@ module _ (site_contents : SiteContents) (worker_set : WorkerSet) (laws : AllLaws
     module _ (run : Run) (process_slot : ProcessSlot worker_set.Worker)
         (sits : slice_get process_slots run.worker ≡ Some process_slot)
         (now : HasPutOut worker_set n process_slot run made after) (same : after ≡ o) where
-      to : (step later : Step) → CutBy m c (Runs run step) (Runs run later)
-          → Stage worker_set n process_slot run made after later → After (Runs run step) (Runs run later)
+      to : (step later : Step) → CutBy m c (InProgress run step) (InProgress run later)
+          → Stage worker_set n process_slot run made after later → After (InProgress run step) (InProgress run later)
       to step later cut stage = same_on worker_set m n c process_slots w made o after run step later process_slot sits
           same cut stage
 
@@ -110,68 +111,79 @@ module _ (site_contents : SiteContents) (worker_set : WorkerSet) (laws : AllLaws
           (subst (λ j. worker_set.Free n (worker_set.job_queue j) process_slot) e now.free)
 
       over : (step : Step) (z : Running) → HasWorkerAt worker_set n process_slots made after z
-          → CutBy m c (Runs run step) z → After (Runs run step) z
+          → CutBy m c (InProgress run step) z → After (InProgress run step) z
       over step z job_queue cut = record {
         job_queue = job_queue;
         freed = λ k next at was gone. freed k next at was;
-        may = may_same (response_to w made) w (Runs run step) z o after same;
+        may = may_same (response_to w made) w (InProgress run step) z o after same;
         cut = cut;
       }
 
-      finishing_on : (step : Step) (b chunked : Bool) (held : Following) → breaks_off (Runs run step) ≡ run.broken
-          → After (Runs run step) (finishing b chunked run held)
+      finishing_on : (step : Step) (b chunked : Bool) (held : Following) → breaks_off (InProgress run step) ≡ run.broken
+          → After (InProgress run step) (finishing b chunked run held)
       finishing_on step false true held whole =
-          to step (Lasts held) (cut_same m c (Runs run step) (Runs run (Lasts held)) (sym whole)) now
-      finishing_on step false false held whole = over step Closes tt (cut_whole m c (Runs run step) Closes refl)
-      finishing_on step true chunked held whole = over step Closes tt (cut_whole m c (Runs run step) Closes refl)
+          to step (MakingEnd held) (cut_same m c (InProgress run step) (InProgress run (MakingEnd held)) (sym whole))
+          now
+      finishing_on step false false held whole =
+          over step Disconnecting tt (cut_whole m c (InProgress run step) Disconnecting refl)
+      finishing_on step true chunked held whole =
+          over step Disconnecting tt (cut_whole m c (InProgress run step) Disconnecting refl)
 
-      left_on : (step : Step) (a len : ℕ) → After (Runs run step) (Leaves (sends_part a len))
+      left_on : (step : Step) (a len : ℕ) → After (InProgress run step) (Finishing (sends_part a len))
       left_on step a len =
-          over step (Leaves (sends_part a len)) tt
-          (cut_whole m c (Runs run step) (Leaves (sends_part a len)) refl)
+          over step (Finishing (sends_part a len)) tt
+          (cut_whole m c (InProgress run step) (Finishing (sends_part a len)) refl)
 
-      ending_on : (held : Following) (a len : ℕ) → After (Runs run (Lasts held)) (ending run held a len)
-      ending_on None a len = left_on (Lasts None) a len
+      ending_on : (held : Following) (a len : ℕ) → After (InProgress run (MakingEnd held)) (ending run held a len)
+      ending_on None a len = left_on (MakingEnd None) a len
       ending_on (Some y) a len =
-          to (Lasts (Some y)) (WrapsLast y.0 y.1 a)
-          (cut_same m c (Runs run (Lasts (Some y))) (Runs run (WrapsLast y.0 y.1 a)) refl) now
+          to (MakingEnd (Some y)) (FillingEnd y.0 y.1 a)
+          (cut_same m c (InProgress run (MakingEnd (Some y))) (InProgress run (FillingEnd y.0 y.1 a)) refl) now
 
-      on_to : (step later : Step) → breaks_off (Runs run later) ≡ breaks_off (Runs run step)
-          → Stage worker_set n process_slot run made after later → After (Runs run step) (Runs run later)
-      on_to step later whole stage = to step later (cut_same m c (Runs run step) (Runs run later) whole) stage
+      on_to : (step later : Step) → breaks_off (InProgress run later) ≡ breaks_off (InProgress run step)
+          → Stage worker_set n process_slot run made after later → After (InProgress run step) (InProgress run later)
+      on_to step later whole stage =
+          to step later (cut_same m c (InProgress run step) (InProgress run later) whole) stage
 
       pub last_steps : (step : Step) (r : Reply) (received : List ℕ) → HasReceivedAll step
-          → After (Runs run step) (after_step w run step r received)
-      last_steps (Ended a held frame) reply.Done received is = on_to (Ended a held frame) (Stops held frame) refl now
-      last_steps (Ended a held frame) r received is = on_to (Ended a held frame) (Ended a held frame) refl now
-      last_steps (Unholds held frame) reply.Done received is = on_to (Unholds held frame) (Stops None frame) refl now
-      last_steps (Unholds held frame) r received is = on_to (Unholds held frame) (Unholds held frame) refl now
-      last_steps (Stops held None) reply.Done received is =
-          finishing_on (Stops held None) run.broken w.chunked held refl
-      last_steps (Stops held (Some f)) reply.Done received is = on_to (Stops held (Some f)) (Unframes f held) refl now
-      last_steps (Stops held frame) r received is = on_to (Stops held frame) (Stops held frame) refl now
-      last_steps (Unframes f held) reply.Done received is =
-          finishing_on (Unframes f held) run.broken w.chunked held refl
-      last_steps (Unframes f held) r received is = on_to (Unframes f held) (Unframes f held) refl now
-      last_steps (Lasts held) (reply.Agg a) received is = ending_on held a (count_of received)
-      last_steps (Lasts held) r received is = on_to (Lasts held) (Lasts held) refl now
-      last_steps (WrapsLast held size frame) (reply.Agg a) received is =
-          on_to (WrapsLast held size frame) (TrimsLast held a (count_of received) frame) refl now
-      last_steps (WrapsLast held size frame) r received is =
-          on_to (WrapsLast held size frame) (WrapsLast held size frame) refl now
-      last_steps (TrimsLast held chunk len frame) reply.Done received is =
-          on_to (TrimsLast held chunk len frame) (Unwraps frame chunk len) refl now
-      last_steps (TrimsLast held chunk len frame) r received is =
-          on_to (TrimsLast held chunk len frame) (TrimsLast held chunk len frame) refl now
-      last_steps (Unwraps frame chunk len) reply.Done received is = left_on (Unwraps frame chunk len) chunk len
-      last_steps (Unwraps frame chunk len) r received is =
-          on_to (Unwraps frame chunk len) (Unwraps frame chunk len) refl now
+          → After (InProgress run step) (after_step w run step r received)
+      last_steps (DroppingEnd a held frame) reply.Done received is =
+          on_to (DroppingEnd a held frame) (ClosingOutput held frame) refl now
+      last_steps (DroppingEnd a held frame) r received is =
+          on_to (DroppingEnd a held frame) (DroppingEnd a held frame) refl now
+      last_steps (DiscardingHeld held frame) reply.Done received is =
+          on_to (DiscardingHeld held frame) (ClosingOutput None frame) refl now
+      last_steps (DiscardingHeld held frame) r received is =
+          on_to (DiscardingHeld held frame) (DiscardingHeld held frame) refl now
+      last_steps (ClosingOutput held None) reply.Done received is =
+          finishing_on (ClosingOutput held None) run.broken w.chunked held refl
+      last_steps (ClosingOutput held (Some f)) reply.Done received is =
+          on_to (ClosingOutput held (Some f)) (DroppingFrame f held) refl now
+      last_steps (ClosingOutput held frame) r received is =
+          on_to (ClosingOutput held frame) (ClosingOutput held frame) refl now
+      last_steps (DroppingFrame f held) reply.Done received is =
+          finishing_on (DroppingFrame f held) run.broken w.chunked held refl
+      last_steps (DroppingFrame f held) r received is = on_to (DroppingFrame f held) (DroppingFrame f held) refl now
+      last_steps (MakingEnd held) (reply.Agg a) received is = ending_on held a (count_of received)
+      last_steps (MakingEnd held) r received is = on_to (MakingEnd held) (MakingEnd held) refl now
+      last_steps (FillingEnd held size frame) (reply.Agg a) received is =
+          on_to (FillingEnd held size frame) (DroppingLast held a (count_of received) frame) refl now
+      last_steps (FillingEnd held size frame) r received is =
+          on_to (FillingEnd held size frame) (FillingEnd held size frame) refl now
+      last_steps (DroppingLast held chunk len frame) reply.Done received is =
+          on_to (DroppingLast held chunk len frame) (DroppingLastFrame frame chunk len) refl now
+      last_steps (DroppingLast held chunk len frame) r received is =
+          on_to (DroppingLast held chunk len frame) (DroppingLast held chunk len frame) refl now
+      last_steps (DroppingLastFrame frame chunk len) reply.Done received is =
+          left_on (DroppingLastFrame frame chunk len) chunk len
+      last_steps (DroppingLastFrame frame chunk len) r received is =
+          on_to (DroppingLastFrame frame chunk len) (DroppingLastFrame frame chunk len) refl now
       last_steps step r received is = absurd is
 
     -- a run that left its worker
     pub leaving : (d : Phase) (r : Reply) (received : List ℕ) → PartLearns m d r o after
-        → CutBy m c (Leaves d) (Leaves (conn.after_reply (in_phase w d) r received).phase)
-        → After (Leaves d) (Leaves (conn.after_reply (in_phase w d) r received).phase)
+        → CutBy m c (Finishing d) (Finishing (conn.after_reply (in_phase w d) r received).phase)
+        → After (Finishing d) (Finishing (conn.after_reply (in_phase w d) r received).phase)
     leaving d r received learns cut = record {
       job_queue = tt;
       freed = λ k next at was gone. absurd (cc (was));

@@ -38,12 +38,16 @@ use Rattle.flash_laws.specs.Run.Stages.{HasPipeOf, IsReadyFor, IsGiven, IsPuttin
 use Rattle.flash_laws.specs.Run.Stages.{is_starting}
 use Rattle.flash_laws.specs.declared.script_run.Run.{Run}
 use Rattle.flash_laws.specs.declared.script_run.Step.{Step}
-use Rattle.flash_laws.specs.declared.script_run.Step.TheVariants.{Gives, Makes, Hands, Lets, Heads, Sending, Receives}
-use Rattle.flash_laws.specs.declared.script_run.Step.TheVariants.{Spills, Gathers, Frames, Wraps, Trims, Ended, Unholds}
-use Rattle.flash_laws.specs.declared.script_run.Step.TheVariants.{Stops, Unframes, Lasts, WrapsLast, TrimsLast, Unwraps}
-use Rattle.flash_laws.specs.declared.script_run.Step.TheVariants.{Returns, Lapses, Fails}
+use Rattle.flash_laws.specs.declared.script_run.Step.TheVariants.{GivingPipe, MakingJob, WritingJob, DroppingJob}
+use Rattle.flash_laws.specs.declared.script_run.Step.TheVariants.{MakingHead, SendingPart, ReadingOutput}
+use Rattle.flash_laws.specs.declared.script_run.Step.TheVariants.{DroppingOutput, JoiningOutput, MakingFrame}
+use Rattle.flash_laws.specs.declared.script_run.Step.TheVariants.{FillingFrame, DroppingHeld, DroppingEnd}
+use Rattle.flash_laws.specs.declared.script_run.Step.TheVariants.{DiscardingHeld}
+use Rattle.flash_laws.specs.declared.script_run.Step.TheVariants.{ClosingOutput, DroppingFrame, MakingEnd, FillingEnd}
+use Rattle.flash_laws.specs.declared.script_run.Step.TheVariants.{DroppingLast, DroppingLastFrame}
+use Rattle.flash_laws.specs.declared.script_run.Step.TheVariants.{ClosingPipe, DiscardingJob, Failing}
 use Rattle.flash_laws.specs.declared.script_run.Running.{Running}
-use Rattle.flash_laws.specs.declared.script_run.Running.TheVariants.{Runs}
+use Rattle.flash_laws.specs.declared.script_run.Running.TheVariants.{InProgress}
 use Rattle.flash_laws.proofs.Forms.{of}
 use Rattle.flash_laws.proofs.Conn.Responses.{some-inj}
 use Rattle.flash_laws.proofs.Lists.{clash, self}
@@ -100,7 +104,7 @@ module _ (site_contents : SiteContents) (worker_set : WorkerSet) (laws : AllLaws
   }
 
   module _ (fd : ℕ) (x : Conn) (script : List ℕ) (run : Run) (made : Made) (o : Progress) where
-    module _ (s : Step) (at : in_place clients fd ≡ Some (of x (Some (Runs run s)) script))
+    module _ (s : Step) (at : in_place clients fd ≡ Some (of x (Some (InProgress run s)) script))
         (runs : (run.worker == k) ≡ true) (has : ends_of run s run.from ≡ true) where
       putting-touches : IsPuttingOut worker_set m process_slot run made o
           → Touches worker_set m n clients k process_slot.by
@@ -128,7 +132,7 @@ module _ (site_contents : SiteContents) (worker_set : WorkerSet) (laws : AllLaws
                       pipe = h.has.pipe;
                       leaves = left;
                       own =
-                          own-pipe fd (of x (Some (Runs run s)) script) run h.has.pipe at runs h.has.reads has
+                          own-pipe fd (of x (Some (InProgress run s)) script) run h.has.pipe at runs h.has.reads has
                           h.has.apart;
                     }
               ]
@@ -141,28 +145,32 @@ module _ (site_contents : SiteContents) (worker_set : WorkerSet) (laws : AllLaws
         by true false c u v = absurd (cc (v))
         by false b c u v = absurd (cc (u))
 
-    stage-touches : (s : Step) → in_place clients fd ≡ Some (of x (Some (Runs run s)) script) → (run.worker == k) ≡ true
+    stage-touches : (s : Step) → in_place clients fd ≡ Some (of x (Some (InProgress run s)) script)
+        → (run.worker == k) ≡ true
         → Stage worker_set m process_slot run made o s
         → Touches worker_set m n clients k process_slot.by
-    stage-touches (Makes f) at runs h = rests (worker_set.job_queue run.worker) h.ready.free
-    stage-touches (Hands j f) at runs h = rests (worker_set.job_queue run.worker) h.0.ready.free
-    stage-touches (Lets j) at runs h = putting-touches (Lets j) at runs (used (Lets j) refl) h
-    stage-touches Heads at runs h = putting-touches Heads at runs (used Heads refl) h
-    stage-touches (Sending d frame) at runs h =
-        putting-touches (Sending d frame) at runs (used (Sending d frame) refl) h
-    stage-touches (Receives held frame) at runs h =
-        putting-touches (Receives held frame) at runs (used (Receives held frame) refl) h
-    stage-touches (Spills a frame) at runs h = putting-touches (Spills a frame) at runs (used (Spills a frame) refl) h
-    stage-touches (Gathers held size piece len frame) at runs h =
-        putting-touches (Gathers held size piece len frame) at runs (used (Gathers held size piece len frame) refl) h
-    stage-touches (Frames held) at runs h = putting-touches (Frames held) at runs (used (Frames held) refl) h
-    stage-touches (Wraps held frame) at runs h =
-        putting-touches (Wraps held frame) at runs (used (Wraps held frame) refl) h
-    stage-touches (Trims held chunk len frame) at runs h =
-        putting-touches (Trims held chunk len frame) at runs (used (Trims held chunk len frame) refl) h
-    stage-touches (Returns write) at runs h = absurd h
-    stage-touches (Lapses j) at runs h = absurd h
-    stage-touches Fails at runs h = absurd h
+    stage-touches (MakingJob f) at runs h = rests (worker_set.job_queue run.worker) h.ready.free
+    stage-touches (WritingJob j f) at runs h = rests (worker_set.job_queue run.worker) h.0.ready.free
+    stage-touches (DroppingJob j) at runs h = putting-touches (DroppingJob j) at runs (used (DroppingJob j) refl) h
+    stage-touches MakingHead at runs h = putting-touches MakingHead at runs (used MakingHead refl) h
+    stage-touches (SendingPart d frame) at runs h =
+        putting-touches (SendingPart d frame) at runs (used (SendingPart d frame) refl) h
+    stage-touches (ReadingOutput held frame) at runs h =
+        putting-touches (ReadingOutput held frame) at runs (used (ReadingOutput held frame) refl) h
+    stage-touches (DroppingOutput a frame) at runs h =
+        putting-touches (DroppingOutput a frame) at runs (used (DroppingOutput a frame) refl) h
+    stage-touches (JoiningOutput held size piece len frame) at runs h =
+        putting-touches (JoiningOutput held size piece len frame) at runs
+        (used (JoiningOutput held size piece len frame) refl) h
+    stage-touches (MakingFrame held) at runs h =
+        putting-touches (MakingFrame held) at runs (used (MakingFrame held) refl) h
+    stage-touches (FillingFrame held frame) at runs h =
+        putting-touches (FillingFrame held frame) at runs (used (FillingFrame held frame) refl) h
+    stage-touches (DroppingHeld held chunk len frame) at runs h =
+        putting-touches (DroppingHeld held chunk len frame) at runs (used (DroppingHeld held chunk len frame) refl) h
+    stage-touches (ClosingPipe write) at runs h = absurd h
+    stage-touches (DiscardingJob j) at runs h = absurd h
+    stage-touches Failing at runs h = absurd h
     stage-touches s at runs h = rests (worker_set.job_queue run.worker) h.free
 
   -- who sits at the job queue of a run of worker k
@@ -176,7 +184,7 @@ module _ (site_contents : SiteContents) (worker_set : WorkerSet) (laws : AllLaws
       → in_place clients fd ≡ Some (of x run script) → is_run_by (of x run script) k ≡ true
       → FitsAt site_contents worker_set m p fd (of x run script) process_slots
       → Touches worker_set m n clients k process_slot.by
-  client-touches fd x (Some (Runs run s)) script at runs f =
+  client-touches fd x (Some (InProgress run s)) script at runs f =
       stage-touches fd x script run (made_of f.fits.wanted f.fits.script.lines f.fits.shown) f.fits.so_far s at runs
       (subst
       (λ (t : ProcessSlot worker_set.Worker). Stage worker_set m t run
@@ -230,10 +238,12 @@ module _ (site_contents : SiteContents) (worker_set : WorkerSet) (laws : AllLaws
         pub shown_now : List Outcome
         pub may_show : (there : List Outcome) → AllMayShow site_contents there shown
             → AllMayShow site_contents there shown_now
-        pub fresh : is_starting (Runs run s) ≡ true → shown_now ≡ shown
+        pub fresh : is_starting (InProgress run s) ≡ true → shown_now ≡ shown
         pub consistency : (k : Connection) (took sent kept : List ℕ)
-            → ConsistencyRun site_contents (response_to w (made_of w lines shown)) k took sent kept w o (Runs run s)
-            → ConsistencyRun site_contents (response_to w (made_of w lines shown_now)) k took sent kept w o (Runs run s)
+            → ConsistencyRun site_contents (response_to w (made_of w lines shown)) k took sent kept w o
+            (InProgress run s)
+            → ConsistencyRun site_contents (response_to w (made_of w lines shown_now)) k took sent kept w o
+            (InProgress run s)
         pub stage : Stage worker_set n next run (made_of w lines shown_now) o s
 
       unchanged : (s : Step) → Stage worker_set n next run (made_of w lines shown) o s → Turned s
@@ -250,24 +260,26 @@ module _ (site_contents : SiteContents) (worker_set : WorkerSet) (laws : AllLaws
       put-turn h = record { free = (waits (worker_set.job_queue run.worker) h.free).1; whole = h.whole }
 
       -- as much of the other response is given
-      exchanged : (s : Step) (after : Made) (more later : List ℕ) → is_stopping (Runs run s) ≡ false
+      exchanged : (s : Step) (after : Made) (more later : List ℕ) → is_stopping (InProgress run s) ≡ false
           → HasStep job m w o run s
           → ((front : List ℕ) → text_of made ≡ front ++ more → text_of after ≡ front ++ later)
           → IsToCome o (text_of made) more
           → (k : Connection) (took sent kept : List ℕ)
-          → ConsistencyRun site_contents (response_to w made) k took sent kept w o (Runs run s)
-          → ConsistencyRun site_contents (response_to w after) k took sent kept w o (Runs run s)
+          → ConsistencyRun site_contents (response_to w made) k took sent kept w o (InProgress run s)
+          → ConsistencyRun site_contents (response_to w after) k took sent kept w o (InProgress run s)
       exchanged s after more later going has begins come k took sent kept (inr left) = inr left
       exchanged s after more later going has begins come k took sent kept (inl goes) = by o has come goes
         where
           by : (o : Progress) → HasStep job m w o run s → IsToCome o (text_of made) more
-              → Proceeds site_contents (response_to w made) took (sent ++ bytes_of k.outgoing) kept w o (Runs run s)
-              → ConsistencyRun site_contents (response_to w after) k took sent kept w o (Runs run s)
+              → Proceeds site_contents (response_to w made) took (sent ++ bytes_of k.outgoing) kept w o
+              (InProgress run s)
+              → ConsistencyRun site_contents (response_to w after) k took sent kept w o (InProgress run s)
           by (Ran received ended past) has come goes =
               let is : text_of after ≡ received ++ later = begins received come.1 in
-              let same = ap (λ (l : List ℕ). take (length past + taken_by (Runs run s)) (script_response w l)) come.1
+              let same = ap (λ (l : List ℕ). take (length past + taken_by (InProgress run s)) (script_response w l))
+              come.1
               ∙ (given-same w received past more later ended job m run s going has
-              ∙ ap (λ (l : List ℕ). take (length past + taken_by (Runs run s)) (script_response w l)) (sym is)) in
+              ∙ ap (λ (l : List ℕ). take (length past + taken_by (InProgress run s)) (script_response w l)) (sym is)) in
               inl (record {
                 answers =
                     subst (λ (l : List ℕ). Answers site_contents took (sent ++ bytes_of k.outgoing) kept (serve w ∷ [])
@@ -282,7 +294,7 @@ module _ (site_contents : SiteContents) (worker_set : WorkerSet) (laws : AllLaws
           by Broken has come goes = absurd goes.may
           by (NotRun status past) has come goes = absurd come
 
-      putting-turn : (s : Step) → is_stopping (Runs run s) ≡ false → is_starting (Runs run s) ≡ false
+      putting-turn : (s : Step) → is_stopping (InProgress run s) ≡ false → is_starting (InProgress run s) ≡ false
           → HasStep job m w o run s
           → ((after : Made) → IsPuttingOut worker_set n next run after o → Stage worker_set n next run after o s)
           → IsPuttingOut worker_set m process_slot run made o → Turned s
@@ -317,11 +329,11 @@ module _ (site_contents : SiteContents) (worker_set : WorkerSet) (laws : AllLaws
           other after later x shown_then is shows puts = record {
             shown_now = shown_then;
             may_show = shows;
-            fresh = λ starts. absurd (clash (is_starting (Runs run s)) starts started);
+            fresh = λ starts. absurd (clash (is_starting (InProgress run s)) starts started);
             consistency =
                 subst (λ (a : Made). (k : Connection) (took sent kept : List ℕ)
-                → ConsistencyRun site_contents (response_to w made) k took sent kept w o (Runs run s)
-                → ConsistencyRun site_contents (response_to w a) k took sent kept w o (Runs run s)) is
+                → ConsistencyRun site_contents (response_to w made) k took sent kept w o (InProgress run s)
+                → ConsistencyRun site_contents (response_to w a) k took sent kept w o (InProgress run s)) is
                 (exchanged s after h.more later going has x.begins h.to_come);
             stage = subst (λ (a : Made). Stage worker_set n next run a o s) is
                 (stages after (record {
@@ -353,24 +365,24 @@ module _ (site_contents : SiteContents) (worker_set : WorkerSet) (laws : AllLaws
               puts
 
       stage-turn : (s : Step) → HasStep job m w o run s → Stage worker_set m process_slot run made o s → Turned s
-      stage-turn (Gives write) has h = unchanged (Gives write) (ready-turn run h)
-      stage-turn (Makes f) has h = unchanged (Makes f) (given-turn run f h)
-      stage-turn (Hands j f) has h = unchanged (Hands j f) (
+      stage-turn (GivingPipe write) has h = unchanged (GivingPipe write) (ready-turn run h)
+      stage-turn (MakingJob f) has h = unchanged (MakingJob f) (given-turn run f h)
+      stage-turn (WritingJob j f) has h = unchanged (WritingJob j f) (
         given-turn run f h.0,
         subst (λ (u : State). lie_in worker_set.jobs (text u server j) ≡ true)
             (sym (waits (worker_set.job_queue run.worker) h.0.ready.free).0) h.1,
       )
-      stage-turn (Ended a held frame) has h = unchanged (Ended a held frame) (put-turn h)
-      stage-turn (Unholds held frame) has h = unchanged (Unholds held frame) (put-turn h)
-      stage-turn (Stops held frame) has h = unchanged (Stops held frame) (put-turn h)
-      stage-turn (Unframes frame held) has h = unchanged (Unframes frame held) (put-turn h)
-      stage-turn (Lasts held) has h = unchanged (Lasts held) (put-turn h)
-      stage-turn (WrapsLast held size frame) has h = unchanged (WrapsLast held size frame) (put-turn h)
-      stage-turn (TrimsLast held chunk len frame) has h = unchanged (TrimsLast held chunk len frame) (put-turn h)
-      stage-turn (Unwraps frame chunk len) has h = unchanged (Unwraps frame chunk len) (put-turn h)
-      stage-turn (Returns write) has h = absurd h
-      stage-turn (Lapses j) has h = absurd h
-      stage-turn Fails has h = absurd h
+      stage-turn (DroppingEnd a held frame) has h = unchanged (DroppingEnd a held frame) (put-turn h)
+      stage-turn (DiscardingHeld held frame) has h = unchanged (DiscardingHeld held frame) (put-turn h)
+      stage-turn (ClosingOutput held frame) has h = unchanged (ClosingOutput held frame) (put-turn h)
+      stage-turn (DroppingFrame frame held) has h = unchanged (DroppingFrame frame held) (put-turn h)
+      stage-turn (MakingEnd held) has h = unchanged (MakingEnd held) (put-turn h)
+      stage-turn (FillingEnd held size frame) has h = unchanged (FillingEnd held size frame) (put-turn h)
+      stage-turn (DroppingLast held chunk len frame) has h = unchanged (DroppingLast held chunk len frame) (put-turn h)
+      stage-turn (DroppingLastFrame frame chunk len) has h = unchanged (DroppingLastFrame frame chunk len) (put-turn h)
+      stage-turn (ClosingPipe write) has h = absurd h
+      stage-turn (DiscardingJob j) has h = absurd h
+      stage-turn Failing has h = absurd h
       stage-turn s has h = putting-turn s refl refl has (λ after puts. puts) h
 
     -- what the run has stays
@@ -390,7 +402,7 @@ module _ (site_contents : SiteContents) (worker_set : WorkerSet) (laws : AllLaws
     pub own-fits : (fd : ℕ) (x : Conn) (run : Option Running) (script : List ℕ) → is_run_by (of x run script) k ≡ true
         → FitsAt site_contents worker_set m p fd (of x run script) process_slots
         → FitsAt site_contents worker_set n p fd (of x run script) (slice_set process_slots k next)
-    own-fits fd x (Some (Runs run s)) script runs at = record {
+    own-fits fd x (Some (InProgress run s)) script runs at = record {
       conn = at.conn;
       fits = record {
         open_on = server-fd fd ∙ f.open_on;
@@ -403,13 +415,13 @@ module _ (site_contents : SiteContents) (worker_set : WorkerSet) (laws : AllLaws
         fresh = λ starts. turned.fresh starts ∙ f.fresh starts;
         kept = f.kept;
         so_far = f.so_far;
-        has = has-turn (job_of f.wanted f.script.text) f.wanted f.so_far (Runs run s) f.has;
+        has = has-turn (job_of f.wanted f.script.text) f.wanted f.so_far (InProgress run s) f.has;
         ongoing = f.ongoing;
         consistency =
             subst
             (λ (z : Connection). ConsistencyRun site_contents
             (response_to f.wanted (made_of f.wanted f.script.lines turned.shown_now)) z f.took (p.sent at.conn) x.kept
-            f.wanted f.so_far (Runs run s))
+            f.wanted f.so_far (InProgress run s))
             (sym (left.conns at.conn)) (turned.consistency (conn_at m at.conn) f.took (p.sent at.conn) x.kept
             f.consistency);
         job_queue = record {
@@ -423,7 +435,7 @@ module _ (site_contents : SiteContents) (worker_set : WorkerSet) (laws : AllLaws
     }
       where
         f : FitsRun site_contents worker_set m (p.came at.conn) (p.sent at.conn) fd at.conn
-            (of x (Some (Runs run s)) script) (Runs run s) process_slots
+            (of x (Some (InProgress run s)) script) (InProgress run s) process_slots
         f = at.fits
 
         turned : Turned run f.wanted f.script.lines f.shown f.so_far (job_of f.wanted f.script.text) s

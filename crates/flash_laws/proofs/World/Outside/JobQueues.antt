@@ -30,11 +30,13 @@ use Rattle.flash_laws.specs.Site.{server, KeepsSite}
 use Rattle.flash_laws.specs.Run.Stages.{HasPipeOf, IsGiven, IsPuttingOut, Stage}
 use Rattle.flash_laws.specs.declared.script_run.Run.{Run}
 use Rattle.flash_laws.specs.declared.script_run.Step.{Step}
-use Rattle.flash_laws.specs.declared.script_run.Step.TheVariants.{Gives, Makes, Hands, Ended, Unholds, Stops, Unframes}
-use Rattle.flash_laws.specs.declared.script_run.Step.TheVariants.{Lasts, WrapsLast, TrimsLast, Unwraps, Returns, Lapses}
-use Rattle.flash_laws.specs.declared.script_run.Step.TheVariants.{Fails}
+use Rattle.flash_laws.specs.declared.script_run.Step.TheVariants.{GivingPipe, MakingJob, WritingJob, DroppingEnd}
+use Rattle.flash_laws.specs.declared.script_run.Step.TheVariants.{DiscardingHeld, ClosingOutput, DroppingFrame}
+use Rattle.flash_laws.specs.declared.script_run.Step.TheVariants.{MakingEnd, FillingEnd, DroppingLast}
+use Rattle.flash_laws.specs.declared.script_run.Step.TheVariants.{DroppingLastFrame, ClosingPipe, DiscardingJob}
+use Rattle.flash_laws.specs.declared.script_run.Step.TheVariants.{Failing}
 use Rattle.flash_laws.specs.declared.script_run.Running.{Running}
-use Rattle.flash_laws.specs.declared.script_run.Running.TheVariants.{Runs}
+use Rattle.flash_laws.specs.declared.script_run.Running.TheVariants.{InProgress}
 use Rattle.flash_laws.proofs.Lists.{clash, self, later_of, former_of}
 use Rattle.flash_laws.proofs.World.AllLaws.{AllLaws}
 use Rattle.flash_laws.proofs.World.JobQueue.Jobs.{reads-jobs}
@@ -95,21 +97,21 @@ module _ (worker_set : WorkerSet) (laws : AllLaws worker_set) where
 
     stage-writes : (job : ℕ → List ℕ) (w : Wanted) (made : Made) (o : Progress) (s : Step) → HasStep job m w o run s
         → Stage worker_set m process_slot run made o s
-        → is_stopping (Runs run s) ≡ false → HasNotEnd m d (on.WriteEnd p)
-    stage-writes job w made o (Gives write) has h going = had-writes write has.0
-    stage-writes job w made o (Makes f) has h going = given-writes f h
-    stage-writes job w made o (Hands j f) has h going = given-writes f h.0
-    stage-writes job w made o (Ended a held frame) has h going = absurd (cc (going))
-    stage-writes job w made o (Unholds held frame) has h going = absurd (cc (going))
-    stage-writes job w made o (Stops held frame) has h going = absurd (cc (going))
-    stage-writes job w made o (Unframes frame held) has h going = absurd (cc (going))
-    stage-writes job w made o (Lasts held) has h going = absurd (cc (going))
-    stage-writes job w made o (WrapsLast held size frame) has h going = absurd (cc (going))
-    stage-writes job w made o (TrimsLast held chunk len frame) has h going = absurd (cc (going))
-    stage-writes job w made o (Unwraps frame chunk len) has h going = absurd (cc (going))
-    stage-writes job w made o (Returns write) has h going = absurd h
-    stage-writes job w made o (Lapses j) has h going = absurd h
-    stage-writes job w made o Fails has h going = absurd h
+        → is_stopping (InProgress run s) ≡ false → HasNotEnd m d (on.WriteEnd p)
+    stage-writes job w made o (GivingPipe write) has h going = had-writes write has.0
+    stage-writes job w made o (MakingJob f) has h going = given-writes f h
+    stage-writes job w made o (WritingJob j f) has h going = given-writes f h.0
+    stage-writes job w made o (DroppingEnd a held frame) has h going = absurd (cc (going))
+    stage-writes job w made o (DiscardingHeld held frame) has h going = absurd (cc (going))
+    stage-writes job w made o (ClosingOutput held frame) has h going = absurd (cc (going))
+    stage-writes job w made o (DroppingFrame frame held) has h going = absurd (cc (going))
+    stage-writes job w made o (MakingEnd held) has h going = absurd (cc (going))
+    stage-writes job w made o (FillingEnd held size frame) has h going = absurd (cc (going))
+    stage-writes job w made o (DroppingLast held chunk len frame) has h going = absurd (cc (going))
+    stage-writes job w made o (DroppingLastFrame frame chunk len) has h going = absurd (cc (going))
+    stage-writes job w made o (ClosingPipe write) has h going = absurd h
+    stage-writes job w made o (DiscardingJob j) has h going = absurd h
+    stage-writes job w made o Failing has h going = absurd h
     stage-writes job w made o s has h going = puts-writes made o h
 
 -- ---- all job queues, and each client
@@ -148,14 +150,14 @@ module _ (site_contents : SiteContents) (worker_set : WorkerSet) (laws : AllLaws
 
     -- nor has it an end of the pipe of a run, while its made is received
     run-left : (fd c : ℕ) (x : Client) (run : Run) (s : Step) (q : ℕ)
-        → Fits site_contents worker_set m (p.came c) (p.sent c) fd c x process_slots → x.run ≡ Some (Runs run s)
-        → descriptor m server run.from ≡ Some (on.ReadEnd q) → is_stopping (Runs run s) ≡ false
+        → Fits site_contents worker_set m (p.came c) (p.sent c) fd c x process_slots → x.run ≡ Some (InProgress run s)
+        → descriptor m server run.from ≡ Some (on.ReadEnd q) → is_stopping (InProgress run s) ≡ false
         → pipe_at n q ≡ pipe_at m q
     run-left fd c x run s q fits runs opens going =
         pipe-left worker_set laws m n e r q step reads writes
         (former_of (pipe_at m q).reading (pipe_at m q).writing (order.all_stand server run.from (on.ReadEnd q) opens))
       where
-        f : FitsRun site_contents worker_set m (p.came c) (p.sent c) fd c x (Runs run s) process_slots
+        f : FitsRun site_contents worker_set m (p.came c) (p.sent c) fd c x (InProgress run s) process_slots
         f =
             subst (λ (o : Option Running). FitsBy site_contents worker_set o m (p.came c) (p.sent c) fd c x
             process_slots) runs fits

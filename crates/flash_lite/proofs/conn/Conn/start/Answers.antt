@@ -4,7 +4,7 @@ use Rattle.std.proofs.lemmas.Result.{IfOk-weaker}
 use Rattle.flash_http.specs.Window.{window_in}
 use Rattle.flash_http.specs.Request.{answer, IsAnswerTo}
 use Rattle.flash_laws.specs.Conn.{Conn}
-use Rattle.flash_laws.specs.declared.phase.Phase.TheVariants.{Rests}
+use Rattle.flash_laws.specs.declared.phase.Phase.TheVariants.{Receiving}
 use Rattle.flash_lite.proofs.Responses.FirstCall.{starts_head}
 use Rattle.flash_lite.proofs.conn.Conn.start.Goals as goal
 
@@ -13,7 +13,7 @@ returns-in_ok-asked-in-Head-clause-starts c =
     let kept = c.as_slice.ensures.value ∙ ap (λ (x : Conn). x.kept) c.self.view_is in
     let again = c.deref.ensures.value ∙ ap (λ (x : Conn). x.kept) c.self.view_is in
     IfOk-weaker c.begin-in-Head.result _ _
-    (λ call begun. starts_head (record c.args.self.now { phase = Rests }) c.begin-in-Head.new.self c.in-Head.skip
+    (λ call begun. starts_head (record c.args.self.now { phase = Receiving }) c.begin-in-Head.new.self c.in-Head.skip
     c.in-Head.len (answer c.in_ok-asked-in-Head.asked)
     (ap (λ (l : List ℕ). window_in l) (sym kept) ∙ (sym c.window_of.ensures.window ∙ c.in-Head.is))
     (subst (λ (l : List ℕ). IsAnswerTo (slice_range l c.in-Head.skip (c.in-Head.skip + c.in-Head.len))
