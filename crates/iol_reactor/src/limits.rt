@@ -54,15 +54,15 @@ impl Limits {
 /// The events that one poll reports at most.
 pub const EVENTS: usize = 256;
 
-/// Between two polls of the sockets the processes have turns until all are idle. No time
-/// slice begins after this time, except the first one that is not of the first process.
+/// Between two polls of the sockets the processes have turns until all are idle, or until this time
+/// has passed at the end of a time slice that is not of the first process.
 pub const RUN_MICROS: u64 = 1_000;
 
 /// The time slice of a process: it has turns until it is quiet, or for this time.
 pub const SLICE_MICROS: u64 = 500;
 
 /// The clock is read after each turn in which a process acted; for the first one, which serves the
-/// clients, after this number of such turns. They are short.
+/// clients, after this number of such turns.
 pub const UNTIMED_TURNS: usize = 8;
 
 /// The turns between two polls at most.

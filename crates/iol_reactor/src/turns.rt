@@ -79,8 +79,8 @@ impl Order {
         self.count <= self.quiet
     }
 
-    /// Whether the run ends: all processes are idle, or its time is over. In a run at least one
-    /// time slice is not of the first process.
+    /// Whether the run ends: all processes are idle, or its time is over. It ends by time only after
+    /// a time slice of another process than the first, if there is one.
     pub fn is_over(&self) -> bool {
         self.is_over || self.is_idle()
     }
