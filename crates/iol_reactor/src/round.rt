@@ -13,7 +13,8 @@ use std::mem;
 
 impl<S: Socket + Drop, B: Backing + Drop, P: Process, V: Service<B, P>> Engine<S, B, P, V> {
     /// A round: hands in complete requests, gives the processes this number of turns at most, and
-    /// sends their output.
+    /// sends their output. A process has turns until it is quiet, so one that acts without end
+    /// leaves none to the others.
     pub fn round(&mut self, turns: usize, service: &mut V) -> Result<(), AllocError> {
         if self.begin_round(service)? {
             self.take_turns(turns, &mut Stopped);
