@@ -1,5 +1,4 @@
-use Rattle.std.proofs.Common.{arith, Some, None, subst, sym}
-use Rattle.std.proofs.lemmas.List.{get_or-set_same}
+use Rattle.std.proofs.Common.{arith, subst, sym}
 use Rattle.iol_reactor.proofs.Served.{all_past}
 use Rattle.iol_reactor.specs.Served.{IsEmpty}
 use Rattle.iol_reactor.proofs.Served.{all_admit, new_followed, others_stay, released_at, set_rest}
@@ -29,6 +28,3 @@ invariant_of-self-else-slot-len g c = record {
       (λ j other. set_rest _ _ _ _ c.release.ensures.table j other)
       (omega (arith, c.if-slot-len.false, c.len.ensures)) c.args.self.now.followed;
 }
-
-pub returns : goal.returns
-returns g c within = (c.new.result, get_or-set_same _ _ (Some c.new.result) None within, c.new.ensures.socket)
