@@ -148,7 +148,7 @@ def plain(words):
     """The tokens of a file without its imports, and those as what each takes from where; what the layout adds is left out."""
     rest, uses, i = [], collections.Counter(), 0
     while i < len(words):
-        if words[i] == "use" and i + 3 < len(words) and words[i + 1].startswith("Rattle.") and words[i + 2] == "." and words[i + 3] == "{":
+        if words[i] == "use" and i + 3 < len(words) and words[i + 2] == "." and words[i + 3] == "{":
             module, item, j = words[i + 1], [], i + 4
             head = []
             while rest and rest[-1] in ("pub", "unfoldable", "ghost"):
@@ -167,7 +167,8 @@ def plain(words):
         rest.append(words[i])
         i += 1
     # a comma before a closing bracket, or a semicolon, is the layout's
-    return [w for k, w in enumerate(rest) if not (w in (",", ";") and k + 1 < len(rest) and rest[k + 1] in "}])")], uses
+    # and so is a bar before the first clause
+    return [w for k, w in enumerate(rest) if not (w in (",", ";") and k + 1 < len(rest) and rest[k + 1] in "}])") and not (w == "|" and k and rest[k - 1] == "[")], uses
 
 
 def tokens(files, cwd):
