@@ -92,19 +92,16 @@ fn conn_answers(alloc: Global, system: &System<MemoryBacking>) -> bool {
 
 // A client, with the same calls.
 
-fn context() -> Context {
-    Context {
-        scripts: true,
-        fd: Fd::new(1),
-        worker: 0,
-    }
-}
-
 fn client_receives(client: &mut Client, system: &System<MemoryBacking>) -> Option<Call> {
     let agg = AggId::new(1);
     let parts = system.parts(DomainId::new(1), agg).ok();
     let last = Reply::Agg(agg);
-    match client.advance(context(), Received { last: &last, parts }) {
+    let context = Context {
+        scripts: true,
+        fd: Fd::new(1),
+        worker: 0,
+    };
+    match client.advance(context, Received { last: &last, parts }) {
         Ok(Course::Asks(call)) => Some(call),
         _ => None,
     }
@@ -112,7 +109,12 @@ fn client_receives(client: &mut Client, system: &System<MemoryBacking>) -> Optio
 
 fn client_proceeds(client: &mut Client) -> Option<Call> {
     let (last, parts) = (Reply::Done, None);
-    match client.advance(context(), Received { last: &last, parts }) {
+    let context = Context {
+        scripts: true,
+        fd: Fd::new(1),
+        worker: 0,
+    };
+    match client.advance(context, Received { last: &last, parts }) {
         Ok(Course::Asks(call)) => Some(call),
         _ => None,
     }
