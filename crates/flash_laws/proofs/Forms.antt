@@ -7,7 +7,7 @@ use Rattle.flash_laws.specs.declared.phase.Phase.{Phase}
 use Rattle.flash_laws.specs.declared.script_run.Running.{Running}
 
 abbrev pub at : List ℕ → Answer → Phase → Conn
-at kept q d = record { kept = kept; q = q; phase = d }
+at buffered q d = record { buffered = buffered; request = q; phase = d }
 
 abbrev pub of : Conn → Option Running → List ℕ → Client
 of c run script = record { conn = c; run = run; script = script }

@@ -65,32 +65,32 @@ is_for_script scripts (serve w) = scripts && is_script w.name
 is_for_script scripts (refuse status head_only close) = false
 
 -- a script is read whole, also for HEAD
-abbrev pub script_wants : (fd : ℕ) → Conn → Call
-script_wants fd x = by x.phase
+abbrev pub script_call : (fd : ℕ) → Conn → Call
+script_call fd x = by x.phase
   where
     by : Phase → Call
     by (phase.Reading f) = call.IolRead f most_read
-    by d = conn.wants fd x
+    by d = conn.next_call fd x
 
-abbrev pub conn_wants : (script : Bool) → (fd : ℕ) → Conn → Call
-conn_wants false fd x = conn.wants fd x
-conn_wants true fd x = script_wants fd x
+abbrev pub conn_call : (script : Bool) → (fd : ℕ) → Conn → Call
+conn_call false fd x = conn.next_call fd x
+conn_call true fd x = script_call fd x
 
 -- the text of the job for a request whose script has this text, with the descriptor of the output
 abbrev pub job_of : Wanted → (script : List ℕ) → (fd : ℕ) → List ℕ
 job_of w script fd = job_text fd w.query script
 
-abbrev pub run_wants : (fd : ℕ) → Answer → (script : List ℕ) → Running → Call
-run_wants fd (serve w) script y = running.wants (job_of w script) fd w y
-run_wants fd (refuse status head_only close) script y = call.Close fd
+abbrev pub run_call : (fd : ℕ) → Answer → (script : List ℕ) → Running → Call
+run_call fd (serve w) script y = running.next_call (job_of w script) fd w y
+run_call fd (refuse status head_only close) script y = call.Close fd
 
 -- its next call; fd is the descriptor of its connection
-abbrev pub wants : (scripts : Bool) → (fd : ℕ) → Client → Call
-wants scripts fd x = by x.run
+abbrev pub next_call : (scripts : Bool) → (fd : ℕ) → Client → Call
+next_call scripts fd x = by x.run
   where
     by : Option Running → Call
-    by None = conn_wants (is_for_script scripts x.conn.q) fd x.conn
-    by (Some y) = run_wants fd x.conn.q x.script y
+    by None = conn_call (is_for_script scripts x.conn.request) fd x.conn
+    by (Some y) = run_call fd x.conn.request x.script y
 
 -- ---- the beginning of a response
 
@@ -119,14 +119,14 @@ abbrev pub after_text : (file : ℕ) → Reply → (received : List ℕ) → Pha
 after_text f (reply.Agg n) received = phase.ClosingFile f (Text n (can_run received))
 after_text f r received = conn.after_read f r received
 
--- the text that is kept: that of a script that will run
-abbrev pub kept_if : (head_only runs : Bool) → List ℕ → List ℕ
-kept_if false true text = text
-kept_if head_only runs text = []
+-- the text that is buffered: that of a script that will run
+abbrev pub buffered_if : (head_only runs : Bool) → List ℕ → List ℕ
+buffered_if false true text = text
+buffered_if head_only runs text = []
 
-abbrev pub kept_text : (head_only : Bool) → (was : List ℕ) → Reply → (received : List ℕ) → List ℕ
-kept_text head_only was (reply.Agg n) received = kept_if head_only (can_run received) received
-kept_text head_only was r received = was
+abbrev pub buffered_text : (head_only : Bool) → (was : List ℕ) → Reply → (received : List ℕ) → List ℕ
+buffered_text head_only was (reply.Agg n) received = buffered_if head_only (can_run received) received
+buffered_text head_only was r received = was
 
 -- the aggregate of the script is dropped: the run begins, unless the request is HEAD
 abbrev pub after_drop_whole : (head_only : Bool) → Reply → Option Running
@@ -143,11 +143,11 @@ script_after_reply x r received = by x.conn.phase
     by (phase.Reading f) = record {
       conn = record x.conn { phase = after_text f r received };
       run = None;
-      script = kept_text (is_head_only x.conn.q) x.script r received;
+      script = buffered_text (is_head_only x.conn.request) x.script r received;
     }
     by (phase.DroppingWhole a Script) = record {
       conn = conn.after_reply x.conn r received;
-      run = after_drop_whole (is_head_only x.conn.q) r;
+      run = after_drop_whole (is_head_only x.conn.request) r;
       script = x.script;
     }
     by d = conn_after_reply x r received
@@ -163,7 +163,7 @@ keeps_text (InProgress run (GivingPipe write)) = true
 keeps_text (InProgress run (MakingJob f)) = true
 keeps_text y = false
 
--- after that the text is not kept any more
+-- after that the text is no longer buffered
 abbrev pub text_on : (was now : Bool) → List ℕ → List ℕ
 text_on true false text = []
 text_on was now text = text
@@ -191,8 +191,8 @@ abbrev pub after_reply : (scripts : Bool) → (worker : ℕ) → Client → Repl
 after_reply scripts worker x r received = by x.run
   where
     by : Option Running → Client
-    by None = file_after_reply (is_for_script scripts x.conn.q) x r received
-    by (Some y) = run_after_reply worker x.conn.q x y r received
+    by None = file_after_reply (is_for_script scripts x.conn.request) x r received
+    by (Some y) = run_after_reply worker x.conn.request x y r received
 
 -- a client that is over is removed
 abbrev pub left_over : Client → Option Client

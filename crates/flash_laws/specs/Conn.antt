@@ -43,14 +43,14 @@ Following = Option (ℕ × ℕ)
 
 pub record Conn : Type 0 where
   -- the bytes of the stream that are read and not yet answered
-  pub kept : List ℕ
+  pub buffered : List ℕ
   -- the request in progress, or the last one
-  pub q : Answer
+  pub request : Answer
   pub phase : Phase
 
--- a newly accepted connection; `q` is no request until one begins
+-- a newly accepted connection; `request` is no request until one begins
 abbrev pub new_connection : Conn
-new_connection = record { kept = []; q = refuse 431 false true; phase = Receiving }
+new_connection = record { buffered = []; request = refuse 431 false true; phase = Receiving }
 
 -- ---- the aggregates that it has
 
@@ -70,8 +70,8 @@ content_agg k a = false
 -- ---- the data of its calls
 
 -- the maximum number of buffered bytes of a stream
-abbrev pub most_kept : ℕ
-most_kept = 8192
+abbrev pub most_buffered : ℕ
+most_buffered = 8192
 
 -- the maximum number of bytes of a file
 abbrev pub most_read : ℕ
@@ -110,9 +110,9 @@ begins (refuse status head_only close) = MakingHead (Error status)
 -- An idle connection begins its first buffered request, if there is one: from x to y.
 abbrev pub Starts : Conn → Conn → Type 0
 Starts x y =
-    ((window_in x.kept ≡ Wait) × (y ≡ x))
-    ⊎ ((q : Answer) × (rest : List ℕ) × Next x.kept q rest
-    × (y ≡ record { kept = rest; q = q; phase = begins q }))
+    ((window_in x.buffered ≡ Wait) × (y ≡ x))
+    ⊎ ((q : Answer) × (rest : List ℕ) × Next x.buffered q rest
+    × (y ≡ record { buffered = rest; request = q; phase = begins q }))
 
 abbrev pub Readies : Conn → Conn → Type 0
 Readies x y = by x.phase
@@ -126,7 +126,7 @@ abbrev pub IsAwaiting : Conn → Type 0
 IsAwaiting x = by x.phase
   where
     by : Phase → Type 0
-    by Receiving = window_in x.kept ≡ Wait
+    by Receiving = window_in x.buffered ≡ Wait
     by d = ⊤
 
 -- ---- the replies that move a phase; `received` is the contents of the aggregate in the reply
@@ -139,12 +139,13 @@ status_of (no.Fault f) = 500
 status_of x = 503
 
 abbrev pub received_of_client : List ℕ → Answer → (agg : ℕ) → (received : List ℕ) → Conn
-received_of_client kept q n [] = record { kept = kept; q = q; phase = Aborting n None }
-received_of_client kept q n (b ∷ received) = record { kept = kept ++ (b ∷ received); q = q; phase = DroppingInput n }
+received_of_client buffered q n [] = record { buffered = buffered; request = q; phase = Aborting n None }
+received_of_client buffered q n (b ∷ received) = record { buffered = buffered ++ (b ∷ received); request = q; phase = DroppingInput n }
 
 abbrev pub after_receive : List ℕ → Answer → Reply → (received : List ℕ) → Conn
-after_receive kept q r received =
-    or_stay (record { kept = kept; q = q; phase = Receiving }) (on_agg r (λ n. received_of_client kept q n received))
+after_receive buffered q r received =
+    or_stay (record { buffered = buffered; request = q; phase = Receiving })
+    (on_agg r (λ n. received_of_client buffered q n received))
 
 abbrev pub after_open : Reply → Phase
 after_open r = or_stay Opening
@@ -279,10 +280,10 @@ goes next x r received = record x { phase = next r }
 
 abbrev pub phase_of : Phase → PhaseOf
 phase_of Receiving = record {
-  call = λ fd x. call.IolRead fd (most_kept - length x.kept);
+  call = λ fd x. call.IolRead fd (most_buffered - length x.buffered);
   agg = none;
   file = none;
-  after = λ x r received. after_receive x.kept x.q r received;
+  after = λ x r received. after_receive x.buffered x.request r received;
 }
 phase_of (DroppingInput read) = record {
   call = λ fd x. call.AggDrop read;
@@ -291,13 +292,13 @@ phase_of (DroppingInput read) = record {
   after = goes (after_discard read);
 }
 phase_of Opening = record {
-  call = λ fd x. call.OpenFile (name_of x.q) modes.Read;
+  call = λ fd x. call.OpenFile (name_of x.request) modes.Read;
   agg = none;
   file = none;
   after = goes after_open;
 }
 phase_of (Reading f) = record {
-  call = λ fd x. if is_head_only x.q then call.Length f else call.IolRead f most_read;
+  call = λ fd x. if is_head_only x.request then call.Length f else call.IolRead f most_read;
   agg = none;
   file = one f;
   after = λ x r received. record x { phase = after_read f r received };
@@ -306,7 +307,7 @@ phase_of (ClosingFile f k) = record {
   call = λ fd x. call.Close f;
   agg = file_result_agg k;
   file = one f;
-  after = λ x r received. record x { phase = after_close_file x.q f k r };
+  after = λ x r received. record x { phase = after_close_file x.request f k r };
 }
 phase_of (Slicing b from to len) = record {
   call = λ fd x. call.AggCut b from to;
@@ -321,7 +322,7 @@ phase_of (DroppingWhole spared k) = record {
   after = goes (after_drop_whole spared k);
 }
 phase_of (MakingHead k) = record {
-  call = λ fd x. call.AggMake (text_of x.q k);
+  call = λ fd x. call.AggMake (text_of x.request k);
   agg = content_agg k;
   file = none;
   after = λ x r received. record x { phase = after_head k r received };
@@ -360,7 +361,7 @@ phase_of (DroppingSent sent taken more) = record {
   call = λ fd x. call.AggDrop sent;
   agg = λ a. (sent == a) || has_followed more a;
   file = none;
-  after = λ x r received. record x { phase = after_taken x.q sent taken more r };
+  after = λ x r received. record x { phase = after_taken x.request sent taken more r };
 }
 phase_of (AbortingPiece piece rest more) = record {
   call = λ fd x. call.AggDrop piece;
@@ -394,8 +395,8 @@ abbrev pub uses_fd : Phase → (g : ℕ) → Bool
 uses_fd d = (phase_of d).file
 
 -- its next call; fd is its descriptor
-abbrev pub wants : (fd : ℕ) → Conn → Call
-wants fd x = (phase_of x.phase).call fd x
+abbrev pub next_call : (fd : ℕ) → Conn → Call
+next_call fd x = (phase_of x.phase).call fd x
 
 abbrev pub after_reply : Conn → Reply → (received : List ℕ) → Conn
 after_reply x = (phase_of x.phase).after x

@@ -75,7 +75,7 @@ held_size (Some x) = x.1
 
 -- a connection in this phase, for the definitions on responses
 abbrev pub in_phase : Wanted → Phase → Conn
-in_phase w d = record { kept = []; q = serve w; phase = d }
+in_phase w d = record { buffered = []; request = serve w; phase = d }
 
 -- ---- the replies that move a step; `received` is the contents of the aggregate in the reply
 
@@ -303,7 +303,7 @@ step_of MakingHead = record {
   after = goes_by after_head;
 }
 step_of (SendingPart d frame) = record {
-  call = λ job fd w run. conn.wants fd (in_phase w d);
+  call = λ job fd w run. conn.next_call fd (in_phase w d);
   agg = λ a. conn.uses_agg d a || has_frame frame a;
   write_end = none;
   is_reading = true;
@@ -460,15 +460,15 @@ uses_fd (Finishing d) g = conn.uses_fd d g
 uses_fd Disconnecting g = false
 
 module _ (job : (fd : ℕ) → List ℕ) where
-  abbrev pub step_wants : (fd : ℕ) → Wanted → Run → Step → Call
-  step_wants fd w run s = (step_of s).call job fd w run
+  abbrev pub step_call : (fd : ℕ) → Wanted → Run → Step → Call
+  step_call fd w run s = (step_of s).call job fd w run
 
   -- its next call; fd is the descriptor of its connection
-  abbrev pub wants : (fd : ℕ) → Wanted → Running → Call
-  wants fd w AwaitingWorker = call.Pipe
-  wants fd w (InProgress run step) = step_wants fd w run step
-  wants fd w (Finishing d) = conn.wants fd (in_phase w d)
-  wants fd w Disconnecting = call.Close fd
+  abbrev pub next_call : (fd : ℕ) → Wanted → Running → Call
+  next_call fd w AwaitingWorker = call.Pipe
+  next_call fd w (InProgress run step) = step_call fd w run step
+  next_call fd w (Finishing d) = conn.next_call fd (in_phase w d)
+  next_call fd w Disconnecting = call.Close fd
 
 -- Its state after the reply to its call; `worker` is a free worker.
 abbrev pub after_reply : (worker : ℕ) → Wanted → Running → Reply → (received : List ℕ) → Running

@@ -13,7 +13,7 @@ use Rattle.iol_core.specs.declared.events.Reply.{Reply}
 use Rattle.iol_core.specs.declared.events.Reply.TheVariants as reply
 use Rattle.iol_proc.specs.declared.process.Turn.{Turn}
 use Rattle.iol_proc.specs.declared.process.Turn.TheVariants as turn
-use Rattle.flash_laws.specs.Client.{Client, wants, Readies}
+use Rattle.flash_laws.specs.Client.{Client, next_call, Readies}
 use Rattle.flash_laws.specs.Site.Places.{has_free, may_go, runs_scripts, filed}
 use Rattle.flash_laws.specs.Site.{server}
 use Rattle.flash_laws.specs.Site.OtherConns.{with_at}
@@ -46,7 +46,7 @@ pub record PicksAt (workers : ℕ) (clients : List (Option Client)) (fd : ℕ) (
   pub readies : Readies was ready
   pub after_is : after ≡ with_at clients fd (Some ready)
   pub goes : IsTrue (may_go (has_free workers after) ready)
-  pub call_is : made ≡ turn.Make (wants (runs_scripts workers) fd ready)
+  pub call_is : made ≡ turn.Make (next_call (runs_scripts workers) fd ready)
 
 -- the choices: to yield, to accept, or the client at an index
 abbrev pub Picks : (workers : ℕ) → List (Option Client) → PendingCall → (made : Turn) → (after : List (Option Client))

@@ -255,8 +255,8 @@ pub accept_step_left : (clients : List (Option Client)) (fd : ℕ) (x : Client) 
 accept_step_left clients fd x l there =
     by l ∙ ap (λ (o : Option Client). accept_step (slice_set clients fd (left_as o l))) (sym there)
   where
-    kept : (z : Client) → accept_step_to clients most_conns ≡ accept_step (slice_set clients fd (Some z))
-    kept z = ap (λ k. if nat_lt k most_conns then Accepting else Nothing) (sym (taken_kept clients fd x z there))
+    buffered : (z : Client) → accept_step_to clients most_conns ≡ accept_step (slice_set clients fd (Some z))
+    buffered z = ap (λ k. if nat_lt k most_conns then Accepting else Nothing) (sym (taken_kept clients fd x z there))
 
     gone : accept_step_to clients (most_conns + 1) ≡ accept_step (slice_set clients fd None)
     gone =
@@ -266,23 +266,23 @@ accept_step_left clients fd x l there =
     going : (d : Phase) (z : Client)
         → accept_step_to clients (most_with (left.Goes d)) ≡ accept_step (slice_set clients fd (left_by d z))
     going Closed z = gone
-    going Receiving z = kept z
-    going (DroppingInput a) z = kept z
-    going Opening z = kept z
-    going (Reading f) z = kept z
-    going (ClosingFile f k) z = kept z
-    going (Picking a from to len) z = kept z
-    going (DroppingWhole a k) z = kept z
-    going (MakingHead k) z = kept z
-    going (Joining a size body len) z = kept z
-    going (SendingWhole s) z = kept z
-    going (CuttingPiece s) z = kept z
-    going (SendingPiece s piece) z = kept z
-    going (DroppingPiece s piece) z = kept z
-    going (DroppingSent a taken more) z = kept z
-    going (AbortingPiece piece a more) z = kept z
-    going (Aborting a more) z = kept z
-    going Disconnecting z = kept z
+    going Receiving z = buffered z
+    going (DroppingInput a) z = buffered z
+    going Opening z = buffered z
+    going (Reading f) z = buffered z
+    going (ClosingFile f k) z = buffered z
+    going (Picking a from to len) z = buffered z
+    going (DroppingWhole a k) z = buffered z
+    going (MakingHead k) z = buffered z
+    going (Joining a size body len) z = buffered z
+    going (SendingWhole s) z = buffered z
+    going (CuttingPiece s) z = buffered z
+    going (SendingPiece s piece) z = buffered z
+    going (DroppingPiece s piece) z = buffered z
+    going (DroppingSent a taken more) z = buffered z
+    going (AbortingPiece piece a more) z = buffered z
+    going (Aborting a more) z = buffered z
+    going Disconnecting z = buffered z
 
     same : (d : Phase) → most_with (left.Ends d) ≡ most_with (left.Goes d)
     same Closed = refl
@@ -292,9 +292,9 @@ accept_step_left clients fd x l there =
         → accept_step_to clients (most_with l) ≡ accept_step (slice_set clients fd (remains l (left_with x l)))
     by (left.Goes d) = going d (left_with x (left.Goes d))
     by (left.Ends d) = ap (λ k. accept_step_to clients k) (same d) ∙ going d (left_with x (left.Ends d))
-    by left.Begins = kept (left_with x left.Begins)
-    by (left.Continues d) = kept (left_with x (left.Continues d))
-    by left.Stays = kept x
+    by left.Begins = buffered (left_with x left.Begins)
+    by (left.Continues d) = buffered (left_with x (left.Continues d))
+    by left.Stays = buffered x
 
 -- ---- the policy
 

@@ -8,7 +8,7 @@ use Rattle.iol_core.specs.declared.events.Reply.{Reply}
 use Rattle.iol_core.specs.declared.events.Reply.TheVariants as reply
 use Rattle.flash_http.specs.Request.{Answer, serve, refuse}
 use Rattle.flash_laws.specs.Client.{Client, Readies, can_run, conn_after_reply, file_after_reply, is_for_script}
-use Rattle.flash_laws.specs.Client.{kept_if, left_over, run_after_reply, run_wants, after_reply, wants}
+use Rattle.flash_laws.specs.Client.{buffered_if, left_over, run_after_reply, run_call, after_reply, next_call}
 use Rattle.flash_laws.specs.Client.Wants.{WantsOn, needs_memory}
 use Rattle.flash_laws.specs.Site.OtherConns.{left_by}
 use Rattle.flash_laws.specs.Conn.{Conn, most_read, is_head_only}
@@ -66,16 +66,16 @@ abbrev pub whole : (script : Bool) → Phase → Call → Call
 whole true (Reading f) k = call.IolRead f most_read
 whole script d k = k
 
--- the text that is kept: all of it, if it is a script that will run
-abbrev pub kept_script : (head_only : Bool) → List ℕ → List ℕ
-kept_script head_only text = kept_if head_only (can_run text) text
+-- the text that is buffered: all of it, if it is a script that will run
+abbrev pub buffered_script : (head_only : Bool) → List ℕ → List ℕ
+buffered_script head_only text = buffered_if head_only (can_run text) text
 
 -- the text of a script was read
 abbrev pub text_received : Client → (file agg : ℕ) → (received : List ℕ) → Client
 text_received x f n received = record {
   conn = record x.conn { phase = ClosingFile f (Text n (can_run received)) };
   run = None;
-  script = kept_script (is_head_only x.conn.q) received;
+  script = buffered_script (is_head_only x.conn.request) received;
 }
 
 -- ---- its run
@@ -87,7 +87,7 @@ run_after worker (refuse status head_only close) y r received = y
 
 -- the call of its run, with this text of its script
 abbrev pub call_of_run : (fd : ℕ) → Client → (script : List ℕ) → Running → Call
-call_of_run fd x script y = run_wants fd x.conn.q script y
+call_of_run fd x script y = run_call fd x.conn.request script y
 
 -- with this run, and this text of its script
 abbrev pub with_run : Client → Running → (script : List ℕ) → Client
@@ -145,7 +145,7 @@ pub record Proceeds (t : Client) (r : Reply) (y : Client) : Type 0 where
   pub readies : Readies t y
 
 abbrev pub IsCourse : (scripts : Bool) → (fd : ℕ) → (t x : Client) → Reply → Course → (y : Client) → Type 0
-IsCourse scripts fd t x r (Asks k) y = Proceeds t r y × (k ≡ wants scripts fd y)
+IsCourse scripts fd t x r (Asks k) y = Proceeds t r y × (k ≡ next_call scripts fd y)
 IsCourse scripts fd t x r (Leaves l) y = IsLeft t x r l y
 
 -- ---- its worker
@@ -187,14 +187,15 @@ abbrev pub RunsOn : {E : Type 0} → (scripts : Bool) → (fd worker : ℕ) → 
     → (received : List ℕ)
     → Result Course E → (y : Client) → Type 0
 RunsOn scripts fd worker run x r received result y =
-    TakesAsAfterReply scripts fd (run_after_reply worker x.conn.q x run r received) x r received result y
+    TakesAsAfterReply scripts fd (run_after_reply worker x.conn.request x run r received) x r received result y
 
 -- The action of a client after a reply to a call for a file, or for a script that does not run yet.
 abbrev pub ProceedsFile : {E : Type 0} → (scripts : Bool) → (fd : ℕ) → (x : Client) → Reply → (received : List ℕ)
     → Result Course E
     → (y : Client) → Type 0
 ProceedsFile scripts fd x r received result y =
-    TakesAsAfterReply scripts fd (file_after_reply (is_for_script scripts x.conn.q) x r received) x r received result y
+    TakesAsAfterReply scripts fd (file_after_reply (is_for_script scripts x.conn.request) x r received) x r received
+    result y
 
 -- The action of a client after a reply that concerns only its connection.
 abbrev pub ProceedsAlone : {E : Type 0} → (scripts : Bool) → (fd : ℕ) → (x : Client) → Reply → (received : List ℕ)

@@ -19,4 +19,4 @@ abbrev pub OffersNext : Server → Turn → Type 0
 OffersNext t made = (m : State) (fd g a : ℕ) (x : Client) (known : Known) → t.pending_call ≡ At fd
     → in_place t.clients fd ≡ Some x
     → made ≡ turn.Make (call.IolWrite g a) → HasKnown (runs_scripts t.workers) m x known
-    → ((g ≡ fd) × IsNextOf m x.conn.q known a (taken_by x)) ⊎ HandsJob x g a
+    → ((g ≡ fd) × IsNextOf m x.conn.request known a (taken_by x)) ⊎ HandsJob x g a

@@ -4,7 +4,7 @@ use Rattle.iol_core.specs.declared.events.Reply.{Reply}
 use Rattle.iol_core.specs.declared.events.Reply.TheVariants.{Agg}
 use Rattle.flash_http.specs.Request.{Answer}
 use Rattle.flash_http.specs.Window.{window_in}
-use Rattle.flash_laws.specs.Conn.{Conn, begins, after_reply, after_receive, wants, Starts, Readies, IsAwaiting}
+use Rattle.flash_laws.specs.Conn.{Conn, begins, after_reply, after_receive, next_call, Starts, Readies, IsAwaiting}
 use Rattle.flash_laws.specs.Conn.Policy.{has_answered, is_later, is_bare, leaves_off}
 use Rattle.flash_laws.specs.Conn.Wants.{can_begin}
 use Rattle.flash_laws.specs.Site.OtherConns.{left_over}
@@ -24,11 +24,11 @@ in_phase x d = record x { phase = d }
 
 -- more of its stream was read
 abbrev pub with_received : Conn → (agg : ℕ) → (received : List ℕ) → Conn
-with_received x agg received = after_receive x.kept x.q (Agg agg) received
+with_received x agg received = after_receive x.buffered x.request (Agg agg) received
 
 -- a request was begun, whose head ends after the first len bytes of the buffered input
 abbrev pub begun_with : (len : ℕ) → Answer → Conn → Conn
-begun_with len q x = record { kept = drop len x.kept; q = q; phase = begins q }
+begun_with len q x = record { buffered = drop len x.buffered; request = q; phase = begins q }
 
 -- a phase in which the turn of a connection may pass to others
 pub record CanRest (x : Conn) (d : Phase) : Type 0 where
@@ -49,7 +49,7 @@ pub record IsLeft (x : Conn) (r : Reply) (received : List ℕ) (d : Phase) (y : 
   pub as_it_was : y ≡ x
 
 abbrev pub IsOnward : (fd : ℕ) → Conn → Reply → (received : List ℕ) → Onward → Conn → Type 0
-IsOnward fd x r received (Asks call) y = Proceeds x r received y × (call ≡ wants fd y)
+IsOnward fd x r received (Asks call) y = Proceeds x r received y × (call ≡ next_call fd y)
 IsOnward fd x r received (Leaves d) y = IsLeft x r received d y
 
 -- From a phase that becomes idle: the first buffered request begins, or there is none.
@@ -57,12 +57,12 @@ abbrev pub Frees : (fd : ℕ) → Conn → Onward → Conn → Type 0
 Frees fd x (Asks call) y =
     IsFalse (is_bare (record x { phase = Receiving }))
     × Starts (record x { phase = Receiving }) y
-    × (call ≡ wants fd y)
-Frees fd x (Leaves d) y = (d ≡ Receiving) × (x.kept ≡ []) × (y ≡ x)
+    × (call ≡ next_call fd y)
+Frees fd x (Leaves d) y = (d ≡ Receiving) × (x.buffered ≡ []) × (y ≡ x)
 
 -- an idle connection has buffered input, and a request can begin
 abbrev pub WantsToStart : Conn → Type 0
-WantsToStart x = IsFalse (is_bare (record x { phase = Receiving })) × IsTrue (can_begin (window_in x.kept))
+WantsToStart x = IsFalse (is_bare (record x { phase = Receiving })) × IsTrue (can_begin (window_in x.buffered))
 
 -- whether its turn passes in this phase: its call is to be retried later, or its response is taken whole and more input
 -- is buffered
@@ -71,5 +71,5 @@ passes x d r = is_later r || has_answered (in_phase x d)
 
 -- From a phase that is not idle: it continues now or later.
 abbrev pub GoesWith : (fd : ℕ) → Conn → Reply → Phase → Onward → Conn → Type 0
-GoesWith fd x r d (Asks call) y = IsFalse (passes x d r) × (y ≡ in_phase x d) × (call ≡ wants fd y)
+GoesWith fd x r d (Asks call) y = IsFalse (passes x d r) × (y ≡ in_phase x d) × (call ≡ next_call fd y)
 GoesWith fd x r d (Leaves e) y = IsTrue (passes x d r) × (e ≡ d) × (y ≡ x)

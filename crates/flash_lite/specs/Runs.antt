@@ -6,7 +6,7 @@ use Rattle.flash_cgi.specs.Job.{job_text}
 use Rattle.flash_http.specs.Request.{Wanted}
 use Rattle.flash_laws.specs.Conn.{Following}
 use Rattle.flash_laws.specs.Conn as conn
-use Rattle.flash_laws.specs.Run.{is_left, hearing, in_phase, step_wants, wants}
+use Rattle.flash_laws.specs.Run.{is_left, hearing, in_phase, step_call, next_call}
 use Rattle.flash_laws.specs.declared.phase.Phase.{Phase}
 use Rattle.flash_laws.specs.declared.script_run.TheConstants.{CHUNK_BYTES}
 use Rattle.flash_laws.specs.declared.script_run.Run.{Run}
@@ -64,15 +64,15 @@ job_for w script fd = job_text fd w.query script
 
 -- the call of a run for a request whose script has this text
 abbrev pub call_for : Wanted → (script : List ℕ) → (fd : ℕ) → Running → Call
-call_for w script fd y = wants (job_for w script) fd w y
+call_for w script fd y = next_call (job_for w script) fd w y
 
 -- the call of a step of such a run
 abbrev pub step_call : Wanted → (script : List ℕ) → (fd : ℕ) → Run → Step → Call
-step_call w script fd run step = step_wants (job_for w script) fd w run step
+step_call w script fd run step = step_call (job_for w script) fd w run step
 
 -- the call of a part of the response, as made by a connection in this phase
 abbrev pub part_call_for : (fd : ℕ) → Wanted → Phase → Call
-part_call_for fd w d = conn.wants fd (in_phase w d)
+part_call_for fd w d = conn.next_call fd (in_phase w d)
 
 -- the phase after the reply to a part of the response
 abbrev pub after_reply_left : Wanted → Phase → Reply → (received : List ℕ) → Phase

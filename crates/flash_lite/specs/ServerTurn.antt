@@ -9,7 +9,7 @@ use Rattle.iol_core.specs.declared.events.Call.TheVariants as call
 use Rattle.iol_core.specs.declared.events.Reply.{Reply}
 use Rattle.iol_proc.specs.declared.process.Turn.{Turn}
 use Rattle.iol_proc.specs.declared.process.Turn.TheVariants as turn
-use Rattle.flash_laws.specs.Client.{Client, after_reply, wants, Readies}
+use Rattle.flash_laws.specs.Client.{Client, after_reply, next_call, Readies}
 use Rattle.flash_laws.specs.Site.Places.{filed, runs_scripts}
 use Rattle.flash_laws.specs.Serves.Rounds.{in_rounds, next_in}
 use Rattle.flash_laws.specs.Serves.Wants.{MayWant, WantsFrom, WantsHere, wants_there}
@@ -97,7 +97,7 @@ pub record CallAt (scripts : Bool) (clients : List (Option Client)) (place : ℕ
   pub was : Client
   pub there : in_place clients place ≡ Some was
   pub ready : Readies was was
-  pub call_is : made ≡ wants scripts place was
+  pub call_is : made ≡ next_call scripts place was
 
 abbrev pub Makes : (scripts : Bool) → List (Option Client) → (from : ℕ) → PendingCall → Turn → Type 0
 Makes scripts clients from Nothing made = made ≡ turn.Yield

@@ -30,7 +30,7 @@ pub record ReportsFree (free : List Bool) (clients : List (Option Client)) : Typ
   pub each : (worker : ℕ) → worker < MAX_WORKERS → get_or free worker false ≡ is_free clients worker
 
 -- between two turns
-pub record IsKept (t : Table) : Type 0 where
+pub record IsBetweenTurns (t : Table) : Type 0 where
   pub few : IsFew t.clients t.pending_call
   pub hired : t.workers ≤ MAX_WORKERS
   pub shared : IsShared (serving t)

@@ -84,10 +84,10 @@ pub struct Client {
 }
 
 impl Model for Client {
-    ghost use Rattle.flash_laws.specs.Prelude.{Client as Kept};
+    ghost use Rattle.flash_laws.specs.Prelude.{Client as ClientState};
     ghost use Rattle.flash_lite.specs.Course.{GoesAsRun};
 
-    ghost Value = { Kept };
+    ghost Value = { ClientState };
 
     ghost view = { λ x. record { conn = x.conn; run = x.run; script = x.script.items } };
 
@@ -108,13 +108,13 @@ impl Client {
     }
 
     // The next call if no script runs; `call` is that of its connection.
-    #[tactic(auto, using(crate::proofs::Responses::Clients::whole_wants))]
+    #[tactic(auto, using(crate::proofs::Responses::Clients::whole_call))]
     fn file_call(&self, scripts: bool, fd: Fd, call: Call) -> Call
-        requires { call ≡ conn.wants fd self.now.conn }
-        ensures { result ≡ spec.conn_wants (spec.is_for_script scripts self.now.conn.q) fd
+        requires { call ≡ conn.next_call fd self.now.conn }
+        ensures { result ≡ spec.conn_call (spec.is_for_script scripts self.now.conn.request) fd
             self.now.conn }
     {
-        let script = is_for_script(scripts, self.conn.asked());
+        let script = is_for_script(scripts, self.conn.request());
         whole(script, self.conn.phase(), call)
     }
 
@@ -148,7 +148,7 @@ impl Client {
         ensures { ReceivesText context.scripts context.fd file agg self.old (received parts.entry)
             result self.new }
     {
-        let head_only = is_head_only(self.conn.asked());
+        let head_only = is_head_only(self.conn.request());
         let (runs, text) = received_text(self.alloc, head_only, parts)?;
         let file_result = FileResult::Text { agg, runs };
         let call = self
@@ -165,7 +165,7 @@ impl Client {
         ensures { ProceedsFile context.scripts context.fd self.old reply.entry.last.now
             (received reply.entry.parts) result self.new }
     {
-        let asked = self.conn.asked();
+        let asked = self.conn.request();
         let script = is_for_script(context.scripts, asked);
         match reports(script, self.conn.phase(), reply.last, is_head_only(asked)) {
             Found::Text { file, agg } => {
@@ -184,11 +184,11 @@ impl Client {
     fn run_after(&self, worker: u32, running: &Running, reply: Received<'_>) -> Running
         requires worker { worker < MAX_WORKERS }
         requires goes { IsSmallRunning running.now × (is_over running.now ≡ false) }
-        ensures after { result ≡ run_after worker self.now.conn.q running.now reply.entry.last.now
+        ensures after { result ≡ run_after worker self.now.conn.request running.now reply.entry.last.now
             (received reply.entry.parts) }
         ensures small { IsSmallRunning result }
     {
-        match self.conn.asked() {
+        match self.conn.request() {
             Asked::Serve(request) => after_reply(worker, request, *running, reply),
             Asked::Refuse {
                 status: _,
@@ -205,7 +205,7 @@ impl Client {
             (λ call. call ≡ call_of_run fd self.now script.now running.now) }
         ensures wants { OnErr result (makes_any running.now ≡ true) }
     {
-        match self.conn.asked() {
+        match self.conn.request() {
             Asked::Serve(request) => next_call(self.alloc, fd, request, script, *running),
             Asked::Refuse {
                 status: _,
@@ -215,7 +215,7 @@ impl Client {
         }
     }
 
-    // The run advances to this state, and the text is kept.
+    // The run advances to this state, and the text stays buffered.
     fn run_with(&mut self, fd: Fd, next: Running) -> Result<Call, AllocError>
         requires { IsSmallRunning next × (is_over next ≡ false) }
         ensures on { IfOk result (λ _. self.new ≡ with_run self.old next self.old.script) }
@@ -431,7 +431,7 @@ impl Client {
     /// Its next call.
     #[tactic(auto, using(crate::proofs::Responses::Clients::ready_alone))]
     pub fn next_call(&self, scripts: bool, fd: Fd) -> Result<Call, AllocError>
-        ensures call { IfOk result (λ call. call ≡ spec.wants scripts fd self.now) }
+        ensures call { IfOk result (λ call. call ≡ spec.next_call scripts fd self.now) }
         ensures ready { spec.Readies self.now self.now }
         ensures wants { OnErr result (makes_bytes self.now ≡ true) }
     {

@@ -50,22 +50,22 @@ pub enum Onward {
 #[derive(Drop)]
 pub struct Conn {
     alloc: Global,
-    kept: Vec<u8>,
-    asked: Asked,
+    buffered: Vec<u8>,
+    request: Asked,
     phase: Phase,
 }
 
 impl Model for Conn {
     ghost use Rattle.flash_http.specs.Prelude.{answer};
-    ghost use Rattle.flash_laws.specs.Prelude.{Conn as Kept, IsAwaiting};
+    ghost use Rattle.flash_laws.specs.Prelude.{Conn as ConnState, IsAwaiting};
     ghost use Rattle.flash_lite.specs.Small.{IsSmall};
 
-    ghost Value = { Kept };
+    ghost Value = { ConnState };
 
-    ghost view = { λ x. record { kept = x.kept.items; q = answer x.asked; phase = x.phase } };
+    ghost view = { λ x. record { buffered = x.buffered.items; request = answer x.request; phase = x.phase } };
 
     ghost invariant = { λ x. IsSmall x.phase
-        × IsAwaiting (record { kept = x.kept.items; q = answer x.asked; phase = x.phase }) };
+        × IsAwaiting (record { buffered = x.buffered.items; request = answer x.request; phase = x.phase }) };
 }
 
 /// Returns whether the call is retried in a later turn.
@@ -110,17 +110,17 @@ impl Conn {
     {
         Conn {
             alloc,
-            kept: Vec::new(alloc),
-            asked: no_request(),
+            buffered: Vec::new(alloc),
+            request: no_request(),
             phase: Phase::Receiving,
         }
     }
 
     /// The last request.
-    pub(crate) fn asked(&self) -> &Asked
-        ensures { answer result.now ≡ self.now.q }
+    pub(crate) fn request(&self) -> &Asked
+        ensures { answer result.now ≡ self.now.request }
     {
-        &self.asked
+        &self.request
     }
 
     /// The phase.
@@ -135,14 +135,14 @@ impl Conn {
     fn receive(&mut self, fd: Fd, agg: AggId, parts: Option<Parts<'_>>) -> Result<Call, AllocError>
         ensures after_reply { IfOk result
             (λ _. self.new ≡ with_received self.old agg (received parts.entry)) }
-        ensures call { IfOk result (λ call. call ≡ spec.wants fd self.new) }
+        ensures call { IfOk result (λ call. call ≡ spec.next_call fd self.new) }
         ensures stays { IfOk result (λ _. is_over self.new.phase ≡ false) }
         ensures err { OnErr result (self.new ≡ self.old) }
         ensures wants { OnErr result (0 < length (received parts.entry)) }
     {
-        let len = self.kept.len();
-        append(&mut self.kept, parts)?;
-        self.phase = if self.kept.len() == len {
+        let len = self.buffered.len();
+        append(&mut self.buffered, parts)?;
+        self.phase = if self.buffered.len() == len {
             Phase::Aborting { agg, more: None }
         } else {
             Phase::DroppingInput { agg }
@@ -164,7 +164,7 @@ impl Conn {
             Phase::Opening => after_open(last),
             Phase::Reading { file } => after_read(file, last, parts),
             Phase::ClosingFile { file, file_result } => after_close_file(
-                &self.asked,
+                &self.request,
                 file,
                 file_result,
                 last,
@@ -189,7 +189,7 @@ impl Conn {
             | Phase::DroppingPiece { .. }
             | Phase::AbortingPiece { .. } => after_part(self.phase, last),
             Phase::DroppingSent { agg, taken, more } => after_taken(
-                &self.asked,
+                &self.request,
                 agg,
                 taken,
                 more,
@@ -202,24 +202,24 @@ impl Conn {
     }
 
     // Begins a request whose head ends after `len` bytes, and returns its first call.
-    #[tactic(auto, using(crate::proofs::Responses::FirstCall::first_wants))]
+    #[tactic(auto, using(crate::proofs::Responses::FirstCall::first_next_call))]
     fn begin(&mut self, fd: Fd, asked: Asked, len: usize) -> Result<Call, AllocError>
         ensures begun { IfOk result (λ _. self.new ≡ begun_with len (answer asked) self.old) }
-        ensures call { IfOk result (λ call. call ≡ spec.wants fd self.new) }
+        ensures call { IfOk result (λ call. call ≡ spec.next_call fd self.new) }
         ensures err { OnErr result (self.new ≡ self.old) }
     {
         let call = first_call(self.alloc, &asked)?;
-        drop_first(&mut self.kept, len);
+        drop_first(&mut self.buffered, len);
         self.phase = begins(&asked);
-        self.asked = asked;
+        self.request = asked;
         Ok(call)
     }
 
     // The call that reads more of the stream.
     fn read(&self, fd: Fd) -> Call
-        ensures { result ≡ IolRead fd (spec.most_kept - length self.now.kept) }
+        ensures { result ≡ IolRead fd (spec.most_buffered - length self.now.buffered) }
     {
-        let count = MAX_HEAD_BYTES.saturating_sub(self.kept.len()) as u32;
+        let count = MAX_HEAD_BYTES.saturating_sub(self.buffered.len()) as u32;
         Call::IolRead { fd, count }
     }
 
@@ -227,18 +227,18 @@ impl Conn {
     fn start(&mut self, fd: Fd) -> Result<Call, AllocError>
         ensures starts { IfOk result
             (λ _. spec.Starts (record self.old { phase = Receiving }) self.new) }
-        ensures call { IfOk result (λ call. call ≡ spec.wants fd self.new) }
+        ensures call { IfOk result (λ call. call ≡ spec.next_call fd self.new) }
         ensures err { OnErr result (self.new ≡ self.old) }
-        ensures wants { OnErr result (can_begin (window_in self.old.kept) ≡ true) }
+        ensures wants { OnErr result (can_begin (window_in self.old.buffered) ≡ true) }
     {
-        match window_of(self.kept.as_slice()) {
+        match window_of(self.buffered.as_slice()) {
             Window::Wait => {
                 self.phase = Phase::Receiving;
                 Ok(self.read(fd))
             }
             Window::TooLarge => self.begin(fd, no_request(), 0),
             Window::Head { skip, len } => {
-                let asked = read_head(self.alloc, &self.kept[skip..skip + len])?;
+                let asked = read_head(self.alloc, &self.buffered[skip..skip + len])?;
                 self.begin(fd, asked, skip + len)
             }
         }
@@ -247,13 +247,13 @@ impl Conn {
     // The call of a phase.
     fn call_of(&self, fd: Fd, phase: &Phase) -> Result<Call, AllocError>
         ensures call { IfOk result
-            (λ call. call ≡ spec.wants fd (record self.now { phase = phase.now })) }
+            (λ call. call ≡ spec.next_call fd (record self.now { phase = phase.now })) }
         ensures wants { OnErr result (has_bytes phase.now ≡ true) }
     {
         Ok(match *phase {
             Phase::Receiving => self.read(fd),
-            Phase::Opening => open_call(self.alloc, &self.asked)?,
-            Phase::Reading { file } => read_call(&self.asked, file),
+            Phase::Opening => open_call(self.alloc, &self.request)?,
+            Phase::Reading { file } => read_call(&self.request, file),
             Phase::ClosingFile { file, .. } => Call::Close { fd: file },
             Phase::Slicing {
                 agg,
@@ -261,7 +261,7 @@ impl Conn {
                 last,
                 ..
             } => cut_call(agg, first, last),
-            Phase::MakingHead { content } => make_call(self.alloc, &self.asked, &content)?,
+            Phase::MakingHead { content } => make_call(self.alloc, &self.request, &content)?,
             Phase::Joining { head, body, .. } => join_call(head, body),
             Phase::SendingWhole { sending } => Call::IolWrite {
                 fd,
@@ -288,7 +288,7 @@ impl Conn {
     pub(crate) fn proceed(&mut self, fd: Fd, phase: Phase) -> Result<Call, AllocError>
         requires { (phase ≢ Receiving) × IsSmall phase }
         ensures phase { IfOk result (λ _. self.new ≡ record self.old { phase = phase }) }
-        ensures call { IfOk result (λ call. call ≡ spec.wants fd self.new) }
+        ensures call { IfOk result (λ call. call ≡ spec.next_call fd self.new) }
         ensures err { OnErr result (self.new ≡ self.old) }
         ensures wants { OnErr result (has_bytes phase ≡ true) }
     {
@@ -301,7 +301,7 @@ impl Conn {
     pub(crate) fn has_answered(&self, phase: &Phase) -> bool
         ensures { result ≡ has_answered (in_phase self.now phase.now) }
     {
-        matches!(*phase, Phase::DroppingSent { more: None, .. }) && !self.kept.is_empty()
+        matches!(*phase, Phase::DroppingSent { more: None, .. }) && !self.buffered.is_empty()
     }
 
     // Continues with a phase that is not idle, unless its call is retried later, or the response is
@@ -325,7 +325,7 @@ impl Conn {
         ensures err { OnErr result (self.new ≡ self.old) }
         ensures wants { OnErr result (WantsToStart self.old) }
     {
-        if self.kept.is_empty() {
+        if self.buffered.is_empty() {
             return Ok(Onward::Leaves(Phase::Receiving));
         }
         let call = self.start(fd)?;
@@ -359,7 +359,7 @@ impl Conn {
         ensures wants { OnErr result (WantsOn self.old reply.entry.last.now
             (received reply.entry.parts)) }
     {
-        let _kept = &self.kept;
+        let _buffered = &self.buffered;
         match reply.last {
             Reply::Agg(agg) => {
                 let call = self.receive(fd, *agg, reply.parts)?;
@@ -402,7 +402,7 @@ impl Conn {
     /// Its next call.
     #[tactic(auto, using(crate::proofs::Responses::Waits::awaits_ready))]
     pub fn next_call(&self, fd: Fd) -> Result<Call, AllocError>
-        ensures call { IfOk result (λ call. call ≡ spec.wants fd self.now) }
+        ensures call { IfOk result (λ call. call ≡ spec.next_call fd self.now) }
         ensures ready { spec.Readies self.now self.now }
         ensures wants { OnErr result (has_bytes self.now.phase ≡ true) }
     {

@@ -178,7 +178,7 @@ pub(crate) fn after_run(running: &Running) -> Option<Phase>
     }
 }
 
-/// Returns whether the job is still to be made, for which the script's text is kept.
+/// Returns whether the job is still to be made, for which the script's text is buffered.
 pub(crate) fn keeps_text(running: &Running) -> bool
     ensures { result ≡ client.keeps_text running.now }
 {

@@ -41,13 +41,13 @@ pub struct Server {
 
 impl Model for Server {
     ghost use Rattle.flash_laws.specs.Prelude.{Server as Serving};
-    ghost use Rattle.flash_lite.specs.Table.{IsKept, serving};
+    ghost use Rattle.flash_lite.specs.Table.{IsBetweenTurns, serving};
 
     ghost Value = { Serving };
 
     ghost view = { λ s. serving s.table };
 
-    ghost invariant = { λ s. IsKept s.table };
+    ghost invariant = { λ s. IsBetweenTurns s.table };
 }
 
 impl Server {

@@ -4,7 +4,7 @@ ghost use Rattle.iol_core.specs.Prelude.{in_place};
 ghost use Rattle.flash_laws.specs.Prelude.{runs_scripts, WantsPlace};
 ghost use Rattle.flash_laws.specs.declared.phase.PendingCall.TheVariants.{Accepting, At};
 ghost use Rattle.flash_lite.specs.ReceivedBytes.{received};
-ghost use Rattle.flash_lite.specs.Table.{IsKept, new_table};
+ghost use Rattle.flash_lite.specs.Table.{IsBetweenTurns, new_table};
 ghost use Rattle.flash_lite.specs.ServerTurn.{LeavesPlace, MayRest, PicksNext, Turns, WantsAt, first_in, has_in};
 ghost use Rattle.flash_lite.specs.declared.site.TheConstants.{MAX_WORKERS};
 
@@ -39,10 +39,10 @@ pub(crate) struct Table {
 
 impl Model for Table {
     ghost use Rattle.std.specs.Prelude.{◌≤◌};
-    ghost use Rattle.flash_lite.specs.Table.{Table as Kept};
+    ghost use Rattle.flash_lite.specs.Table.{Table as TableState};
     ghost use Rattle.flash_lite.specs.declared.site.TheConstants.{MAX_WORKERS};
 
-    ghost Value = { Kept };
+    ghost Value = { TableState };
 
     ghost view = { λ s. record {
       clients = s.clients;
@@ -106,7 +106,7 @@ impl Table {
     #[tactic(auto, using(crate::proofs::Turns::TurnParts::accepted_turns, crate::proofs::Turns::TurnParts::over_turns))]
     fn advance_accepting(&mut self, last: &Reply) -> Result<Turn, AllocError>
         requires accepts { self.old.pending_call ≡ Accepting }
-        requires kept { IsKept self.old }
+        requires between { IsBetweenTurns self.old }
         ensures turn { IfOk result (λ turn. Turns self.old last.now [] turn self.new) }
         ensures err { OnErr result (self.new ≡ self.old) }
         ensures wants { OnErr result (WantsPlace self.old.clients last.now) }
@@ -149,7 +149,7 @@ impl Table {
     #[tactic(auto, using(crate::proofs::Turns::TurnParts::place_rules, crate::proofs::Turns::Wants::place_rules))]
     fn advance_at(&mut self, fd: u32, reply: Received<'_>) -> Result<Turn, AllocError>
         requires flies { self.old.pending_call ≡ At fd }
-        requires kept { IsKept self.old }
+        requires between { IsBetweenTurns self.old }
         ensures turn { IfOk result (λ turn. Turns self.old reply.entry.last.now
             (received reply.entry.parts) turn self.new) }
         ensures err { OnErr result (self.new ≡ self.old) }
@@ -181,7 +181,7 @@ impl Table {
     /// The next call after the reply to the pending call.
     #[tactic(auto, using(crate::proofs::Turns::TurnParts::silent_rules, crate::proofs::Turns::Wants::nothing_wants))]
     pub(crate) fn advance(&mut self, reply: Received<'_>) -> Result<Turn, AllocError>
-        requires { IsKept self.old }
+        requires { IsBetweenTurns self.old }
         ensures turn { IfOk result (λ turn. Turns self.old reply.entry.last.now
             (received reply.entry.parts) turn self.new) }
         ensures err { OnErr result (self.new ≡ self.old) }

@@ -25,7 +25,7 @@ use Rattle.flash_laws.specs.declared.script_run.Running.{Running}
 use Rattle.flash_laws.proofs.Conn.Progress.{sent_after}
 use Rattle.flash_laws.proofs.Lists.{clash}
 use Rattle.flash_progress.specs.Bound.{turns_for, turns_of, turns_at, turns_of_waiting, unread_at, sum_to}
-use Rattle.flash_progress.proofs.Measure.{request_turns, ahead, reads_on, kept_turns, unread_turns}
+use Rattle.flash_progress.proofs.Measure.{request_turns, ahead, reads_on, buffered_turns, unread_turns}
 use Rattle.flash_progress.proofs.RequestProgress.{conn_turns, made-short, few-drops}
 use Rattle.flash_progress.proofs.TurnsLeft.{AreShort, expected-short, no-script, no_more, of_place, place_turns}
 use Rattle.flash_progress.proofs.TurnsLeft.{accept_step_turns, all_left}
@@ -94,24 +94,27 @@ ahead-short m q expected longest Closed has short = omega arith
 -- ---- a connection
 
 -- of one connection, in the terms of the bound
-within : (longest unread kept ahead kept_now : ℕ) → ahead ≤ 3 * longest + 21 → kept_now ≤ request_turns longest * kept
-    → ahead + (kept_now + (request_turns longest + 2) * unread) ≤ (3 * longest + 22) * (kept + unread + 1)
-within longest unread kept ahead kept_now few less =
-    let split : (3 * longest + 22) * (kept + unread + 1) ≡ request_turns longest * kept + 6 * kept
+within : (longest unread buffered ahead buffered_now : ℕ) → ahead ≤ 3 * longest + 21
+    → buffered_now ≤ request_turns longest * buffered
+    → ahead + (buffered_now + (request_turns longest + 2) * unread) ≤ (3 * longest + 22) * (buffered + unread + 1)
+within longest unread buffered ahead buffered_now few less =
+    let split : (3 * longest + 22) * (buffered + unread + 1) ≡ request_turns longest * buffered + 6 * buffered
     + ((request_turns longest + 2) * unread + 4 * unread) + (3 * longest + 22) = grind (arith) in
     omega (arith, few, less, split)
 
-kept-most : (longest : ℕ) (on : Bool) (kept : List ℕ) → kept_turns longest on kept ≤ request_turns longest * length kept
-kept-most longest true kept = omega arith
-kept-most longest false kept = omega arith
+buffered-most : (longest : ℕ) (on : Bool) (buffered : List ℕ)
+    → buffered_turns longest on buffered ≤ request_turns longest * length buffered
+buffered-most longest true buffered = omega arith
+buffered-most longest false buffered = omega arith
 
-conn-within : (m : State) (expected : List ℕ) (longest unread : ℕ) (x : Conn) → Has m x.q expected x.phase
+conn-within : (m : State) (expected : List ℕ) (longest unread : ℕ) (x : Conn) → Has m x.request expected x.phase
     → length expected ≤ longest
-    → conn_turns longest unread x ≤ turns_for longest (length x.kept + unread)
+    → conn_turns longest unread x ≤ turns_for longest (length x.buffered + unread)
 conn-within m expected longest unread x has short =
-    within longest unread (length x.kept) (ahead longest x.q x.phase) (kept_turns longest (reads_on x.q x.phase) x.kept)
-    (ahead-short m x.q expected longest x.phase has short)
-    (kept-most longest (reads_on x.q x.phase) x.kept)
+    within longest unread (length x.buffered) (ahead longest x.request x.phase)
+    (buffered_turns longest (reads_on x.request x.phase) x.buffered)
+    (ahead-short m x.request expected longest x.phase has short)
+    (buffered-most longest (reads_on x.request x.phase) x.buffered)
 
 -- ---- all
 
@@ -121,10 +124,10 @@ module _ (site_contents : SiteContents) (worker_set : WorkerSet) (files : site_c
     (fit : AllFit site_contents worker_set m p clients process_slots) where
   client-within : (unread fd c : ℕ) (x : Client) (run : Option Running)
       → FitsBy site_contents worker_set run m (p.came c) (p.sent c) fd c x process_slots
-      → conn_turns longest unread x.conn ≤ turns_for longest (length x.conn.kept + unread)
+      → conn_turns longest unread x.conn ≤ turns_for longest (length x.conn.buffered + unread)
   client-within unread fd c x None f =
       conn-within m _ longest unread x.conn f.has
-      (expected-short site_contents longest x.conn.q f.expected x.conn.phase f.proper short f.may)
+      (expected-short site_contents longest x.conn.request f.expected x.conn.phase f.proper short f.may)
   client-within unread fd c x (Some y) f =
       absurd (clash (is_for_script site_contents.scripts (serve f.wanted)) f.script.is_for
       (no-script site_contents.scripts (serve f.wanted) files))

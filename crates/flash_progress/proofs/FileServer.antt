@@ -365,7 +365,7 @@ module _ (site_contents : SiteContents) (worker_set : WorkerSet) (laws : AllLaws
             (fixed-on site_contents worker_set laws w.machine after.machine went.0 q.consistent.fixed).site.lives in
             let same = received-is site_contents worker_set laws after.machine (reply.Refused no.WouldBlock)
             went.1.received lives went.1.names d.state.workers d.state.clients d.state.pending_call in
-            let kept_left = server-waits site_contents worker_set laws files longest short MAX_OPEN conns w.machine
+            let buffered_left = server-waits site_contents worker_set laws files longest short MAX_OPEN conns w.machine
             after.machine (past_of q.xs q.rs) clients d.state.clients d.state.pending_call
             (reply.Refused no.WouldBlock) k q.consistent.in_slots.workers q.consistent.order q.consistent.fixed fit
             known (blocks-among site_contents.refuses.of_server) did refl did.1
@@ -385,7 +385,7 @@ module _ (site_contents : SiteContents) (worker_set : WorkerSet) (laws : AllLaws
             let less =
             fewer d.state.pending_call refl k picks
             (filed_in d.state (reply.Refused no.WouldBlock) (λ a. readable_to after.machine server a)) in
-            (omega (arith, kept_left, here, one, two, was), omega (arith, asked, next, less))
+            (omega (arith, buffered_left, here, one, two, was), omega (arith, asked, next, less))
 
     -- the polls of a round are bounded
     most : polls w ≤ MAX_OPEN + 2

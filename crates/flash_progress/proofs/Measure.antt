@@ -36,13 +36,13 @@ reads_on q Closed = false
 reads_on q d = keeps q
 
 -- for the requests that are kept: each has at least one byte
-abbrev pub kept_turns : (longest : ℕ) → (on : Bool) → (kept : List ℕ) → ℕ
-kept_turns longest on kept = if on then request_turns longest * length kept else 0
+abbrev pub buffered_turns : (longest : ℕ) → (on : Bool) → (buffered : List ℕ) → ℕ
+buffered_turns longest on buffered = if on then request_turns longest * length buffered else 0
 
 -- for the unread bytes: each is read, and then kept
 abbrev pub unread_turns : (longest unread : ℕ) → ℕ
 unread_turns longest unread = (request_turns longest + 2) * unread
 
-abbrev pub turns_left : (longest unread : ℕ) → (kept : List ℕ) → Answer → Phase → ℕ
-turns_left longest unread kept q d =
-    ahead longest q d + (kept_turns longest (reads_on q d) kept + unread_turns longest unread)
+abbrev pub turns_left : (longest unread : ℕ) → (buffered : List ℕ) → Answer → Phase → ℕ
+turns_left longest unread buffered q d =
+    ahead longest q d + (buffered_turns longest (reads_on q d) buffered + unread_turns longest unread)

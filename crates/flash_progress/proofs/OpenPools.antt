@@ -11,7 +11,7 @@ use Rattle.iol_core.specs.declared.events.Reply.TheVariants as reply
 use Rattle.iol_laws.specs.Order.{IsOrderly}
 use Rattle.flash_http.specs.Request.{Answer, serve, refuse}
 use Rattle.flash_laws.specs.Client.Fits.{expected_in, Finds}
-use Rattle.flash_laws.specs.Conn.{most_kept, most_read, text_of, piece_end, is_head_only, wants}
+use Rattle.flash_laws.specs.Conn.{most_buffered, most_read, text_of, piece_end, is_head_only, next_call}
 use Rattle.flash_laws.specs.Conn.Fits.{Has}
 use Rattle.flash_laws.specs.Conn.Progress.{CanMake}
 use Rattle.flash_laws.specs.SiteContents.{SiteContents}
@@ -28,11 +28,11 @@ use Rattle.flash_laws.proofs.Lists.{turned, differ, within-part}
 use Rattle.flash_laws.proofs.World.AllLaws.{AllLaws}
 
 module _ (site_contents : SiteContents) (worker_set : WorkerSet) (laws : AllLaws worker_set) (m n : State) (fd c : ℕ)
-    (kept script expected : List ℕ) (order : IsOrderly m) (lives : is_live m server ≡ true)
+    (buffered script expected : List ℕ) (order : IsOrderly m) (lives : is_live m server ≡ true)
     (open_on : descriptor m server fd ≡ Some (on.Connection c)) (p : ℕ) where
   -- its call is refused by a closed pool
   abbrev Refuses : Answer → Phase → Type 0
-  Refuses q d = StepsTo m (event.Call server (wants fd (at kept q d))) (reply.Refused (no.PoolClosed p)) n
+  Refuses q d = StepsTo m (event.Call server (next_call fd (at buffered q d))) (reply.Refused (no.PoolClosed p)) n
 
   reads-on : (q : Answer) (g : ℕ) → Has m q (expected_in expected q (Reading g)) (Reading g)
       → Finds site_contents m q script (Reading g) → Refuses q (Reading g) → ⊥
@@ -49,9 +49,10 @@ module _ (site_contents : SiteContents) (worker_set : WorkerSet) (laws : AllLaws
           let bad = did.0 in cc (bad)
 
   pub never-closed : (q : Answer) (d : Phase) → Has m q (expected_in expected q d) d → Finds site_contents m q script d
-      → CanMake m (wants fd (at kept q d)) → Refuses q d → ⊥
+      → CanMake m (next_call fd (at buffered q d)) → Refuses q d → ⊥
   never-closed q Receiving has found can step =
-      laws.left.reads_queue m n server fd (most_kept - length kept) (on.Connection c) (no.PoolClosed p) lives open_on
+      laws.left.reads_queue m n server fd (most_buffered - length buffered) (on.Connection c) (no.PoolClosed p) lives
+      open_on
       refl refl step
   never-closed q (DroppingInput a) has found can step =
       laws.left.drops m n server a has.0 (no.PoolClosed p) lives has.1 step

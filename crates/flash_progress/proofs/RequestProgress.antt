@@ -28,7 +28,8 @@ use Rattle.flash_http.specs.Range.{selected}
 use Rattle.flash_http.specs.Window.{window_in, FitsIn}
 use Rattle.flash_http.specs.Request.{Answer, serve, refuse}
 use Rattle.flash_laws.specs.Answers.{keeps, Next, NextIn}
-use Rattle.flash_laws.specs.Conn.{Conn, Following, Readies, begins, most_kept, text_of, wants, sends_of, count_of}
+use Rattle.flash_laws.specs.Conn.{Conn, Following, Readies, begins, most_buffered, text_of, next_call, sends_of}
+use Rattle.flash_laws.specs.Conn.{count_of}
 use Rattle.flash_laws.specs.Conn.{following, headed, proceeds, resolved, after_open, after_read, after_close_file}
 use Rattle.flash_laws.specs.Conn.{after_receive, after_disconnect, after_break, after_drop, after_taking, after_reply}
 use Rattle.flash_laws.specs.Conn.Fits.{Has, HasContent, Names, is_closing}
@@ -51,7 +52,7 @@ use Rattle.flash_laws.proofs.Conn.Progress.{near, rank, stage, calls_left, head_
 use Rattle.flash_laws.proofs.Conn.ReadableBytes.{text-same}
 use Rattle.flash_laws.proofs.Conn.Responses.{WindowLaws, some-inj}
 use Rattle.std.proofs.lemmas.List.{length-map}
-use Rattle.flash_progress.proofs.Measure.{request_turns, ahead, reads_on, kept_turns, unread_turns, turns_left}
+use Rattle.flash_progress.proofs.Measure.{request_turns, ahead, reads_on, buffered_turns, unread_turns, turns_left}
 use Rattle.flash_laws.proofs.Moves.{either-way, either-next}
 
 -- ---- what is made is no longer than the response
@@ -164,33 +165,33 @@ ends-goes q a taken None = by (keeps q) refl
     by true on = (refl, λ is. absurd (let e = sym on ∙ is in cc (e)))
     by false off = (refl, λ is. refl)
 
-goes : (kept : List ℕ) (q : Answer) (d : Phase) (r : Reply) (received : List ℕ) → is_answering d ≡ true
-    → Goes q d (after_reply (at kept q d) r received).phase
-goes kept q (DroppingInput a) reply.Done received is = (refl, λ no. absurd (cc (no)))
-goes kept q (DroppingInput a) r received is = (refl, λ no. no)
-goes kept q (Slicing a from to len) (reply.Agg n) received is = (refl, λ no. no)
-goes kept q (Slicing a from to len) r received is = (refl, λ no. no)
-goes kept q (DroppingWhole a k) reply.Done received is = (refl, λ no. no)
-goes kept q (DroppingWhole a k) r received is = (refl, λ no. no)
-goes kept q (MakingHead k) (reply.Agg n) received is = headed-goes q k n (count_of received) (following k)
-goes kept q (MakingHead k) r received is = (refl, λ no. no)
-goes kept q (Joining a size body len) (reply.Agg n) received is = (refl, λ no. no)
-goes kept q (Joining a size body len) r received is = (refl, λ no. no)
-goes kept q (SendingWhole s) (reply.Count n) received is =
+goes : (buffered : List ℕ) (q : Answer) (d : Phase) (r : Reply) (received : List ℕ) → is_answering d ≡ true
+    → Goes q d (after_reply (at buffered q d) r received).phase
+goes buffered q (DroppingInput a) reply.Done received is = (refl, λ no. absurd (cc (no)))
+goes buffered q (DroppingInput a) r received is = (refl, λ no. no)
+goes buffered q (Slicing a from to len) (reply.Agg n) received is = (refl, λ no. no)
+goes buffered q (Slicing a from to len) r received is = (refl, λ no. no)
+goes buffered q (DroppingWhole a k) reply.Done received is = (refl, λ no. no)
+goes buffered q (DroppingWhole a k) r received is = (refl, λ no. no)
+goes buffered q (MakingHead k) (reply.Agg n) received is = headed-goes q k n (count_of received) (following k)
+goes buffered q (MakingHead k) r received is = (refl, λ no. no)
+goes buffered q (Joining a size body len) (reply.Agg n) received is = (refl, λ no. no)
+goes buffered q (Joining a size body len) r received is = (refl, λ no. no)
+goes buffered q (SendingWhole s) (reply.Count n) received is =
     either-next (λ (e : Phase). Goes q (SendingWhole s) e) (after_taking s n) (refl, λ no. no) (refl, λ no. no)
-goes kept q (SendingWhole s) (reply.Refused no.BrokenPipe) received is = (refl, λ no. refl)
-goes kept q (SendingWhole s) r received is = (refl, λ no. no)
-goes kept q (CuttingPiece s) (reply.Agg n) received is = (refl, λ no. no)
-goes kept q (CuttingPiece s) r received is = (refl, λ no. no)
-goes kept q (SendingPiece s piece) (reply.Count n) received is = (refl, λ no. no)
-goes kept q (SendingPiece s piece) (reply.Refused no.BrokenPipe) received is = (refl, λ no. refl)
-goes kept q (SendingPiece s piece) r received is = (refl, λ no. no)
-goes kept q (DroppingPiece s piece) reply.Done received is =
+goes buffered q (SendingWhole s) (reply.Refused no.BrokenPipe) received is = (refl, λ no. refl)
+goes buffered q (SendingWhole s) r received is = (refl, λ no. no)
+goes buffered q (CuttingPiece s) (reply.Agg n) received is = (refl, λ no. no)
+goes buffered q (CuttingPiece s) r received is = (refl, λ no. no)
+goes buffered q (SendingPiece s piece) (reply.Count n) received is = (refl, λ no. no)
+goes buffered q (SendingPiece s piece) (reply.Refused no.BrokenPipe) received is = (refl, λ no. refl)
+goes buffered q (SendingPiece s piece) r received is = (refl, λ no. no)
+goes buffered q (DroppingPiece s piece) reply.Done received is =
     either-next (λ (e : Phase). Goes q (DroppingPiece s piece) e) s (refl, λ no. no) (refl, λ no. no)
-goes kept q (DroppingPiece s piece) r received is = (refl, λ no. no)
-goes kept q (DroppingSent a taken more) reply.Done received is = ends-goes q a taken more
-goes kept q (DroppingSent a taken more) r received is = (refl, λ no. no)
-goes kept q d r received is = absurd (cc (is))
+goes buffered q (DroppingPiece s piece) r received is = (refl, λ no. no)
+goes buffered q (DroppingSent a taken more) reply.Done received is = ends-goes q a taken more
+goes buffered q (DroppingSent a taken more) r received is = (refl, λ no. no)
+goes buffered q d r received is = absurd (cc (is))
 
 -- one that is as it was is to be made again later
 not-same : (q : Answer) (d : Phase) (r : Reply) → Nears (rank q) d r d → is_later r ≡ false → ⊥
@@ -204,29 +205,30 @@ made-on q (DroppingWhole a k) is = refl
 made-on q (MakingHead k) is = refl
 made-on q d is = absurd (cc (is))
 
-module _ (n : State) (longest : ℕ) (kept : List ℕ) (q : Answer) (expected : List ℕ) (short : length expected ≤ longest)
+module _ (n : State) (longest : ℕ) (buffered : List ℕ) (q : Answer) (expected : List ℕ)
+    (short : length expected ≤ longest)
   where
     -- less is left of the request, and the stream is read on only where it was
     abbrev Falls : (d e : Phase) → Type 0
     Falls d e = (ahead longest q e < ahead longest q d) × (reads_on q d ≡ false → reads_on q e ≡ false)
 
     answering : (d : Phase) (r : Reply) (received : List ℕ) → is_answering d ≡ true
-        → Nears (rank q) d r (after_reply (at kept q d) r received).phase
-        → is_later r ≡ false → Falls d (after_reply (at kept q d) r received).phase
+        → Nears (rank q) d r (after_reply (at buffered q d) r received).phase
+        → is_later r ≡ false → Falls d (after_reply (at buffered q d) r received).phase
     answering d r received is near on = (by near, after.1)
       where
-        after : Goes q d (after_reply (at kept q d) r received).phase
-        after = goes kept q d r received is
+        after : Goes q d (after_reply (at buffered q d) r received).phase
+        after = goes buffered q d r received is
 
         here : (ahead longest q d ≡ calls_left q d + 6) × (stage d ≡ 0)
         here = ahead-is longest q d is
 
-        most : ahead longest q (after_reply (at kept q d) r received).phase ≤ calls_left q
-            (after_reply (at kept q d) r received).phase + 6
-        most = ahead-most longest q (after_reply (at kept q d) r received).phase after.0
+        most : ahead longest q (after_reply (at buffered q d) r received).phase ≤ calls_left q
+            (after_reply (at buffered q d) r received).phase + 6
+        most = ahead-most longest q (after_reply (at buffered q d) r received).phase after.0
 
-        by : Nears (rank q) d r (after_reply (at kept q d) r received).phase
-            → ahead longest q (after_reply (at kept q d) r received).phase < ahead longest q d
+        by : Nears (rank q) d r (after_reply (at buffered q d) r received).phase
+            → ahead longest q (after_reply (at buffered q d) r received).phase < ahead longest q d
         by (inl (inl less)) = absurd (let none = here.1 in omega (arith, less, none))
         by (inl (inr fewer)) = (let less = fewer.1 in let now = here.0 in omega (arith, less, now, most))
         by (inr same) = absurd (clash (is_later r) same.1 on)
@@ -276,9 +278,9 @@ module _ (n : State) (longest : ℕ) (kept : List ℕ) (q : Answer) (expected : 
 
     -- each busy phase
     pub busy-falls : (d : Phase) (r : Reply) (received : List ℕ) → is_busy d ≡ true
-        → Nears (rank q) d r (after_reply (at kept q d) r received).phase
-        → is_later r ≡ false → Has n q expected (after_reply (at kept q d) r received).phase
-        → Falls d (after_reply (at kept q d) r received).phase
+        → Nears (rank q) d r (after_reply (at buffered q d) r received).phase
+        → is_later r ≡ false → Has n q expected (after_reply (at buffered q d) r received).phase
+        → Falls d (after_reply (at buffered q d) r received).phase
     busy-falls Receiving r received busy near on has = absurd (cc (busy))
     busy-falls Disconnecting r received busy near on has = absurd (cc (busy))
     busy-falls Closed r received busy near on has = absurd (cc (busy))
@@ -291,54 +293,57 @@ module _ (n : State) (longest : ℕ) (kept : List ℕ) (q : Answer) (expected : 
 
 -- ---- with what is kept and unread
 
-kept-less : (longest : ℕ) (b c : Bool) (kept : List ℕ) → (b ≡ false → c ≡ false)
-    → kept_turns longest c kept ≤ kept_turns longest b kept
-kept-less longest true true kept only = omega arith
-kept-less longest true false kept only = omega arith
-kept-less longest false c kept only =
-    subst (λ (x : Bool). kept_turns longest x kept ≤ 0) (sym (only refl)) (omega arith)
+buffered-less : (longest : ℕ) (b c : Bool) (buffered : List ℕ) → (b ≡ false → c ≡ false)
+    → buffered_turns longest c buffered ≤ buffered_turns longest b buffered
+buffered-less longest true true buffered only = omega arith
+buffered-less longest true false buffered only = omega arith
+buffered-less longest false c buffered only =
+    subst (λ (x : Bool). buffered_turns longest x buffered ≤ 0) (sym (only refl)) (omega arith)
 
 -- Of a request in progress: each reply, but where its call is to be made again later.
-pub progress-falls : (n : State) (longest unread : ℕ) (kept : List ℕ) (q : Answer) (d : Phase) (expected : List ℕ)
+pub progress-falls : (n : State) (longest unread : ℕ) (buffered : List ℕ) (q : Answer) (d : Phase) (expected : List ℕ)
     (r : Reply) (received : List ℕ) → length expected ≤ longest
-    → is_busy d ≡ true → Nears (rank q) d r (after_reply (at kept q d) r received).phase → is_later r ≡ false
-    → Has n q expected (after_reply (at kept q d) r received).phase
-    → turns_left longest unread kept q (after_reply (at kept q d) r received).phase < turns_left longest unread kept q d
-progress-falls n longest unread kept q d expected r received short busy near on has =
-    let falls = busy-falls n longest kept q expected short d r received busy near on has in
+    → is_busy d ≡ true → Nears (rank q) d r (after_reply (at buffered q d) r received).phase → is_later r ≡ false
+    → Has n q expected (after_reply (at buffered q d) r received).phase
+    → turns_left longest unread buffered q (after_reply (at buffered q d) r received).phase < turns_left longest unread
+    buffered q d
+progress-falls n longest unread buffered q d expected r received short busy near on has =
+    let falls = busy-falls n longest buffered q expected short d r received busy near on has in
     let less = falls.0 in
-    let keeps_less = kept-less longest (reads_on q d) (reads_on q (after_reply (at kept q d) r received).phase) kept
+    let keeps_less = buffered-less longest (reads_on q d) (reads_on q (after_reply (at buffered q d) r received).phase)
+    buffered
     falls.1 in
     omega (arith, less, keeps_less)
 
 -- The end of a connection.
-pub closes-falls : (longest unread : ℕ) (kept : List ℕ) (q : Answer)
-    → turns_left longest unread kept q Closed < turns_left longest unread kept q Disconnecting
-closes-falls longest unread kept q = omega arith
+pub closes-falls : (longest unread : ℕ) (buffered : List ℕ) (q : Answer)
+    → turns_left longest unread buffered q Closed < turns_left longest unread buffered q Disconnecting
+closes-falls longest unread buffered q = omega arith
 
 -- What is read of the stream.
-pub reads-falls : (longest unread later : ℕ) (kept : List ℕ) (q : Answer) (a : ℕ) (received : List ℕ)
+pub reads-falls : (longest unread later : ℕ) (buffered : List ℕ) (q : Answer) (a : ℕ) (received : List ℕ)
     → unread ≡ length received + later
-    → turns_left longest later (after_receive kept q (reply.Agg a) received).kept q
-    (after_receive kept q (reply.Agg a) received).phase < turns_left longest unread kept q Receiving
-reads-falls longest unread later kept q a [] all =
+    → turns_left longest later (after_receive buffered q (reply.Agg a) received).buffered q
+    (after_receive buffered q (reply.Agg a) received).phase < turns_left longest unread buffered q Receiving
+reads-falls longest unread later buffered q a [] all =
     let same : unread_turns longest unread ≡ unread_turns longest later =
     ap (λ (k : ℕ). unread_turns longest k) (none all) in
     omega (arith, same)
   where
     none : unread ≡ 0 + later → unread ≡ later
     none e = omega (arith, e)
-reads-falls longest unread later kept q a (b ∷ received) all =
-    let long = length-append kept (b ∷ received) in
-    let kept_is : request_turns longest * length (kept ++ (b ∷ received)) ≡ request_turns longest * length kept
+reads-falls longest unread later buffered q a (b ∷ received) all =
+    let long = length-append buffered (b ∷ received) in
+    let buffered_is : request_turns longest * length (buffered ++ (b ∷ received)) ≡ request_turns longest * length
+    buffered
     + request_turns longest * length (b ∷ received) = ap (λ (k : ℕ). request_turns longest * k) long
-    ∙ spread (request_turns longest) (length kept) (length (b ∷ received)) in
+    ∙ spread (request_turns longest) (length buffered) (length (b ∷ received)) in
     let unread_is : (request_turns longest + 2) * unread ≡ (request_turns longest + 2) * length (b ∷ received)
     + (request_turns longest + 2) * later = ap (λ (k : ℕ). (request_turns longest + 2) * k) all
     ∙ spread (request_turns longest + 2) (length (b ∷ received)) later in
     let two : (request_turns longest + 2) * length (b ∷ received) ≡ request_turns longest * length (b ∷ received)
     + 2 * length (b ∷ received) = grind (arith) in
-    omega (arith, kept_is, unread_is, two)
+    omega (arith, buffered_is, unread_is, two)
   where
     spread : (k a b : ℕ) → k * (a + b) ≡ k * a + k * b
     spread k a b = grind (arith)
@@ -373,34 +378,35 @@ begins-short m longest (refuse status head_only close) short =
     longest (MakingHead (Error status)) refl refl (short status head_only close refl) in omega (arith, few)
 
 -- Where the first request that is kept begins, less is left, too.
-pub begins-falls : (laws : WindowLaws) (m : State) (longest unread : ℕ) (kept : List ℕ) (was q : Answer) (rest : List ℕ)
-    → Next kept q rest
+pub begins-falls : (laws : WindowLaws) (m : State) (longest unread : ℕ) (buffered : List ℕ) (was q : Answer)
+    (rest : List ℕ)
+    → Next buffered q rest
     → ((status : ℕ) (head_only close : Bool) → q ≡ refuse status head_only close
     → length (text_of q (Error status)) ≤ longest)
-    → turns_left longest unread rest q (begins q) < turns_left longest unread kept was Receiving
-begins-falls laws m longest unread kept was q rest next short = by (keeps q) refl
+    → turns_left longest unread rest q (begins q) < turns_left longest unread buffered was Receiving
+begins-falls laws m longest unread buffered was q rest next short = by (keeps q) refl
   where
-    shorter : (1 ≤ length kept) × (keeps q ≡ true → suc (length rest) ≤ length kept)
-    shorter = next-shorter laws kept q rest next
+    shorter : (1 ≤ length buffered) × (keeps q ≡ true → suc (length rest) ≤ length buffered)
+    shorter = next-shorter laws buffered q rest next
 
     few : ahead longest q (begins q) ≤ 3 * longest + 21
     few = begins-short m longest q short
 
-    on : (b : Bool) → keeps q ≡ b → kept_turns longest (reads_on q (begins q)) rest ≡ kept_turns longest b rest
-    on b is = ap (λ (x : Bool). kept_turns longest x rest) (begins-on q ∙ is)
+    on : (b : Bool) → keeps q ≡ b → buffered_turns longest (reads_on q (begins q)) rest ≡ buffered_turns longest b rest
+    on b is = ap (λ (x : Bool). buffered_turns longest x rest) (begins-on q ∙ is)
 
     by : (b : Bool) → keeps q ≡ b
-        → turns_left longest unread rest q (begins q) < turns_left longest unread kept was Receiving
+        → turns_left longest unread rest q (begins q) < turns_left longest unread buffered was Receiving
     by true is =
         let now = on true is in
-        let step : request_turns longest * suc (length rest) ≤ request_turns longest * length kept =
+        let step : request_turns longest * suc (length rest) ≤ request_turns longest * length buffered =
         mul-le-mul_left (request_turns longest) (shorter.1 is) in
         let split : request_turns longest * suc (length rest) ≡ request_turns longest * length rest + request_turns
         longest = grind (arith) in
         omega (arith, few, now, step, split)
     by false is =
         let now = on false is in
-        let step : request_turns longest * 1 ≤ request_turns longest * length kept =
+        let step : request_turns longest * 1 ≤ request_turns longest * length buffered =
         mul-le-mul_left (request_turns longest) shorter.0 in
         let one : request_turns longest * 1 ≡ request_turns longest = grind (arith) in
         omega (arith, few, now, step, one)
@@ -411,13 +417,13 @@ begins-falls laws m longest unread kept was q rest next short = by (keeps q) ref
 unread-less : (longest few many : ℕ) → few ≤ many → unread_turns longest few ≤ unread_turns longest many
 unread-less longest few many le = mul-le-mul_left (request_turns longest + 2) le
 
-fewer-unread : (longest few many : ℕ) (kept : List ℕ) (q : Answer) (d : Phase) → few ≤ many
-    → turns_left longest few kept q d ≤ turns_left longest many kept q d
-fewer-unread longest few many kept q d le = let less = unread-less longest few many le in omega (arith, less)
+fewer-unread : (longest few many : ℕ) (buffered : List ℕ) (q : Answer) (d : Phase) → few ≤ many
+    → turns_left longest few buffered q d ≤ turns_left longest many buffered q d
+fewer-unread longest few many buffered q d le = let less = unread-less longest few many le in omega (arith, less)
 
 -- the turns that are left for a connection as the server keeps it, where so much of its stream is unread
 abbrev pub conn_turns : (longest unread : ℕ) → Conn → ℕ
-conn_turns longest unread x = turns_left longest unread x.kept x.q x.phase
+conn_turns longest unread x = turns_left longest unread x.buffered x.request x.phase
 
 abbrev pub IsShort : (longest : ℕ) → Type 0
 IsShort longest = (s rest : List ℕ) (q : Answer) → Next s q rest → (status : ℕ) (head_only close : Bool)
@@ -447,9 +453,9 @@ module _ (own : CallsServeTheirDomain) (may : RefusalsThatAreLeft) (why : Refusa
         by Receiving is (inl waits) = stays (waits.1 ∙ ap (λ (d : Phase). record was { phase = d }) (sym is))
         by Receiving is (inr some) =
             let less =
-            begins-falls laws m longest before was.kept was.q some.0 some.1 some.2
-            (short was.kept some.1 some.0 some.2) in
-            let here = ap (λ (d : Phase). turns_left longest before was.kept was.q d) is in
+            begins-falls laws m longest before was.buffered was.request some.0 some.1 some.2
+            (short was.buffered some.1 some.0 some.2) in
+            let here = ap (λ (d : Phase). turns_left longest before was.buffered was.request d) is in
             subst (λ (x : Conn). conn_turns longest before x ≤ conn_turns longest before was) (sym some.3)
             (omega (arith, less, here))
         by d is readies = stays (readies-same d is readies)
@@ -458,22 +464,24 @@ module _ (own : CallsServeTheirDomain) (may : RefusalsThatAreLeft) (why : Refusa
             readies-same d is same = same ∙ ap (λ (d : Phase). record was { phase = d }) (sym is)
 
     -- what is read is no longer unread
-    rests : (kept : List ℕ) (q : Answer) (r : Reply) (received : List ℕ)
+    rests : (buffered : List ℕ) (q : Answer) (r : Reply) (received : List ℕ)
         → ((p : ℕ) → IsHidden m server p (conn_at m c).incoming → ⊥)
-        → StepsTo m (event.Call server (call.IolRead fd (most_kept - length kept))) r n → Names n r received
+        → StepsTo m (event.Call server (call.IolRead fd (most_buffered - length buffered))) r n → Names n r received
         → is_later r ≡ false
-        → conn_turns longest now (after_receive kept q r received) < turns_left longest before kept q Receiving
-    rests kept q r received seen step names sure =
-        by r (own.read_conn m n server fd c (most_kept - length kept) r order open_on step) step names sure
+        → conn_turns longest now (after_receive buffered q r received) < turns_left longest before buffered q Receiving
+    rests buffered q r received seen step names sure =
+        by r (own.read_conn m n server fd c (most_buffered - length buffered) r order open_on step) step names sure
       where
-        by : (r : Reply) → o.ReadsConn m server c (most_kept - length kept) r n
-            → StepsTo m (event.Call server (call.IolRead fd (most_kept - length kept))) r n → Names n r received
+        by : (r : Reply) → o.ReadsConn m server c (most_buffered - length buffered) r n
+            → StepsTo m (event.Call server (call.IolRead fd (most_buffered - length buffered))) r n → Names n r received
             → is_later r ≡ false
-            → conn_turns longest now (after_receive kept q r received) < turns_left longest before kept q Receiving
+            → conn_turns longest now (after_receive buffered q r received) < turns_left longest before buffered q
+            Receiving
         by (reply.Agg a) takes step names sure =
-            subst (λ (k : ℕ). conn_turns longest k (after_receive kept q (reply.Agg a) received) < turns_left longest
-            before kept q Receiving) (sym later)
-            (after_reply-q received (reads-falls longest before (length takes.incoming) kept q a received all))
+            subst (λ (k : ℕ). conn_turns longest k (after_receive buffered q (reply.Agg a) received)
+            < turns_left longest
+            before buffered q Receiving) (sym later)
+            (after_reply-q received (reads-falls longest before (length takes.incoming) buffered q a received all))
           where
             later : now ≡ length takes.incoming
             later = ap (λ (k : Connection). length k.incoming) takes.conn
@@ -488,57 +496,63 @@ module _ (own : CallsServeTheirDomain) (may : RefusalsThatAreLeft) (why : Refusa
                 omega (arith, parts, bytes, received_is)
 
             after_reply-q : (l : List ℕ)
-                → turns_left longest (length takes.incoming) (after_receive kept q (reply.Agg a) l).kept q
-                (after_receive kept q (reply.Agg a) l).phase < turns_left longest before kept q Receiving
-                → conn_turns longest (length takes.incoming) (after_receive kept q (reply.Agg a) l) < turns_left longest
-                before kept q Receiving
+                → turns_left longest (length takes.incoming) (after_receive buffered q (reply.Agg a) l).buffered q
+                (after_receive buffered q (reply.Agg a) l).phase < turns_left longest before buffered q Receiving
+                → conn_turns longest (length takes.incoming) (after_receive buffered q (reply.Agg a) l)
+                < turns_left longest
+                before buffered q Receiving
             after_reply-q [] less = less
             after_reply-q (b ∷ l) less = less
         by (reply.Refused z) did step names sure =
             absurd
-            (refused z (may.reads_queue m n server fd (most_kept - length kept) (on.Connection c) z lives open_on refl
+            (refused z (may.reads_queue m n server fd (most_buffered - length buffered) (on.Connection c) z lives
+            open_on refl
             refl step) step sure)
           where
             refused : (z : Refusal) → LacksNumbersOrHasNothingToRead z
-                → StepsTo m (event.Call server (call.IolRead fd (most_kept - length kept))) (reply.Refused z) n
+                → StepsTo m (event.Call server (call.IolRead fd (most_buffered - length buffered))) (reply.Refused z) n
                 → is_later (reply.Refused z) ≡ false → ⊥
             refused no.TooMany left step sure = cc (sure)
             refused no.WouldBlock left step sure = cc (sure)
             refused no.Memory left step sure = cc (sure)
             refused (no.Denied p) left step sure =
-                seen p (why.conn_is_hidden m n server fd c (most_kept - length kept) p open_on step)
+                seen p (why.conn_is_hidden m n server fd c (most_buffered - length buffered) p open_on step)
             refused z left step sure = left
         by r did step names sure = absurd did
 
     -- it is closed
-    closes : (kept : List ℕ) (q : Answer) (r : Reply) → now ≤ before → StepsTo m (event.Call server (call.Close fd)) r n
+    closes : (buffered : List ℕ) (q : Answer) (r : Reply) → now ≤ before
+        → StepsTo m (event.Call server (call.Close fd)) r n
         → is_later r ≡ false
-        → turns_left longest now kept q (after_disconnect r) < turns_left longest before kept q Disconnecting
-    closes kept q r few step sure = by r (own.closes_conn m n server fd c r order open_on step) step
+        → turns_left longest now buffered q (after_disconnect r) < turns_left longest before buffered q Disconnecting
+    closes buffered q r few step sure = by r (own.closes_conn m n server fd c r order open_on step) step
       where
         by : (r : Reply) → o.ClosesConn m c r n → StepsTo m (event.Call server (call.Close fd)) r n
-            → turns_left longest now kept q (after_disconnect r) < turns_left longest before kept q Disconnecting
+            → turns_left longest now buffered q (after_disconnect r) < turns_left longest before buffered q
+            Disconnecting
         by reply.Done did step = (let less = unread-less longest now before few in omega (arith, less))
         by (reply.Refused z) did step = absurd (may.closes m n server fd (on.Connection c) z lives open_on step)
         by r did step = absurd did
 
     -- Its call is answered, and is not to be made again later: less is left for it.
-    pub turn-falls : (kept : List ℕ) (q : Answer) (d : Phase) (was expected : List ℕ) (r : Reply) (received : List ℕ)
+    pub turn-falls : (buffered : List ℕ) (q : Answer) (d : Phase) (was expected : List ℕ) (r : Reply)
+        (received : List ℕ)
         → length expected ≤ longest → now ≤ before
         → ((p : ℕ) → IsHidden m server p (conn_at m c).incoming → ⊥)
-        → Has m q was d → (is_closing d ≡ false → Has n q expected (after_reply (at kept q d) r received).phase)
-        → CanMake m (wants fd (at kept q d))
-        → StepsTo m (event.Call server (wants fd (at kept q d))) r n → Names n r received → is_later r ≡ false
-        → conn_turns longest now (after_reply (at kept q d) r received) < conn_turns longest before (at kept q d)
-    turn-falls kept q Receiving was expected r received short few seen has later can step names sure =
-        rests kept q r received seen step names sure
-    turn-falls kept q Disconnecting was expected r received short few seen has later can step names sure =
-        closes kept q r few step sure
-    turn-falls kept q Closed was expected r received short few seen has later can step names sure = absurd has
-    turn-falls kept q d was expected r received short few seen has later can step names sure =
+        → Has m q was d → (is_closing d ≡ false → Has n q expected (after_reply (at buffered q d) r received).phase)
+        → CanMake m (next_call fd (at buffered q d))
+        → StepsTo m (event.Call server (next_call fd (at buffered q d))) r n → Names n r received → is_later r ≡ false
+        → conn_turns longest now (after_reply (at buffered q d) r received) < conn_turns longest before
+        (at buffered q d)
+    turn-falls buffered q Receiving was expected r received short few seen has later can step names sure =
+        rests buffered q r received seen step names sure
+    turn-falls buffered q Disconnecting was expected r received short few seen has later can step names sure =
+        closes buffered q r few step sure
+    turn-falls buffered q Closed was expected r received short few seen has later can step names sure = absurd has
+    turn-falls buffered q d was expected r received short few seen has later can step names sure =
         let less =
-        progress-falls n longest before kept q d expected r received short refl
-        (near own may m n order lives fd c kept q d was r received open_on refl has can step names) sure
+        progress-falls n longest before buffered q d expected r received short refl
+        (near own may m n order lives fd c buffered q d was r received open_on refl has can step names) sure
         (later refl) in
-        let fewer = fewer-unread longest now before kept q (after_reply (at kept q d) r received).phase few in
+        let fewer = fewer-unread longest now before buffered q (after_reply (at buffered q d) r received).phase few in
         omega (arith, less, fewer)

@@ -26,7 +26,7 @@ use Rattle.flash_laws.specs.declared.phase.Phase.{Phase}
 use Rattle.flash_laws.specs.declared.phase.Phase.TheVariants as phase
 use Rattle.std.proofs.lemmas.Bool.{cases_eq}
 use Rattle.flash_laws.specs.Client as client
-use Rattle.flash_laws.specs.Client.{Client, wants, after_reply, file_after_reply, left_over, Readies, is_for_script}
+use Rattle.flash_laws.specs.Client.{Client, next_call, after_reply, file_after_reply, left_over, Readies, is_for_script}
 use Rattle.flash_laws.specs.Client.Fits.{FitsBy, FitsAlone}
 use Rattle.flash_laws.specs.Conn.{Conn}
 use Rattle.flash_laws.specs.Conn.Fits.{Names}
@@ -73,11 +73,11 @@ made-call (turn.Make k) = k
 made-call turn.Yield = call.Accept
 
 -- a connection's call closes no pool
-closes-none : (fd : ℕ) (kept : List ℕ) (q : Answer) (d : Phase) (p : ℕ)
-    → closes_pool (event.Call server (conn.wants fd (conn-at kept q d))) p ≡ false
-closes-none fd kept q (phase.Reading f) p =
+closes-none : (fd : ℕ) (buffered : List ℕ) (q : Answer) (d : Phase) (p : ℕ)
+    → closes_pool (event.Call server (conn.next_call fd (conn-at buffered q d))) p ≡ false
+closes-none fd buffered q (phase.Reading f) p =
     either-way (λ (k : Call). closes_pool (event.Call server k) p ≡ false) (conn.is_head_only q) refl refl
-closes-none fd kept q d p = refl
+closes-none fd buffered q d p = refl
 
 module _ (site_contents : SiteContents) (worker_set : WorkerSet) (laws : AllLaws worker_set)
     (files : site_contents.scripts ≡ false) (longest : ℕ) (short : AreShort site_contents longest) (places conns : ℕ)
@@ -165,13 +165,13 @@ module _ (site_contents : SiteContents) (worker_set : WorkerSet) (laws : AllLaws
     there-ready : in_place readied fd ≡ Some (of ready.0 None script)
     there-ready = at-same clients fd (Some picks.ready) ∙ ap (λ (x : Client). Some x) ready.2
 
-    call_is : turn.Make k ≡ turn.Make (wants site_contents.scripts fd (of ready.0 None script))
+    call_is : turn.Make k ≡ turn.Make (next_call site_contents.scripts fd (of ready.0 None script))
     call_is =
         picks.call_is
-        ∙ (ap (λ b. turn.Make (wants b fd picks.ready)) (sym fixed.scripts)
-        ∙ ap (λ (x : Client). turn.Make (wants site_contents.scripts fd x)) ready.2)
+        ∙ (ap (λ b. turn.Make (next_call b fd picks.ready)) (sym fixed.scripts)
+        ∙ ap (λ (x : Client). turn.Make (next_call site_contents.scripts fd x)) ready.2)
 
-    step : StepsTo m (event.Call server (wants site_contents.scripts fd (of ready.0 None script))) r n
+    step : StepsTo m (event.Call server (next_call site_contents.scripts fd (of ready.0 None script))) r n
     step = subst (λ (z : Turn). Made m z r n) call_is did
 
     called : is_later r ≡ false → (worker : ℕ)
@@ -185,7 +185,7 @@ module _ (site_contents : SiteContents) (worker_set : WorkerSet) (laws : AllLaws
         (subst (λ (x : Client). Readies (of cn None script) x) ready.2 ready)) among step names sure short
         known.room
         (known.low fd (fit.each fd (of cn None script) there).conn (fit.each fd (of cn None script) there).fits.open_on)
-        (λ c. known.none_come n (wants site_contents.scripts fd (of ready.0 None script)) r c step)
+        (λ c. known.none_come n (next_call site_contents.scripts fd (of ready.0 None script)) r c step)
         (λ c q opened. known.seen fd c q opened) worker in
         let most = ready-left site_contents worker_set laws longest places conns m p clients fd cn script picks.ready
         process_slots order fixed fit there ready short in
@@ -223,8 +223,9 @@ module _ (site_contents : SiteContents) (worker_set : WorkerSet) (laws : AllLaws
               (fit-ready.each fd (of ready.0 None script) there-ready).fits).kind,
           λ q. subst (λ (z : Call). closes_pool (event.Call server z) q ≡ false)
               (sym
-              (ap (λ (b : Bool). client.conn_wants b fd ready.0) (no-script site_contents.scripts ready.0.q files)))
-              (closes-none fd ready.0.kept ready.0.q ready.0.phase q),
+              (ap (λ (b : Bool). client.conn_call b fd ready.0)
+              (no-script site_contents.scripts ready.0.request files)))
+              (closes-none fd ready.0.buffered ready.0.request ready.0.phase q),
         )
 
     -- its call meets no closed pool
@@ -235,17 +236,19 @@ module _ (site_contents : SiteContents) (worker_set : WorkerSet) (laws : AllLaws
         (fit-ready.each fd (of ready.0 None script) there-ready).conn (of ready.0 None script) =
         (fit-ready.each fd (of ready.0 None script) there-ready).fits in
         never-closed site_contents worker_set laws m n fd (fit-ready.each fd (of ready.0 None script) there-ready).conn
-        ready.0.kept script g.expected order fixed.site.lives g.open_on q ready.0.q ready.0.phase g.has g.finds
-        (can-make site_contents m fd ready.0.kept ready.0.q script ready.0.phase g.proper g.finds known.room)
-        (subst (λ (z : Reply). StepsTo m (event.Call server (conn.wants fd ready.0)) z n) closed
+        ready.0.buffered script g.expected order fixed.site.lives g.open_on q ready.0.request ready.0.phase g.has
+        g.finds
+        (can-make site_contents m fd ready.0.buffered ready.0.request script ready.0.phase g.proper g.finds known.room)
+        (subst (λ (z : Reply). StepsTo m (event.Call server (conn.next_call fd ready.0)) z n) closed
         (subst (λ (z : Call). StepsTo m (event.Call server z) r n)
-        (ap (λ (b : Bool). client.conn_wants b fd ready.0) (no-script site_contents.scripts ready.0.q files)) step))
+        (ap (λ (b : Bool). client.conn_call b fd ready.0) (no-script site_contents.scripts ready.0.request files))
+        step))
 
     -- where it would block as much is left
-    after_reply-blocked : (kept : List ℕ) (q : Answer) (d : Phase) (l : List ℕ)
-        → conn.after_reply (conn-at kept q d) (reply.Refused no.WouldBlock) l ≡ conn-at kept q d
-    after_reply-blocked kept q phase.Receiving l = refl
-    after_reply-blocked kept q d l = refl
+    after_reply-blocked : (buffered : List ℕ) (q : Answer) (d : Phase) (l : List ℕ)
+        → conn.after_reply (conn-at buffered q d) (reply.Refused no.WouldBlock) l ≡ conn-at buffered q d
+    after_reply-blocked buffered q phase.Receiving l = refl
+    after_reply-blocked buffered q d l = refl
 
     blocked : r ≡ reply.Refused no.WouldBlock → n ≡ m
         → all_left longest places conns n (filed worker_set.count after next r received) ≤ all_left longest places conns
@@ -272,10 +275,10 @@ module _ (site_contents : SiteContents) (worker_set : WorkerSet) (laws : AllLaws
             ap (λ (b : Bool). after_reply b (first_free worker_set.count readied) (of ready.0 None script) r received)
             (sym fixed.scripts)
             ∙ (ap (λ (b : Bool). file_after_reply b (of ready.0 None script) r received)
-            (no-script site_contents.scripts ready.0.q files)
+            (no-script site_contents.scripts ready.0.request files)
             ∙ (ap (λ (z : Reply). of (conn.after_reply ready.0 z received) None script) blocks
             ∙ ap (λ (z : Conn). of z None script)
-            (after_reply-blocked ready.0.kept ready.0.q ready.0.phase received)))
+            (after_reply-blocked ready.0.buffered ready.0.request ready.0.phase received)))
 
         each : (gd : ℕ) → place_turns longest m (with_at readied fd (left_over (of ready.0 None script))) gd
             ≤ place_turns longest m readied gd

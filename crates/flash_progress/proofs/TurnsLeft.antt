@@ -20,7 +20,7 @@ use Rattle.iol_laws.specs.Reasons.{IsHidden}
 use Rattle.iol_proc.specs.declared.process_slot.ProcessSlot.{ProcessSlot}
 use Rattle.flash_http.specs.Request.{Answer, serve, refuse}
 use Rattle.flash_laws.specs.Client as client
-use Rattle.flash_laws.specs.Client.{Client, new_client, wants, Readies, is_for_script, after_reply, left_over}
+use Rattle.flash_laws.specs.Client.{Client, new_client, next_call, Readies, is_for_script, after_reply, left_over}
 use Rattle.flash_laws.specs.Client.{IsAwaiting}
 use Rattle.flash_laws.specs.Client.Fits.{IsProper, Finds, FitsAlone, Fits, expected_in}
 use Rattle.flash_laws.specs.Client.Holdings.{has_fd}
@@ -132,13 +132,13 @@ pub record AreShort (site_contents : SiteContents) (longest : ℕ) : Type 0 wher
 abbrev pub HasRoom : State → Type 0
 HasRoom m = (q : Answer) (k : Payload) → IsProper q → ContentIsShort k → HasPlaceFor m (text_of q k)
 
-pub can-make : (site_contents : SiteContents) (m : State) (fd : ℕ) (kept : List ℕ) (q : Answer) (script : List ℕ)
+pub can-make : (site_contents : SiteContents) (m : State) (fd : ℕ) (buffered : List ℕ) (q : Answer) (script : List ℕ)
     (d : Phase) → IsProper q → Finds site_contents m q script d
-    → HasRoom m → CanMake m (conn.wants fd (at kept q d))
-can-make site_contents m fd kept q script (phase.MakingHead k) fine finds room = room q k fine finds
-can-make site_contents m fd kept q script (phase.Reading f) fine finds room =
+    → HasRoom m → CanMake m (conn.next_call fd (at buffered q d))
+can-make site_contents m fd buffered q script (phase.MakingHead k) fine finds room = room q k fine finds
+can-make site_contents m fd buffered q script (phase.Reading f) fine finds room =
     either-way (λ (k : Call). CanMake m k) (conn.is_head_only q) tt tt
-can-make site_contents m fd kept q script d fine finds room = tt
+can-make site_contents m fd buffered q script d fine finds room = tt
 
 pub expected-short : (site_contents : SiteContents) (longest : ℕ) (q : Answer) (expected : List ℕ) (d : Phase)
     → IsProper q → AreShort site_contents longest → MayBeExpected site_contents q expected
@@ -150,12 +150,12 @@ expected-short site_contents longest q expected d fine short may = by (is_read d
     by false = short.short q expected fine may
 
 -- the request stays
-same-request : (kept : List ℕ) (q : Answer) (d : Phase) (r : Reply) (received : List ℕ)
-    → (conn.after_reply (at kept q d) r received).q ≡ q
-same-request kept q phase.Receiving (reply.Agg a) [] = refl
-same-request kept q phase.Receiving (reply.Agg a) (b ∷ received) = refl
-same-request kept q phase.Receiving r received = refl
-same-request kept q d r received = refl
+same-request : (buffered : List ℕ) (q : Answer) (d : Phase) (r : Reply) (received : List ℕ)
+    → (conn.after_reply (at buffered q d) r received).request ≡ q
+same-request buffered q phase.Receiving (reply.Agg a) [] = refl
+same-request buffered q phase.Receiving (reply.Agg a) (b ∷ received) = refl
+same-request buffered q phase.Receiving r received = refl
+same-request buffered q d r received = refl
 
 -- one that is over is forgotten
 pub left-most : (longest unread : ℕ) (d : Phase) (x : Client)
@@ -173,7 +173,7 @@ module _ (site_contents : SiteContents) (worker_set : WorkerSet) (laws : AllLaws
     (fit : AllFit site_contents worker_set m p clients process_slots)
     (there : in_place clients fd ≡ Some (of cn None script)) (waits : IsAwaiting (of cn None script))
     (among : IsAmong site_contents.refuses.of_server r)
-    (step : StepsTo m (event.Call server (wants site_contents.scripts fd (of cn None script))) r n)
+    (step : StepsTo m (event.Call server (next_call site_contents.scripts fd (of cn None script))) r n)
     (names : Names n r received) where
   abbrev c : ℕ
   c = (fit.each fd (of cn None script) there).conn
@@ -183,17 +183,17 @@ module _ (site_contents : SiteContents) (worker_set : WorkerSet) (laws : AllLaws
       (of cn None script)
   f = (fit.each fd (of cn None script) there).fits
 
-  plain : is_for_script site_contents.scripts cn.q ≡ false
-  plain = no-script site_contents.scripts cn.q files
+  plain : is_for_script site_contents.scripts cn.request ≡ false
+  plain = no-script site_contents.scripts cn.request files
 
-  calls : wants site_contents.scripts fd (of cn None script) ≡ conn.wants fd cn
-  calls = ap (λ (b : Bool). client.conn_wants b fd cn) plain
+  calls : next_call site_contents.scripts fd (of cn None script) ≡ conn.next_call fd cn
+  calls = ap (λ (b : Bool). client.conn_call b fd cn) plain
 
   reports : (worker : ℕ) → after_reply site_contents.scripts worker (of cn None script) r received
       ≡ of (conn.after_reply cn r received) None script
   reports worker = ap (λ (b : Bool). client.file_after_reply b (of cn None script) r received) plain
 
-  step_is : StepsTo m (event.Call server (conn.wants fd cn)) r n
+  step_is : StepsTo m (event.Call server (conn.next_call fd cn)) r n
   step_is = subst (λ (k : Call). StepsTo m (event.Call server k) r n) calls step
 
   after-fits : is_closing cn.phase ≡ false
@@ -218,7 +218,7 @@ module _ (site_contents : SiteContents) (worker_set : WorkerSet) (laws : AllLaws
       ∙ by r (laws.the.own.closes_conn m n server fd c r order open_on did) did
     where
       did : StepsTo m (event.Call server (call.Close fd)) r n
-      did = subst (λ (d : Phase). StepsTo m (event.Call server (conn.wants fd (record cn { phase = d }))) r n) is
+      did = subst (λ (d : Phase). StepsTo m (event.Call server (conn.next_call fd (record cn { phase = d }))) r n) is
           step_is
 
       by : (r : Reply) → o.ClosesConn m c r n → StepsTo m (event.Call server (call.Close fd)) r n
@@ -228,14 +228,14 @@ module _ (site_contents : SiteContents) (worker_set : WorkerSet) (laws : AllLaws
           absurd (laws.left.closes m n server fd (on.Connection c) z fixed.site.lives open_on step)
       by r did step = absurd did
 
-  alone : CallsAlone m fd c (of cn None script) (wants site_contents.scripts fd (of cn None script))
+  alone : CallsAlone m fd c (of cn None script) (next_call site_contents.scripts fd (of cn None script))
   alone = calls-alone site_contents worker_set laws m (p.came c) (p.sent c) fd c process_slots cn None script f
 
   -- a descriptor on another connection stays
   untouched : (gd k : ℕ) → fd ≢ gd → descriptor m server gd ≡ Some (on.Connection k)
-      → touches_fd m (event.Call server (wants site_contents.scripts fd (of cn None script))) server gd ≡ false
+      → touches_fd m (event.Call server (next_call site_contents.scripts fd (of cn None script))) server gd ≡ false
   untouched gd k differ opened =
-      no-true (touches_fd m (event.Call server (wants site_contents.scripts fd (of cn None script))) server gd)
+      no-true (touches_fd m (event.Call server (next_call site_contents.scripts fd (of cn None script))) server gd)
       (λ u. elim (alone.fds gd u) [
         | inl has ↦ not-conn has
         | inr here ↦ differ here
@@ -252,7 +252,8 @@ module _ (site_contents : SiteContents) (worker_set : WorkerSet) (laws : AllLaws
   stays-open : (gd k : ℕ) → fd ≢ gd → descriptor m server gd ≡ Some (on.Connection k)
       → descriptor n server gd ≡ Some (on.Connection k)
   stays-open gd k differ opened =
-      (laws.the.steps.leaves m n (event.Call server (wants site_contents.scripts fd (of cn None script))) r step).fds
+      (laws.the.steps.leaves m n (event.Call server (next_call site_contents.scripts fd (of cn None script))) r
+      step).fds
       server gd (on.Connection k) opened (untouched gd k differ opened)
 
   module _ (sure : is_later r ≡ false)
@@ -262,20 +263,23 @@ module _ (site_contents : SiteContents) (worker_set : WorkerSet) (laws : AllLaws
       (seen : (c q : ℕ) → descriptor m server fd ≡ Some (on.Connection c) → IsHidden m server q (conn_at m c).incoming
       → ⊥) where
     expected-after : (b : Bool) → is_closing cn.phase ≡ b → (expected : List ℕ) × (length expected ≤ longest)
-        × (is_closing cn.phase ≡ false → Has n cn.q expected (conn.after_reply cn r received).phase)
+        × (is_closing cn.phase ≡ false → Has n cn.request expected (conn.after_reply cn r received).phase)
     expected-after true is = ([], omega arith, λ going. absurd (let e = sym is ∙ going in cc (e)))
     expected-after false is =
         let g = after-fits is in (
-          expected_in g.expected (conn.after_reply cn r received).q (conn.after_reply cn r received).phase,
-          expected-short site_contents longest (conn.after_reply cn r received).q g.expected
+          expected_in g.expected (conn.after_reply cn r received).request (conn.after_reply cn r received).phase,
+          expected-short site_contents longest (conn.after_reply cn r received).request g.expected
               (conn.after_reply cn r received).phase
-              (subst (λ (q : Answer). IsProper q) (sym (same-request cn.kept cn.q cn.phase r received)) f.proper) short
+              (subst (λ (q : Answer). IsProper q) (sym (same-request cn.buffered cn.request cn.phase r received))
+              f.proper) short
               g.may,
           λ going.
               subst
               (λ (q : Answer).
-              Has n q (expected_in g.expected (conn.after_reply cn r received).q (conn.after_reply cn r received).phase)
-              (conn.after_reply cn r received).phase) (same-request cn.kept cn.q cn.phase r received) g.has,
+              Has n q
+              (expected_in g.expected (conn.after_reply cn r received).request
+              (conn.after_reply cn r received).phase)
+              (conn.after_reply cn r received).phase) (same-request cn.buffered cn.request cn.phase r received) g.has,
         )
 
     abbrev before : ℕ
@@ -289,10 +293,11 @@ module _ (site_contents : SiteContents) (worker_set : WorkerSet) (laws : AllLaws
     falls =
         let expected = expected-after (is_closing cn.phase) refl in
         turn-falls laws.the.own laws.left laws.the.reasons laws.the.windows m n longest fd c order fixed.site.lives
-        open_on cn.kept cn.q cn.phase (expected_in f.expected cn.q cn.phase) expected.0 r received expected.1
+        open_on cn.buffered cn.request cn.phase (expected_in f.expected cn.request cn.phase) expected.0 r received
+        expected.1
         (none_come c)
         (λ q. seen c q open_on) f.has expected.2
-        (can-make site_contents m fd cn.kept cn.q script cn.phase f.proper f.finds room) step_is names sure
+        (can-make site_contents m fd cn.buffered cn.request script cn.phase f.proper f.finds room) step_is names sure
 
     -- in its place
     here-before : place_turns longest m clients fd ≡ conn_turns longest before cn
@@ -317,7 +322,7 @@ module _ (site_contents : SiteContents) (worker_set : WorkerSet) (laws : AllLaws
             (conn.after_reply cn r received)
         closes phase.Disconnecting is closing = gone (conn.after_reply cn r received).phase refl (closed is)
         closes phase.Closed is closing =
-            absurd (subst (λ (d : Phase). Has m cn.q (expected_in f.expected cn.q d) d) is f.has)
+            absurd (subst (λ (d : Phase). Has m cn.request (expected_in f.expected cn.request d) d) is f.has)
         closes d is closing = absurd (cc (closing))
 
         which : (b : Bool) → is_closing cn.phase ≡ b
@@ -344,17 +349,17 @@ module _ (site_contents : SiteContents) (worker_set : WorkerSet) (laws : AllLaws
             let opened : descriptor m server gd ≡ Some (on.Connection k) =
             opens-on site_contents worker_set laws m (p.came k) (p.sent k) gd k process_slots y.conn y.run y.script
             at_y.fits in
-            let kept : descriptor n server gd ≡ Some (on.Connection k) = stays-open gd k differ opened in
+            let buffered : descriptor n server gd ≡ Some (on.Connection k) = stays-open gd k differ opened in
             let other : c ≢ k =
             (λ e.
             differ
             (order.one server server fd gd (on.Connection k) refl (open_on
             ∙ ap (λ (z : ℕ). Some (on.Connection z)) e) opened).1) in
-            ap (λ (x : Option Descriptor). length (conn_at n (conn_of x)).incoming) kept
+            ap (λ (x : Option Descriptor). length (conn_at n (conn_of x)).incoming) buffered
             ∙ (ap (λ (z : Connection). length z.incoming)
-            ((laws.the.steps.leaves m n (event.Call server (wants site_contents.scripts fd (of cn None script))) r
+            ((laws.the.steps.leaves m n (event.Call server (next_call site_contents.scripts fd (of cn None script))) r
             step).conns k
-            (no-true (touches_conn m (event.Call server (wants site_contents.scripts fd (of cn None script))) k)
+            (no-true (touches_conn m (event.Call server (next_call site_contents.scripts fd (of cn None script))) k)
             (λ u. other (alone.conns k u))))
             ∙ sym (ap (λ (x : Option Descriptor). length (conn_at m (conn_of x)).incoming) opened))
 
@@ -380,13 +385,14 @@ module _ (site_contents : SiteContents) (worker_set : WorkerSet) (laws : AllLaws
       | inl same ↦ subst (λ (z : ℕ). accept_step_turns longest n z ≤ accept_step_turns longest m z) same
           (subst (λ (b : Bool). (if b then 0 else unread_turns longest (length (conn_at n c).incoming) + 7)
           ≤ accept_step_turns longest m c)
-          (sym (laws.the.other.accepted m n server (wants site_contents.scripts fd (of cn None script)) r c order step
+          (sym (laws.the.other.accepted m n server (next_call site_contents.scripts fd (of cn None script)) r c order
+          step
           (held-open m fd c order open_on).0)) (omega arith))
       | inr differ ↦
           (let is =
-          (laws.the.steps.leaves m n (event.Call server (wants site_contents.scripts fd (of cn None script))) r
+          (laws.the.steps.leaves m n (event.Call server (next_call site_contents.scripts fd (of cn None script))) r
           step).conns k
-          (no-true (touches_conn m (event.Call server (wants site_contents.scripts fd (of cn None script))) k)
+          (no-true (touches_conn m (event.Call server (next_call site_contents.scripts fd (of cn None script))) k)
           (λ u. differ (alone.conns k u))) in
           let e = ap (λ (z : Connection). if z.accepted then 0 else unread_turns longest (length z.incoming) + 7) is in
           omega (arith, e))
@@ -486,12 +492,12 @@ module _ (site_contents : SiteContents) (worker_set : WorkerSet) (laws : AllLaws
           let opened : descriptor m server gd ≡ Some (on.Connection k) =
           opens-on site_contents worker_set laws m (p.came k) (p.sent k) gd k process_slots y.conn y.run y.script
           at_y.fits in
-          let kept : descriptor n server gd ≡ Some (on.Connection k) =
+          let buffered : descriptor n server gd ≡ Some (on.Connection k) =
           (laws.the.steps.leaves m n (event.Call server call.Accept) (reply.Fd fd) step).fds server gd
           (on.Connection k) opened refl in
           let other : takes.conn ≢ k = (λ e. let w = ap (λ (z : ℕ). (conn_at m z).accepted) (sym e) ∙ takes.waited in
           let a = (held-open m gd k order opened).0 in cc (w, a)) in
-          ap (λ (x : Option Descriptor). length (conn_at n (conn_of x)).incoming) kept
+          ap (λ (x : Option Descriptor). length (conn_at n (conn_of x)).incoming) buffered
           ∙ (ap (λ (z : Connection). length z.incoming) (takes.others k other)
           ∙ sym (ap (λ (x : Option Descriptor). length (conn_at m (conn_of x)).incoming) opened))
 

@@ -42,7 +42,7 @@ unread_at m fd = length (conn_at m (conn_of (descriptor m server fd))).incoming
 -- the turns of the client at an index, by the buffered and the unread bytes of its stream
 abbrev pub turns_of : (longest unread : ℕ) → Option Client → ℕ
 turns_of longest unread None = 0
-turns_of longest unread (Some x) = turns_for longest (length x.conn.kept + unread)
+turns_of longest unread (Some x) = turns_for longest (length x.conn.buffered + unread)
 
 abbrev pub turns_at : (longest : ℕ) → State → List (Option Client) → (fd : ℕ) → ℕ
 turns_at longest m clients fd = turns_of longest (unread_at m fd) (in_place clients fd)

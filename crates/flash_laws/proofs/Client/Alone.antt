@@ -19,7 +19,7 @@ use Rattle.iol_laws.specs.Frame.{EachStepLeavesTheRest}
 use Rattle.iol_laws.specs.Order.{IsOrderly}
 use Rattle.flash_http.specs.Request.{Answer, serve, refuse, Wanted}
 use Rattle.flash_laws.specs.Answers.{Outcome, Failed, script_text}
-use Rattle.flash_laws.specs.Client.{Client, is_for_script, conn_wants, can_run, kept_if, after_drop_whole}
+use Rattle.flash_laws.specs.Client.{Client, is_for_script, conn_call, can_run, buffered_if, after_drop_whole}
 use Rattle.flash_laws.specs.Client.{conn_after_reply, file_after_reply}
 use Rattle.flash_laws.specs.Client.OfferedBytes.{ConnLearns}
 use Rattle.flash_laws.specs.Conn as conn
@@ -49,42 +49,43 @@ untrue true never = absurd (never refl)
 untrue false never = refl
 
 -- with nothing being sent, nothing begins to be sent
-silent-after_reply : (kept : List ℕ) (q : Answer) (d : Phase) (r : Reply) (received : List ℕ) → is_silent d ≡ true
+silent-after_reply : (buffered : List ℕ) (q : Answer) (d : Phase) (r : Reply) (received : List ℕ) → is_silent d ≡ true
     → is_read d ≡ false → is_closing d ≡ false
-    → is_silent (conn.after_reply (at kept q d) r received).phase ≡ true
-silent-after_reply kept q Receiving (reply.Agg n) [] silent unread busy = refl
-silent-after_reply kept q Receiving (reply.Agg n) (b ∷ received) silent unread busy = refl
-silent-after_reply kept q Receiving r received silent unread busy = refl
-silent-after_reply kept q (DroppingInput a) reply.Done received silent unread busy = refl
-silent-after_reply kept q (DroppingInput a) r received silent unread busy = refl
-silent-after_reply kept q (AbortingPiece piece a more) reply.Done received silent unread busy = refl
-silent-after_reply kept q (AbortingPiece piece a more) r received silent unread busy = refl
-silent-after_reply kept q (Aborting a None) reply.Done received silent unread busy = refl
-silent-after_reply kept q (Aborting a (Some x)) reply.Done received silent unread busy = refl
-silent-after_reply kept q (Aborting a more) r received silent unread busy = refl
-silent-after_reply kept q (ClosingFile f (TextOf a true)) r received silent unread busy = absurd (cc (unread))
-silent-after_reply kept q (DroppingWhole a Script) r received silent unread busy = absurd (cc (unread))
-silent-after_reply kept q Disconnecting r received silent unread busy = absurd (cc (busy))
-silent-after_reply kept q d r received silent unread busy = absurd (cc (silent))
+    → is_silent (conn.after_reply (at buffered q d) r received).phase ≡ true
+silent-after_reply buffered q Receiving (reply.Agg n) [] silent unread busy = refl
+silent-after_reply buffered q Receiving (reply.Agg n) (b ∷ received) silent unread busy = refl
+silent-after_reply buffered q Receiving r received silent unread busy = refl
+silent-after_reply buffered q (DroppingInput a) reply.Done received silent unread busy = refl
+silent-after_reply buffered q (DroppingInput a) r received silent unread busy = refl
+silent-after_reply buffered q (AbortingPiece piece a more) reply.Done received silent unread busy = refl
+silent-after_reply buffered q (AbortingPiece piece a more) r received silent unread busy = refl
+silent-after_reply buffered q (Aborting a None) reply.Done received silent unread busy = refl
+silent-after_reply buffered q (Aborting a (Some x)) reply.Done received silent unread busy = refl
+silent-after_reply buffered q (Aborting a more) r received silent unread busy = refl
+silent-after_reply buffered q (ClosingFile f (TextOf a true)) r received silent unread busy = absurd (cc (unread))
+silent-after_reply buffered q (DroppingWhole a Script) r received silent unread busy = absurd (cc (unread))
+silent-after_reply buffered q Disconnecting r received silent unread busy = absurd (cc (busy))
+silent-after_reply buffered q d r received silent unread busy = absurd (cc (silent))
 
 -- after a run nothing more is taken of its response
-after-after_reply : (w : Wanted) (o : Progress) (kept : List ℕ) (d : Phase) (r : Reply) (received : List ℕ)
+after-after_reply : (w : Wanted) (o : Progress) (buffered : List ℕ) (d : Phase) (r : Reply) (received : List ℕ)
     → is_silent d ≡ true → is_read d ≡ false → is_closing d ≡ false
-    → IsAfter w o d → IsAfter w o (conn.after_reply (at kept (serve w) d) r received).phase
-after-after_reply w o kept Receiving (reply.Agg n) [] silent unread busy after = all-taken w o after.0
-after-after_reply w o kept Receiving (reply.Agg n) (b ∷ received) silent unread busy after = after
-after-after_reply w o kept Receiving r received silent unread busy after = after
-after-after_reply w o kept (DroppingInput a) reply.Done received silent unread busy after = after
-after-after_reply w o kept (DroppingInput a) r received silent unread busy after = after
-after-after_reply w o kept (AbortingPiece piece a more) reply.Done received silent unread busy after = after
-after-after_reply w o kept (AbortingPiece piece a more) r received silent unread busy after = after
-after-after_reply w o kept (Aborting a None) reply.Done received silent unread busy after = after
-after-after_reply w o kept (Aborting a (Some x)) reply.Done received silent unread busy after = after
-after-after_reply w o kept (Aborting a more) r received silent unread busy after = after
-after-after_reply w o kept (ClosingFile f (TextOf a true)) r received silent unread busy after = absurd (cc (unread))
-after-after_reply w o kept (DroppingWhole a Script) r received silent unread busy after = absurd (cc (unread))
-after-after_reply w o kept Disconnecting r received silent unread busy after = absurd (cc (busy))
-after-after_reply w o kept d r received silent unread busy after = absurd (cc (silent))
+    → IsAfter w o d → IsAfter w o (conn.after_reply (at buffered (serve w) d) r received).phase
+after-after_reply w o buffered Receiving (reply.Agg n) [] silent unread busy after = all-taken w o after.0
+after-after_reply w o buffered Receiving (reply.Agg n) (b ∷ received) silent unread busy after = after
+after-after_reply w o buffered Receiving r received silent unread busy after = after
+after-after_reply w o buffered (DroppingInput a) reply.Done received silent unread busy after = after
+after-after_reply w o buffered (DroppingInput a) r received silent unread busy after = after
+after-after_reply w o buffered (AbortingPiece piece a more) reply.Done received silent unread busy after = after
+after-after_reply w o buffered (AbortingPiece piece a more) r received silent unread busy after = after
+after-after_reply w o buffered (Aborting a None) reply.Done received silent unread busy after = after
+after-after_reply w o buffered (Aborting a (Some x)) reply.Done received silent unread busy after = after
+after-after_reply w o buffered (Aborting a more) r received silent unread busy after = after
+after-after_reply w o buffered (ClosingFile f (TextOf a true)) r received silent unread busy after =
+    absurd (cc (unread))
+after-after_reply w o buffered (DroppingWhole a Script) r received silent unread busy after = absurd (cc (unread))
+after-after_reply w o buffered Disconnecting r received silent unread busy after = absurd (cc (busy))
+after-after_reply w o buffered d r received silent unread busy after = absurd (cc (silent))
 
 -- the text of a script has run
 pub no-text : (b : Bool) (w : Wanted) (x : Client) (text : List ℕ) (o : Progress) → b ≡ false → IsAfter w o x.conn.phase
@@ -100,9 +101,9 @@ run-is-over false w x text o is reads = reads
 module _ (steps : EachStepLeavesTheRest) (own : CallsServeTheirDomain) (files : FileCallsServeTheirDomain)
     (scripts : Bool)
     (m n : State) (order : IsOrderly m) (access : HasAccess m) (lives : is_live m server ≡ true) (fd c : ℕ)
-    (open_on : descriptor m server fd ≡ Some (on.Connection c)) (kept script : List ℕ) where
+    (open_on : descriptor m server fd ≡ Some (on.Connection c)) (buffered script : List ℕ) where
   abbrev of_phase : Answer → Phase → Client
-  of_phase q d = client (at kept q d) None script
+  of_phase q d = client (at buffered q d) None script
 
   -- what is known after a reply, with which the machine has what is needed
   abbrev AfterReply : (b : Bool) → Answer → Phase → Reply → (received : List ℕ) → Known → Type 0
@@ -117,12 +118,20 @@ module _ (steps : EachStepLeavesTheRest) (own : CallsServeTheirDomain) (files : 
 
   file-on : (q : Answer) (d : Phase) (r : Reply) (received : List ℕ) (before : Outcome) → is_closing d ≡ false
       → HasFile m (of_phase q d) before
-      → StepsTo m (event.Call server (conn.wants fd (at kept q d))) r n → Names n r received
+      → StepsTo m (event.Call server (conn.next_call fd (at buffered q d))) r n → Names n r received
       → AfterReplyOfFile q d r received before
   file-on q d r received before busy has step names =
-      let got = offering.replied steps own files m n order lives kept fd c q d r received before access open_on busy
-      has.has step names in
-      (got.0, got.1, record { none = refl; unread = unread-after_reply kept q d r received has.unread; has = got.2 })
+      let got = offering.replied steps own files m n order lives buffered fd c q d r received before access open_on busy
+      has.has step names in (
+        got.0,
+        got.1,
+        record {
+          none = refl;
+          unread = unread-after_reply buffered q d r received has.unread;
+          has =
+              got.2;
+        },
+      )
 
   -- the text of a script is read
   text-read : (w : Wanted) (g i pos : ℕ) (r : Reply) (received : List ℕ) (before : Outcome)
@@ -137,13 +146,13 @@ module _ (steps : EachStepLeavesTheRest) (own : CallsServeTheirDomain) (files : 
           (i, pos, subst (λ (s : State). descriptor s server g ≡ Some (on.File i pos modes.Read)) (sym same) opened)
 
       sends : (a : ℕ) (h : Bool)
-          → known.Sends h w (record { conn = at kept (serve w) (ClosingFile g (TextOf a true)); run = None; script = kept_if h true received }) received nothing_yet
+          → known.Sends h w (record { conn = at buffered (serve w) (ClosingFile g (TextOf a true)); run = None; script = buffered_if h true received }) received nothing_yet
       sends a true = refl
-      sends a false = (refl, record { kept = refl; fresh = refl })
+      sends a false = (refl, record { buffered = refl; fresh = refl })
 
       text : (a : ℕ) → IsFile n g → readable_at n server a ≡ Some received → (b : Bool)
           → (after : Known) × (after ≡ (if b then OfScript received nothing_yet else OfFile (Failed 500)))
-          × HasKnown scripts n (record { conn = at kept (serve w) (ClosingFile g (TextOf a b)); run = None; script = kept_if w.head_only b received }) after
+          × HasKnown scripts n (record { conn = at buffered (serve w) (ClosingFile g (TextOf a b)); run = None; script = buffered_if w.head_only b received }) after
       text a is is_readable true = (
         OfScript received nothing_yet,
         refl,
@@ -195,7 +204,7 @@ module _ (steps : EachStepLeavesTheRest) (own : CallsServeTheirDomain) (files : 
   -- a request for a script, of which no text that runs is read
   script-on : (q : Answer) (d : Phase) (r : Reply) (received : List ℕ) (before : Outcome)
       → is_for_script scripts q ≡ true → is_closing d ≡ false
-      → HasFile m (of_phase q d) before → StepsTo m (event.Call server (conn_wants true fd (at kept q d))) r n
+      → HasFile m (of_phase q d) before → StepsTo m (event.Call server (conn_call true fd (at buffered q d))) r n
       → Names n r received
       → AfterReply true q d r received (OfFile before)
   script-on (refuse status head_only close) d r received before for_script busy has step names =
@@ -211,7 +220,7 @@ module _ (steps : EachStepLeavesTheRest) (own : CallsServeTheirDomain) (files : 
 
   pub of-file : (q : Answer) (d : Phase) (r : Reply) (received : List ℕ) (before : Outcome) (b : Bool)
       → is_for_script scripts q ≡ b → is_closing d ≡ false
-      → HasFile m (of_phase q d) before → StepsTo m (event.Call server (conn_wants b fd (at kept q d))) r n
+      → HasFile m (of_phase q d) before → StepsTo m (event.Call server (conn_call b fd (at buffered q d))) r n
       → Names n r received
       → AfterReply b q d r received (OfFile before)
   of-file q d r received before true for_script busy has step names =
@@ -229,21 +238,22 @@ module _ (steps : EachStepLeavesTheRest) (own : CallsServeTheirDomain) (files : 
     Goes d = HasNoRun scripts n w (conn_after_reply (of_phase (serve w) d) r received) text o
 
     phase : (d : Phase) → Was d → is_closing d ≡ false
-        → StepsTo m (event.Call server (conn.wants fd (at kept (serve w) d))) r n → Names n r received
-        → Has n (serve w) (script_text w) (conn.after_reply (at kept (serve w) d) r received).phase
+        → StepsTo m (event.Call server (conn.next_call fd (at buffered (serve w) d))) r n → Names n r received
+        → Has n (serve w) (script_text w) (conn.after_reply (at buffered (serve w) d) r received).phase
     phase d has busy step names =
-        having.phase steps own m n order kept fd c (serve w) d (script_text w) r received open_on has.read busy has.has
+        having.phase steps own m n order buffered fd c (serve w) d (script_text w) r received open_on has.read busy
+        has.has
         step names
 
     -- with no text that is still to run
     plain-on : (d : Phase) → Was d → is_read d ≡ false → is_closing d ≡ false
-        → StepsTo m (event.Call server (conn.wants fd (at kept (serve w) d))) r n
+        → StepsTo m (event.Call server (conn.next_call fd (at buffered (serve w) d))) r n
         → Names n r received → Goes d
     plain-on d has unread busy step names = record {
       script =
-          λ read. absurd (clash (is_read (conn.after_reply (at kept (serve w) d) r received).phase) read
-          (unread-after_reply kept (serve w) d r received unread));
-      read = read-after_reply kept (serve w) d r received has.read;
+          λ read. absurd (clash (is_read (conn.after_reply (at buffered (serve w) d) r received).phase) read
+          (unread-after_reply buffered (serve w) d r received unread));
+      read = read-after_reply buffered (serve w) d r received has.read;
       has = phase d has busy step names;
       sends = sends w.head_only has.sends;
     }
@@ -252,11 +262,11 @@ module _ (steps : EachStepLeavesTheRest) (own : CallsServeTheirDomain) (files : 
             → known.Sends h w (conn_after_reply (of_phase (serve w) d) r received) text o
         sends true fresh = fresh
         sends false was = (
-          silent-after_reply kept (serve w) d r received was.0 unread busy,
-          no-text (is_read (conn.after_reply (at kept (serve w) d) r received).phase) w
+          silent-after_reply buffered (serve w) d r received was.0 unread busy,
+          no-text (is_read (conn.after_reply (at buffered (serve w) d) r received).phase) w
               (conn_after_reply (of_phase (serve w) d) r received) text o
-              (unread-after_reply kept (serve w) d r received unread)
-              (after-after_reply w o kept d r received was.0 unread busy
+              (unread-after_reply buffered (serve w) d r received unread)
+              (after-after_reply w o buffered d r received was.0 unread busy
               (run-is-over (is_read d) w (of_phase (serve w) d) text o unread was.1)),
         )
 
@@ -265,7 +275,7 @@ module _ (steps : EachStepLeavesTheRest) (own : CallsServeTheirDomain) (files : 
         → StepsTo m (event.Call server (call.Close g)) r n → Names n r received → Goes (ClosingFile g (TextOf a true))
     shut-on g a for_script has step names = record {
       script = λ read. for_script;
-      read = read-after_reply kept (serve w) (ClosingFile g (TextOf a true)) r received refl;
+      read = read-after_reply buffered (serve w) (ClosingFile g (TextOf a true)) r received refl;
       has = phase (ClosingFile g (TextOf a true)) has refl step names;
       sends = sends w.head_only r has.sends;
     }
@@ -273,14 +283,14 @@ module _ (steps : EachStepLeavesTheRest) (own : CallsServeTheirDomain) (files : 
         sends : (h : Bool) (r : Reply) → known.Sends h w (of_phase (serve w) (ClosingFile g (TextOf a true))) text o
             → known.Sends h w (conn_after_reply (of_phase (serve w) (ClosingFile g (TextOf a true))) r received) text o
         sends true r fresh = fresh
-        sends false reply.Done was = (refl, record { kept = was.1.kept; fresh = was.1.fresh })
-        sends false r was = (refl, record { kept = was.1.kept; fresh = was.1.fresh })
+        sends false reply.Done was = (refl, record { buffered = was.1.buffered; fresh = was.1.fresh })
+        sends false r was = (refl, record { buffered = was.1.buffered; fresh = was.1.fresh })
 
     -- its aggregate is dropped: for GET the run begins
     spared-on : (a : ℕ) → is_for_script scripts (serve w) ≡ true → Was (DroppingWhole a Script)
         → StepsTo m (event.Call server (call.AggDrop a)) r n
         → HasKnown scripts n (record {
-          conn = conn.after_reply (at kept (serve w) (DroppingWhole a Script)) r received;
+          conn = conn.after_reply (at buffered (serve w) (DroppingWhole a Script)) r received;
           run =
               after_drop_whole w.head_only r;
           script = script;
@@ -290,7 +300,7 @@ module _ (steps : EachStepLeavesTheRest) (own : CallsServeTheirDomain) (files : 
         by : (r : Reply) → caller.Drops m server a r n → (h : Bool) → w.head_only ≡ h
             → known.Sends h w (of_phase (serve w) (DroppingWhole a Script)) text o
             → HasKnown scripts n (record {
-              conn = conn.after_reply (at kept (serve w) (DroppingWhole a Script)) r received;
+              conn = conn.after_reply (at buffered (serve w) (DroppingWhole a Script)) r received;
               run = after_drop_whole h r;
               script = script;
             }) (OfScript text o)
@@ -299,10 +309,12 @@ module _ (steps : EachStepLeavesTheRest) (own : CallsServeTheirDomain) (files : 
           read = refl;
           has = refl;
           sends =
-              subst (λ h. known.Sends h w (client (at kept (serve w) (MakingHead Script)) None script) text o) (sym is)
+              subst (λ h. known.Sends h w (client (at buffered (serve w) (MakingHead Script)) None script) text o)
+              (sym is)
               sends;
         }
-        by reply.Done did false is sends = record { answers = is; has = sends.1.fresh; kept = λ keeps. sends.1.kept }
+        by reply.Done did false is sends =
+            record { answers = is; has = sends.1.fresh; buffered = λ keeps. sends.1.buffered }
         by (reply.Refused y) did true is sends =
             subst (λ (s : State). HasNoRun scripts s w (of_phase (serve w) (DroppingWhole a Script)) text o) (sym did)
             has
@@ -315,13 +327,13 @@ module _ (steps : EachStepLeavesTheRest) (own : CallsServeTheirDomain) (files : 
         → HasKnown scripts n (conn_after_reply (of_phase (serve w) d) r received) (OfScript text o)
     known-on d goes =
         subst (λ (q : Answer). known.HasScript scripts n (conn_after_reply (of_phase (serve w) d) r received) q text o)
-        (sym (asks-after_reply kept (serve w) d r received)) goes
+        (sym (asks-after_reply buffered (serve w) d r received)) goes
 
     unread-or : (d : Phase) → Was d → is_for_script scripts (serve w) ≡ false → is_read d ≡ false
     unread-or d has none = untrue (is_read d) (λ read. clash (is_for_script scripts (serve w)) (has.script read) none)
 
     pub of-script : (d : Phase) (b : Bool) → is_for_script scripts (serve w) ≡ b → is_closing d ≡ false → Was d
-        → StepsTo m (event.Call server (conn_wants b fd (at kept (serve w) d))) r n → Names n r received
+        → StepsTo m (event.Call server (conn_call b fd (at buffered (serve w) d))) r n → Names n r received
         → AfterReply b (serve w) d r received (OfScript text o)
     of-script d false for_script busy has step names =
         (OfScript text o, refl, known-on d (plain-on d has (unread-or d has for_script) busy step names))

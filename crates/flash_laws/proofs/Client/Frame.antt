@@ -6,10 +6,10 @@ use Rattle.iol_core.specs.declared.events.Call.TheVariants as call
 use Rattle.iol_core.specs.declared.events.Reply.{Reply}
 use Rattle.iol_core.specs.declared.events.Reply.TheVariants as reply
 use Rattle.flash_http.specs.Request.{Answer, serve, refuse}
-use Rattle.flash_laws.specs.Client.{Client, is_for_script, conn_wants, wants, can_run, kept_if, after_drop_whole}
+use Rattle.flash_laws.specs.Client.{Client, is_for_script, conn_call, next_call, can_run, buffered_if, after_drop_whole}
 use Rattle.flash_laws.specs.Client.{file_after_reply, keeps_text, text_on, proceeds, after_reply, Readies, new_client}
 use Rattle.flash_laws.specs.Client.Holdings.{HoldsNoOther}
-use Rattle.flash_laws.specs.Client.OfferedBytes.{kept_by}
+use Rattle.flash_laws.specs.Client.OfferedBytes.{buffered_after}
 use Rattle.flash_laws.specs.Conn as conn
 use Rattle.flash_laws.specs.Conn.{Conn, most_read, is_head_only}
 use Rattle.flash_laws.specs.declared.phase.FileResult.TheVariants.{Text as TextOf}
@@ -24,50 +24,52 @@ use Rattle.flash_laws.proofs.Forms.{at, of as client}
 
 -- ---- a script is read whole
 
-pub client-whole : (scripts : Bool) (fd f : ℕ) (kept : List ℕ) (q : Answer) (d : Phase) (run : Option Running)
+pub client-whole : (scripts : Bool) (fd f : ℕ) (buffered : List ℕ) (q : Answer) (d : Phase) (run : Option Running)
     (script : List ℕ) → run ≡ None
     → is_for_script scripts q ≡ true → d ≡ Reading f
-    → wants scripts fd (client (at kept q d) run script) ≡ call.IolRead f most_read
-client-whole scripts fd f kept q d None script none for_script reads =
-    ap (λ b. conn_wants b fd (at kept q d)) for_script ∙ ap (λ (e : Phase). conn_wants true fd (at kept q e)) reads
-client-whole scripts fd f kept q d (Some y) script none for_script reads = absurd (cc (none))
+    → next_call scripts fd (client (at buffered q d) run script) ≡ call.IolRead f most_read
+client-whole scripts fd f buffered q d None script none for_script reads =
+    ap (λ b. conn_call b fd (at buffered q d)) for_script
+    ∙ ap (λ (e : Phase). conn_call true fd (at buffered q e)) reads
+client-whole scripts fd f buffered q d (Some y) script none for_script reads = absurd (cc (none))
 
 -- ---- the request, and what is kept of the stream
 
 -- as one was, but for what is received of the stream
 abbrev Keeps : Client → Reply → (received : List ℕ) → Client → Type 0
-Keeps x r received y = (y.conn.q ≡ x.conn.q) × (y.conn.kept ≡ kept_by x r received)
+Keeps x r received y = (y.conn.request ≡ x.conn.request) × (y.conn.buffered ≡ buffered_after x r received)
 
-file-keeps : (kept : List ℕ) (q : Answer) (d : Phase) (script : List ℕ) (r : Reply) (received : List ℕ) (b : Bool)
-    → Keeps (client (at kept q d) None script) r received
-    (file_after_reply b (client (at kept q d) None script) r received)
-file-keeps kept q Receiving script (reply.Agg n) [] false = (refl, sym (append-nil kept))
-file-keeps kept q Receiving script (reply.Agg n) (c ∷ received) false = (refl, refl)
-file-keeps kept q (DroppingWhole a (Body b size len)) script r received false = (refl, refl)
-file-keeps kept q Receiving script (reply.Agg n) [] true = (refl, sym (append-nil kept))
-file-keeps kept q Receiving script (reply.Agg n) (c ∷ received) true = (refl, refl)
-file-keeps kept q (DroppingWhole a (Body b size len)) script r received true = (refl, refl)
-file-keeps kept q d script r received false = (refl, refl)
-file-keeps kept q d script r received true = (refl, refl)
+file-keeps : (buffered : List ℕ) (q : Answer) (d : Phase) (script : List ℕ) (r : Reply) (received : List ℕ) (b : Bool)
+    → Keeps (client (at buffered q d) None script) r received
+    (file_after_reply b (client (at buffered q d) None script) r received)
+file-keeps buffered q Receiving script (reply.Agg n) [] false = (refl, sym (append-nil buffered))
+file-keeps buffered q Receiving script (reply.Agg n) (c ∷ received) false = (refl, refl)
+file-keeps buffered q (DroppingWhole a (Body b size len)) script r received false = (refl, refl)
+file-keeps buffered q Receiving script (reply.Agg n) [] true = (refl, sym (append-nil buffered))
+file-keeps buffered q Receiving script (reply.Agg n) (c ∷ received) true = (refl, refl)
+file-keeps buffered q (DroppingWhole a (Body b size len)) script r received true = (refl, refl)
+file-keeps buffered q d script r received false = (refl, refl)
+file-keeps buffered q d script r received true = (refl, refl)
 
 -- a run leaves both as they are
-run-keeps : (x : Client) (y z : Running) (was over : Bool) → ((proceeds was over x y z).conn.q ≡ x.conn.q)
-    × ((proceeds was over x y z).conn.kept ≡ x.conn.kept)
+run-keeps : (x : Client) (y z : Running) (was over : Bool) → ((proceeds was over x y z).conn.request ≡ x.conn.request)
+    × ((proceeds was over x y z).conn.buffered ≡ x.conn.buffered)
 run-keeps x y z false true = (refl, refl)
 run-keeps x y z false false = (refl, refl)
 run-keeps x y z true true = (refl, refl)
 run-keeps x y z true false = (refl, refl)
 
-pub client-keeps : (scripts : Bool) (worker : ℕ) (kept : List ℕ) (q : Answer) (d : Phase) (run : Option Running)
+pub client-keeps : (scripts : Bool) (worker : ℕ) (buffered : List ℕ) (q : Answer) (d : Phase) (run : Option Running)
     (script : List ℕ) (r : Reply) (received : List ℕ)
-    → Keeps (client (at kept q d) run script) r received
-    (after_reply scripts worker (client (at kept q d) run script) r received)
-client-keeps scripts worker kept q d None script r received =
-    file-keeps kept q d script r received (is_for_script scripts q)
-client-keeps scripts worker kept (serve w) d (Some y) script r received =
-    run-keeps (client (at kept (serve w) d) (Some y) script) y (running.after_reply worker w y r received) (is_over y)
+    → Keeps (client (at buffered q d) run script) r received
+    (after_reply scripts worker (client (at buffered q d) run script) r received)
+client-keeps scripts worker buffered q d None script r received =
+    file-keeps buffered q d script r received (is_for_script scripts q)
+client-keeps scripts worker buffered (serve w) d (Some y) script r received =
+    run-keeps (client (at buffered (serve w) d) (Some y) script) y (running.after_reply worker w y r received)
+    (is_over y)
     (is_over (running.after_reply worker w y r received))
-client-keeps scripts worker kept (refuse status head_only close) d (Some y) script r received = (refl, refl)
+client-keeps scripts worker buffered (refuse status head_only close) d (Some y) script r received = (refl, refl)
 
 -- ---- of what script it holds the text
 
@@ -81,9 +83,9 @@ inner-false : (a : Bool) → (a && false) ≡ false
 inner-false false = refl
 inner-false true = refl
 
-module _ (scripts : Bool) (kept : List ℕ) (q : Answer) (script : List ℕ) where
+module _ (scripts : Bool) (buffered : List ℕ) (q : Answer) (script : List ℕ) where
   abbrev plain : Phase → Client
-  plain d = client (at kept q d) None script
+  plain d = client (at buffered q d) None script
 
   -- where no script's text was read none is held
   unheld : (d : Phase) → is_read d ≡ false → HoldsNoOther scripts (plain d) → script ≡ []
@@ -93,7 +95,7 @@ module _ (scripts : Bool) (kept : List ℕ) (q : Answer) (script : List ℕ) whe
 
   -- the text is kept that is to run
   read-holds : (f n : ℕ) (received : List ℕ) (b h runs : Bool) → b ≡ true
-      → (b && (not h && is_read (ClosingFile f (TextOf n runs)))) ≡ false → kept_if h runs received ≡ []
+      → (b && (not h && is_read (ClosingFile f (TextOf n runs)))) ≡ false → buffered_if h runs received ≡ []
   read-holds f n received b true runs is none = refl
   read-holds f n received b false false is none = refl
   read-holds f n received false false true is none = absurd (cc (is))
@@ -109,7 +111,7 @@ module _ (scripts : Bool) (kept : List ℕ) (q : Answer) (script : List ℕ) whe
   spares-hold : (a : ℕ) (r : Reply) (received : List ℕ) (h : Bool) → is_head_only q ≡ h
       → HoldsNoOther scripts (plain (DroppingWhole a Script))
       → HoldsNoOther scripts (record {
-        conn = conn.after_reply (at kept q (DroppingWhole a Script)) r received;
+        conn = conn.after_reply (at buffered q (DroppingWhole a Script)) r received;
         run =
             after_drop_whole h r;
         script = script;
@@ -123,8 +125,9 @@ module _ (scripts : Bool) (kept : List ℕ) (q : Answer) (script : List ℕ) whe
       → HoldsNoOther scripts (file_after_reply true (plain (ClosingFile f (TextOf a true))) reply.Done received)
   closed-holds f a received holds = by q holds
     where
-      by : (p : Answer) → HoldsNoOther scripts (client (at kept p (ClosingFile f (TextOf a true))) None script)
-          → HoldsNoOther scripts (file_after_reply true (client (at kept p (ClosingFile f (TextOf a true))) None script)
+      by : (p : Answer) → HoldsNoOther scripts (client (at buffered p (ClosingFile f (TextOf a true))) None script)
+          → HoldsNoOther scripts
+          (file_after_reply true (client (at buffered p (ClosingFile f (TextOf a true))) None script)
           reply.Done received)
       by (serve w) holds = holds
       by (refuse status head_only close) holds = holds
@@ -140,7 +143,7 @@ module _ (scripts : Bool) (kept : List ℕ) (q : Answer) (script : List ℕ) whe
   file-holds (ClosingFile f (TextOf a true)) r received true is holds = holds
   file-holds d r received true is holds = λ none. unheld d refl holds
 
-  stays-ready : (d : Phase) (y : Client) (ready : Conn) → HoldsNoOther scripts (plain d) → ready ≡ at kept q d
+  stays-ready : (d : Phase) (y : Client) (ready : Conn) → HoldsNoOther scripts (plain d) → ready ≡ at buffered q d
       → y ≡ record { conn = ready; run = None; script = script } → HoldsNoOther scripts y
   stays-ready d y ready holds same is =
       subst (λ (x : Client). HoldsNoOther scripts x) (sym (is ∙ ap (λ (c : Conn). client c None script) same)) holds
@@ -176,24 +179,25 @@ run-holds scripts c script y z was over holds = by was over
     by true true = on
     by true false = on
 
-pub client-holds : (scripts : Bool) (worker : ℕ) (kept : List ℕ) (q : Answer) (d : Phase) (run : Option Running)
+pub client-holds : (scripts : Bool) (worker : ℕ) (buffered : List ℕ) (q : Answer) (d : Phase) (run : Option Running)
     (script : List ℕ) (r : Reply) (received : List ℕ)
-    → HoldsNoOther scripts (client (at kept q d) run script)
-    → HoldsNoOther scripts (after_reply scripts worker (client (at kept q d) run script) r received)
-client-holds scripts worker kept q d None script r received holds =
-    file-holds scripts kept q script d r received (is_for_script scripts q) refl holds
-client-holds scripts worker kept (serve w) d (Some y) script r received holds =
-    run-holds scripts (at kept (serve w) d) script y (running.after_reply worker w y r received) (is_over y)
+    → HoldsNoOther scripts (client (at buffered q d) run script)
+    → HoldsNoOther scripts (after_reply scripts worker (client (at buffered q d) run script) r received)
+client-holds scripts worker buffered q d None script r received holds =
+    file-holds scripts buffered q script d r received (is_for_script scripts q) refl holds
+client-holds scripts worker buffered (serve w) d (Some y) script r received holds =
+    run-holds scripts (at buffered (serve w) d) script y (running.after_reply worker w y r received) (is_over y)
     (is_over (running.after_reply worker w y r received)) holds
-client-holds scripts worker kept (refuse status head_only close) d (Some y) script r received holds = holds
+client-holds scripts worker buffered (refuse status head_only close) d (Some y) script r received holds = holds
 
-pub client-ready : (scripts : Bool) (kept : List ℕ) (q : Answer) (d : Phase) (run : Option Running) (script : List ℕ)
+pub client-ready : (scripts : Bool) (buffered : List ℕ) (q : Answer) (d : Phase) (run : Option Running)
+    (script : List ℕ)
     (y : Client)
-    → HoldsNoOther scripts (client (at kept q d) run script) → Readies (client (at kept q d) run script) y
+    → HoldsNoOther scripts (client (at buffered q d) run script) → Readies (client (at buffered q d) run script) y
     → HoldsNoOther scripts y
-client-ready scripts kept q d None script y holds begun =
-    begun-holds scripts kept q script d y (is_read d) refl holds begun
-client-ready scripts kept q d (Some z) script y holds begun =
+client-ready scripts buffered q d None script y holds begun =
+    begun-holds scripts buffered q script d y (is_read d) refl holds begun
+client-ready scripts buffered q d (Some z) script y holds begun =
     subst (λ (x : Client). HoldsNoOther scripts x) (sym begun) holds
 
 pub new-holds : (scripts : Bool) → HoldsNoOther scripts new_client

@@ -19,8 +19,9 @@ use Rattle.flash_http.specs.declared.ranges.Selection.TheVariants.{Bytes}
 use Rattle.flash_http.specs.Range.{selected}
 use Rattle.flash_http.specs.Request.{Answer, serve, refuse}
 use Rattle.flash_laws.specs.Answers.{keeps}
-use Rattle.flash_laws.specs.Client.{conn_wants}
-use Rattle.flash_laws.specs.Conn.{Following, is_head_only, most_read, piece_end, count_of, wants, sends_of, resolved}
+use Rattle.flash_laws.specs.Client.{conn_call}
+use Rattle.flash_laws.specs.Conn.{Following, is_head_only, most_read, piece_end, count_of, next_call, sends_of}
+use Rattle.flash_laws.specs.Conn.{resolved}
 use Rattle.flash_laws.specs.Conn.{following, headed, after_taking, after_reply}
 use Rattle.flash_laws.proofs.Conn.ReadableBytes.{at-start}
 use Rattle.flash_laws.specs.declared.phase.FileResult.{FileResult}
@@ -57,10 +58,10 @@ reads-none : (b : Bool) (f g a : ℕ) → (if b then call.Length f else call.Iol
 reads-none true f g a e = cc (e)
 reads-none false f g a e = cc (e)
 
-pub next-expected : (m : State) (fd g a : ℕ) (kept : List ℕ) (q : Answer) (d : Phase) (expected : List ℕ)
+pub next-expected : (m : State) (fd g a : ℕ) (buffered : List ℕ) (q : Answer) (d : Phase) (expected : List ℕ)
     → Has m q expected d
-    → wants fd (at kept q d) ≡ call.IolWrite g a → (g ≡ fd) × Next m expected a (taken_of d)
-next-expected m fd g a kept q (SendingWhole s) expected has is =
+    → next_call fd (at buffered q d) ≡ call.IolWrite g a → (g ≡ fd) × Next m expected a (taken_of d)
+next-expected m fd g a buffered q (SendingWhole s) expected has is =
     let same : s.agg ≡ a = ap (λ k. written k s.agg) is in
     let own : fd ≡ g = ap (λ k. written_fd k fd) is in (
       sym own,
@@ -71,7 +72,7 @@ next-expected m fd g a kept q (SendingWhole s) expected has is =
         at-start has.0 has.1,
       ),
     )
-next-expected m fd g a kept q (SendingPiece s piece) expected has is =
+next-expected m fd g a buffered q (SendingPiece s piece) expected has is =
     let same : piece ≡ a = ap (λ k. written k piece) is in
     let own : fd ≡ g = ap (λ k. written_fd k fd) is in
     let bytes = has.whole.bytes in
@@ -86,15 +87,15 @@ next-expected m fd g a kept q (SendingPiece s piece) expected has is =
             (take-append-drop (piece_end s - s.from) (drop s.from bytes)) ∙ has.whole.next),
       ),
     )
-next-expected m fd g a kept q (Reading f) expected has is = absurd (reads-none (is_head_only q) f g a is)
-next-expected m fd g a kept q d expected has is = absurd (cc (is))
+next-expected m fd g a buffered q (Reading f) expected has is = absurd (reads-none (is_head_only q) f g a is)
+next-expected m fd g a buffered q d expected has is = absurd (cc (is))
 
 -- what is written for a script's request is what would be written for a file's
-pub script-writes : (fd g a : ℕ) (kept : List ℕ) (q : Answer) (d : Phase) (b : Bool)
-    → conn_wants b fd (at kept q d) ≡ call.IolWrite g a → wants fd (at kept q d) ≡ call.IolWrite g a
-script-writes fd g a kept q d false is = is
-script-writes fd g a kept q (Reading f) true is = absurd (cc (is))
-script-writes fd g a kept q d true is = is
+pub script-writes : (fd g a : ℕ) (buffered : List ℕ) (q : Answer) (d : Phase) (b : Bool)
+    → conn_call b fd (at buffered q d) ≡ call.IolWrite g a → next_call fd (at buffered q d) ≡ call.IolWrite g a
+script-writes fd g a buffered q d false is = is
+script-writes fd g a buffered q (Reading f) true is = absurd (cc (is))
+script-writes fd g a buffered q d true is = is
 
 -- ---- once all is read nothing is opened or read any more
 
@@ -117,30 +118,31 @@ headed-unread : (n size : ℕ) (more : Following) → is_reading (headed n size 
 headed-unread n size None = refl
 headed-unread n size (Some x) = either-way Unread (nat_le (size + x.1) MAX_AGGREGATE_BYTES) refl refl
 
-apart-unread : (kept : List ℕ) (q : Answer) (d : Phase) (r : Reply) (received : List ℕ) → is_apart d ≡ true
-    → Unread (after_reply (at kept q d) r received).phase
-apart-unread kept q Receiving (reply.Agg n) [] left = refl
-apart-unread kept q Receiving (reply.Agg n) (b ∷ received) left = refl
-apart-unread kept q Receiving r received left = refl
-apart-unread kept q (DroppingInput a) r received left = after-done Unread r refl refl
-apart-unread kept q (Slicing a from to len) r received left = after-agg Unread r refl (λ n. refl)
-apart-unread kept q Disconnecting r received left = after-done Unread r refl refl
-apart-unread kept q Closed r received left = refl
-apart-unread kept q (MakingHead k) r received left =
+apart-unread : (buffered : List ℕ) (q : Answer) (d : Phase) (r : Reply) (received : List ℕ) → is_apart d ≡ true
+    → Unread (after_reply (at buffered q d) r received).phase
+apart-unread buffered q Receiving (reply.Agg n) [] left = refl
+apart-unread buffered q Receiving (reply.Agg n) (b ∷ received) left = refl
+apart-unread buffered q Receiving r received left = refl
+apart-unread buffered q (DroppingInput a) r received left = after-done Unread r refl refl
+apart-unread buffered q (Slicing a from to len) r received left = after-agg Unread r refl (λ n. refl)
+apart-unread buffered q Disconnecting r received left = after-done Unread r refl refl
+apart-unread buffered q Closed r received left = refl
+apart-unread buffered q (MakingHead k) r received left =
     after-agg Unread r refl (λ n. headed-unread n (count_of received) (following k))
-apart-unread kept q (Joining a size body len) r received left = after-agg Unread r refl (λ n. refl)
-apart-unread kept q (SendingWhole s) r received left =
+apart-unread buffered q (Joining a size body len) r received left = after-agg Unread r refl (λ n. refl)
+apart-unread buffered q (SendingWhole s) r received left =
     after-write Unread r refl refl (λ n. either-next Unread (after_taking s n) refl refl)
-apart-unread kept q (CuttingPiece s) r received left = after-agg Unread r refl (λ n. refl)
-apart-unread kept q (SendingPiece s piece) r received left = after-write Unread r refl refl (λ n. refl)
-apart-unread kept q (DroppingPiece s piece) r received left = after-done Unread r refl (either-next Unread s refl refl)
-apart-unread kept q (DroppingSent a taken (Some x)) r received left = after-done Unread r refl refl
-apart-unread kept q (DroppingSent a taken None) r received left =
+apart-unread buffered q (CuttingPiece s) r received left = after-agg Unread r refl (λ n. refl)
+apart-unread buffered q (SendingPiece s piece) r received left = after-write Unread r refl refl (λ n. refl)
+apart-unread buffered q (DroppingPiece s piece) r received left =
+    after-done Unread r refl (either-next Unread s refl refl)
+apart-unread buffered q (DroppingSent a taken (Some x)) r received left = after-done Unread r refl refl
+apart-unread buffered q (DroppingSent a taken None) r received left =
     after-done Unread r refl (either-way Unread (keeps q) refl refl)
-apart-unread kept q (AbortingPiece piece a more) r received left = after-done Unread r refl refl
-apart-unread kept q (Aborting a (Some x)) r received left = after-done Unread r refl refl
-apart-unread kept q (Aborting a None) r received left = after-done Unread r refl refl
-apart-unread kept q d r received left = absurd (cc (left))
+apart-unread buffered q (AbortingPiece piece a more) r received left = after-done Unread r refl refl
+apart-unread buffered q (Aborting a (Some x)) r received left = after-done Unread r refl refl
+apart-unread buffered q (Aborting a None) r received left = after-done Unread r refl refl
+apart-unread buffered q d r received left = absurd (cc (left))
 
 neither-true : (b c : Bool) → (b || c) ≡ false → (b ≡ false) × (c ≡ false)
 neither-true true c is = absurd (cc (is))
@@ -169,31 +171,33 @@ abbrev NotRead : Phase → Type 0
 NotRead d = is_read d ≡ false
 
 -- no script's text is read by a call for a file
-pub unread-after_reply : (kept : List ℕ) (q : Answer) (d : Phase) (r : Reply) (received : List ℕ) → is_read d ≡ false
-    → is_read (after_reply (at kept q d) r received).phase ≡ false
-unread-after_reply kept q Opening r received was = after-open NotRead r refl (λ f. refl) (λ x. refl)
-unread-after_reply kept q (Reading f) r received was = after-read NotRead r refl (λ n. refl) (λ k. refl) (λ x. refl)
-unread-after_reply kept q (ClosingFile f k) r received was = after-done NotRead r was (resolved-unread f q k was)
-unread-after_reply kept q (DroppingWhole a k) r received was = after-done NotRead r was refl
-unread-after_reply kept q d r received was =
-    (neither-true (is_read (after_reply (at kept q d) r received).phase)
-    (is_opening (after_reply (at kept q d) r received).phase) (apart-unread kept q d r received refl)).0
+pub unread-after_reply : (buffered : List ℕ) (q : Answer) (d : Phase) (r : Reply) (received : List ℕ)
+    → is_read d ≡ false
+    → is_read (after_reply (at buffered q d) r received).phase ≡ false
+unread-after_reply buffered q Opening r received was = after-open NotRead r refl (λ f. refl) (λ x. refl)
+unread-after_reply buffered q (Reading f) r received was = after-read NotRead r refl (λ n. refl) (λ k. refl) (λ x. refl)
+unread-after_reply buffered q (ClosingFile f k) r received was = after-done NotRead r was (resolved-unread f q k was)
+unread-after_reply buffered q (DroppingWhole a k) r received was = after-done NotRead r was refl
+unread-after_reply buffered q d r received was =
+    (neither-true (is_read (after_reply (at buffered q d) r received).phase)
+    (is_opening (after_reply (at buffered q d) r received).phase) (apart-unread buffered q d r received refl)).0
 
 -- and what is read is not read again
-pub read-after_reply : (kept : List ℕ) (q : Answer) (d : Phase) (r : Reply) (received : List ℕ) → is_opening d ≡ false
-    → is_opening (after_reply (at kept q d) r received).phase ≡ false
-read-after_reply kept q Opening r received was = absurd (cc (was))
-read-after_reply kept q (Reading f) r received was = absurd (cc (was))
-read-after_reply kept q (ClosingFile f k) r received was =
+pub read-after_reply : (buffered : List ℕ) (q : Answer) (d : Phase) (r : Reply) (received : List ℕ)
+    → is_opening d ≡ false
+    → is_opening (after_reply (at buffered q d) r received).phase ≡ false
+read-after_reply buffered q Opening r received was = absurd (cc (was))
+read-after_reply buffered q (Reading f) r received was = absurd (cc (was))
+read-after_reply buffered q (ClosingFile f k) r received was =
     after-done (λ d. is_opening d ≡ false) r refl (resolved-read q k)
-read-after_reply kept q (DroppingWhole a k) r received was = after-done (λ d. is_opening d ≡ false) r refl refl
-read-after_reply kept q d r received was =
-    (neither-true (is_read (after_reply (at kept q d) r received).phase)
-    (is_opening (after_reply (at kept q d) r received).phase) (apart-unread kept q d r received refl)).1
+read-after_reply buffered q (DroppingWhole a k) r received was = after-done (λ d. is_opening d ≡ false) r refl refl
+read-after_reply buffered q d r received was =
+    (neither-true (is_read (after_reply (at buffered q d) r received).phase)
+    (is_opening (after_reply (at buffered q d) r received).phase) (apart-unread buffered q d r received refl)).1
 
 -- the request stays the same
-pub asks-after_reply : (kept : List ℕ) (q : Answer) (d : Phase) (r : Reply) (received : List ℕ)
-    → (after_reply (at kept q d) r received).q ≡ q
-asks-after_reply kept q Receiving (reply.Agg n) [] = refl
-asks-after_reply kept q Receiving (reply.Agg n) (b ∷ received) = refl
-asks-after_reply kept q d r received = refl
+pub asks-after_reply : (buffered : List ℕ) (q : Answer) (d : Phase) (r : Reply) (received : List ℕ)
+    → (after_reply (at buffered q d) r received).request ≡ q
+asks-after_reply buffered q Receiving (reply.Agg n) [] = refl
+asks-after_reply buffered q Receiving (reply.Agg n) (b ∷ received) = refl
+asks-after_reply buffered q d r received = refl

@@ -17,7 +17,7 @@ use Rattle.iol_laws.specs.Order.{IsOrderly}
 use Rattle.iol_laws.specs.RefusalsLeft.{RefusalsThatAreLeft}
 use Rattle.flash_http.specs.Request.{Answer, serve, refuse, Wanted}
 use Rattle.flash_laws.specs.Answers.{response, script_text}
-use Rattle.flash_laws.specs.Client.{Client, is_for_script, conn_wants, job_of, wants, after_drop_whole}
+use Rattle.flash_laws.specs.Client.{Client, is_for_script, conn_call, job_of, next_call, after_drop_whole}
 use Rattle.flash_laws.specs.Client.{conn_after_reply, file_after_reply, keeps_text, text_on, after_run, proceeds}
 use Rattle.flash_laws.specs.Client.{run_after_reply, after_reply}
 use Rattle.flash_laws.specs.Client.OfferedBytes.{is_working, ReceivesMore}
@@ -44,7 +44,7 @@ use Rattle.flash_laws.proofs.Client.Phases.{unread-after_reply}
 use Rattle.flash_laws.proofs.Lists.{clash, not-true}
 use Rattle.flash_laws.proofs.Conn.Progress as file
 use Rattle.flash_laws.proofs.Conn.Progress.{stage, calls_left, near, drops, closes}
-use Rattle.flash_laws.proofs.Run.Ends.{IsEnd, run-ends, wants-text}
+use Rattle.flash_laws.proofs.Run.Ends.{IsEnd, run-ends, call-text}
 use Rattle.flash_laws.proofs.Run.Progress.{run_calls, rank as run_rank, nears as run_nears}
 use Rattle.flash_laws.proofs.Run.OfferedBytes as running_on
 
@@ -66,23 +66,24 @@ abbrev pub rank : Client → Rank
 rank x = by x.run
   where
     by : Option Running → Rank
-    by None = (stage x.conn.phase, calls_left x.conn.q x.conn.phase + more_left x.conn.q x.conn.phase)
-    by (Some y) = (0, run_left x.conn.q y)
+    by None = (stage x.conn.phase, calls_left x.conn.request x.conn.phase + more_left x.conn.request x.conn.phase)
+    by (Some y) = (0, run_left x.conn.request y)
 
 none-more : (q : Answer) (d : Phase) → is_read d ≡ false → more_left q d ≡ 0
 none-more q d is = ap (λ b. if b then to_run q else 0) is
 
 -- what is said of a file's phase is so of the client
-lift : (kept : List ℕ) (q : Answer) (script : List ℕ) (d e : Phase) (r : Reply) → is_read d ≡ false → is_read e ≡ false
+lift : (buffered : List ℕ) (q : Answer) (script : List ℕ) (d e : Phase) (r : Reply) → is_read d ≡ false
+    → is_read e ≡ false
     → Nears (file.rank q) d r e
-    → Nears rank (client (at kept q d) None script) r (client (at kept q e) None script)
-lift kept q script d e r was now (inl (inl less)) = inl (inl less)
-lift kept q script d e r was now (inl (inr fewer)) =
+    → Nears rank (client (at buffered q d) None script) r (client (at buffered q e) None script)
+lift buffered q script d e r was now (inl (inl less)) = inl (inl less)
+lift buffered q script d e r was now (inl (inr fewer)) =
     let less = fewer.1 in
     let one = none-more q d was in
     let two = none-more q e now in
     inl (inr (fewer.0, omega (arith, less, one, two)))
-lift kept q script d e r was now (inr same) = inr (ap (λ z. client (at kept q z) None script) same.0, same.1)
+lift buffered q script d e r was now (inr same) = inr (ap (λ z. client (at buffered q z) None script) same.0, same.1)
 
 -- ---- phases in which a request for a script goes as one for a file
 
@@ -91,45 +92,48 @@ is_scripts (Reading f) = true
 is_scripts (DroppingWhole a Script) = true
 is_scripts d = false
 
-pub wants-plain : (fd : ℕ) (kept : List ℕ) (q : Answer) (d : Phase) → is_scripts d ≡ false
-    → conn_wants true fd (at kept q d) ≡ conn.wants fd (at kept q d)
-wants-plain fd kept q (Reading f) plain = absurd (cc (plain))
-wants-plain fd kept q d plain = refl
+pub call-plain : (fd : ℕ) (buffered : List ℕ) (q : Answer) (d : Phase) → is_scripts d ≡ false
+    → conn_call true fd (at buffered q d) ≡ conn.next_call fd (at buffered q d)
+call-plain fd buffered q (Reading f) plain = absurd (cc (plain))
+call-plain fd buffered q d plain = refl
 
-pub after_reply-plain : (kept : List ℕ) (q : Answer) (script : List ℕ) (d : Phase) (r : Reply) (received : List ℕ)
+pub after_reply-plain : (buffered : List ℕ) (q : Answer) (script : List ℕ) (d : Phase) (r : Reply) (received : List ℕ)
     → is_scripts d ≡ false
-    → file_after_reply true (client (at kept q d) None script) r received
-    ≡ conn_after_reply (client (at kept q d) None script) r received
-after_reply-plain kept q script (Reading f) r received plain = absurd (cc (plain))
-after_reply-plain kept q script (DroppingWhole a Script) r received plain = absurd (cc (plain))
-after_reply-plain kept q script d r received plain = refl
+    → file_after_reply true (client (at buffered q d) None script) r received
+    ≡ conn_after_reply (client (at buffered q d) None script) r received
+after_reply-plain buffered q script (Reading f) r received plain = absurd (cc (plain))
+after_reply-plain buffered q script (DroppingWhole a Script) r received plain = absurd (cc (plain))
+after_reply-plain buffered q script d r received plain = refl
 
 -- a busy connection keeps what it has kept, and its request
-conn-at : (kept : List ℕ) (q : Answer) (d : Phase) (r : Reply) (received : List ℕ) → is_busy d ≡ true
-    → conn.after_reply (at kept q d) r received ≡ at kept q (conn.after_reply (at kept q d) r received).phase
-conn-at kept q Receiving r received busy = absurd (cc (busy))
-conn-at kept q d r received busy = refl
+conn-at : (buffered : List ℕ) (q : Answer) (d : Phase) (r : Reply) (received : List ℕ) → is_busy d ≡ true
+    → conn.after_reply (at buffered q d) r received
+    ≡ at buffered q (conn.after_reply (at buffered q d) r received).phase
+conn-at buffered q Receiving r received busy = absurd (cc (busy))
+conn-at buffered q d r received busy = refl
 
 module _ (own : CallsServeTheirDomain) (may : RefusalsThatAreLeft) (m n : State) (order : IsOrderly m)
     (lives : is_live m server ≡ true)
-    (fd c : ℕ) (open_on : descriptor m server fd ≡ Some (on.Connection c)) (kept script : List ℕ) where
+    (fd c : ℕ) (open_on : descriptor m server fd ≡ Some (on.Connection c)) (buffered script : List ℕ) where
   -- a phase of a file
   file-near : (q : Answer) (d : Phase) (expected : List ℕ) (r : Reply) (received : List ℕ) → is_busy d ≡ true
       → is_read d ≡ false → Has m q expected d
-      → CanMake m (conn.wants fd (at kept q d)) → StepsTo m (event.Call server (conn.wants fd (at kept q d))) r n
+      → CanMake m (conn.next_call fd (at buffered q d))
+      → StepsTo m (event.Call server (conn.next_call fd (at buffered q d))) r n
       → Names n r received
-      → Nears rank (client (at kept q d) None script) r (conn_after_reply (client (at kept q d) None script) r received)
+      → Nears rank (client (at buffered q d) None script) r
+      (conn_after_reply (client (at buffered q d) None script) r received)
   file-near q d expected r received busy unread has can step names =
-      subst (λ (z : Conn). Nears rank (client (at kept q d) None script) r (client z None script))
-      (sym (conn-at kept q d r received busy))
-      (lift kept q script d (conn.after_reply (at kept q d) r received).phase r unread
-      (unread-after_reply kept q d r received unread)
-      (near own may m n order lives fd c kept q d expected r received open_on busy has can step names))
+      subst (λ (z : Conn). Nears rank (client (at buffered q d) None script) r (client z None script))
+      (sym (conn-at buffered q d r received busy))
+      (lift buffered q script d (conn.after_reply (at buffered q d) r received).phase r unread
+      (unread-after_reply buffered q d r received unread)
+      (near own may m n order lives fd c buffered q d expected r received open_on busy has can step names))
 
   -- the text of a script is read
   text-near : (q : Answer) (f : ℕ) (r : Reply) (received : List ℕ) → StepsTo m (event.Call server (call.IolRead f most_read)) r n
-      → Nears rank (client (at kept q (Reading f)) None script) r
-      (file_after_reply true (client (at kept q (Reading f)) None script) r received)
+      → Nears rank (client (at buffered q (Reading f)) None script) r
+      (file_after_reply true (client (at buffered q (Reading f)) None script) r received)
   text-near q f (reply.Agg k) received step = inl (inl (omega arith))
   text-near q f (reply.Count k) received step = let e = step.1 in absurd (cc (e))
   text-near q f (reply.Refused no.WouldBlock) received step = inr (refl, refl)
@@ -139,35 +143,36 @@ module _ (own : CallsServeTheirDomain) (may : RefusalsThatAreLeft) (m n : State)
   -- a request for a file, or for a script of which no text that runs is read
   of-file : (b : Bool) (q : Answer) (d : Phase) (expected : List ℕ) (r : Reply) (received : List ℕ) → is_busy d ≡ true
       → is_read d ≡ false → Has m q expected d
-      → CanMake m (conn_wants b fd (at kept q d)) → StepsTo m (event.Call server (conn_wants b fd (at kept q d))) r n
+      → CanMake m (conn_call b fd (at buffered q d))
+      → StepsTo m (event.Call server (conn_call b fd (at buffered q d))) r n
       → Names n r received
-      → Nears rank (client (at kept q d) None script) r
-      (file_after_reply b (client (at kept q d) None script) r received)
+      → Nears rank (client (at buffered q d) None script) r
+      (file_after_reply b (client (at buffered q d) None script) r received)
   of-file false q d expected r received busy unread has can step names =
       file-near q d expected r received busy unread has can step names
   of-file true q d expected r received busy unread has can step names = by (is_scripts d) refl
     where
       reading : (e : Phase) → d ≡ e → is_scripts e ≡ true
-          → Nears rank (client (at kept q d) None script) r
-          (file_after_reply true (client (at kept q d) None script) r received)
+          → Nears rank (client (at buffered q d) None script) r
+          (file_after_reply true (client (at buffered q d) None script) r received)
       reading (Reading f) is scripts =
           let read : StepsTo m (event.Call server (call.IolRead f most_read)) r n = subst
-          (λ (e : Phase). StepsTo m (event.Call server (conn_wants true fd (at kept q e))) r n) is step in
+          (λ (e : Phase). StepsTo m (event.Call server (conn_call true fd (at buffered q e))) r n) is step in
           subst
-          (λ (e : Phase). Nears rank (client (at kept q e) None script) r
-          (file_after_reply true (client (at kept q e) None script) r received)) (sym is)
+          (λ (e : Phase). Nears rank (client (at buffered q e) None script) r
+          (file_after_reply true (client (at buffered q e) None script) r received)) (sym is)
           (text-near q f r received read)
       reading (DroppingWhole a Script) is scripts = absurd (let e = ap (λ z. is_read z) is in cc (e, unread))
       reading e is scripts = absurd (cc (scripts))
 
       by : (b : Bool) → is_scripts d ≡ b
-          → Nears rank (client (at kept q d) None script) r
-          (file_after_reply true (client (at kept q d) None script) r received)
+          → Nears rank (client (at buffered q d) None script) r
+          (file_after_reply true (client (at buffered q d) None script) r received)
       by true is = reading d refl is
       by false plain =
-          let same = wants-plain fd kept q d plain in
-          subst (λ (z : Client). Nears rank (client (at kept q d) None script) r z)
-          (sym (after_reply-plain kept q script d r received plain))
+          let same = call-plain fd buffered q d plain in
+          subst (λ (z : Client). Nears rank (client (at buffered q d) None script) r z)
+          (sym (after_reply-plain buffered q script d r received plain))
           (file-near q d expected r received busy unread has (subst (λ (k : Call). CanMake m k) same can)
           (subst (λ (k : Call). StepsTo m (event.Call server k) r n) same step) names)
 
@@ -177,57 +182,58 @@ module _ (own : CallsServeTheirDomain) (may : RefusalsThatAreLeft) (m n : State)
   spared-near : (w : Wanted) (a : ℕ) (bytes : List ℕ) (r : Reply) (received : List ℕ)
       → StepsTo m (event.Call server (call.AggDrop a)) r n
       → readable_at m server a ≡ Some bytes
-      → Nears rank (client (at kept (serve w) (DroppingWhole a Script)) None script) r
-      (file_after_reply true (client (at kept (serve w) (DroppingWhole a Script)) None script) r received)
+      → Nears rank (client (at buffered (serve w) (DroppingWhole a Script)) None script) r
+      (file_after_reply true (client (at buffered (serve w) (DroppingWhole a Script)) None script) r received)
   spared-near w a bytes r received step readable =
-      drops own may m n order lives rank (client (at kept (serve w) (DroppingWhole a Script)) None script)
-      (λ z. file_after_reply true (client (at kept (serve w) (DroppingWhole a Script)) None script) z received) a bytes
+      drops own may m n order lives rank (client (at buffered (serve w) (DroppingWhole a Script)) None script)
+      (λ z. file_after_reply true (client (at buffered (serve w) (DroppingWhole a Script)) None script) z received) a
+      bytes
       r
       readable step
       (by w.head_only)
     where
       by : (h : Bool)
-          → IsBelow (rank (client (at kept (serve w) (MakingHead Script)) (after_drop_whole h reply.Done) script))
-          (rank (client (at kept (serve w) (DroppingWhole a Script)) None script))
+          → IsBelow (rank (client (at buffered (serve w) (MakingHead Script)) (after_drop_whole h reply.Done) script))
+          (rank (client (at buffered (serve w) (DroppingWhole a Script)) None script))
       by true = inr (refl, omega arith)
       by false = inr (refl, omega arith)
 
   read-near : (w : Wanted) (d : Phase) (r : Reply) (received : List ℕ) → is_read d ≡ true
       → Has m (serve w) (script_text w) d
-      → StepsTo m (event.Call server (conn_wants true fd (at kept (serve w) d))) r n
-      → Nears rank (client (at kept (serve w) d) None script) r
-      (file_after_reply true (client (at kept (serve w) d) None script) r received)
+      → StepsTo m (event.Call server (conn_call true fd (at buffered (serve w) d))) r n
+      → Nears rank (client (at buffered (serve w) d) None script) r
+      (file_after_reply true (client (at buffered (serve w) d) None script) r received)
   read-near w (ClosingFile f (TextOf a true)) r received read has step =
-      closes own may m n order lives rank (client (at kept (serve w) (ClosingFile f (TextOf a true))) None script)
-      (λ z. client (at kept (serve w) (after_close_file (serve w) f (TextOf a true) z)) None script) f
+      closes own may m n order lives rank (client (at buffered (serve w) (ClosingFile f (TextOf a true))) None script)
+      (λ z. client (at buffered (serve w) (after_close_file (serve w) f (TextOf a true) z)) None script) f
       (on.File has.0.0 has.0.1 modes.Read) r has.0.2 step (inr (refl, omega arith))
   read-near w (DroppingWhole a Script) r received read has step = spared-near w a has.0.0 r received step has.0.1
   read-near w d r received read has step = absurd (cc (read))
 
   of-script : (scripts : Bool) (w : Wanted) (d : Phase) (text : List ℕ) (o : Progress) (r : Reply) (received : List ℕ)
       → is_busy d ≡ true
-      → HasNoRun scripts m w (client (at kept (serve w) d) None script) text o → (b : Bool)
+      → HasNoRun scripts m w (client (at buffered (serve w) d) None script) text o → (b : Bool)
       → is_for_script scripts (serve w) ≡ b
-      → CanMake m (conn_wants b fd (at kept (serve w) d))
-      → StepsTo m (event.Call server (conn_wants b fd (at kept (serve w) d))) r n → Names n r received
-      → Nears rank (client (at kept (serve w) d) None script) r
-      (file_after_reply b (client (at kept (serve w) d) None script) r received)
+      → CanMake m (conn_call b fd (at buffered (serve w) d))
+      → StepsTo m (event.Call server (conn_call b fd (at buffered (serve w) d))) r n → Names n r received
+      → Nears rank (client (at buffered (serve w) d) None script) r
+      (file_after_reply b (client (at buffered (serve w) d) None script) r received)
   of-script scripts w d text o r received busy has b for_script can step names = by (is_read d) refl
     where
       runs : (c : Bool) → b ≡ c → is_read d ≡ true
-          → Nears rank (client (at kept (serve w) d) None script) r
-          (file_after_reply b (client (at kept (serve w) d) None script) r received)
+          → Nears rank (client (at buffered (serve w) d) None script) r
+          (file_after_reply b (client (at buffered (serve w) d) None script) r received)
       runs true is read =
           subst
-          (λ z. Nears rank (client (at kept (serve w) d) None script) r
-          (file_after_reply z (client (at kept (serve w) d) None script) r received)) (sym is)
+          (λ z. Nears rank (client (at buffered (serve w) d) None script) r
+          (file_after_reply z (client (at buffered (serve w) d) None script) r received)) (sym is)
           (read-near w d r received read has.has
-          (subst (λ z. StepsTo m (event.Call server (conn_wants z fd (at kept (serve w) d))) r n) is step))
+          (subst (λ z. StepsTo m (event.Call server (conn_call z fd (at buffered (serve w) d))) r n) is step))
       runs false is read = absurd (clash (is_for_script scripts (serve w)) (has.script read) (for_script ∙ is))
 
       by : (z : Bool) → is_read d ≡ z
-          → Nears rank (client (at kept (serve w) d) None script) r
-          (file_after_reply b (client (at kept (serve w) d) None script) r received)
+          → Nears rank (client (at buffered (serve w) d) None script) r
+          (file_after_reply b (client (at buffered (serve w) d) None script) r received)
       by true read = runs b refl read
       by false unread = of-file b (serve w) d (script_text w) r received busy unread has.has can step names
 
@@ -244,21 +250,21 @@ stands c script y z same =
     subst (λ (k : Running). proceeds false false (client c (Some y) script) y k ≡ client c (Some y) script) (sym same)
     (ap (λ (t : List ℕ). client c (Some y) t) (text-same (keeps_text y) script))
 
-end-below : (kept : List ℕ) (w : Wanted) (e : Phase) (k : ℕ) → IsEnd e → 0 < k
-    → IsBelow (rank (client (at kept (serve w) e) None [])) (0, k)
-end-below kept w e k ends some = elim ends [
-  | inl rests ↦ subst (λ (d : Phase). IsBelow (rank (client (at kept (serve w) d) None [])) (0, k)) (sym rests)
+end-below : (buffered : List ℕ) (w : Wanted) (e : Phase) (k : ℕ) → IsEnd e → 0 < k
+    → IsBelow (rank (client (at buffered (serve w) e) None [])) (0, k)
+end-below buffered w e k ends some = elim ends [
+  | inl rests ↦ subst (λ (d : Phase). IsBelow (rank (client (at buffered (serve w) d) None [])) (0, k)) (sym rests)
       (inr (refl, some))
-  | inr closes ↦ subst (λ (d : Phase). IsBelow (rank (client (at kept (serve w) d) None [])) (0, k)) (sym closes)
+  | inr closes ↦ subst (λ (d : Phase). IsBelow (rank (client (at buffered (serve w) d) None [])) (0, k)) (sym closes)
       (inr (refl, some))
 ]
 
 -- the client with its run gone on from y to z
-abbrev Goes : (kept : List ℕ) → Phase → (script : List ℕ) → Wanted → (y z : Running) → Reply → (was over : Bool)
+abbrev Goes : (buffered : List ℕ) → Phase → (script : List ℕ) → Wanted → (y z : Running) → Reply → (was over : Bool)
     → Type 0
-Goes kept d script w y z r was over =
-    Nears rank (client (at kept (serve w) d) (Some y) script) r
-    (proceeds was over (client (at kept (serve w) d) (Some y) script) y z)
+Goes buffered d script w y z r was over =
+    Nears rank (client (at buffered (serve w) d) (Some y) script) r
+    (proceeds was over (client (at buffered (serve w) d) (Some y) script) y z)
 
 module _ (steps : EachStepLeavesTheRest) (own : CallsServeTheirDomain) (may : RefusalsThatAreLeft) (m n : State)
     (order : IsOrderly m) (lives : is_live m server ≡ true)
@@ -266,7 +272,7 @@ module _ (steps : EachStepLeavesTheRest) (own : CallsServeTheirDomain) (may : Re
   -- one that is over leaves the connection at rest, or to be closed
   over-ends : (job : ℕ → List ℕ) (worker : ℕ) (w : Wanted) (y : Running) (r : Reply) (received : List ℕ) (o : Progress)
       → is_over y ≡ false → HasRun job m w o y
-      → StepsTo m (event.Call server (running.wants job fd w y)) r n → Names n r received
+      → StepsTo m (event.Call server (running.next_call job fd w y)) r n → Names n r received
       → is_over (running.after_reply worker w y r received) ≡ true
       → IsEnd (after_run (running.after_reply worker w y r received))
   over-ends job worker w AwaitingWorker (reply.Fds from write) received o going has step names over = absurd (cc (over))
@@ -281,46 +287,46 @@ module _ (steps : EachStepLeavesTheRest) (own : CallsServeTheirDomain) (may : Re
       run-ends job n w got.0 (running.after_reply worker w (Finishing d) r received) got.2 over
   over-ends job worker w Ends r received o going has step names over = absurd (cc (going))
 
-  run-near : (kept : List ℕ) (d : Phase) (script : List ℕ) (worker : ℕ) (w : Wanted) (y : Running) (r : Reply)
+  run-near : (buffered : List ℕ) (d : Phase) (script : List ℕ) (worker : ℕ) (w : Wanted) (y : Running) (r : Reply)
       (received text : List ℕ) (o : Progress) → is_over y ≡ false
-      → IsRun m w y script text o → CanMake m (running.wants (job_of w script) fd w y)
-      → StepsTo m (event.Call server (running.wants (job_of w script) fd w y)) r n → Names n r received
-      → Nears rank (client (at kept (serve w) d) (Some y) script) r
-      (run_after_reply worker (serve w) (client (at kept (serve w) d) (Some y) script) y r received)
+      → IsRun m w y script text o → CanMake m (running.next_call (job_of w script) fd w y)
+      → StepsTo m (event.Call server (running.next_call (job_of w script) fd w y)) r n → Names n r received
+      → Nears rank (client (at buffered (serve w) d) (Some y) script) r
+      (run_after_reply worker (serve w) (client (at buffered (serve w) d) (Some y) script) y r received)
       ⊎ RunReceives y r received
-  run-near kept d script worker w y r received text o going has can step names =
+  run-near buffered d script worker w y r received text o going has can step names =
       by (run_nears own may (job_of w text) m n fd c worker w y r received o order lives open_on going has.has
       (subst (λ (k : Call). CanMake m k) same can) (subst (λ (k : Call). StepsTo m (event.Call server k) r n) same step)
       names)
     where
-      same : running.wants (job_of w script) fd w y ≡ running.wants (job_of w text) fd w y
-      same = wants-text fd w y script text has.kept
+      same : running.next_call (job_of w script) fd w y ≡ running.next_call (job_of w text) fd w y
+      same = call-text fd w y script text has.buffered
 
       less : (over : Bool) → is_over (running.after_reply worker w y r received) ≡ over
           → run_calls w (running.after_reply worker w y r received) < run_calls w y
-          → Goes kept d script w y (running.after_reply worker w y r received) r false over
+          → Goes buffered d script w y (running.after_reply worker w y r received) r false over
       less true over fewer =
-          inl (end-below kept w (after_run (running.after_reply worker w y r received)) (run_calls w y)
+          inl (end-below buffered w (after_run (running.after_reply worker w y r received)) (run_calls w y)
           (over-ends (job_of w text) worker w y r received o going has.has
           (subst (λ (k : Call). StepsTo m (event.Call server k) r n) same step) names over) (omega (arith, fewer)))
       less false over fewer = inl (inr (refl, fewer))
 
       unmoved : (over : Bool) → is_over (running.after_reply worker w y r received) ≡ over
           → Nears (run_rank w) y r (running.after_reply worker w y r received)
-          → Goes kept d script w y (running.after_reply worker w y r received) r false over
+          → Goes buffered d script w y (running.after_reply worker w y r received) r false over
       unmoved over is (inl (inl falls)) = absurd (omega (arith, falls))
       unmoved over is (inl (inr fewer)) = less over is fewer.1
       unmoved true is (inr still) =
           absurd (clash (is_over (running.after_reply worker w y r received)) is (ap (λ k. is_over k) still.0 ∙ going))
       unmoved false is (inr still) =
-          inr (stands (at kept (serve w) d) script y (running.after_reply worker w y r received) still.0, still.1)
+          inr (stands (at buffered (serve w) d) script y (running.after_reply worker w y r received) still.0, still.1)
 
       by : Nears (run_rank w) y r (running.after_reply worker w y r received) ⊎ RunReceives y r received
-          → Goes kept d script w y (running.after_reply worker w y r received) r (is_over y)
+          → Goes buffered d script w y (running.after_reply worker w y r received) r (is_over y)
           (is_over (running.after_reply worker w y r received)) ⊎ RunReceives y r received
       by (inl nearer) =
           inl
-          (subst (λ b. Goes kept d script w y (running.after_reply worker w y r received) r b
+          (subst (λ b. Goes buffered d script w y (running.after_reply worker w y r received) r b
           (is_over (running.after_reply worker w y r received))) (sym going)
           (unmoved (is_over (running.after_reply worker w y r received)) refl nearer))
       by (inr more) = inr more
@@ -328,28 +334,34 @@ module _ (steps : EachStepLeavesTheRest) (own : CallsServeTheirDomain) (may : Re
 -- ---- any client
 
 pub client-nears : EachStepLeavesTheRest → CallsServeTheirDomain → RefusalsThatAreLeft
-    → (scripts : Bool) (m n : State) (fd c worker : ℕ) (kept : List ℕ) (q : Answer) (d : Phase)
+    → (scripts : Bool) (m n : State) (fd c worker : ℕ) (buffered : List ℕ) (q : Answer) (d : Phase)
     (run : Option Running) (script : List ℕ) (r : Reply) (received : List ℕ) (known : Known) → IsOrderly m
     → is_live m server ≡ true → descriptor m server fd ≡ Some (on.Connection c)
-    → is_working (client (at kept q d) run script) ≡ true → HasKnown scripts m (client (at kept q d) run script) known
-    → CanMake m (wants scripts fd (client (at kept q d) run script))
-    → StepsTo m (event.Call server (wants scripts fd (client (at kept q d) run script))) r n → Names n r received
-    → Nears rank (client (at kept q d) run script) r
-    (after_reply scripts worker (client (at kept q d) run script) r received)
-    ⊎ ReceivesMore (client (at kept q d) run script) r received
-client-nears steps own may scripts m n fd c worker kept q d None script r received (OfFile o) order lives open_on busy
+    → is_working (client (at buffered q d) run script) ≡ true
+    → HasKnown scripts m (client (at buffered q d) run script) known
+    → CanMake m (next_call scripts fd (client (at buffered q d) run script))
+    → StepsTo m (event.Call server (next_call scripts fd (client (at buffered q d) run script))) r n
+    → Names n r received
+    → Nears rank (client (at buffered q d) run script) r
+    (after_reply scripts worker (client (at buffered q d) run script) r received)
+    ⊎ ReceivesMore (client (at buffered q d) run script) r received
+client-nears steps own may scripts m n fd c worker buffered q d None script r received (OfFile o) order lives open_on
+    busy
     has can step names =
-    inl (of-file own may m n order lives fd c open_on kept script (is_for_script scripts q) q d (response q o) r
+    inl (of-file own may m n order lives fd c open_on buffered script (is_for_script scripts q) q d (response q o) r
     received busy has.unread has.has can step names)
-client-nears steps own may scripts m n fd c worker kept q d (Some y) script r received (OfFile o) order lives open_on
+client-nears steps own may scripts m n fd c worker buffered q d (Some y) script r received (OfFile o) order lives
+    open_on
     busy has can step names = absurd (let none = has.none in cc (none))
-client-nears steps own may scripts m n fd c worker kept (refuse status head_only close) d run script r received
+client-nears steps own may scripts m n fd c worker buffered (refuse status head_only close) d run script r received
     (OfScript text o) order lives open_on busy has can step names = absurd has
-client-nears steps own may scripts m n fd c worker kept (serve w) d None script r received (OfScript text o) order lives
+client-nears steps own may scripts m n fd c worker buffered (serve w) d None script r received (OfScript text o) order
+    lives
     open_on busy has can step names =
-    inl (of-script own may m n order lives fd c open_on kept script scripts w d text o r received busy has
+    inl (of-script own may m n order lives fd c open_on buffered script scripts w d text o r received busy has
     (is_for_script scripts (serve w)) refl can step names)
-client-nears steps own may scripts m n fd c worker kept (serve w) d (Some y) script r received (OfScript text o) order
+client-nears steps own may scripts m n fd c worker buffered (serve w) d (Some y) script r received (OfScript text o)
+    order
     lives open_on busy has can step names =
-    run-near steps own may m n order lives fd c open_on kept d script worker w y r received text o
+    run-near steps own may m n order lives fd c open_on buffered d script worker w y r received text o
     (not-true (is_over y) busy) has can step names

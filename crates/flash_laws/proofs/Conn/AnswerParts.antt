@@ -29,7 +29,7 @@ use Rattle.flash_laws.specs.Conn.{Following, has_followed, content_agg, piece_en
 use Rattle.flash_laws.specs.Conn.{resolved, after_close_file, after_slice, after_drop_whole, following, headed}
 use Rattle.flash_laws.specs.Conn.{whole, after_head, after_join, after_send, after_cut, after_offer, after_swap}
 use Rattle.flash_laws.specs.Conn.{after_taking, next_piece}
-use Rattle.flash_laws.specs.Conn.{proceeds, after_taken, after_break, drops_next, after_drop, wants, after_receive}
+use Rattle.flash_laws.specs.Conn.{proceeds, after_taken, after_break, drops_next, after_drop, next_call, after_receive}
 use Rattle.flash_laws.specs.Conn.{after_reply}
 use Rattle.flash_laws.specs.declared.phase.FileResult.{FileResult}
 use Rattle.flash_laws.specs.declared.phase.FileResult.TheVariants.{File, Length, Fails, Text as TextOf}
@@ -392,48 +392,49 @@ module _ (steps : EachStepLeavesTheRest) (own : CallsServeTheirDomain) (m n : St
             refl;
       }
 
-  rests : (kept : List ℕ) (q : Answer) (expected : List ℕ) (r : Reply) (received : List ℕ) → Names n r received
-      → Has n q expected (after_receive kept q r received).phase
-  rests kept q expected (reply.Agg a) [] names =
+  rests : (buffered : List ℕ) (q : Answer) (expected : List ℕ) (r : Reply) (received : List ℕ) → Names n r received
+      → Has n q expected (after_receive buffered q r received).phase
+  rests buffered q expected (reply.Agg a) [] names =
       record { after = []; readable = ([], names); follows = refl; apart = refl }
-  rests kept q expected (reply.Agg a) (b ∷ l) names = (b ∷ l, names)
-  rests kept q expected r received names = tt
+  rests buffered q expected (reply.Agg a) (b ∷ l) names = (b ∷ l, names)
+  rests buffered q expected r received names = tt
 
   -- any phase but those that open, read or close
-  pub phase : (kept : List ℕ) (fd c : ℕ) (q : Answer) (d : Phase) (expected : List ℕ) (r : Reply) (received : List ℕ)
+  pub phase : (buffered : List ℕ) (fd c : ℕ) (q : Answer) (d : Phase) (expected : List ℕ) (r : Reply)
+      (received : List ℕ)
       → descriptor m server fd ≡ Some (on.Connection c)
       → is_opening d ≡ false → is_closing d ≡ false → Has m q expected d
-      → StepsTo m (event.Call server (wants fd (at kept q d))) r n
-      → Names n r received → Has n q expected (after_reply (at kept q d) r received).phase
-  phase kept fd c q Receiving expected r received open_on read busy has step names =
-      rests kept q expected r received names
-  phase kept fd c q (DroppingInput a) expected r received open_on read busy has step names =
+      → StepsTo m (event.Call server (next_call fd (at buffered q d))) r n
+      → Names n r received → Has n q expected (after_reply (at buffered q d) r received).phase
+  phase buffered fd c q Receiving expected r received open_on read busy has step names =
+      rests buffered q expected r received names
+  phase buffered fd c q (DroppingInput a) expected r received open_on read busy has step names =
       dropped m n (Has n q expected) a r (own.drops m n server a r order step)
       (unchanged q (DroppingInput a) expected has) tt
-  phase kept fd c q (ClosingFile f k) expected r received open_on read busy has step names =
+  phase buffered fd c q (ClosingFile f k) expected r received open_on read busy has step names =
       shuts q f k expected r has step
-  phase kept fd c q (Slicing a first last len) expected r received open_on read busy has step names =
+  phase buffered fd c q (Slicing a first last len) expected r received open_on read busy has step names =
       picks q a first last len expected r has step
-  phase kept fd c q (DroppingWhole a k) expected r received open_on read busy has step names =
+  phase buffered fd c q (DroppingWhole a k) expected r received open_on read busy has step names =
       spares q a k expected r has step
-  phase kept fd c q (MakingHead k) expected r received open_on read busy has step names =
+  phase buffered fd c q (MakingHead k) expected r received open_on read busy has step names =
       heads q k expected r received has step names
-  phase kept fd c q (Joining a size body len) expected r received open_on read busy has step names =
+  phase buffered fd c q (Joining a size body len) expected r received open_on read busy has step names =
       joins q a size body len expected r has step
-  phase kept fd c q (SendingWhole s) expected r received open_on read busy has step names =
+  phase buffered fd c q (SendingWhole s) expected r received open_on read busy has step names =
       sends q fd c s expected r open_on has step
-  phase kept fd c q (CuttingPiece s) expected r received open_on read busy has step names =
+  phase buffered fd c q (CuttingPiece s) expected r received open_on read busy has step names =
       cuts q s expected r has step
-  phase kept fd c q (SendingPiece s piece) expected r received open_on read busy has step names =
+  phase buffered fd c q (SendingPiece s piece) expected r received open_on read busy has step names =
       offers_piece q fd c s piece expected r open_on has step
-  phase kept fd c q (DroppingPiece s piece) expected r received open_on read busy has step names =
+  phase buffered fd c q (DroppingPiece s piece) expected r received open_on read busy has step names =
       swaps q s piece expected r has step
-  phase kept fd c q (DroppingSent a taken more) expected r received open_on read busy has step names =
+  phase buffered fd c q (DroppingSent a taken more) expected r received open_on read busy has step names =
       sent_all q a taken more expected r has step
-  phase kept fd c q (AbortingPiece piece a more) expected r received open_on read busy has step names =
+  phase buffered fd c q (AbortingPiece piece a more) expected r received open_on read busy has step names =
       breaks q piece a more expected r has step
-  phase kept fd c q (Aborting a more) expected r received open_on read busy has step names =
+  phase buffered fd c q (Aborting a more) expected r received open_on read busy has step names =
       drops q a more expected r has step
-  phase kept fd c q Disconnecting expected r received open_on read busy has step names = absurd (cc (busy))
-  phase kept fd c q Closed expected r received open_on read busy has step names = absurd (cc (busy))
-  phase kept fd c q x expected r received open_on read busy has step names = absurd (cc (read))
+  phase buffered fd c q Disconnecting expected r received open_on read busy has step names = absurd (cc (busy))
+  phase buffered fd c q Closed expected r received open_on read busy has step names = absurd (cc (busy))
+  phase buffered fd c q x expected r received open_on read busy has step names = absurd (cc (read))

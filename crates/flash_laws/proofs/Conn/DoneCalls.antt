@@ -14,8 +14,9 @@ use Rattle.flash_http.specs.declared.ranges.Selection.TheVariants.{Bytes}
 use Rattle.flash_http.specs.Range.{selected}
 use Rattle.flash_http.specs.Request.{Answer, serve, refuse}
 use Rattle.flash_laws.specs.Answers.{keeps}
-use Rattle.flash_laws.specs.Conn.{Following, Conn, uses_fd, name_of, text_of, is_head_only, most_kept, most_read}
-use Rattle.flash_laws.specs.Conn.{piece_end, count_of, wants, sends_of, resolved, after_receive, after_open, after_read}
+use Rattle.flash_laws.specs.Conn.{Following, Conn, uses_fd, name_of, text_of, is_head_only, most_buffered, most_read}
+use Rattle.flash_laws.specs.Conn.{piece_end, count_of, next_call, sends_of, resolved, after_receive, after_open}
+use Rattle.flash_laws.specs.Conn.{after_read}
 use Rattle.flash_laws.specs.Conn.{after_close_file, after_slice, after_drop_whole, following, headed, after_head}
 use Rattle.flash_laws.specs.Conn.{after_join, after_send, after_cut, after_offer, after_swap, proceeds, after_taken}
 use Rattle.flash_laws.specs.Conn.{after_break, drops_next, after_drop, after_discard, after_reply}
@@ -37,10 +38,10 @@ use Rattle.flash_laws.proofs.Lists.{self}
 use Rattle.flash_laws.proofs.Conn.Repeats.{either, drops, closes, makes, cuts, joins, reads, writes, opens, lengths}
 use Rattle.flash_laws.proofs.Moves.{either-of}
 
-rests-not : (kept : List ℕ) (q : Answer) (received : List ℕ) (k : ℕ)
-    → (after_receive kept q (reply.Agg k) received).phase ≡ Receiving → ⊥
-rests-not kept q [] k same = cc (same)
-rests-not kept q (b ∷ received) k same = cc (same)
+rests-not : (buffered : List ℕ) (q : Answer) (received : List ℕ) (k : ℕ)
+    → (after_receive buffered q (reply.Agg k) received).phase ≡ Receiving → ⊥
+rests-not buffered q [] k same = cc (same)
+rests-not buffered q (b ∷ received) k same = cc (same)
 
 resolved-not : (q : Answer) (f : ℕ) (k : FileResult) → resolved q k ≡ ClosingFile f k → ⊥
 resolved-not (serve w) f (File a len) same = by (selected w.range len) same
@@ -73,7 +74,7 @@ drops_next-not : (a : ℕ) (more : Following) → drops_next more ≡ Aborting a
 drops_next-not a (Some x) same = cc (same)
 drops_next-not a None same = cc (same)
 
-module _ (m n : State) (fd : ℕ) (kept : List ℕ) (q : Answer) where
+module _ (m n : State) (fd : ℕ) (buffered : List ℕ) (q : Answer) where
   reading : (f : ℕ) (b : Bool) (r : Reply) (received : List ℕ)
       → StepsTo m (event.Call server (if b then call.Length f else call.IolRead f most_read)) r n
       → after_read f r received ≡ Reading f → may_repeat (if b then call.Length f else call.IolRead f most_read) r
@@ -84,11 +85,11 @@ module _ (m n : State) (fd : ℕ) (kept : List ℕ) (q : Answer) where
       reads m n (Reading f) (λ z. after_read f z received) f most_read r step (λ k e. cc (e)) same
 
   pub moved : (d : Phase) (r : Reply) (received : List ℕ) → is_closing d ≡ false
-      → StepsTo m (event.Call server (wants fd (at kept q d))) r n
-      → (after_reply (at kept q d) r received).phase ≡ d → may_repeat (wants fd (at kept q d)) r ≡ true
+      → StepsTo m (event.Call server (next_call fd (at buffered q d))) r n
+      → (after_reply (at buffered q d) r received).phase ≡ d → may_repeat (next_call fd (at buffered q d)) r ≡ true
   moved Receiving r received going step same =
-      reads m n Receiving (λ z. (after_receive kept q z received).phase) fd (most_kept - length kept) r step
-      (rests-not kept q received) same
+      reads m n Receiving (λ z. (after_receive buffered q z received).phase) fd (most_buffered - length buffered) r step
+      (rests-not buffered q received) same
   moved (DroppingInput b) r received going step same =
       drops m n (DroppingInput b) (λ z. after_discard b z) b r step (λ e. cc (e)) same
   moved Opening r received going step same =
@@ -134,18 +135,19 @@ module _ (m n : State) (fd : ℕ) (kept : List ℕ) (q : Answer) where
   came f false g step = let e = step.1 in cc (e)
 
   pub opened : (d : Phase) (f : ℕ) (received : List ℕ)
-      → StepsTo m (event.Call server (wants fd (at kept q d))) (reply.Fd f) n
-      → uses_fd (after_reply (at kept q d) (reply.Fd f) received).phase f ≡ true
+      → StepsTo m (event.Call server (next_call fd (at buffered q d))) (reply.Fd f) n
+      → uses_fd (after_reply (at buffered q d) (reply.Fd f) received).phase f ≡ true
   opened Opening f received step = self f
   opened (Reading g) f received step = absurd (came g (is_head_only q) f step)
   opened d f received step = let e = step.1 in absurd (cc (e))
 
 pub conn-moves : (m n : State) (fd : ℕ) (x : Conn) (r : Reply) (received : List ℕ) → is_closing x.phase ≡ false
-    → StepsTo m (event.Call server (wants fd x)) r n → after_reply x r received ≡ x → may_repeat (wants fd x) r ≡ true
+    → StepsTo m (event.Call server (next_call fd x)) r n → after_reply x r received ≡ x
+    → may_repeat (next_call fd x) r ≡ true
 conn-moves m n fd x r received going step same =
-    moved m n fd x.kept x.q x.phase r received going step (ap (λ (z : Conn). z.phase) same)
+    moved m n fd x.buffered x.request x.phase r received going step (ap (λ (z : Conn). z.phase) same)
 
 pub conn-opened : (m n : State) (fd f : ℕ) (x : Conn) (received : List ℕ)
-    → StepsTo m (event.Call server (wants fd x)) (reply.Fd f) n
+    → StepsTo m (event.Call server (next_call fd x)) (reply.Fd f) n
     → uses_fd (after_reply x (reply.Fd f) received).phase f ≡ true
-conn-opened m n fd f x received step = opened m n fd x.kept x.q x.phase f received step
+conn-opened m n fd f x received step = opened m n fd x.buffered x.request x.phase f received step

@@ -29,7 +29,8 @@ use Rattle.flash_http.specs.Range.{selected}
 use Rattle.flash_http.specs.Request.{Answer, serve, refuse}
 use Rattle.flash_laws.specs.Answers.{response}
 use Rattle.flash_laws.specs.Conn.{Following, Conn, has_followed, file_result_agg, content_agg, uses_agg, uses_fd}
-use Rattle.flash_laws.specs.Conn.{name_of, text_of, is_head_only, most_kept, most_read, piece_end, count_of, wants}
+use Rattle.flash_laws.specs.Conn.{name_of, text_of, is_head_only, most_buffered, most_read, piece_end, count_of}
+use Rattle.flash_laws.specs.Conn.{next_call}
 use Rattle.flash_laws.specs.Conn.{sends_of, put_out, resolved, following, headed, proceeds, drops_next, after_receive}
 use Rattle.flash_laws.specs.Conn.{after_reply, after_taking, whole}
 use Rattle.flash_laws.specs.declared.phase.FileResult.{FileResult}
@@ -49,14 +50,14 @@ use Rattle.flash_laws.specs.Site.{server}
 use Rattle.flash_laws.proofs.Forms.{at}
 use Rattle.flash_laws.proofs.Lists.{clash, later_of, former_by, former_of}
 use Rattle.flash_laws.proofs.Conn.DoneCalls.{conn-opened}
-use Rattle.flash_laws.proofs.Conn.Touches.{fds-wants, conns-wants, pipes-wants, files-wants, admits-wants}
-use Rattle.flash_laws.proofs.Conn.Uses.{same-number, gives-wants, next-uses}
+use Rattle.flash_laws.proofs.Conn.Touches.{fds-call, conns-call, pipes-call, files-call, admits-call}
+use Rattle.flash_laws.proofs.Conn.Uses.{same-number, gives-call, next-uses}
 
 -- ---- what is used no more is given up
 
 abbrev Leaves : (fd : ℕ) → Conn → Reply → Phase → (a : ℕ) → Type 0
 Leaves fd x r after a = uses_agg x.phase a ≡ true → uses_agg after a ≡ false
-    → (gives_up (event.Call server (wants fd x)) server a ≡ true) × (is_refusal r ≡ false)
+    → (gives_up (event.Call server (next_call fd x)) server a ≡ true) × (is_refusal r ≡ false)
 
 resolved-uses : (q : Answer) (k : FileResult) (a : ℕ) → file_result_agg k a ≡ true → uses_agg (resolved q k) a ≡ true
 resolved-uses (serve w) (File b len) a u = by (selected w.range len)
@@ -99,70 +100,74 @@ drops-more (Some x) a unused = by (x.0 == a) unused
     by false unused = refl
 drops-more None a unused = refl
 
-pub leaves-after_reply : (fd : ℕ) (kept : List ℕ) (q : Answer) (d : Phase) (r : Reply) (received : List ℕ) (a : ℕ)
-    → Leaves fd (at kept q d) r (after_reply (at kept q d) r received).phase a
-leaves-after_reply fd kept q Receiving r received a u unused = absurd (cc (u))
-leaves-after_reply fd kept q Opening r received a u unused = absurd (cc (u))
-leaves-after_reply fd kept q (Reading f) r received a u unused = absurd (cc (u))
-leaves-after_reply fd kept q Disconnecting r received a u unused = absurd (cc (u))
-leaves-after_reply fd kept q Closed r received a u unused = absurd (cc (u))
-leaves-after_reply fd kept q (DroppingInput b) reply.Done received a u unused = (u, refl)
-leaves-after_reply fd kept q (ClosingFile f k) reply.Done received a u unused =
+pub leaves-after_reply : (fd : ℕ) (buffered : List ℕ) (q : Answer) (d : Phase) (r : Reply) (received : List ℕ) (a : ℕ)
+    → Leaves fd (at buffered q d) r (after_reply (at buffered q d) r received).phase a
+leaves-after_reply fd buffered q Receiving r received a u unused = absurd (cc (u))
+leaves-after_reply fd buffered q Opening r received a u unused = absurd (cc (u))
+leaves-after_reply fd buffered q (Reading f) r received a u unused = absurd (cc (u))
+leaves-after_reply fd buffered q Disconnecting r received a u unused = absurd (cc (u))
+leaves-after_reply fd buffered q Closed r received a u unused = absurd (cc (u))
+leaves-after_reply fd buffered q (DroppingInput b) reply.Done received a u unused = (u, refl)
+leaves-after_reply fd buffered q (ClosingFile f k) reply.Done received a u unused =
     absurd (clash (uses_agg (resolved q k) a) (resolved-uses q k a u) unused)
-leaves-after_reply fd kept q (Slicing b first last len) (reply.Agg n) received a u unused =
+leaves-after_reply fd buffered q (Slicing b first last len) (reply.Agg n) received a u unused =
     absurd (clash ((b == a) || (n == a)) (former_of (b == a) (n == a) u) unused)
-leaves-after_reply fd kept q (DroppingWhole b k) reply.Done received a u unused =
+leaves-after_reply fd buffered q (DroppingWhole b k) reply.Done received a u unused =
     (former_by (b == a) (content_agg k a) u unused, refl)
-leaves-after_reply fd kept q (MakingHead k) (reply.Agg n) received a u unused =
+leaves-after_reply fd buffered q (MakingHead k) (reply.Agg n) received a u unused =
     absurd
     (clash (uses_agg (headed n (count_of received) (following k)) a)
     (headed-more n (count_of received) (following k) a (following-uses k a u)) unused)
-leaves-after_reply fd kept q (Joining b size body len) (reply.Agg n) received a u unused = (u, refl)
-leaves-after_reply fd kept q (SendingWhole s) (reply.Count k) received a u unused =
+leaves-after_reply fd buffered q (Joining b size body len) (reply.Agg n) received a u unused = (u, refl)
+leaves-after_reply fd buffered q (SendingWhole s) (reply.Count k) received a u unused =
     absurd (clash ((s.agg == a) || has_followed s.more a) u (sym (next-uses (after_taking s k) a) ∙ unused))
-leaves-after_reply fd kept q (SendingWhole s) (reply.Refused no.BrokenPipe) received a u unused =
+leaves-after_reply fd buffered q (SendingWhole s) (reply.Refused no.BrokenPipe) received a u unused =
     absurd (clash ((s.agg == a) || has_followed s.more a) u unused)
-leaves-after_reply fd kept q (CuttingPiece s) (reply.Agg n) received a u unused =
+leaves-after_reply fd buffered q (CuttingPiece s) (reply.Agg n) received a u unused =
     absurd
     (clash ((n == a) || ((s.agg == a) || has_followed s.more a))
     (later_of (n == a) ((s.agg == a) || has_followed s.more a) u) unused)
-leaves-after_reply fd kept q (SendingPiece s piece) (reply.Count k) received a u unused =
+leaves-after_reply fd buffered q (SendingPiece s piece) (reply.Count k) received a u unused =
     absurd (clash ((piece == a) || ((s.agg == a) || has_followed s.more a)) u unused)
-leaves-after_reply fd kept q (SendingPiece s piece) (reply.Refused no.BrokenPipe) received a u unused =
+leaves-after_reply fd buffered q (SendingPiece s piece) (reply.Refused no.BrokenPipe) received a u unused =
     absurd (clash ((piece == a) || ((s.agg == a) || has_followed s.more a)) u unused)
-leaves-after_reply fd kept q (DroppingPiece s piece) reply.Done received a u unused =
+leaves-after_reply fd buffered q (DroppingPiece s piece) reply.Done received a u unused =
     (former_by (piece == a) ((s.agg == a) || has_followed s.more a) u (sym (next-uses s a) ∙ unused), refl)
-leaves-after_reply fd kept q (DroppingSent b taken more) reply.Done received a u unused =
+leaves-after_reply fd buffered q (DroppingSent b taken more) reply.Done received a u unused =
     (former_by (b == a) (has_followed more a) u (proceeds-more q taken more a unused), refl)
-leaves-after_reply fd kept q (AbortingPiece piece b more) reply.Done received a u unused =
+leaves-after_reply fd buffered q (AbortingPiece piece b more) reply.Done received a u unused =
     (former_by (piece == a) ((b == a) || has_followed more a) u unused, refl)
-leaves-after_reply fd kept q (Aborting b more) reply.Done received a u unused =
+leaves-after_reply fd buffered q (Aborting b more) reply.Done received a u unused =
     (former_by (b == a) (has_followed more a) u (drops-more more a unused), refl)
-leaves-after_reply fd kept q d r received a u unused = absurd (clash (uses_agg d a) u unused)
+leaves-after_reply fd buffered q d r received a u unused = absurd (clash (uses_agg d a) u unused)
 
 -- ---- the descriptor of a file that is used no more is closed
 
-pub shuts : (own : CallsServeTheirDomain) (m n : State) (fd : ℕ) (kept : List ℕ) (q : Answer) (d : Phase) (r : Reply)
+pub shuts : (own : CallsServeTheirDomain) (m n : State) (fd : ℕ) (buffered : List ℕ) (q : Answer) (d : Phase)
+    (r : Reply)
     (received : List ℕ) (g : ℕ)
-    → StepsTo m (event.Call server (wants fd (at kept q d))) r n
-    → uses_fd d g ≡ true → uses_fd (after_reply (at kept q d) r received).phase g ≡ false → descriptor n server g ≡ None
-shuts own m n fd kept q (Reading f) r received g step u unused = absurd (by r u unused)
+    → StepsTo m (event.Call server (next_call fd (at buffered q d))) r n
+    → uses_fd d g ≡ true → uses_fd (after_reply (at buffered q d) r received).phase g ≡ false
+    → descriptor n server g ≡ None
+shuts own m n fd buffered q (Reading f) r received g step u unused = absurd (by r u unused)
   where
-    by : (r : Reply) → (f == g) ≡ true → uses_fd (after_reply (at kept q (Reading f)) r received).phase g ≡ false → ⊥
+    by : (r : Reply) → (f == g) ≡ true → uses_fd (after_reply (at buffered q (Reading f)) r received).phase g ≡ false
+        → ⊥
     by (reply.Agg k) u unused = clash (f == g) u unused
     by (reply.Count k) u unused = clash (f == g) u unused
     by (reply.Refused no.WouldBlock) u unused = clash (f == g) u unused
     by (reply.Refused x) u unused = clash (f == g) u unused
     by r u unused = clash (f == g) u unused
-shuts own m n fd kept q (ClosingFile f k) r received g step u unused = by r (own.closes m n server f r step) unused
+shuts own m n fd buffered q (ClosingFile f k) r received g step u unused = by r (own.closes m n server f r step) unused
   where
-    by : (r : Reply) → o.Closes m server f r n → uses_fd (after_reply (at kept q (ClosingFile f k)) r received).phase g
+    by : (r : Reply) → o.Closes m server f r n
+        → uses_fd (after_reply (at buffered q (ClosingFile f k)) r received).phase g
         ≡ false
         → descriptor n server g ≡ None
     by reply.Done did unused = ap (λ z. descriptor n server z) (sym (same-number f g u)) ∙ did
     by (reply.Refused x) did unused = absurd (clash (f == g) u unused)
     by r did unused = absurd did
-shuts own m n fd kept q d r received g step u unused = absurd (cc (u))
+shuts own m n fd buffered q d r received g step u unused = absurd (cc (u))
 
 -- ---- what comes is used
 
@@ -236,7 +241,7 @@ module _ (come : AggregatesComeAndGo) (own : CallsServeTheirDomain) (m n : State
         by (reply.Refused x) did is = absurd (refused x is)
         by r did is = absurd did
 
-    module _ (files : FileCallsServeTheirDomain) (kept : List ℕ) where
+    module _ (files : FileCallsServeTheirDomain) (buffered : List ℕ) where
       opened-nothing : (name : List ℕ) (r : Reply) → is_live m server ≡ true
           → StepsTo m (event.Call server (call.OpenFile name modes.Read)) r n → ⊥
       opened-nothing name r lives step =
@@ -252,14 +257,14 @@ module _ (come : AggregatesComeAndGo) (own : CallsServeTheirDomain) (m n : State
       rests : (fd c count : ℕ) (q : Answer) (r : Reply) (received : List ℕ)
           → descriptor m server fd ≡ Some (on.Connection c)
           → StepsTo m (event.Call server (call.IolRead fd count)) r n
-          → uses_agg (after_receive kept q r received).phase a ≡ true
+          → uses_agg (after_receive buffered q r received).phase a ≡ true
       rests fd c count q r received open_on step =
           by r received (own.read_conn m n server fd c count r order open_on step)
           (named (event.Call server (call.IolRead fd count)) r step)
         where
           by : (r : Reply) (received : List ℕ) → o.ReadsConn m server c count r n
               → brings (event.Call server (call.IolRead fd count)) r server a ≡ true
-              → uses_agg (after_receive kept q r received).phase a ≡ true
+              → uses_agg (after_receive buffered q r received).phase a ≡ true
           by (reply.Agg k) [] did is = former_of (k == a) false is
           by (reply.Agg k) (b ∷ received) did is = is
           by (reply.Refused x) received did is = absurd (cc (is))
@@ -268,7 +273,7 @@ module _ (come : AggregatesComeAndGo) (own : CallsServeTheirDomain) (m n : State
       pub reads : (q : Answer) (g i pos : ℕ) (r : Reply) (received : List ℕ) → HasAccess m → is_live m server ≡ true
           → descriptor m server g ≡ Some (on.File i pos modes.Read) → (b : Bool)
           → StepsTo m (event.Call server (if b then call.Length g else call.IolRead g most_read)) r n
-          → uses_agg (after_reply (at kept q (Reading g)) r received).phase a ≡ true
+          → uses_agg (after_reply (at buffered q (Reading g)) r received).phase a ≡ true
       reads q g i pos r received access lives opened true step =
           absurd (by r (files.measures m n server g i pos modes.Read r lives opened step)
           (named (event.Call server (call.Length g)) r step))
@@ -284,7 +289,7 @@ module _ (come : AggregatesComeAndGo) (own : CallsServeTheirDomain) (m n : State
         where
           by : (r : Reply) → of.ReadsFile m server g i pos modes.Read (take most_read (drop pos (content m i))) r n
               → brings (event.Call server (call.IolRead g most_read)) r server a ≡ true
-              → uses_agg (after_reply (at kept q (Reading g)) r received).phase a ≡ true
+              → uses_agg (after_reply (at buffered q (Reading g)) r received).phase a ≡ true
           by (reply.Agg k) did is = is
           by (reply.Refused x) did is = absurd (cc (is))
           by r did is = absurd did
@@ -292,39 +297,39 @@ module _ (come : AggregatesComeAndGo) (own : CallsServeTheirDomain) (m n : State
       picks : (b first last len : ℕ) (q : Answer) (part : List ℕ) (r : Reply) (received : List ℕ)
           → readable_at m server b ≡ Some part
           → StepsTo m (event.Call server (call.AggCut b first last)) r n
-          → uses_agg (after_reply (at kept q (Slicing b first last len)) r received).phase a ≡ true
+          → uses_agg (after_reply (at buffered q (Slicing b first last len)) r received).phase a ≡ true
       picks b first last len q part r received is_readable step =
           made (call.AggCut b first last) (slice_range part first last)
-          (λ z. uses_agg (after_reply (at kept q (Slicing b first last len)) z received).phase a) r step
+          (λ z. uses_agg (after_reply (at buffered q (Slicing b first last len)) z received).phase a) r step
           (own.cut m n server b first last part r order is_readable step) (λ x is. is) (λ x is. cc (is))
           (λ x is. later_of (b == a) (x == a) is)
 
       heads : (fd : ℕ) (q : Answer) (k : Payload) (r : Reply) (received : List ℕ)
           → StepsTo m (event.Call server (call.AggMake (text_of q k))) r n
-          → uses_agg (after_reply (at kept q (MakingHead k)) r received).phase a ≡ true
+          → uses_agg (after_reply (at buffered q (MakingHead k)) r received).phase a ≡ true
       heads fd q k r received step =
           made (call.AggMake (text_of q k)) (text_of q k)
-          (λ z. uses_agg (after_reply (at kept q (MakingHead k)) z received).phase a) r step
+          (λ z. uses_agg (after_reply (at buffered q (MakingHead k)) z received).phase a) r step
           (own.make m n server (text_of q k) r order step) (λ x is. is) (λ x is. cc (is))
           (λ x is. headed-first x (count_of received) (following k) a is)
 
       joins : (b size body len : ℕ) (q : Answer) (xs ys : List ℕ) (r : Reply) (received : List ℕ)
           → readable_at m server b ≡ Some xs
           → readable_at m server body ≡ Some ys → StepsTo m (event.Call server (call.AggJoin b body)) r n
-          → uses_agg (after_reply (at kept q (Joining b size body len)) r received).phase a ≡ true
+          → uses_agg (after_reply (at buffered q (Joining b size body len)) r received).phase a ≡ true
       joins b size body len q xs ys r received is_readable more step =
           made (call.AggJoin b body) (xs ++ ys)
-          (λ z. uses_agg (after_reply (at kept q (Joining b size body len)) z received).phase a) r step
+          (λ z. uses_agg (after_reply (at buffered q (Joining b size body len)) z received).phase a) r step
           (own.join m n server b body xs ys r order is_readable more step) (λ x is. is) (λ x is. cc (is))
           (λ x is. former_of (x == a) false is)
 
       cuts : (s : Sending) (q : Answer) (whole : List ℕ) (r : Reply) (received : List ℕ)
           → readable_at m server s.agg ≡ Some whole
           → StepsTo m (event.Call server (call.AggCut s.agg s.from (piece_end s))) r n
-          → uses_agg (after_reply (at kept q (CuttingPiece s)) r received).phase a ≡ true
+          → uses_agg (after_reply (at buffered q (CuttingPiece s)) r received).phase a ≡ true
       cuts s q whole r received is_readable step =
           made (call.AggCut s.agg s.from (piece_end s)) (slice_range whole s.from (piece_end s))
-          (λ z. uses_agg (after_reply (at kept q (CuttingPiece s)) z received).phase a) r step
+          (λ z. uses_agg (after_reply (at buffered q (CuttingPiece s)) z received).phase a) r step
           (own.cut m n server s.agg s.from (piece_end s) whole r order is_readable step) (λ x is. is) (λ x is. cc (is))
           (λ x is. former_of (x == a) ((s.agg == a) || has_followed s.more a) is)
 
@@ -332,10 +337,10 @@ module _ (come : AggregatesComeAndGo) (own : CallsServeTheirDomain) (m n : State
           → HasAccess m
           → is_live m server ≡ true
           → descriptor m server fd ≡ Some (on.Connection c) → Has m q expected d
-          → StepsTo m (event.Call server (wants fd (at kept q d))) r n
-          → uses_agg (after_reply (at kept q d) r received).phase a ≡ true
+          → StepsTo m (event.Call server (next_call fd (at buffered q d))) r n
+          → uses_agg (after_reply (at buffered q d) r received).phase a ≡ true
       brought fd c q Receiving expected r received access lives open_on has step =
-          rests fd c (most_kept - length kept) q r received open_on step
+          rests fd c (most_buffered - length buffered) q r received open_on step
       brought fd c q (DroppingInput b) expected r received access lives open_on has step = absurd (dropped b r step)
       brought fd c q Opening expected r received access lives open_on has step =
           absurd (opened-nothing (name_of q) r lives step)
@@ -367,19 +372,21 @@ module _ (come : AggregatesComeAndGo) (own : CallsServeTheirDomain) (m n : State
 pub keeps_nothing : AggregatesComeAndGo → CallsServeTheirDomain → FileCallsServeTheirDomain → KeepsNothing
 keeps_nothing come own files = record {
   brought = λ m n fd c x o r received bytes a order access lives open_on has step before after. brought come own m n
-      order a bytes before after files x.kept fd c x.q x.phase (response x.q o) r received access lives open_on has
+      order a bytes before after files x.buffered fd c x.request x.phase (response x.request o) r received access lives
+      open_on has
       step;
   opened = conn-opened;
   left = λ m n fd x r received a order step u unused.
-      let gives = leaves-after_reply fd x.kept x.q x.phase r received a u unused in
-      come.gone m n (event.Call server (wants fd x)) r server a order step gives.0 gives.1;
-  shut = λ m n fd x r received g step u unused. shuts own m n fd x.kept x.q x.phase r received g step u unused;
+      let gives = leaves-after_reply fd x.buffered x.request x.phase r received a u unused in
+      come.gone m n (event.Call server (next_call fd x)) r server a order step gives.0 gives.1;
+  shut = λ m n fd x r received g step u unused. shuts own m n fd x.buffered x.request x.phase r received g step u
+      unused;
   alone = λ m fd c x o is has. record {
-    aggs = λ a u. gives-wants fd x.kept x.q x.phase a u;
-    fds = λ g t. fds-wants m fd c x.kept x.q x.phase g is t;
-    conns = λ e t. conns-wants m fd c x.kept x.q (response x.q o) x.phase e is has t;
-    pipes = λ p. pipes-wants m fd c x.kept x.q (response x.q o) x.phase p is has;
-    files = files-wants m fd c x.kept x.q x.phase is;
-    pools = λ p. admits-wants fd x.kept x.q x.phase p;
+    aggs = λ a u. gives-call fd x.buffered x.request x.phase a u;
+    fds = λ g t. fds-call m fd c x.buffered x.request x.phase g is t;
+    conns = λ e t. conns-call m fd c x.buffered x.request (response x.request o) x.phase e is has t;
+    pipes = λ p. pipes-call m fd c x.buffered x.request (response x.request o) x.phase p is has;
+    files = files-call m fd c x.buffered x.request x.phase is;
+    pools = λ p. admits-call fd x.buffered x.request x.phase p;
   };
 }

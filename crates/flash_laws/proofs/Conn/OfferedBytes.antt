@@ -25,7 +25,8 @@ use Rattle.iol_laws.specs.RefusalsLeft.{RefusalsThatAreLeft}
 use Rattle.flash_http.specs.Range.{selected}
 use Rattle.flash_http.specs.Request.{Answer, serve, refuse, Wanted}
 use Rattle.flash_laws.specs.Answers.{Outcome, Found, Failed, body_unless, chosen, file_text, unsatisfiable, response}
-use Rattle.flash_laws.specs.Conn.{is_head_only, most_read, piece_end, name_of, wants, begins, status_of, after_receive}
+use Rattle.flash_laws.specs.Conn.{is_head_only, most_read, piece_end, name_of, next_call, begins, status_of}
+use Rattle.flash_laws.specs.Conn.{after_receive}
 use Rattle.flash_laws.specs.Conn.{after_reply}
 use Rattle.flash_laws.specs.declared.phase.Phase.{Phase}
 use Rattle.flash_laws.specs.declared.phase.Phase.TheVariants.{Receiving, Opening, Reading as Reading}
@@ -43,19 +44,19 @@ use Rattle.flash_laws.proofs.Conn.Progress.{rank, conn-nears, conn-reads}
 use Rattle.flash_laws.proofs.Conn.TakenBytes.{takes, breaks, closes}
 use Rattle.flash_laws.proofs.Moves.{either-of}
 
-starts : (m : State) (fd : ℕ) (kept : List ℕ) (q : Answer) (o : Outcome)
-    → FirstCall q (wants fd (at kept q (begins q))) × HasAnswer m (at kept q (begins q)) o
-starts m fd kept (serve w) o = (refl, tt)
-starts m fd kept (refuse status head_only close) o = (refl, refl)
+starts : (m : State) (fd : ℕ) (buffered : List ℕ) (q : Answer) (o : Outcome)
+    → FirstCall q (next_call fd (at buffered q (begins q))) × HasAnswer m (at buffered q (begins q)) o
+starts m fd buffered (serve w) o = (refl, tt)
+starts m fd buffered (refuse status head_only close) o = (refl, refl)
 
 -- the aggregate that a call writes
 abbrev written : Call → (other : ℕ) → ℕ
 written (call.IolWrite fd a) other = a
 written k other = other
 
-next-of : (m : State) (fd a : ℕ) (kept : List ℕ) (q : Answer) (d : Phase) (o : Outcome)
-    → Has m q (response q o) d → wants fd (at kept q d) ≡ call.IolWrite fd a → IsNextOf m q o a (taken_of d)
-next-of m fd a kept q (SendingWhole s) o has is =
+next-of : (m : State) (fd a : ℕ) (buffered : List ℕ) (q : Answer) (d : Phase) (o : Outcome)
+    → Has m q (response q o) d → next_call fd (at buffered q d) ≡ call.IolWrite fd a → IsNextOf m q o a (taken_of d)
+next-of m fd a buffered q (SendingWhole s) o has is =
     let same : s.agg ≡ a = ap (λ k. written k s.agg) is in
     record {
       bytes = has.0.bytes;
@@ -63,7 +64,7 @@ next-of m fd a kept q (SendingWhole s) o has is =
       is_readable = ap (λ z. readable_at m server z) (sym same) ∙ has.0.is_readable;
       next = at-start has.0 has.1;
     }
-next-of m fd a kept q (SendingPiece s piece) o has is =
+next-of m fd a buffered q (SendingPiece s piece) o has is =
     let same : piece ≡ a = ap (λ k. written k piece) is in
     record {
       bytes = slice_range has.whole.bytes s.from (piece_end s);
@@ -75,17 +76,17 @@ next-of m fd a kept q (SendingPiece s piece) o has is =
           ∙ (ap (λ (l : List ℕ). l ++ has.whole.after)
           (take-append-drop (piece_end s - s.from) (drop s.from has.whole.bytes)) ∙ has.whole.next);
     }
-next-of m fd a kept q (Reading f) o has is =
+next-of m fd a buffered q (Reading f) o has is =
     absurd (either-of (λ (k : Call). k ≡ call.IolWrite fd a → ⊥) (is_head_only q) (call.Length f)
     (call.IolRead f most_read) (λ is. cc) (λ is. cc) is)
-next-of m fd a kept q d o has is = absurd (cc (is))
+next-of m fd a buffered q d o has is = absurd (cc (is))
 
 module _ (steps : EachStepLeavesTheRest) (own : CallsServeTheirDomain) (files : FileCallsServeTheirDomain)
-    (m n : State) (order : IsOrderly m) (lives : is_live m server ≡ true) (kept : List ℕ) where
+    (m n : State) (order : IsOrderly m) (lives : is_live m server ≡ true) (buffered : List ℕ) where
   -- the outcome after a reply, with which the machine has what is needed
   abbrev AfterReply : Answer → Phase → Reply → (received : List ℕ) → Outcome → Type 0
   AfterReply q d r received before = (after : Outcome) × Learns d r received before after
-      × HasAnswer n (after_reply (at kept q d) r received) after
+      × HasAnswer n (after_reply (at buffered q d) r received) after
 
   opens : (q : Answer) (r : Reply) (received : List ℕ) (before : Outcome)
       → Has m q (response q before) Opening
@@ -161,7 +162,7 @@ module _ (steps : EachStepLeavesTheRest) (own : CallsServeTheirDomain) (files : 
 
   -- what is read of the stream is there to be dropped
   rests : (q : Answer) (r : Reply) (received : List ℕ) (o : Outcome) → Names n r received
-      → HasAnswer n (after_receive kept q r received) o
+      → HasAnswer n (after_receive buffered q r received) o
   rests q (reply.Agg a) [] o names = record { after = []; readable = ([], names); follows = refl; apart = refl }
   rests q (reply.Agg a) (b ∷ l) o names = (b ∷ l, names)
   rests q r received o names = tt
@@ -169,7 +170,8 @@ module _ (steps : EachStepLeavesTheRest) (own : CallsServeTheirDomain) (files : 
   -- any call of a connection but its last
   pub replied : (fd c : ℕ) (q : Answer) (d : Phase) (r : Reply) (received : List ℕ) (before : Outcome)
       → HasAccess m → descriptor m server fd ≡ Some (on.Connection c) → is_closing d ≡ false
-      → Has m q (response q before) d → StepsTo m (event.Call server (wants fd (at kept q d))) r n → Names n r received
+      → Has m q (response q before) d → StepsTo m (event.Call server (next_call fd (at buffered q d))) r n
+      → Names n r received
       → AfterReply q d r received before
   replied fd c q Receiving r received before access open_on open_yet has step names =
       (before, refl, rests q r received before names)
@@ -182,7 +184,7 @@ module _ (steps : EachStepLeavesTheRest) (own : CallsServeTheirDomain) (files : 
   replied fd c q d r received before access open_on open_yet has step names = (
     before,
     refl,
-    having.phase steps own m n order kept fd c q d (response q before) r received open_on refl open_yet
+    having.phase steps own m n order buffered fd c q d (response q before) r received open_on refl open_yet
         has step names,
   )
 
@@ -198,24 +200,28 @@ pub offers_the_response : EachStepLeavesTheRest → CallsServeTheirDomain → Fi
 offers_the_response steps own files why may = record {
   starts = starts;
   replied = λ m n fd c x r received before order access lives open_on open_yet has step names. replied steps own files m
-      n order lives x.kept fd c x.q x.phase r received before access open_on open_yet has step names;
+      n order lives x.buffered fd c x.request x.phase r received before access open_on open_yet has step names;
   stays =
-      λ m n x e r o step aggs fds has. has-stays m n x.q (response x.q o) x.phase
+      λ m n x e r o step aggs fds has. has-stays m n x.request (response x.request o) x.phase
       (λ a l u readable. readable-stays steps m n e r step a l readable (aggs a u))
       (λ g y u opens. (steps.leaves m n e r step).fds server g y opens (fds g u)) has;
-  offers = λ m fd a x o has is. next-of m fd a x.kept x.q x.phase o has is;
-  takes = λ m n fd c x r received o order open_on has step at_is on busy. takes own m n order fd c open_on x.q
-      (response x.q o) x.kept x.phase r received has step at_is on busy;
-  whole = λ m x o a taken is has. whole m x.q (response x.q o) x.phase a taken is has;
-  breaks = λ m n fd c x r received o open_on busy has step at_is off. breaks why m n fd c open_on x.kept x.q received
+  offers = λ m fd a x o has is. next-of m fd a x.buffered x.request x.phase o has is;
+  takes = λ m n fd c x r received o order open_on has step at_is on busy. takes own m n order fd c open_on x.request
+      (response x.request o) x.buffered x.phase r received has step at_is on busy;
+  whole = λ m x o a taken is has. whole m x.request (response x.request o) x.phase a taken is has;
+  breaks = λ m n fd c x r received o open_on busy has step at_is off. breaks why m n fd c open_on x.buffered x.request
+      received
       x.phase r busy step at_is off;
-  closes = λ m n fd c x r received order lives open_on is step. closes own may m n fd c x.kept x.q x.phase r received
+  closes = λ m n fd c x r received order lives open_on is step. closes own may m n fd c x.buffered x.request x.phase r
+      received
       order lives open_on is step;
-  rank = λ x. rank x.q x.phase;
+  rank = λ x. rank x.request x.phase;
   nears = λ m n fd c x r received o order lives open_on busy has can step names.
-      conn-nears own may m n fd c x.kept x.q x.phase (response x.q o) r received order lives open_on busy has can step
+      conn-nears own may m n fd c x.buffered x.request x.phase (response x.request o) r received order lives open_on
+      busy has can step
       names;
-  reads = λ m n fd c x r received lives open_on rests step same. conn-reads why may m n fd c x.kept x.q x.phase r
+  reads = λ m n fd c x r received lives open_on rests step same. conn-reads why may m n fd c x.buffered x.request
+      x.phase r
       received lives open_on rests step same;
   moves = conn-moves;
 }

@@ -31,8 +31,8 @@ use Rattle.flash_http.specs.declared.ranges.Selection.TheVariants.{Bytes}
 use Rattle.flash_http.specs.Range.{selected}
 use Rattle.flash_http.specs.Request.{Answer, serve, refuse}
 use Rattle.flash_laws.specs.Answers.{keeps}
-use Rattle.flash_laws.specs.Conn.{Following, Conn, is_head_only, most_kept, most_read, name_of, text_of, piece_end}
-use Rattle.flash_laws.specs.Conn.{count_of, wants, sends_of, resolved, following, headed, after_receive, after_open}
+use Rattle.flash_laws.specs.Conn.{Following, Conn, is_head_only, most_buffered, most_read, name_of, text_of, piece_end}
+use Rattle.flash_laws.specs.Conn.{count_of, next_call, sends_of, resolved, following, headed, after_receive, after_open}
 use Rattle.flash_laws.specs.Conn.{after_read, after_close_file, after_slice, after_drop_whole, after_head, after_join}
 use Rattle.flash_laws.specs.Conn.{after_send, after_cut, after_offer, after_swap, proceeds, after_taken}
 use Rattle.flash_laws.specs.Conn.{after_break, drops_next, after_drop, after_discard, after_reply}
@@ -376,121 +376,123 @@ module _ (own : CallsServeTheirDomain) (may : RefusalsThatAreLeft) (m n : State)
       step
       (next-near q s (ready q (DroppingPiece s piece)) (omega arith))
 
-  pub near : (fd c : ℕ) (kept : List ℕ) (q : Answer) (d : Phase) (expected : List ℕ) (r : Reply) (received : List ℕ)
+  pub near : (fd c : ℕ) (buffered : List ℕ) (q : Answer) (d : Phase) (expected : List ℕ) (r : Reply) (received : List ℕ)
       → descriptor m server fd ≡ Some (on.Connection c)
-      → is_busy d ≡ true → Has m q expected d → CanMake m (wants fd (at kept q d))
-      → StepsTo m (event.Call server (wants fd (at kept q d))) r n → Names n r received
-      → Nears (rank q) d r (after_reply (at kept q d) r received).phase
-  near fd c kept q (DroppingInput a) expected r received open_on busy has can step names =
+      → is_busy d ≡ true → Has m q expected d → CanMake m (next_call fd (at buffered q d))
+      → StepsTo m (event.Call server (next_call fd (at buffered q d))) r n → Names n r received
+      → Nears (rank q) d r (after_reply (at buffered q d) r received).phase
+  near fd c buffered q (DroppingInput a) expected r received open_on busy has can step names =
       drops own may m n order lives (rank q) (DroppingInput a) (λ z. after_discard a z) a has.0 r has.1 step
       (falls q Receiving (DroppingInput a) refl (omega arith))
-  near fd c kept q Opening expected r received open_on busy has can step names = opens q (name_of q) r step
-  near fd c kept q (Reading f) expected r received open_on busy has can step names =
+  near fd c buffered q Opening expected r received open_on busy has can step names = opens q (name_of q) r step
+  near fd c buffered q (Reading f) expected r received open_on busy has can step names =
       reads q f (is_head_only q) r received step
-  near fd c kept q (ClosingFile f k) expected r received open_on busy has can step names =
+  near fd c buffered q (ClosingFile f k) expected r received open_on busy has can step names =
       closes own may m n order lives (rank q) (ClosingFile f k) (λ z. after_close_file q f k z) f
       (on.File has.0.0 has.0.1 modes.Read) r has.0.2 step (resolved-near q f k)
-  near fd c kept q (Slicing a from to len) expected r received open_on busy has can step names =
+  near fd c buffered q (Slicing a from to len) expected r received open_on busy has can step names =
       cuts own may m n order lives (rank q) (Slicing a from to len) (λ z. after_slice a from to len z) a from to
       has.bytes
       r has.is_readable
       (let some = has.some in omega (arith, some)) (within-part from to has.bytes has.some has.count) step
       (λ k. let same = ap (λ (l : List ℕ). length l) (text-same q a k (to - from) (to - from) len) in
       falls q (DroppingWhole a (Body k (to - from) len)) (Slicing a from to len) refl (omega (arith, same))) (λ z. refl)
-  near fd c kept q (DroppingWhole a k) expected r received open_on busy has can step names =
+  near fd c buffered q (DroppingWhole a k) expected r received open_on busy has can step names =
       drops own may m n order lives (rank q) (DroppingWhole a k) (λ z. after_drop_whole a k z) a has.0.0 r has.0.1 step
       (falls q (MakingHead k) (DroppingWhole a k) refl (omega arith))
-  near fd c kept q (MakingHead k) expected r received open_on busy has can step names =
+  near fd c buffered q (MakingHead k) expected r received open_on busy has can step names =
       makes own may m n order lives (rank q) (MakingHead k) (λ z. after_head k z received) (text_of q k) received r can
       step
       names
       (λ a same. headed-near q a (count_of received) k (counts-short received (text_of q k) same)) (λ z. refl)
-  near fd c kept q (Joining a size body len) expected r received open_on busy has can step names =
+  near fd c buffered q (Joining a size body len) expected r received open_on busy has can step names =
       joins own may m n order lives (rank q) (Joining a size body len) (λ z. after_join a size body len z) a body
       has.0.bytes has.0.after r has.0.is_readable has.0.follows.0
       (differ a body (turned body a has.0.apart))
       (let one = has.0.size in let two = has.0.follows.1 in let fits = has.1 in omega (arith, one, two, fits)) step
       (λ k. falls q (SendingWhole (whole k (size + len) 0 None)) (Joining a size body len) refl (omega arith))
       (λ z. refl)
-  near fd c kept q (SendingWhole s) expected r received open_on busy has can step names =
+  near fd c buffered q (SendingWhole s) expected r received open_on busy has can step names =
       sends q fd c s has.0.bytes r open_on has.0.is_readable step
-  near fd c kept q (CuttingPiece s) expected r received open_on busy has can step names =
+  near fd c buffered q (CuttingPiece s) expected r received open_on busy has can step names =
       cuts own may m n order lives (rank q) (CuttingPiece s) (λ z. after_cut s z) s.agg s.from (piece_end s)
       has.0.bytes r has.0.is_readable
       (let some = has.1 in omega (arith, some)) (let size = has.0.size in omega (arith, size)) step
       (λ k. falls q (SendingPiece s k) (CuttingPiece s) refl (omega arith)) (λ z. refl)
-  near fd c kept q (SendingPiece s piece) expected r received open_on busy has can step names =
+  near fd c buffered q (SendingPiece s piece) expected r received open_on busy has can step names =
       offers q fd c s piece has.whole.bytes r open_on has.is_readable has.some has.whole.size step
-  near fd c kept q (DroppingPiece s piece) expected r received open_on busy has can step names =
+  near fd c buffered q (DroppingPiece s piece) expected r received open_on busy has can step names =
       swaps q s piece has.0.0 r has.0.1 step
-  near fd c kept q (DroppingSent a taken more) expected r received open_on busy has can step names =
+  near fd c buffered q (DroppingSent a taken more) expected r received open_on busy has can step names =
       drops own may m n order lives (rank q) (DroppingSent a taken more) (λ z. after_taken q a taken more z) a has.bytes
       r
       has.is_readable step (goes-near q a taken more)
-  near fd c kept q (AbortingPiece piece a more) expected r received open_on busy has can step names =
+  near fd c buffered q (AbortingPiece piece a more) expected r received open_on busy has can step names =
       drops own may m n order lives (rank q) (AbortingPiece piece a more) (λ z. after_break piece a more z) piece
       has.0.0 r
       has.0.1 step
       (falls q (Aborting a more) (AbortingPiece piece a more) refl (few-drops more))
-  near fd c kept q (Aborting a more) expected r received open_on busy has can step names =
+  near fd c buffered q (Aborting a more) expected r received open_on busy has can step names =
       drops own may m n order lives (rank q) (Aborting a more) (λ z. after_drop a more z) a has.readable.0 r
       has.readable.1
       step (drop-near q a more)
-  near fd c kept q d expected r received open_on busy has can step names = absurd (cc (busy))
+  near fd c buffered q d expected r received open_on busy has can step names = absurd (cc (busy))
 
 -- ---- of a connection
 
-after_reply-at : (kept : List ℕ) (q : Answer) (d : Phase) (r : Reply) (received : List ℕ) → is_busy d ≡ true
-    → after_reply (at kept q d) r received ≡ at kept q (after_reply (at kept q d) r received).phase
-after_reply-at kept q Receiving r received busy = absurd (cc (busy))
-after_reply-at kept q d r received busy = refl
+after_reply-at : (buffered : List ℕ) (q : Answer) (d : Phase) (r : Reply) (received : List ℕ) → is_busy d ≡ true
+    → after_reply (at buffered q d) r received ≡ at buffered q (after_reply (at buffered q d) r received).phase
+after_reply-at buffered q Receiving r received busy = absurd (cc (busy))
+after_reply-at buffered q d r received busy = refl
 
-lift : (kept : List ℕ) (q : Answer) (d e : Phase) (r : Reply) → Nears (rank q) d r e
-    → Nears (λ (x : Conn). rank x.q x.phase) (at kept q d) r (at kept q e)
-lift kept q d e r (inl below) = inl below
-lift kept q d e r (inr same) = inr (ap (λ z. at kept q z) same.0, same.1)
+lift : (buffered : List ℕ) (q : Answer) (d e : Phase) (r : Reply) → Nears (rank q) d r e
+    → Nears (λ (x : Conn). rank x.request x.phase) (at buffered q d) r (at buffered q e)
+lift buffered q d e r (inl below) = inl below
+lift buffered q d e r (inr same) = inr (ap (λ z. at buffered q z) same.0, same.1)
 
 pub conn-nears : CallsServeTheirDomain → RefusalsThatAreLeft
-    → (m n : State) (fd c : ℕ) (kept : List ℕ) (q : Answer) (d : Phase) (expected : List ℕ) (r : Reply)
+    → (m n : State) (fd c : ℕ) (buffered : List ℕ) (q : Answer) (d : Phase) (expected : List ℕ) (r : Reply)
     (received : List ℕ)
     → IsOrderly m → is_live m server ≡ true → descriptor m server fd ≡ Some (on.Connection c) → is_busy d ≡ true
     → Has m q expected d
-    → CanMake m (wants fd (at kept q d)) → StepsTo m (event.Call server (wants fd (at kept q d))) r n
+    → CanMake m (next_call fd (at buffered q d)) → StepsTo m (event.Call server (next_call fd (at buffered q d))) r n
     → Names n r received
-    → Nears (λ (x : Conn). rank x.q x.phase) (at kept q d) r (after_reply (at kept q d) r received)
-conn-nears own may m n fd c kept q d expected r received order lives open_on busy has can step names =
-    subst (λ (z : Conn). Nears (λ (x : Conn). rank x.q x.phase) (at kept q d) r z)
-    (sym (after_reply-at kept q d r received busy))
-    (lift kept q d (after_reply (at kept q d) r received).phase r
-    (near own may m n order lives fd c kept q d expected r received open_on busy has can step names))
+    → Nears (λ (x : Conn). rank x.request x.phase) (at buffered q d) r (after_reply (at buffered q d) r received)
+conn-nears own may m n fd c buffered q d expected r received order lives open_on busy has can step names =
+    subst (λ (z : Conn). Nears (λ (x : Conn). rank x.request x.phase) (at buffered q d) r z)
+    (sym (after_reply-at buffered q d r received busy))
+    (lift buffered q d (after_reply (at buffered q d) r received).phase r
+    (near own may m n order lives fd c buffered q d expected r received open_on busy has can step names))
 
 -- what is read of the stream is read again only later, or where it is hidden
 pub conn-reads : RefusalsTellWhy → RefusalsThatAreLeft
-    → (m n : State) (fd c : ℕ) (kept : List ℕ) (q : Answer) (d : Phase) (r : Reply) (received : List ℕ)
+    → (m n : State) (fd c : ℕ) (buffered : List ℕ) (q : Answer) (d : Phase) (r : Reply) (received : List ℕ)
     → is_live m server ≡ true
     → descriptor m server fd ≡ Some (on.Connection c) → d ≡ Receiving
-    → StepsTo m (event.Call server (wants fd (at kept q d))) r n
-    → after_reply (at kept q d) r received ≡ at kept q d
+    → StepsTo m (event.Call server (next_call fd (at buffered q d))) r n
+    → after_reply (at buffered q d) r received ≡ at buffered q d
     → (is_later r ≡ true) ⊎ ((p : ℕ) × IsHidden m server p (conn_at m c).incoming)
-conn-reads why may m n fd c kept q Receiving r received lives open_on rests step same = by r received step same
+conn-reads why may m n fd c buffered q Receiving r received lives open_on rests step same = by r received step same
   where
     refused : (z : Refusal) → LacksNumbersOrHasNothingToRead z
-        → StepsTo m (event.Call server (call.IolRead fd (most_kept - length kept))) (reply.Refused z) n
+        → StepsTo m (event.Call server (call.IolRead fd (most_buffered - length buffered))) (reply.Refused z) n
         → (is_later (reply.Refused z) ≡ true) ⊎ ((p : ℕ) × IsHidden m server p (conn_at m c).incoming)
     refused no.TooMany left step = inl refl
     refused no.WouldBlock left step = inl refl
     refused no.Memory left step = inl refl
     refused (no.Denied p) left step =
-        inr (p, why.conn_is_hidden m n server fd c (most_kept - length kept) p open_on step)
+        inr (p, why.conn_is_hidden m n server fd c (most_buffered - length buffered) p open_on step)
     refused z left step = absurd left
 
-    by : (r : Reply) (received : List ℕ) → StepsTo m (event.Call server (call.IolRead fd (most_kept - length kept))) r n
-        → after_receive kept q r received ≡ at kept q Receiving
+    by : (r : Reply) (received : List ℕ)
+        → StepsTo m (event.Call server (call.IolRead fd (most_buffered - length buffered))) r n
+        → after_receive buffered q r received ≡ at buffered q Receiving
         → (is_later r ≡ true) ⊎ ((p : ℕ) × IsHidden m server p (conn_at m c).incoming)
     by (reply.Agg k) [] step same = let e = ap (λ (x : Conn). x.phase) same in absurd (cc (e))
     by (reply.Agg k) (b ∷ received) step same = let e = ap (λ (x : Conn). x.phase) same in absurd (cc (e))
     by (reply.Refused z) received step same =
-        refused z (may.reads_queue m n server fd (most_kept - length kept) (on.Connection c) z lives open_on refl refl
+        refused z (may.reads_queue m n server fd (most_buffered - length buffered) (on.Connection c) z lives open_on
+        refl refl
         step) step
     by r received step same = let e = step.1 in absurd (cc (e))
-conn-reads why may m n fd c kept q d r received lives open_on rests step same = absurd (cc (rests))
+conn-reads why may m n fd c buffered q d r received lives open_on rests step same = absurd (cc (rests))

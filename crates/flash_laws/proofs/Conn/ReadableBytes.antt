@@ -139,7 +139,7 @@ rest-on m n expected s is_readable h =
       apart = h.apart;
     }
 
--- where none is taken of it, what is next begins with all its bytes
+-- if none of its bytes were taken, the rest of the response begins with all of them
 pub at-start : {m : State} {expected : List ℕ} {s : Sending} (h : HoldsRestFrom m expected s) → s.from ≡ 0
     → h.bytes ++ h.after ≡ drop s.taken expected
 at-start h is = ap (λ z. drop z h.bytes ++ h.after) (sym is) ∙ h.next

@@ -121,46 +121,47 @@ drops-finds site_contents n q script None = tt
 drops-finds site_contents n q script (Some x) = tt
 
 -- After a call that opens and reads nothing what is still to be named is as short.
-pub finds-after_reply : (site_contents : SiteContents) (m n : State) (kept : List ℕ) (q : Answer) (script : List ℕ)
+pub finds-after_reply : (site_contents : SiteContents) (m n : State) (buffered : List ℕ) (q : Answer) (script : List ℕ)
     (d : Phase) (r : Reply) (received : List ℕ)
     → is_opening d ≡ false → is_read d ≡ false → Finds site_contents m q script d
-    → Finds site_contents n q script (after_reply (at kept q d) r received).phase
-finds-after_reply site_contents m n kept q script Receiving (reply.Agg a) [] un unread h = tt
-finds-after_reply site_contents m n kept q script Receiving (reply.Agg a) (b ∷ received) un unread h = tt
-finds-after_reply site_contents m n kept q script Receiving r received un unread h = tt
-finds-after_reply site_contents m n kept q script (DroppingInput a) r received un unread h =
+    → Finds site_contents n q script (after_reply (at buffered q d) r received).phase
+finds-after_reply site_contents m n buffered q script Receiving (reply.Agg a) [] un unread h = tt
+finds-after_reply site_contents m n buffered q script Receiving (reply.Agg a) (b ∷ received) un unread h = tt
+finds-after_reply site_contents m n buffered q script Receiving r received un unread h = tt
+finds-after_reply site_contents m n buffered q script (DroppingInput a) r received un unread h =
     after-done (Finds site_contents n q script) r tt tt
-finds-after_reply site_contents m n kept q script Opening r received un unread h = absurd (cc (un))
-finds-after_reply site_contents m n kept q script (ReadsFile f) r received un unread h = absurd (cc (un))
-finds-after_reply site_contents m n kept q script (ClosingFile f (TextOf a true)) r received un unread h =
+finds-after_reply site_contents m n buffered q script Opening r received un unread h = absurd (cc (un))
+finds-after_reply site_contents m n buffered q script (ReadsFile f) r received un unread h = absurd (cc (un))
+finds-after_reply site_contents m n buffered q script (ClosingFile f (TextOf a true)) r received un unread h =
     absurd (cc (unread))
-finds-after_reply site_contents m n kept q script (ClosingFile f k) r received un unread h =
+finds-after_reply site_contents m n buffered q script (ClosingFile f k) r received un unread h =
     after-done (Finds site_contents n q script) r h (resolved-short site_contents n q script f k refl h)
-finds-after_reply site_contents m n kept q script (Slicing a from to len) r received un unread h =
+finds-after_reply site_contents m n buffered q script (Slicing a from to len) r received un unread h =
     after-agg (Finds site_contents n q script) r h (λ x. h)
-finds-after_reply site_contents m n kept q script (DroppingWhole a Script) r received un unread h = absurd (cc (unread))
-finds-after_reply site_contents m n kept q script (DroppingWhole a k) r received un unread h =
+finds-after_reply site_contents m n buffered q script (DroppingWhole a Script) r received un unread h =
+    absurd (cc (unread))
+finds-after_reply site_contents m n buffered q script (DroppingWhole a k) r received un unread h =
     after-done (Finds site_contents n q script) r h h
-finds-after_reply site_contents m n kept q script (MakingHead k) r received un unread h =
+finds-after_reply site_contents m n buffered q script (MakingHead k) r received un unread h =
     after-agg (Finds site_contents n q script) r h
     (λ x. headed-finds site_contents n q script x (count_of received) (following k))
-finds-after_reply site_contents m n kept q script (Joining a size body len) r received un unread h =
+finds-after_reply site_contents m n buffered q script (Joining a size body len) r received un unread h =
     after-agg (Finds site_contents n q script) r tt (λ x. tt)
-finds-after_reply site_contents m n kept q script (SendingWhole s) r received un unread h =
+finds-after_reply site_contents m n buffered q script (SendingWhole s) r received un unread h =
     after-write (Finds site_contents n q script) r tt tt
     (λ k. either-next (Finds site_contents n q script) (after_taking s k) tt tt)
-finds-after_reply site_contents m n kept q script (CuttingPiece s) r received un unread h =
+finds-after_reply site_contents m n buffered q script (CuttingPiece s) r received un unread h =
     after-agg (Finds site_contents n q script) r tt (λ x. tt)
-finds-after_reply site_contents m n kept q script (SendingPiece s piece) r received un unread h =
+finds-after_reply site_contents m n buffered q script (SendingPiece s piece) r received un unread h =
     after-write (Finds site_contents n q script) r tt tt (λ k. tt)
-finds-after_reply site_contents m n kept q script (DroppingPiece s piece) r received un unread h =
+finds-after_reply site_contents m n buffered q script (DroppingPiece s piece) r received un unread h =
     after-done (Finds site_contents n q script) r tt (either-next (Finds site_contents n q script) s tt tt)
-finds-after_reply site_contents m n kept q script (DroppingSent a taken more) r received un unread h =
+finds-after_reply site_contents m n buffered q script (DroppingSent a taken more) r received un unread h =
     after-done (Finds site_contents n q script) r tt (goes-finds site_contents n q script taken more)
-finds-after_reply site_contents m n kept q script (AbortingPiece piece a more) r received un unread h =
+finds-after_reply site_contents m n buffered q script (AbortingPiece piece a more) r received un unread h =
     after-done (Finds site_contents n q script) r tt tt
-finds-after_reply site_contents m n kept q script (Aborting a more) r received un unread h =
+finds-after_reply site_contents m n buffered q script (Aborting a more) r received un unread h =
     after-done (Finds site_contents n q script) r tt (drops-finds site_contents n q script more)
-finds-after_reply site_contents m n kept q script Disconnecting r received un unread h =
+finds-after_reply site_contents m n buffered q script Disconnecting r received un unread h =
     after-done (Finds site_contents n q script) r tt tt
-finds-after_reply site_contents m n kept q script Closed r received un unread h = tt
+finds-after_reply site_contents m n buffered q script Closed r received un unread h = tt

@@ -23,7 +23,7 @@ use Rattle.flash_http.specs.declared.ranges.Selection.TheVariants.{Bytes}
 use Rattle.flash_http.specs.Range.{selected}
 use Rattle.flash_http.specs.Request.{Answer, serve, refuse}
 use Rattle.flash_laws.specs.Answers.{keeps}
-use Rattle.flash_laws.specs.Conn.{Following, is_head_only, most_kept, piece_end, count_of, wants, sends_of}
+use Rattle.flash_laws.specs.Conn.{Following, is_head_only, most_buffered, piece_end, count_of, next_call, sends_of}
 use Rattle.flash_laws.specs.Conn.{resolved, following, headed, after_receive, after_send, after_cut, after_offer}
 use Rattle.flash_laws.specs.Conn.{after_swap, after_taken, after_taking, next_piece, after_reply}
 use Rattle.flash_laws.specs.Conn.Fits.{Has, HoldsRestFrom}
@@ -77,21 +77,21 @@ headed-begun a size None = (refl, refl)
 headed-begun a size (Some x) =
     either-way (λ (e : Phase). IsBegun e) (nat_le (size + x.1) MAX_AGGREGATE_BYTES) (refl, refl) (refl, refl)
 
-begun : (kept : List ℕ) (q : Answer) (d : Phase) (r : Reply) (received : List ℕ) → is_begun d ≡ true
-    → IsBegun (after_reply (at kept q d) r received).phase
-begun kept q (DroppingInput a) r received is = after-done IsBegun r (refl, refl) (refl, refl)
-begun kept q Opening r received is = after-open IsBegun r (refl, refl) (λ f. (refl, refl)) (λ x. (refl, refl))
-begun kept q (Reading f) r received is =
+begun : (buffered : List ℕ) (q : Answer) (d : Phase) (r : Reply) (received : List ℕ) → is_begun d ≡ true
+    → IsBegun (after_reply (at buffered q d) r received).phase
+begun buffered q (DroppingInput a) r received is = after-done IsBegun r (refl, refl) (refl, refl)
+begun buffered q Opening r received is = after-open IsBegun r (refl, refl) (λ f. (refl, refl)) (λ x. (refl, refl))
+begun buffered q (Reading f) r received is =
     after-read IsBegun r (refl, refl) (λ k. (refl, refl)) (λ k. (refl, refl)) (λ x. (refl, refl))
-begun kept q (ClosingFile f k) r received is = after-done IsBegun r (refl, refl) (resolved-begun q k)
-begun kept q (Slicing a first last len) r received is = after-agg IsBegun r (refl, refl) (λ k. (refl, refl))
-begun kept q (DroppingWhole a k) r received is = after-done IsBegun r (refl, refl) (refl, refl)
-begun kept q (MakingHead k) r received is =
+begun buffered q (ClosingFile f k) r received is = after-done IsBegun r (refl, refl) (resolved-begun q k)
+begun buffered q (Slicing a first last len) r received is = after-agg IsBegun r (refl, refl) (λ k. (refl, refl))
+begun buffered q (DroppingWhole a k) r received is = after-done IsBegun r (refl, refl) (refl, refl)
+begun buffered q (MakingHead k) r received is =
     after-agg IsBegun r (refl, refl) (λ a. headed-begun a (count_of received) (following k))
-begun kept q (Joining a size body len) r received is = after-agg IsBegun r (refl, refl) (λ k. (refl, refl))
-begun kept q Disconnecting r received is = after-done IsBegun r (refl, refl) (refl, refl)
-begun kept q Closed r received is = (refl, refl)
-begun kept q d r received is = absurd (cc (is))
+begun buffered q (Joining a size body len) r received is = after-agg IsBegun r (refl, refl) (λ k. (refl, refl))
+begun buffered q Disconnecting r received is = after-done IsBegun r (refl, refl) (refl, refl)
+begun buffered q Closed r received is = (refl, refl)
+begun buffered q d r received is = absurd (cc (is))
 
 none-taken : (d : Phase) → is_begun d ≡ true → taken_of d ≡ 0
 none-taken (SendingWhole s) is = absurd (cc (is))
@@ -101,12 +101,12 @@ none-taken (DroppingPiece s piece) is = absurd (cc (is))
 none-taken (DroppingSent a taken more) is = absurd (cc (is))
 none-taken d is = refl
 
-none-newly : (fd : ℕ) (kept : List ℕ) (q : Answer) (d : Phase) (r : Reply) → is_begun d ≡ true
-    → newly_taken fd (wants fd (at kept q d)) r ≡ 0
-none-newly fd kept q (SendingWhole s) r is = absurd (cc (is))
-none-newly fd kept q (SendingPiece s piece) r is = absurd (cc (is))
-none-newly fd kept q (Reading f) r is = either-way (λ (k : Call). newly_taken fd k r ≡ 0) (is_head_only q) refl refl
-none-newly fd kept q d r is = refl
+none-newly : (fd : ℕ) (buffered : List ℕ) (q : Answer) (d : Phase) (r : Reply) → is_begun d ≡ true
+    → newly_taken fd (next_call fd (at buffered q d)) r ≡ 0
+none-newly fd buffered q (SendingWhole s) r is = absurd (cc (is))
+none-newly fd buffered q (SendingPiece s piece) r is = absurd (cc (is))
+none-newly fd buffered q (Reading f) r is = either-way (λ (k : Call). newly_taken fd k r ≡ 0) (is_head_only q) refl refl
+none-newly fd buffered q d r is = refl
 
 -- ---- what counts as taken
 
@@ -173,37 +173,42 @@ module _ (own : CallsServeTheirDomain) (m n : State) (order : IsOrderly m) (fd c
       (λ busy. cc (busy)) busy)
   sent a taken more r busy = omega arith
 
-  rests : (kept : List ℕ) (r : Reply) (received : List ℕ) → is_dropping (after_receive kept q r received).phase ≡ false
-      → is_busy (after_receive kept q r received).phase ≡ true
-      → taken_of (after_receive kept q r received).phase ≡ newly_taken fd (call.IolRead fd (most_kept - length kept)) r
-  rests kept (reply.Agg k) [] on busy = absurd (cc (on))
-  rests kept (reply.Agg k) (b ∷ received) on busy = refl
-  rests kept r received on busy = absurd (cc (busy))
+  rests : (buffered : List ℕ) (r : Reply) (received : List ℕ)
+      → is_dropping (after_receive buffered q r received).phase ≡ false
+      → is_busy (after_receive buffered q r received).phase ≡ true
+      → taken_of (after_receive buffered q r received).phase
+      ≡ newly_taken fd (call.IolRead fd (most_buffered - length buffered)) r
+  rests buffered (reply.Agg k) [] on busy = absurd (cc (on))
+  rests buffered (reply.Agg k) (b ∷ received) on busy = refl
+  rests buffered r received on busy = absurd (cc (busy))
 
-  pub takes : (kept : List ℕ) (d : Phase) (r : Reply) (received : List ℕ) → Has m q expected d
-      → StepsTo m (event.Call server (wants fd (at kept q d))) r n → is_dropping d ≡ false
-      → is_dropping (after_reply (at kept q d) r received).phase ≡ false
-      → is_busy (after_reply (at kept q d) r received).phase ≡ true
-      → taken_of (after_reply (at kept q d) r received).phase ≡ taken_of d + newly_taken fd (wants fd (at kept q d)) r
-  takes kept d r received has step at_is on busy = by (is_begun d) refl
+  pub takes : (buffered : List ℕ) (d : Phase) (r : Reply) (received : List ℕ) → Has m q expected d
+      → StepsTo m (event.Call server (next_call fd (at buffered q d))) r n → is_dropping d ≡ false
+      → is_dropping (after_reply (at buffered q d) r received).phase ≡ false
+      → is_busy (after_reply (at buffered q d) r received).phase ≡ true
+      → taken_of (after_reply (at buffered q d) r received).phase ≡ taken_of d + newly_taken fd
+      (next_call fd (at buffered q d)) r
+  takes buffered d r received has step at_is on busy = by (is_begun d) refl
     where
       by : (b : Bool) → is_begun d ≡ b
-          → taken_of (after_reply (at kept q d) r received).phase ≡ taken_of d + newly_taken fd (wants fd (at kept q d))
+          → taken_of (after_reply (at buffered q d) r received).phase ≡ taken_of d + newly_taken fd
+          (next_call fd (at buffered q d))
           r
       by true is =
-          let new = (begun kept q d r received is).0 in
+          let new = (begun buffered q d r received is).0 in
           let was = none-taken d is in
-          let none = none-newly fd kept q d r is in
+          let none = none-newly fd buffered q d r is in
           omega (arith, new, was, none)
       by false is = sending d has step at_is on busy is
         where
-          sending : (d : Phase) → Has m q expected d → StepsTo m (event.Call server (wants fd (at kept q d))) r n
+          sending : (d : Phase) → Has m q expected d
+              → StepsTo m (event.Call server (next_call fd (at buffered q d))) r n
               → is_dropping d ≡ false
-              → is_dropping (after_reply (at kept q d) r received).phase ≡ false
-              → is_busy (after_reply (at kept q d) r received).phase ≡ true → is_begun d ≡ false
-              → taken_of (after_reply (at kept q d) r received).phase ≡ taken_of d + newly_taken fd
-              (wants fd (at kept q d)) r
-          sending Receiving has step at_is on busy is = (let e = rests kept r received on busy in omega (arith, e))
+              → is_dropping (after_reply (at buffered q d) r received).phase ≡ false
+              → is_busy (after_reply (at buffered q d) r received).phase ≡ true → is_begun d ≡ false
+              → taken_of (after_reply (at buffered q d) r received).phase ≡ taken_of d + newly_taken fd
+              (next_call fd (at buffered q d)) r
+          sending Receiving has step at_is on busy is = (let e = rests buffered r received on busy in omega (arith, e))
           sending (SendingWhole s) has step at_is on busy is = sends s r has step on
           sending (CuttingPiece s) has step at_is on busy is = cuts s r
           sending (SendingPiece s piece) has step at_is on busy is = offers s piece r has step on
@@ -222,13 +227,14 @@ next-not-dropped : (s : Sending) → Kept (next_piece s)
 next-not-dropped s = either-next Kept s refl refl
 
 never : {A : Type 0} (d : Phase) → is_dropping d ≡ true → Kept d → A
-never d off kept = absurd (clash (is_dropping d) off kept)
+never d off buffered = absurd (clash (is_dropping d) off buffered)
 
 module _ (why : RefusalsTellWhy) (m n : State) (fd c : ℕ) (open_on : descriptor m server fd ≡ Some (on.Connection c))
-    (kept : List ℕ) (q : Answer) (received : List ℕ) where
-  pub breaks : (d : Phase) (r : Reply) → is_busy d ≡ true → StepsTo m (event.Call server (wants fd (at kept q d))) r n
+    (buffered : List ℕ) (q : Answer) (received : List ℕ) where
+  pub breaks : (d : Phase) (r : Reply) → is_busy d ≡ true
+      → StepsTo m (event.Call server (next_call fd (at buffered q d))) r n
       → is_dropping d ≡ false
-      → is_dropping (after_reply (at kept q d) r received).phase ≡ true → is_gone (conn_at m c).peer ≡ true
+      → is_dropping (after_reply (at buffered q d) r received).phase ≡ true → is_gone (conn_at m c).peer ≡ true
   breaks (SendingWhole s) (reply.Refused no.BrokenPipe) busy step at_is off =
       why.peer_is_gone m n server fd c s.agg open_on step
   breaks (SendingWhole s) (reply.Count k) busy step at_is off = never _ off (next-not-dropped (after_taking s k))
@@ -245,27 +251,28 @@ module _ (why : RefusalsTellWhy) (m n : State) (fd c : ℕ) (open_on : descripto
   breaks (AbortingPiece piece a more) r busy step at_is off = absurd (cc (at_is))
   breaks (Aborting a more) r busy step at_is off = absurd (cc (at_is))
   breaks Receiving r busy step at_is off = absurd (cc (busy))
-  breaks d r busy step at_is off = absurd (begun-on d (begun kept q d r received refl) off)
+  breaks d r busy step at_is off = absurd (begun-on d (begun buffered q d r received refl) off)
     where
-      begun-on : (d : Phase) → IsBegun (after_reply (at kept q d) r received).phase
-          → is_dropping (after_reply (at kept q d) r received).phase ≡ true → ⊥
-      begun-on d is off = clash (is_dropping (after_reply (at kept q d) r received).phase) off is.1
+      begun-on : (d : Phase) → IsBegun (after_reply (at buffered q d) r received).phase
+          → is_dropping (after_reply (at buffered q d) r received).phase ≡ true → ⊥
+      begun-on d is off = clash (is_dropping (after_reply (at buffered q d) r received).phase) off is.1
 
 -- ---- the last call
 
 pub closes : CallsServeTheirDomain → RefusalsThatAreLeft
-    → (m n : State) (fd c : ℕ) (kept : List ℕ) (q : Answer) (d : Phase) (r : Reply) (received : List ℕ) → IsOrderly m
+    → (m n : State) (fd c : ℕ) (buffered : List ℕ) (q : Answer) (d : Phase) (r : Reply) (received : List ℕ)
+    → IsOrderly m
     → is_live m server ≡ true
     → descriptor m server fd ≡ Some (on.Connection c) → d ≡ Disconnecting
-    → StepsTo m (event.Call server (wants fd (at kept q d))) r n
-    → (r ≡ reply.Done) × ((after_reply (at kept q d) r received).phase ≡ Closed) × ((conn_at n c).closed ≡ true)
-closes own may m n fd c kept q Disconnecting r received order lives open_on is step =
+    → StepsTo m (event.Call server (next_call fd (at buffered q d))) r n
+    → (r ≡ reply.Done) × ((after_reply (at buffered q d) r received).phase ≡ Closed) × ((conn_at n c).closed ≡ true)
+closes own may m n fd c buffered q Disconnecting r received order lives open_on is step =
     by r (own.closes_conn m n server fd c r order open_on step) step
   where
     by : (r : Reply) → caller.ClosesConn m c r n → StepsTo m (event.Call server (call.Close fd)) r n
-        → (r ≡ reply.Done) × ((after_reply (at kept q Disconnecting) r received).phase ≡ Closed)
+        → (r ≡ reply.Done) × ((after_reply (at buffered q Disconnecting) r received).phase ≡ Closed)
         × ((conn_at n c).closed ≡ true)
     by reply.Done did step = (refl, refl, (closed-then m n c did).0)
     by (reply.Refused z) did step = absurd (may.closes m n server fd (on.Connection c) z lives open_on step)
     by r did step = absurd did
-closes own may m n fd c kept q d r received order lives open_on is step = absurd (cc (is))
+closes own may m n fd c buffered q d r received order lives open_on is step = absurd (cc (is))

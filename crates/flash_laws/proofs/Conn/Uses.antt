@@ -20,7 +20,8 @@ use Rattle.flash_http.specs.Range.{selected}
 use Rattle.flash_http.specs.Request.{Answer, serve, refuse}
 use Rattle.flash_laws.specs.Answers.{keeps}
 use Rattle.flash_laws.specs.Conn.{Following, has_followed, file_result_agg, content_agg, uses_agg, uses_fd}
-use Rattle.flash_laws.specs.Conn.{is_head_only, most_read, piece_end, count_of, wants, sends_of, resolved, following}
+use Rattle.flash_laws.specs.Conn.{is_head_only, most_read, piece_end, count_of, next_call, sends_of, resolved}
+use Rattle.flash_laws.specs.Conn.{following}
 use Rattle.flash_laws.specs.Conn.{headed, proceeds, drops_next, after_reply, after_receive, begins}
 use Rattle.flash_laws.specs.Conn.{after_taking, next_piece, whole}
 use Rattle.flash_laws.specs.declared.phase.FileResult.{FileResult}
@@ -50,39 +51,40 @@ pub same-number : (a b : ℕ) → (a == b) ≡ true → a ≡ b
 same-number a b is = grind (arith, nat_tests, is)
 
 -- a call gives up what is the connection's
-pub gives-wants : (fd : ℕ) (kept : List ℕ) (q : Answer) (d : Phase) (a : ℕ)
-    → gives_up (event.Call server (wants fd (at kept q d))) server a ≡ true → uses_agg d a ≡ true
-gives-wants fd kept q (DroppingInput b) a is = is
-gives-wants fd kept q (Reading f) a is = absurd (by (is_head_only q) is)
+pub gives-call : (fd : ℕ) (buffered : List ℕ) (q : Answer) (d : Phase) (a : ℕ)
+    → gives_up (event.Call server (next_call fd (at buffered q d))) server a ≡ true → uses_agg d a ≡ true
+gives-call fd buffered q (DroppingInput b) a is = is
+gives-call fd buffered q (Reading f) a is = absurd (by (is_head_only q) is)
   where
     by : (b : Bool) → gives_up (event.Call server (if b then call.Length f else call.IolRead f most_read)) server a
         ≡ true
         → ⊥
     by true is = cc
     by false is = cc
-gives-wants fd kept q (DroppingWhole b k) a is = grind (arith, is)
-gives-wants fd kept q (Joining b size body len) a is = grind (arith, is)
-gives-wants fd kept q (DroppingPiece s piece) a is = grind (arith, is)
-gives-wants fd kept q (DroppingSent b taken more) a is = grind (arith, is)
-gives-wants fd kept q (AbortingPiece piece b more) a is = grind (arith, is)
-gives-wants fd kept q (Aborting b more) a is = grind (arith, is)
-gives-wants fd kept q d a is = absurd (cc)
+gives-call fd buffered q (DroppingWhole b k) a is = grind (arith, is)
+gives-call fd buffered q (Joining b size body len) a is = grind (arith, is)
+gives-call fd buffered q (DroppingPiece s piece) a is = grind (arith, is)
+gives-call fd buffered q (DroppingSent b taken more) a is = grind (arith, is)
+gives-call fd buffered q (AbortingPiece piece b more) a is = grind (arith, is)
+gives-call fd buffered q (Aborting b more) a is = grind (arith, is)
+gives-call fd buffered q d a is = absurd (cc)
 
 -- its reply names nothing of another domain
-pub no-more : (fd : ℕ) (kept : List ℕ) (q : Answer) (d : Phase) → gives_away (wants fd (at kept q d)) ≡ false
-no-more fd kept q (Reading f) = either-way (λ (k : Call). gives_away k ≡ false) (is_head_only q) refl refl
-no-more fd kept q d = refl
+pub no-more : (fd : ℕ) (buffered : List ℕ) (q : Answer) (d : Phase)
+    → gives_away (next_call fd (at buffered q d)) ≡ false
+no-more fd buffered q (Reading f) = either-way (λ (k : Call). gives_away k ≡ false) (is_head_only q) refl refl
+no-more fd buffered q d = refl
 
 -- What it uses afterwards is what it used, or new.
 
 abbrev Uses : Phase → Reply → Phase → (a : ℕ) → Type 0
 Uses d r after a = uses_agg after a ≡ true → (uses_agg d a ≡ true) ⊎ (is_agg r a ≡ true)
 
-uses-rests : (kept : List ℕ) (q : Answer) (r : Reply) (received : List ℕ) (a : ℕ)
-    → Uses Receiving r (after_receive kept q r received).phase a
-uses-rests kept q (reply.Agg n) [] a u = inr (bare (n == a) u)
-uses-rests kept q (reply.Agg n) (b ∷ received) a u = inr u
-uses-rests kept q r received a u = absurd (cc)
+uses-rests : (buffered : List ℕ) (q : Answer) (r : Reply) (received : List ℕ) (a : ℕ)
+    → Uses Receiving r (after_receive buffered q r received).phase a
+uses-rests buffered q (reply.Agg n) [] a u = inr (bare (n == a) u)
+uses-rests buffered q (reply.Agg n) (b ∷ received) a u = inr u
+uses-rests buffered q r received a u = absurd (cc)
 
 uses-resolved : (q : Answer) (g : ℕ) (k : FileResult) (a : ℕ) → uses_agg (resolved q k) a ≡ true
     → file_result_agg k a ≡ true
@@ -136,53 +138,54 @@ next-uses s a =
 next-no_fd : (s : Sending) (g : ℕ) → uses_fd (next_piece s) g ≡ false
 next-no_fd s g = either-next (λ (e : Phase). uses_fd e g ≡ false) s refl refl
 
-pub uses-after_reply : (kept : List ℕ) (q : Answer) (d : Phase) (r : Reply) (received : List ℕ) (a : ℕ)
-    → Uses d r (after_reply (at kept q d) r received).phase a
-uses-after_reply kept q Receiving r received a u = uses-rests kept q r received a u
-uses-after_reply kept q (DroppingInput b) reply.Done received a u = absurd (cc)
-uses-after_reply kept q Opening (reply.Fd f) received a u = absurd (cc)
-uses-after_reply kept q Opening (reply.Refused no.WouldBlock) received a u = absurd (cc)
-uses-after_reply kept q Opening (reply.Refused x) received a u = absurd (cc)
-uses-after_reply kept q Opening r received a u = absurd (cc)
-uses-after_reply kept q (Reading f) (reply.Agg n) received a u = inr u
-uses-after_reply kept q (Reading f) (reply.Count n) received a u = absurd (cc)
-uses-after_reply kept q (Reading f) (reply.Refused no.WouldBlock) received a u = absurd (cc)
-uses-after_reply kept q (Reading f) (reply.Refused x) received a u = absurd (cc)
-uses-after_reply kept q (Reading f) r received a u = absurd (cc)
-uses-after_reply kept q (ClosingFile f k) reply.Done received a u = inl (uses-resolved q f k a u)
-uses-after_reply kept q (Slicing b first last len) (reply.Agg n) received a u =
+pub uses-after_reply : (buffered : List ℕ) (q : Answer) (d : Phase) (r : Reply) (received : List ℕ) (a : ℕ)
+    → Uses d r (after_reply (at buffered q d) r received).phase a
+uses-after_reply buffered q Receiving r received a u = uses-rests buffered q r received a u
+uses-after_reply buffered q (DroppingInput b) reply.Done received a u = absurd (cc)
+uses-after_reply buffered q Opening (reply.Fd f) received a u = absurd (cc)
+uses-after_reply buffered q Opening (reply.Refused no.WouldBlock) received a u = absurd (cc)
+uses-after_reply buffered q Opening (reply.Refused x) received a u = absurd (cc)
+uses-after_reply buffered q Opening r received a u = absurd (cc)
+uses-after_reply buffered q (Reading f) (reply.Agg n) received a u = inr u
+uses-after_reply buffered q (Reading f) (reply.Count n) received a u = absurd (cc)
+uses-after_reply buffered q (Reading f) (reply.Refused no.WouldBlock) received a u = absurd (cc)
+uses-after_reply buffered q (Reading f) (reply.Refused x) received a u = absurd (cc)
+uses-after_reply buffered q (Reading f) r received a u = absurd (cc)
+uses-after_reply buffered q (ClosingFile f k) reply.Done received a u = inl (uses-resolved q f k a u)
+uses-after_reply buffered q (Slicing b first last len) (reply.Agg n) received a u =
     elim (one-of (b == a) (n == a) u) [ inl is ↦ inl is | inr is ↦ inr is ]
-uses-after_reply kept q (DroppingWhole b k) reply.Done received a u = inl (later_of (b == a) (content_agg k a) u)
-uses-after_reply kept q (MakingHead k) (reply.Agg n) received a u =
+uses-after_reply buffered q (DroppingWhole b k) reply.Done received a u = inl (later_of (b == a) (content_agg k a) u)
+uses-after_reply buffered q (MakingHead k) (reply.Agg n) received a u =
     elim (one-of (n == a) (has_followed (following k) a) (uses-headed n (count_of received) (following k) a u)) [
       | inl
           is ↦ inr is
       | inr is ↦ inl (uses-following k a is)
     ]
-uses-after_reply kept q (Joining b size body len) (reply.Agg n) received a u = inr (bare (n == a) u)
-uses-after_reply kept q (SendingWhole s) (reply.Count k) received a u = inl (sym (next-uses (after_taking s k) a) ∙ u)
-uses-after_reply kept q (SendingWhole s) (reply.Refused no.BrokenPipe) received a u = inl u
-uses-after_reply kept q (CuttingPiece s) (reply.Agg n) received a u =
+uses-after_reply buffered q (Joining b size body len) (reply.Agg n) received a u = inr (bare (n == a) u)
+uses-after_reply buffered q (SendingWhole s) (reply.Count k) received a u =
+    inl (sym (next-uses (after_taking s k) a) ∙ u)
+uses-after_reply buffered q (SendingWhole s) (reply.Refused no.BrokenPipe) received a u = inl u
+uses-after_reply buffered q (CuttingPiece s) (reply.Agg n) received a u =
     elim (one-of (n == a) ((s.agg == a) || has_followed s.more a) u) [ inl new ↦ inr new | inr old ↦ inl old ]
-uses-after_reply kept q (SendingPiece s piece) (reply.Count k) received a u = inl u
-uses-after_reply kept q (SendingPiece s piece) (reply.Refused no.BrokenPipe) received a u = inl u
-uses-after_reply kept q (DroppingPiece s piece) reply.Done received a u =
+uses-after_reply buffered q (SendingPiece s piece) (reply.Count k) received a u = inl u
+uses-after_reply buffered q (SendingPiece s piece) (reply.Refused no.BrokenPipe) received a u = inl u
+uses-after_reply buffered q (DroppingPiece s piece) reply.Done received a u =
     inl (later_of (piece == a) ((s.agg == a) || has_followed s.more a) (sym (next-uses s a) ∙ u))
-uses-after_reply kept q (DroppingSent b taken more) reply.Done received a u = inl (uses-proceeds q b taken more a u)
-uses-after_reply kept q (AbortingPiece piece b more) reply.Done received a u =
+uses-after_reply buffered q (DroppingSent b taken more) reply.Done received a u = inl (uses-proceeds q b taken more a u)
+uses-after_reply buffered q (AbortingPiece piece b more) reply.Done received a u =
     inl (later_of (piece == a) ((b == a) || has_followed more a) u)
-uses-after_reply kept q (Aborting b more) reply.Done received a u = inl (uses-drops b more a u)
-uses-after_reply kept q Disconnecting reply.Done received a u = absurd (cc)
-uses-after_reply kept q d r received a u = inl u
+uses-after_reply buffered q (Aborting b more) reply.Done received a u = inl (uses-drops b more a u)
+uses-after_reply buffered q Disconnecting reply.Done received a u = absurd (cc)
+uses-after_reply buffered q d r received a u = inl u
 
 abbrev UsesFd : Phase → Reply → Phase → (g : ℕ) → Type 0
 UsesFd d r after g = uses_fd after g ≡ true → (uses_fd d g ≡ true) ⊎ (is_fd r g ≡ true)
 
-uses_fd-rests : (kept : List ℕ) (q : Answer) (r : Reply) (received : List ℕ) (g : ℕ)
-    → UsesFd Receiving r (after_receive kept q r received).phase g
-uses_fd-rests kept q (reply.Agg n) [] g u = absurd (cc)
-uses_fd-rests kept q (reply.Agg n) (b ∷ received) g u = absurd (cc)
-uses_fd-rests kept q r received g u = absurd (cc)
+uses_fd-rests : (buffered : List ℕ) (q : Answer) (r : Reply) (received : List ℕ) (g : ℕ)
+    → UsesFd Receiving r (after_receive buffered q r received).phase g
+uses_fd-rests buffered q (reply.Agg n) [] g u = absurd (cc)
+uses_fd-rests buffered q (reply.Agg n) (b ∷ received) g u = absurd (cc)
+uses_fd-rests buffered q r received g u = absurd (cc)
 
 no_fd-resolved : (q : Answer) (k : FileResult) (g : ℕ) → uses_fd (resolved q k) g ≡ false
 no_fd-resolved (serve w) (File b len) g = by (selected w.range len)
@@ -206,42 +209,42 @@ no_fd-drops : (more : Following) (g : ℕ) → uses_fd (drops_next more) g ≡ f
 no_fd-drops (Some x) g = refl
 no_fd-drops None g = refl
 
-pub uses_fd-after_reply : (kept : List ℕ) (q : Answer) (d : Phase) (r : Reply) (received : List ℕ) (g : ℕ)
-    → UsesFd d r (after_reply (at kept q d) r received).phase g
-uses_fd-after_reply kept q Receiving r received g u = uses_fd-rests kept q r received g u
-uses_fd-after_reply kept q (DroppingInput b) reply.Done received g u = absurd (cc)
-uses_fd-after_reply kept q Opening (reply.Fd f) received g u = inr u
-uses_fd-after_reply kept q Opening (reply.Refused no.WouldBlock) received g u = absurd (cc)
-uses_fd-after_reply kept q Opening (reply.Refused x) received g u = absurd (cc)
-uses_fd-after_reply kept q Opening r received g u = absurd (cc)
-uses_fd-after_reply kept q (Reading f) (reply.Agg n) received g u = inl u
-uses_fd-after_reply kept q (Reading f) (reply.Count n) received g u = inl u
-uses_fd-after_reply kept q (Reading f) (reply.Refused no.WouldBlock) received g u = inl u
-uses_fd-after_reply kept q (Reading f) (reply.Refused x) received g u = inl u
-uses_fd-after_reply kept q (ClosingFile f k) reply.Done received g u =
+pub uses_fd-after_reply : (buffered : List ℕ) (q : Answer) (d : Phase) (r : Reply) (received : List ℕ) (g : ℕ)
+    → UsesFd d r (after_reply (at buffered q d) r received).phase g
+uses_fd-after_reply buffered q Receiving r received g u = uses_fd-rests buffered q r received g u
+uses_fd-after_reply buffered q (DroppingInput b) reply.Done received g u = absurd (cc)
+uses_fd-after_reply buffered q Opening (reply.Fd f) received g u = inr u
+uses_fd-after_reply buffered q Opening (reply.Refused no.WouldBlock) received g u = absurd (cc)
+uses_fd-after_reply buffered q Opening (reply.Refused x) received g u = absurd (cc)
+uses_fd-after_reply buffered q Opening r received g u = absurd (cc)
+uses_fd-after_reply buffered q (Reading f) (reply.Agg n) received g u = inl u
+uses_fd-after_reply buffered q (Reading f) (reply.Count n) received g u = inl u
+uses_fd-after_reply buffered q (Reading f) (reply.Refused no.WouldBlock) received g u = inl u
+uses_fd-after_reply buffered q (Reading f) (reply.Refused x) received g u = inl u
+uses_fd-after_reply buffered q (ClosingFile f k) reply.Done received g u =
     absurd (clash (uses_fd (resolved q k) g) u (no_fd-resolved q k g))
-uses_fd-after_reply kept q (Slicing b first last len) (reply.Agg n) received g u = absurd (cc)
-uses_fd-after_reply kept q (DroppingWhole b k) reply.Done received g u = absurd (cc)
-uses_fd-after_reply kept q (MakingHead k) (reply.Agg n) received g u =
+uses_fd-after_reply buffered q (Slicing b first last len) (reply.Agg n) received g u = absurd (cc)
+uses_fd-after_reply buffered q (DroppingWhole b k) reply.Done received g u = absurd (cc)
+uses_fd-after_reply buffered q (MakingHead k) (reply.Agg n) received g u =
     absurd
     (clash (uses_fd (headed n (count_of received) (following k)) g) u
     (no_fd-headed n (count_of received) (following k) g))
-uses_fd-after_reply kept q (Joining b size body len) (reply.Agg n) received g u = absurd (cc)
-uses_fd-after_reply kept q (SendingWhole s) (reply.Count k) received g u =
+uses_fd-after_reply buffered q (Joining b size body len) (reply.Agg n) received g u = absurd (cc)
+uses_fd-after_reply buffered q (SendingWhole s) (reply.Count k) received g u =
     absurd (clash (uses_fd (next_piece (after_taking s k)) g) u (next-no_fd (after_taking s k) g))
-uses_fd-after_reply kept q (SendingWhole s) (reply.Refused no.BrokenPipe) received g u = absurd (cc)
-uses_fd-after_reply kept q (CuttingPiece s) (reply.Agg n) received g u = absurd (cc)
-uses_fd-after_reply kept q (SendingPiece s piece) (reply.Count k) received g u = absurd (cc)
-uses_fd-after_reply kept q (SendingPiece s piece) (reply.Refused no.BrokenPipe) received g u = absurd (cc)
-uses_fd-after_reply kept q (DroppingPiece s piece) reply.Done received g u =
+uses_fd-after_reply buffered q (SendingWhole s) (reply.Refused no.BrokenPipe) received g u = absurd (cc)
+uses_fd-after_reply buffered q (CuttingPiece s) (reply.Agg n) received g u = absurd (cc)
+uses_fd-after_reply buffered q (SendingPiece s piece) (reply.Count k) received g u = absurd (cc)
+uses_fd-after_reply buffered q (SendingPiece s piece) (reply.Refused no.BrokenPipe) received g u = absurd (cc)
+uses_fd-after_reply buffered q (DroppingPiece s piece) reply.Done received g u =
     absurd (clash (uses_fd (next_piece s) g) u (next-no_fd s g))
-uses_fd-after_reply kept q (DroppingSent b taken more) reply.Done received g u =
+uses_fd-after_reply buffered q (DroppingSent b taken more) reply.Done received g u =
     absurd (clash (uses_fd (proceeds q taken more) g) u (no_fd-proceeds q taken more g))
-uses_fd-after_reply kept q (AbortingPiece piece b more) reply.Done received g u = absurd (cc)
-uses_fd-after_reply kept q (Aborting b more) reply.Done received g u =
+uses_fd-after_reply buffered q (AbortingPiece piece b more) reply.Done received g u = absurd (cc)
+uses_fd-after_reply buffered q (Aborting b more) reply.Done received g u =
     absurd (clash (uses_fd (drops_next more) g) u (no_fd-drops more g))
-uses_fd-after_reply kept q Disconnecting reply.Done received g u = absurd (cc)
-uses_fd-after_reply kept q d r received g u = inl u
+uses_fd-after_reply buffered q Disconnecting reply.Done received g u = absurd (cc)
+uses_fd-after_reply buffered q d r received g u = inl u
 
 pub begins-none : (q : Answer) (a : ℕ) → uses_agg (begins q) a ≡ false
 begins-none (serve w) a = refl

@@ -20,7 +20,8 @@ use Rattle.flash_laws.specs.Conn as conn
 use Rattle.flash_laws.specs.Conn.{has_followed, piece_end}
 use Rattle.flash_laws.specs.Run.Fits.{Progress, IsSending, HasRun}
 use Rattle.flash_laws.specs.Run.Holdings.{has_end, may_make, MayTouch, KeepsToItself}
-use Rattle.flash_laws.specs.Run.{worker_domain, job_pipe, has_frame, uses_agg, held_size, in_phase, step_wants, wants}
+use Rattle.flash_laws.specs.Run.{worker_domain, job_pipe, has_frame, uses_agg, held_size, in_phase, step_call}
+use Rattle.flash_laws.specs.Run.{next_call}
 use Rattle.flash_laws.specs.Run.{after_reply, is_left, is_over}
 use Rattle.flash_laws.specs.Answers.Scripts.{script_text, frame_of, place_in_frame, end_around}
 use Rattle.flash_laws.specs.Site.{server}
@@ -190,7 +191,7 @@ module _ (m : State) (fd c : ℕ) (x : Running) where
   -- a phase that sends
   sends : (w : Wanted) (expected : List ℕ) (d : Phase) → descriptor m server fd ≡ Some (on.Connection c)
       → ((a : ℕ) → conn.uses_agg d a ≡ true → uses_agg x a ≡ true)
-      → IsSending m expected d → Keeps (conn.wants fd (in_phase w d))
+      → IsSending m expected d → Keeps (conn.next_call fd (in_phase w d))
   sends w expected (phase.MakingHead (Error status)) open_on uses is = makes (conn.text_of (serve w) (Error status))
   sends w expected (phase.SendingWhole s) open_on uses is = offers s.agg open_on
   sends w expected (phase.CuttingPiece s) open_on uses is = cuts s.agg s.from (piece_end s)
@@ -219,7 +220,7 @@ module _ (job : ℕ → List ℕ) (m : State) (fd c : ℕ) (w : Wanted) (o : Pro
   reading g u = former_of (run.from == g) false u
 
   step-alone : (s : Step) → HasRun job m w o (InProgress run s)
-      → KeepsToItself m fd c (InProgress run s) (step_wants job fd w run s)
+      → KeepsToItself m fd c (InProgress run s) (step_call job fd w run s)
   step-alone (GivingPipe write) has =
       gives m fd c (InProgress run (GivingPipe write)) write (worker_domain run.worker)
       (λ g u. later_of (run.from == g) (write == g) u)
@@ -287,7 +288,7 @@ module _ (job : ℕ → List ℕ) (m : State) (fd c : ℕ) (w : Wanted) (o : Pro
 
 pub keeps-alone : (job : ℕ → List ℕ) (m : State) (fd c : ℕ) (w : Wanted) (x : Running) (o : Progress)
     → descriptor m server fd ≡ Some (on.Connection c)
-    → is_over x ≡ false → HasRun job m w o x → KeepsToItself m fd c x (wants job fd w x)
+    → is_over x ≡ false → HasRun job m w o x → KeepsToItself m fd c x (next_call job fd w x)
 keeps-alone job m fd c w AwaitingWorker o open_on going has = record {
   kind = refl;
   aggs = λ a u. absurd (cc (u));
@@ -311,18 +312,19 @@ only-pipe m n d from write call.Pipe step = refl
 only-pipe m n d from write k step = let e = step.1 in absurd (cc (e))
 
 no-pipe : (m : State) (fd : ℕ) (w : Wanted) (expected : List ℕ) (d : Phase) → IsSending m expected d
-    → conn.wants fd (in_phase w d) ≡ call.Pipe → ⊥
+    → conn.next_call fd (in_phase w d) ≡ call.Pipe → ⊥
 no-pipe m fd w expected (phase.Reading f) sends is = sends.0
 no-pipe m fd w expected d sends is = cc (is)
 
 pub opened : (job : ℕ → List ℕ) (m n : State) (fd worker : ℕ) (w : Wanted) (x : Running) (o : Progress) (from write : ℕ)
     (received : List ℕ) (g : ℕ)
-    → is_over x ≡ false → HasRun job m w o x → StepsTo m (event.Call server (wants job fd w x)) (reply.Fds from write) n
+    → is_over x ≡ false → HasRun job m w o x
+    → StepsTo m (event.Call server (next_call job fd w x)) (reply.Fds from write) n
     → ((from == g) || (write == g)) ≡ true → has_end (after_reply worker w x (reply.Fds from write) received) g ≡ true
 opened job m n fd worker w x o from write received g going has step u =
-    by x going has (only-pipe m n server from write (wants job fd w x) step)
+    by x going has (only-pipe m n server from write (next_call job fd w x) step)
   where
-    by : (x : Running) → is_over x ≡ false → HasRun job m w o x → wants job fd w x ≡ call.Pipe
+    by : (x : Running) → is_over x ≡ false → HasRun job m w o x → next_call job fd w x ≡ call.Pipe
         → has_end (after_reply worker w x (reply.Fds from write) received) g ≡ true
     by AwaitingWorker going has is = u
     by (Finishing d) going has is = let h = is-rest m w o d (not-false (is_left d) going) has in

@@ -11,7 +11,8 @@ use Rattle.flash_laws.specs.Conn.{Following, count_of}
 use Rattle.iol_core.specs.State.{State}
 use Rattle.flash_laws.specs.Client.ResponseState.{IsTaken, IsAfter}
 use Rattle.flash_laws.specs.Run.Fits.{Progress, Broken, IsLeft, HasNone, HasLeft, HasRun}
-use Rattle.flash_laws.specs.Run.{is_again, is_left, is_over, wants, after_reply, after_step, holding, hearing, filled}
+use Rattle.flash_laws.specs.Run.{is_again, is_left, is_over, next_call, after_reply, after_step, holding, hearing}
+use Rattle.flash_laws.specs.Run.{filled}
 use Rattle.flash_laws.specs.Run.{finishing, both}
 use Rattle.flash_laws.specs.declared.phase.Phase.{Phase}
 use Rattle.flash_laws.specs.declared.phase.Phase.TheVariants as phase
@@ -148,17 +149,18 @@ step-forgets w run s r received was = refl
 -- what keeps it kept it before
 pub keeps-back : (worker : ℕ) (w : Wanted) (y : Running) (r : Reply) (received : List ℕ)
     → keeps_text (after_reply worker w y r received) ≡ true → keeps_text y ≡ true
-keeps-back worker w AwaitingWorker r received kept = refl
-keeps-back worker w (InProgress run s) r received kept = by (keeps_text (InProgress run s)) refl
+keeps-back worker w AwaitingWorker r received buffered = refl
+keeps-back worker w (InProgress run s) r received buffered = by (keeps_text (InProgress run s)) refl
   where
     by : (b : Bool) → keeps_text (InProgress run s) ≡ b → keeps_text (InProgress run s) ≡ true
     by true is = is
-    by false is = absurd (clash (keeps_text (after_step w run s r received)) kept (step-forgets w run s r received is))
-keeps-back worker w x r received kept = absurd (cc (kept))
+    by false is =
+        absurd (clash (keeps_text (after_step w run s r received)) buffered (step-forgets w run s r received is))
+keeps-back worker w x r received buffered = absurd (cc (buffered))
 
 -- no call but that for the job tells its text
-pub wants-text : (fd : ℕ) (w : Wanted) (y : Running) (script text : List ℕ) → (keeps_text y ≡ true → script ≡ text)
-    → wants (job_of w script) fd w y ≡ wants (job_of w text) fd w y
-wants-text fd w (InProgress run (MakingJob f)) script text kept =
-    ap (λ (t : List ℕ). wants (job_of w t) fd w (InProgress run (MakingJob f))) (kept refl)
-wants-text fd w y script text kept = refl
+pub call-text : (fd : ℕ) (w : Wanted) (y : Running) (script text : List ℕ) → (keeps_text y ≡ true → script ≡ text)
+    → next_call (job_of w script) fd w y ≡ next_call (job_of w text) fd w y
+call-text fd w (InProgress run (MakingJob f)) script text buffered =
+    ap (λ (t : List ℕ). next_call (job_of w t) fd w (InProgress run (MakingJob f))) (buffered refl)
+call-text fd w y script text buffered = refl

@@ -22,7 +22,7 @@ use Rattle.flash_laws.specs.Conn as conn
 use Rattle.flash_laws.specs.Conn.{Following, has_followed, count_of}
 use Rattle.flash_laws.specs.Run.Fits.{Progress, Goes, Ends, IsHeld, HasReceived, HasAll, HasPart, HasStep, HasRun}
 use Rattle.flash_laws.specs.Run.Holdings.{has_end}
-use Rattle.flash_laws.specs.Run.{both, worker_domain, has_frame, step_agg, ends_of, uses_agg, step_wants, wants}
+use Rattle.flash_laws.specs.Run.{both, worker_domain, has_frame, step_agg, ends_of, uses_agg, step_call, next_call}
 use Rattle.flash_laws.specs.Run.{is_again, after_give, after_sending, after_output, filled, holding, hearing, unread}
 use Rattle.flash_laws.specs.Run.{finishing, after_step, after_reply}
 use Rattle.flash_laws.specs.Site.{server}
@@ -152,7 +152,7 @@ apart x y false u unused leaves = leaves (former_by x false u refl) (bare-none y
 
 module _ (job : ℕ → List ℕ) (m : State) (fd : ℕ) (w : Wanted) (o : Progress) (run : Run) (a : ℕ) where
   abbrev LeavesAt : Step → Reply → Running → Type 0
-  LeavesAt s r y = step_agg s a ≡ true → uses_agg y a ≡ false → Gone (step_wants job fd w run s) r a
+  LeavesAt s r y = step_agg s a ≡ true → uses_agg y a ≡ false → Gone (step_call job fd w run s) r a
 
   sending : (d : Phase) (frame : Option ℕ) (r : Reply) → HasPart m w o run d frame
       → LeavesAt (SendingPart d frame) r (after_sending run d frame r)
@@ -293,14 +293,14 @@ module _ (job : ℕ → List ℕ) (m : State) (fd : ℕ) (w : Wanted) (o : Progr
 
 pub left : (come : AggregatesComeAndGo) (job : ℕ → List ℕ) (m n : State) (fd worker : ℕ) (w : Wanted) (x : Running)
     (o : Progress) (r : Reply) (received : List ℕ) (a : ℕ)
-    → IsOrderly m → HasRun job m w o x → StepsTo m (event.Call server (wants job fd w x)) r n
+    → IsOrderly m → HasRun job m w o x → StepsTo m (event.Call server (next_call job fd w x)) r n
     → uses_agg x a ≡ true → uses_agg (after_reply worker w x r received) a ≡ false → readable_at n server a ≡ None
 left come job m n fd worker w (InProgress run s) o r received a order has step u unused =
     let gives = step-leaves job m fd w o run a s r received has.1 u unused in
-    come.gone m n (event.Call server (wants job fd w (InProgress run s))) r server a order step gives.0 gives.1
+    come.gone m n (event.Call server (next_call job fd w (InProgress run s))) r server a order step gives.0 gives.1
 left come job m n fd worker w (Finishing d) o r received a order has step u unused =
     let gives = leaves-after_reply fd [] (serve w) d r received a u unused in
-    come.gone m n (event.Call server (wants job fd w (Finishing d))) r server a order step gives.0 gives.1
+    come.gone m n (event.Call server (next_call job fd w (Finishing d))) r server a order step gives.0 gives.1
 left come job m n fd worker w x o r received a order has step u unused = absurd (cc (u))
 
 -- ---- an end of the pipe that it has no more is closed, or given away
@@ -308,7 +308,7 @@ left come job m n fd worker w x o r received a order has step u unused = absurd 
 module _ (own : CallsServeTheirDomain) (job : ℕ → List ℕ) (m n : State) (fd : ℕ) (w : Wanted) (o : Progress) (run : Run)
     (g : ℕ) where
   abbrev ShutsAt : Step → Reply → Running → Type 0
-  ShutsAt s r y = StepsTo m (event.Call server (step_wants job fd w run s)) r n → ends_of run s g ≡ true
+  ShutsAt s r y = StepsTo m (event.Call server (step_call job fd w run s)) r n → ends_of run s g ≡ true
       → has_end y g ≡ false → descriptor n server g ≡ None
 
   -- one that is closed
@@ -393,10 +393,10 @@ module _ (own : CallsServeTheirDomain) (job : ℕ → List ℕ) (m n : State) (f
   abbrev Stays : Step → Type 0
   Stays t = has_end (InProgress run t) g ≡ ((run.from == g) || false)
 
-  kept : (s : Step) (r : Reply) (received : List ℕ) → ends_of run s g ≡ true
+  buffered : (s : Step) (r : Reply) (received : List ℕ) → ends_of run s g ≡ true
       → has_end (after_step w run s r received) g ≡ ends_of run s g
       → has_end (after_step w run s r received) g ≡ false → descriptor n server g ≡ None
-  kept s r received u same unused = absurd (clash (ends_of run s g) u (sym same ∙ unused))
+  buffered s r received u same unused = absurd (clash (ends_of run s g) u (sym same ∙ unused))
 
   step-shuts : (s : Step) (r : Reply) (received : List ℕ) → HasStep job m w o run s
       → ShutsAt s r (after_step w run s r received)
@@ -413,39 +413,39 @@ module _ (own : CallsServeTheirDomain) (job : ℕ → List ℕ) (m n : State) (f
       (λ none. bare (run.from == g) u)
       u unused
   step-shuts (MakingJob f) r received has step u unused =
-      kept (MakingJob f) r received u (after-agg Stays r refl (λ k. refl)) unused
+      buffered (MakingJob f) r received u (after-agg Stays r refl (λ k. refl)) unused
   step-shuts (WritingJob j f) r received has step u unused =
-      kept (WritingJob j f) r received u (hands-ends j f r received) unused
+      buffered (WritingJob j f) r received u (hands-ends j f r received) unused
   step-shuts (DroppingJob j) r received has step u unused =
-      kept (DroppingJob j) r received u (after-done Stays r refl refl) unused
+      buffered (DroppingJob j) r received u (after-done Stays r refl refl) unused
   step-shuts MakingHead r received has step u unused =
-      kept MakingHead r received u (after-agg Stays r refl (λ k. refl)) unused
+      buffered MakingHead r received u (after-agg Stays r refl (λ k. refl)) unused
   step-shuts (SendingPart d frame) r received has step u unused =
-      kept (SendingPart d frame) r received u (sending-ends d frame r) unused
+      buffered (SendingPart d frame) r received u (sending-ends d frame r) unused
   step-shuts (ReadingOutput held frame) r received has step u unused =
-      kept (ReadingOutput held frame) r received u (receives-ends held frame r received) unused
+      buffered (ReadingOutput held frame) r received u (receives-ends held frame r received) unused
   step-shuts (DroppingOutput b frame) r received has step u unused =
-      kept (DroppingOutput b frame) r received u (after-done Stays r refl refl) unused
+      buffered (DroppingOutput b frame) r received u (after-done Stays r refl refl) unused
   step-shuts (JoiningOutput held size piece len frame) r received has step u unused =
-      kept (JoiningOutput held size piece len frame) r received u
+      buffered (JoiningOutput held size piece len frame) r received u
       (after-agg Stays r refl (λ k. holding-ends k (both size len) frame)) unused
   step-shuts (MakingFrame held) r received has step u unused =
-      kept (MakingFrame held) r received u (after-agg Stays r refl (λ k. refl)) unused
+      buffered (MakingFrame held) r received u (after-agg Stays r refl (λ k. refl)) unused
   step-shuts (FillingFrame held frame) r received has step u unused =
-      kept (FillingFrame held frame) r received u (after-agg Stays r refl (λ k. refl)) unused
+      buffered (FillingFrame held frame) r received u (after-agg Stays r refl (λ k. refl)) unused
   step-shuts (DroppingHeld held chunk len frame) r received has step u unused =
-      kept (DroppingHeld held chunk len frame) r received u (after-done Stays r refl refl) unused
+      buffered (DroppingHeld held chunk len frame) r received u (after-done Stays r refl refl) unused
   step-shuts (DroppingEnd b held frame) r received has step u unused =
-      kept (DroppingEnd b held frame) r received u (after-done Stays r refl refl) unused
+      buffered (DroppingEnd b held frame) r received u (after-done Stays r refl refl) unused
   step-shuts (DiscardingHeld held frame) r received has step u unused =
-      kept (DiscardingHeld held frame) r received u (after-done Stays r refl refl) unused
+      buffered (DiscardingHeld held frame) r received u (after-done Stays r refl refl) unused
   step-shuts (DiscardingJob j) r received has step u unused =
-      kept (DiscardingJob j) r received u (after-done Stays r refl refl) unused
+      buffered (DiscardingJob j) r received u (after-done Stays r refl refl) unused
   step-shuts s r received has step u unused = absurd (cc (u))
 
 pub shut : (own : CallsServeTheirDomain) (job : ℕ → List ℕ) (m n : State) (fd worker : ℕ) (w : Wanted) (x : Running)
     (o : Progress) (r : Reply) (received : List ℕ) (g : ℕ)
-    → HasRun job m w o x → StepsTo m (event.Call server (wants job fd w x)) r n
+    → HasRun job m w o x → StepsTo m (event.Call server (next_call job fd w x)) r n
     → has_end x g ≡ true → has_end (after_reply worker w x r received) g ≡ false → descriptor n server g ≡ None
 shut own job m n fd worker w (InProgress run s) o r received g has step u unused =
     step-shuts own job m n fd w o run g s r received has.1 step u unused

@@ -13,7 +13,7 @@ use Rattle.flash_laws.specs.Conn.{Following, count_of}
 use Rattle.flash_laws.specs.Conn.Fits.{is_closing}
 use Rattle.flash_laws.specs.Run.Fits.{Progress, sent_agg, IsPart, IsSending, HasRun}
 use Rattle.flash_laws.specs.Conn.OfferedBytes.{taken_of, may_repeat}
-use Rattle.flash_laws.specs.Run.{both, worker_domain, job_pipe, held_size, in_phase, step_wants, wants, after_give}
+use Rattle.flash_laws.specs.Run.{both, worker_domain, job_pipe, held_size, in_phase, step_call, next_call, after_give}
 use Rattle.flash_laws.specs.Run.{after_make, after_hand, after_release_job, after_head, after_sending, after_spill}
 use Rattle.flash_laws.specs.Run.{after_gather, after_frame, after_wrap, after_trim, after_ended, after_release_held}
 use Rattle.flash_laws.specs.Run.{after_wrap_last, after_trim_last, after_return, after_lapse, after_output, after_stop}
@@ -52,9 +52,9 @@ phase_of x = phase.Closed
 
 sent_phase : (m n : State) (w : Wanted) (fd : ℕ) (expected : List ℕ) (d : Phase) (r : Reply) (received : List ℕ)
     → IsSending m expected d
-    → StepsTo m (event.Call server (conn.wants fd (in_phase w d))) r n
+    → StepsTo m (event.Call server (conn.next_call fd (in_phase w d))) r n
     → (conn.after_reply (in_phase w d) r received).phase ≡ d
-    → may_repeat (conn.wants fd (in_phase w d)) r ≡ true
+    → may_repeat (conn.next_call fd (in_phase w d)) r ≡ true
 sent_phase m n w fd expected d r received is step same =
     moved m n fd [] (serve w) d r received (open-yet d is) step same
   where
@@ -65,9 +65,9 @@ sent_phase m n w fd expected d r received is step same =
 
 sending : (m n : State) (w : Wanted) (fd : ℕ) (expected : List ℕ) (run : Run) (d : Phase) (frame : Option ℕ) (r : Reply)
     → IsPart m (sent_agg d) expected → taken_of d ≤ length expected
-    → StepsTo m (event.Call server (conn.wants fd (in_phase w d))) r n
+    → StepsTo m (event.Call server (conn.next_call fd (in_phase w d))) r n
     → after_sending run d frame r ≡ InProgress run (SendingPart d frame)
-    → may_repeat (conn.wants fd (in_phase w d)) r ≡ true
+    → may_repeat (conn.next_call fd (in_phase w d)) r ≡ true
 sending m n w fd expected run (phase.DroppingSent a taken None) frame r is within step same =
     drops m n (InProgress run (SendingPart (phase.DroppingSent a taken None) frame))
     (λ z. after_sending run (phase.DroppingSent a taken None) frame z) a r step (λ e. cc (e)) same
@@ -144,8 +144,8 @@ module _ (run : Run) where
 
   module _ (job : ℕ → List ℕ) (m n : State) (fd : ℕ) (w : Wanted) (o : Progress) where
     steps : (s : Step) (r : Reply) (received : List ℕ) → HasRun job m w o (InProgress run s)
-        → StepsTo m (event.Call server (step_wants job fd w run s)) r n
-        → after_step w run s r received ≡ InProgress run s → may_repeat (step_wants job fd w run s) r ≡ true
+        → StepsTo m (event.Call server (step_call job fd w run s)) r n
+        → after_step w run s r received ≡ InProgress run s → may_repeat (step_call job fd w run s) r ≡ true
     steps (GivingPipe write) r received has step same =
         gives m n (InProgress run (GivingPipe write)) (λ z. InProgress run (after_give write z)) write
         (worker_domain run.worker) r step
@@ -226,8 +226,8 @@ module _ (run : Run) where
 
 pub moves : (job : ℕ → List ℕ) (m n : State) (fd worker : ℕ) (w : Wanted) (x : Running) (r : Reply) (received : List ℕ)
     (o : Progress)
-    → is_over x ≡ false → HasRun job m w o x → StepsTo m (event.Call server (wants job fd w x)) r n
-    → after_reply worker w x r received ≡ x → may_repeat (wants job fd w x) r ≡ true
+    → is_over x ≡ false → HasRun job m w o x → StepsTo m (event.Call server (next_call job fd w x)) r n
+    → after_reply worker w x r received ≡ x → may_repeat (next_call job fd w x) r ≡ true
 moves job m n fd worker w AwaitingWorker r received o going has step same =
     pipes m n AwaitingWorker (λ z. after_reply worker w AwaitingWorker z received) r step (λ k l e. cc (e)) same
 moves job m n fd worker w (InProgress run s) r received o going has step same =

@@ -28,7 +28,7 @@ use Rattle.flash_laws.specs.Run.Fits.{Progress, Ran, Broken, NotRun, Follows, Ma
 use Rattle.flash_laws.specs.Run.Fits.{HasPart, HasRest, HasLeft, HasRun}
 use Rattle.flash_laws.specs.Run.OfferedBytes.{takes_on, Learns, taken_by, past_of, IsNextOf, HasWorker}
 use Rattle.flash_laws.specs.Run.OfferedBytes.{RunsOfferTheResponse}
-use Rattle.flash_laws.specs.Run.{worker_domain, job_pipe, held_size, in_phase, wants, broken, after_sending}
+use Rattle.flash_laws.specs.Run.{worker_domain, job_pipe, held_size, in_phase, next_call, broken, after_sending}
 use Rattle.flash_laws.specs.Run.{after_output, finishing, after_reply, is_left, is_over, stopped, ending, sends_part}
 use Rattle.flash_laws.specs.Answers.Scripts.{script_body, script_response}
 use Rattle.flash_laws.specs.Site.{server}
@@ -139,7 +139,7 @@ module _ (steps : EachStepLeavesTheRest) (own : CallsServeTheirDomain) (m n : St
         by r did step = absurd did
 
     sending : (d : Phase) (r : Reply) (received : List ℕ) (o : Progress) → HasPart m w o run d frame
-        → StepsTo m (event.Call server (conn.wants fd (in_phase w d))) r n
+        → StepsTo m (event.Call server (conn.next_call fd (in_phase w d))) r n
         → AfterReply (InProgress run (SendingPart d frame)) (after_sending run d frame r) r received o
     sending (phase.SendingWhole s) r received o h step =
         (o, refl, (written s.agg r step, parts.sends steps own m n order w o run frame fd c s r open_on h step))
@@ -173,14 +173,14 @@ module _ (steps : EachStepLeavesTheRest) (own : CallsServeTheirDomain) (m n : St
   -- what is left goes on as a file's response does
   rest : (fd c : ℕ) (o : Progress) (d : Phase) (r : Reply) (received : List ℕ)
       → descriptor m server fd ≡ Some (on.Connection c)
-      → HasRest m w o d → StepsTo m (event.Call server (conn.wants fd (in_phase w d))) r n → Names n r received
+      → HasRest m w o d → StepsTo m (event.Call server (conn.next_call fd (in_phase w d))) r n → Names n r received
       → AfterReply (Finishing d) (Finishing (conn.after_reply (in_phase w d) r received).phase) r received o
   rest fd c o d r received open_on h step names =
       left.leaving steps own m n order w h.expected fd c d r received o h.left h.has h.sends open_on step names
 
   leaving : (fd c : ℕ) (o : Progress) (d : Phase) (r : Reply) (received : List ℕ)
       → descriptor m server fd ≡ Some (on.Connection c) → is_left d ≡ true
-      → HasLeft m w o d → StepsTo m (event.Call server (conn.wants fd (in_phase w d))) r n → Names n r received
+      → HasLeft m w o d → StepsTo m (event.Call server (conn.next_call fd (in_phase w d))) r n → Names n r received
       → AfterReply (Finishing d) (Finishing (conn.after_reply (in_phase w d) r received).phase) r received o
   leaving fd c o d r received open_on is has step names =
       rest fd c o d r received open_on (is-rest m w o d is has) step names
@@ -188,7 +188,7 @@ module _ (steps : EachStepLeavesTheRest) (own : CallsServeTheirDomain) (m n : St
   pub replied : (fd c worker : ℕ) (x : Running) (r : Reply) (received : List ℕ) (o : Progress)
       → descriptor m server fd ≡ Some (on.Connection c)
       → (x ≡ AwaitingWorker → HasJobPipe m worker) → is_over x ≡ false → HasRun job m w o x
-      → StepsTo m (event.Call server (wants job fd w x)) r n → Names n r received
+      → StepsTo m (event.Call server (next_call job fd w x)) r n → Names n r received
       → AfterReply x (after_reply worker w x r received) r received o
   replied fd c worker AwaitingWorker r received o open_on free going has step names =
       acts.awaits steps own m n order job w worker r received o (free refl) has step
@@ -303,12 +303,12 @@ next-in m w x a taken part bytes after goes within next is_readable = absurd goe
 
 -- what a phase of any response offers comes next in what is expected
 offered : (m : State) (fd a : ℕ) (w : Wanted) (expected : List ℕ) (d : Phase) → Has m (serve w) expected d
-    → conn.wants fd (in_phase w d) ≡ call.IolWrite fd a → Next m expected a (taken_of d)
+    → conn.next_call fd (in_phase w d) ≡ call.IolWrite fd a → Next m expected a (taken_of d)
 offered m fd a w expected d has is = (next-expected m fd fd a [] (serve w) d expected has is).1
 
 pub part-next : (m : State) (fd a : ℕ) (w : Wanted) (o : Progress) (run : Run) (d : Phase) (frame : Option ℕ)
     → HasPart m w o run d frame
-    → conn.wants fd (in_phase w d) ≡ call.IolWrite fd a → IsNextOf m w o a (taken_of d)
+    → conn.next_call fd (in_phase w d) ≡ call.IolWrite fd a → IsNextOf m w o a (taken_of d)
 part-next m fd a w o run d frame h is =
     let p = offered m fd a w h.part d h.has is in
     next-in m w o a (taken_of d) h.part p.0 p.1 h.continues h.within p.3 p.2
@@ -328,7 +328,7 @@ is-whole w (NotRun status past) expected r left may taken = sym (drop_past past 
     ∙ ap (λ (l : List ℕ). drop (length past + taken) l) (sym (may ∙ left))
 
 rest-next : (m : State) (fd a : ℕ) (w : Wanted) (o : Progress) (d : Phase) → HasRest m w o d
-    → conn.wants fd (in_phase w d) ≡ call.IolWrite fd a → IsNextOf m w o a (taken_of d)
+    → conn.next_call fd (in_phase w d) ≡ call.IolWrite fd a → IsNextOf m w o a (taken_of d)
 rest-next m fd a w o d h is =
     let p = offered m fd a w h.expected d h.has is in
     record {
@@ -339,14 +339,14 @@ rest-next m fd a w o d h is =
     }
 
 pub left-next : (m : State) (fd a : ℕ) (w : Wanted) (o : Progress) (d : Phase) → HasLeft m w o d
-    → conn.wants fd (in_phase w d) ≡ call.IolWrite fd a → IsNextOf m w o a (taken_of d)
+    → conn.next_call fd (in_phase w d) ≡ call.IolWrite fd a → IsNextOf m w o a (taken_of d)
 left-next m fd a w o phase.Receiving has is = absurd (cc (is))
 left-next m fd a w o phase.Disconnecting has is = absurd (cc (is))
 left-next m fd a w o d has is = rest-next m fd a w o d has is
 
 next-of : (job : ℕ → List ℕ) (m : State) (fd c a : ℕ) (w : Wanted) (x : Running) (o : Progress)
     → descriptor m server fd ≡ Some (on.Connection c) → HasRun job m w o x
-    → wants job fd w x ≡ call.IolWrite fd a → IsNextOf m w o a (taken_by x)
+    → next_call job fd w x ≡ call.IolWrite fd a → IsNextOf m w o a (taken_by x)
 next-of job m fd c a w (InProgress run (SendingPart d frame)) o open_on has is =
     part-next m fd a w o run d frame has.1 is
 next-of job m fd c a w (InProgress run (WritingJob j f)) o open_on has is =
@@ -366,7 +366,7 @@ few-held job m w o run (Some x) frame has = has.1.has.holds.few
 -- ---- once it is broken off
 
 none-of : (job : ℕ → List ℕ) (m : State) (fd a : ℕ) (w : Wanted) (x : Running) → HasRun job m w Broken x
-    → wants job fd w x ≡ call.IolWrite fd a → ⊥
+    → next_call job fd w x ≡ call.IolWrite fd a → ⊥
 none-of job m fd a w (InProgress run (SendingPart d frame)) has is = has.1.continues
 none-of job m fd a w (InProgress run (WritingJob j f)) has is = let e = has.1.2.1 in cc (e)
 none-of job m fd a w (Finishing phase.Receiving) has is = has.0
@@ -378,7 +378,7 @@ none-of job m fd a w x has is = cc (is)
 
 opened : (own : CallsServeTheirDomain) (job : ℕ → List ℕ) (m n : State) (fd worker : ℕ) (w : Wanted) (from write : ℕ)
     (received : List ℕ)
-    → StepsTo m (event.Call server (wants job fd w AwaitingWorker)) (reply.Fds from write) n
+    → StepsTo m (event.Call server (next_call job fd w AwaitingWorker)) (reply.Fds from write) n
     → (after_reply worker w AwaitingWorker (reply.Fds from write) received
     ≡ InProgress (record { worker = worker; from = from; broken = false }) (GivingPipe write))
     × ((p : ℕ) × (pipe_at n p ≡ new_pipe) × (descriptor n server from ≡ Some (on.ReadEnd p))
@@ -390,7 +390,7 @@ opened own job m n fd worker w from write received step =
 given : (steps : EachStepLeavesTheRest) (own : CallsServeTheirDomain) (job : ℕ → List ℕ) (m n : State) (fd worker : ℕ)
     (w : Wanted) (o : Progress) (run : Run) (write f : ℕ) (received : List ℕ)
     → HasRun job m w o (InProgress run (GivingPipe write))
-    → StepsTo m (event.Call server (wants job fd w (InProgress run (GivingPipe write)))) (reply.Fd f) n
+    → StepsTo m (event.Call server (next_call job fd w (InProgress run (GivingPipe write)))) (reply.Fd f) n
     → (after_reply worker w (InProgress run (GivingPipe write)) (reply.Fd f) received ≡ InProgress run (MakingJob f))
     × ((p : ℕ) × (descriptor n server run.from ≡ Some (on.ReadEnd p))
     × (descriptor n (worker_domain run.worker) f ≡ Some (on.WriteEnd p)))

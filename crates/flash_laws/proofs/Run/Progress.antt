@@ -28,7 +28,7 @@ use Rattle.flash_laws.specs.Conn.Progress.{Rank, IsBelow, Nears, CanMake, is_bus
 use Rattle.flash_laws.specs.Conn.Policy.{is_later}
 use Rattle.flash_laws.specs.Run.Fits.{Progress, HasPart, HasRun}
 use Rattle.flash_laws.specs.Run.OfferedBytes.{ReceivesMore}
-use Rattle.flash_laws.specs.Run.{both, worker_domain, job_pipe, held_size, in_phase, step_wants, wants, is_again}
+use Rattle.flash_laws.specs.Run.{both, worker_domain, job_pipe, held_size, in_phase, step_call, next_call, is_again}
 use Rattle.flash_laws.specs.Run.{broken, after_wait, after_give, after_make, after_hand, after_head, after_sending}
 use Rattle.flash_laws.specs.Run.{after_gather, after_frame, after_wrap, after_wrap_last, after_return, after_output}
 use Rattle.flash_laws.specs.Run.{after_stop, after_release_frame, after_last, after_unwrap, after_fail, filled, holding}
@@ -293,7 +293,7 @@ module _ (own : CallsServeTheirDomain) (may : RefusalsThatAreLeft) (m n : State)
 
     sending : (fd c : ℕ) (o : Progress) (d : Phase) (frame : Option ℕ) (r : Reply) (received : List ℕ)
         → descriptor m server fd ≡ Some (on.Connection c) → HasPart m w o run d frame
-        → StepsTo m (event.Call server (conn.wants fd (in_phase w d))) r n → Names n r received
+        → StepsTo m (event.Call server (conn.next_call fd (in_phase w d))) r n → Names n r received
         → Near (InProgress run (SendingPart d frame)) r (after_sending run d frame r)
     sending fd c o (phase.DroppingSent a taken None) frame r received open_on h step names =
         drops own may m n order lives (rank w) (InProgress run (SendingPart (phase.DroppingSent a taken None) frame))
@@ -371,7 +371,7 @@ module _ (own : CallsServeTheirDomain) (may : RefusalsThatAreLeft) (m n : State)
 
     steps : (fd c : ℕ) (o : Progress) (s : Step) (r : Reply) (received : List ℕ)
         → descriptor m server fd ≡ Some (on.Connection c) → HasRun job m w o (InProgress run s)
-        → CanMake m (step_wants job fd w run s) → StepsTo m (event.Call server (step_wants job fd w run s)) r n
+        → CanMake m (step_call job fd w run s) → StepsTo m (event.Call server (step_call job fd w run s)) r n
         → Names n r received → Nearer s r received
     steps fd c o (GivingPipe write) r received open_on has can step names = inl (gives write r step)
     steps fd c o (MakingJob f) r received open_on has can step names =
@@ -498,8 +498,8 @@ pub nears : CallsServeTheirDomain → RefusalsThatAreLeft
     → (job : ℕ → List ℕ) (m n : State) (fd c worker : ℕ) (w : Wanted) (x : Running) (r : Reply) (received : List ℕ)
     (o : Progress)
     → IsOrderly m → is_live m server ≡ true → descriptor m server fd ≡ Some (on.Connection c) → is_over x ≡ false
-    → HasRun job m w o x → CanMake m (wants job fd w x)
-    → StepsTo m (event.Call server (wants job fd w x)) r n → Names n r received
+    → HasRun job m w o x → CanMake m (next_call job fd w x)
+    → StepsTo m (event.Call server (next_call job fd w x)) r n → Names n r received
     → Nears (rank w) x r (after_reply worker w x r received) ⊎ ReceivesMore x r received
 nears own may job m n fd c worker w AwaitingWorker r received o order lives open_on going has can step names =
     inl (pipes own may m n order lives job w worker r step)

@@ -21,7 +21,7 @@ use Rattle.flash_laws.specs.Conn.{Following, has_followed, count_of, piece_end}
 use Rattle.flash_laws.specs.Conn.Fits.{Has}
 use Rattle.flash_laws.specs.Run.Fits.{Progress, HasReceived, HasPart, HasLeft, HasRun}
 use Rattle.flash_laws.specs.Run.Holdings.{RunsKeepNothing}
-use Rattle.flash_laws.specs.Run.{both, worker_domain, has_frame, uses_agg, held_size, in_phase, step_wants, wants}
+use Rattle.flash_laws.specs.Run.{both, worker_domain, has_frame, uses_agg, held_size, in_phase, step_call, next_call}
 use Rattle.flash_laws.specs.Run.{ending, after_sending, after_output, after_step, after_reply, is_left, is_over}
 use Rattle.flash_laws.specs.Answers.Scripts.{script_text, frame_of, place_in_frame, end_around}
 use Rattle.flash_laws.specs.Site.{server}
@@ -95,7 +95,7 @@ module _ (come : AggregatesComeAndGo) (own : CallsServeTheirDomain) (m n : State
   module _ (job : ℕ → List ℕ) (fd c : ℕ) (open_on : descriptor m server fd ≡ Some (on.Connection c)) (o : Progress)
     where
       sending-brings : (run : Run) (d : Phase) (frame : Option ℕ) (r : Reply) → HasPart m w o run d frame
-          → StepsTo m (event.Call server (conn.wants fd (in_phase w d))) r n
+          → StepsTo m (event.Call server (conn.next_call fd (in_phase w d))) r n
           → uses_agg (after_sending run d frame r) a ≡ true
       sending-brings run (phase.SendingWhole s) frame r h step =
           absurd (written fd c s.agg h.has.0.bytes r open_on h.has.0.is_readable step)
@@ -138,7 +138,7 @@ module _ (come : AggregatesComeAndGo) (own : CallsServeTheirDomain) (m n : State
       ending-new run (Some x) k len is = later_of (x.0 == a) (k == a) is
 
       step-brings : (run : Run) (s : Step) (r : Reply) (received : List ℕ) → HasRun job m w o (InProgress run s)
-          → StepsTo m (event.Call server (step_wants job fd w run s)) r n
+          → StepsTo m (event.Call server (step_call job fd w run s)) r n
           → uses_agg (after_step w run s r received) a ≡ true
       step-brings run (GivingPipe write) r received has step =
           absurd (given write (worker_domain run.worker) has.1.0.pipe r has.1.0.write_end step)
@@ -201,7 +201,7 @@ module _ (come : AggregatesComeAndGo) (own : CallsServeTheirDomain) (m n : State
 
       left-brings : (expected : List ℕ) (d : Phase) (r : Reply) (received : List ℕ) → is_left d ≡ true
           → Has m (serve w) expected d
-          → StepsTo m (event.Call server (conn.wants fd (in_phase w d))) r n
+          → StepsTo m (event.Call server (conn.next_call fd (in_phase w d))) r n
           → conn.uses_agg (conn.after_reply (in_phase w d) r received).phase a ≡ true
       left-brings expected (phase.MakingHead k) r received is has step =
           made (call.AggMake (conn.text_of (serve w) k)) (conn.text_of (serve w) k)
@@ -225,7 +225,7 @@ module _ (come : AggregatesComeAndGo) (own : CallsServeTheirDomain) (m n : State
       left-brings expected d r received is has step = absurd (cc (is))
 
       leaving-brings : (o : Progress) (d : Phase) (r : Reply) (received : List ℕ) → is_left d ≡ true → HasLeft m w o d
-          → StepsTo m (event.Call server (conn.wants fd (in_phase w d))) r n
+          → StepsTo m (event.Call server (conn.next_call fd (in_phase w d))) r n
           → conn.uses_agg (conn.after_reply (in_phase w d) r received).phase a ≡ true
       leaving-brings o d r received is has step = let h = is-rest m w o d is has in
           left-brings h.expected d r received is h.has step
@@ -233,7 +233,7 @@ module _ (come : AggregatesComeAndGo) (own : CallsServeTheirDomain) (m n : State
 pub brought : (come : AggregatesComeAndGo) (own : CallsServeTheirDomain) (job : ℕ → List ℕ) (m n : State)
     (fd c worker : ℕ) (w : Wanted) (x : Running) (o : Progress) (r : Reply) (received bytes : List ℕ) (a : ℕ)
     → IsOrderly m → descriptor m server fd ≡ Some (on.Connection c) → is_over x ≡ false → HasRun job m w o x
-    → StepsTo m (event.Call server (wants job fd w x)) r n
+    → StepsTo m (event.Call server (next_call job fd w x)) r n
     → readable_at m server a ≡ None → readable_at n server a ≡ Some bytes
     → uses_agg (after_reply worker w x r received) a ≡ true
 brought come own job m n fd c worker w AwaitingWorker o r received bytes a order open_on going has step before after =

@@ -126,10 +126,10 @@ module _ (steps : EachStepLeavesTheRest) (own : CallsServeTheirDomain) (m n : St
   -- a part that is sent, of which nothing is dropped
   pub counts : (fd c : ℕ) (d : Phase) (r : Reply) (received : List ℕ) → descriptor m server fd ≡ Some (on.Connection c)
       → Sends m d
-      → StepsTo m (event.Call server (conn.wants fd (in_phase w d))) r n → is_sent d ≡ false → is_dropping d ≡ false
+      → StepsTo m (event.Call server (conn.next_call fd (in_phase w d))) r n → is_sent d ≡ false → is_dropping d ≡ false
       → is_dropping (conn.after_reply (in_phase w d) r received).phase ≡ false
       → taken_of (conn.after_reply (in_phase w d) r received).phase ≡ taken_of d + newly_taken fd
-      (conn.wants fd (in_phase w d)) r
+      (conn.next_call fd (in_phase w d)) r
   counts fd c d r received open_on has step unsent at on =
       takes own m n order fd c open_on (serve w) expected [] d r received has.0 step at on
       (stays-busy d r received has unsent at)
@@ -275,7 +275,7 @@ module _ (steps : EachStepLeavesTheRest) (own : CallsServeTheirDomain) (m n : St
   pub leaving : (fd c : ℕ) (d : Phase) (r : Reply) (received : List ℕ) (o : Progress) → IsLeft w o expected
       → Has m (serve w) expected d → IsSending m expected d
       → descriptor m server fd ≡ Some (on.Connection c)
-      → StepsTo m (event.Call server (conn.wants fd (in_phase w d))) r n → Names n r received
+      → StepsTo m (event.Call server (conn.next_call fd (in_phase w d))) r n → Names n r received
       → AfterReply d (conn.after_reply (in_phase w d) r received).phase r o
   leaving fd c (phase.MakingHead (Error status)) r received o left has is open_on step names =
       (o, refl, by r (heads status r received o left has step names))

@@ -28,7 +28,8 @@ use Rattle.flash_laws.specs.Run.Fits.{HasRun}
 use Rattle.flash_laws.specs.Conn.OfferedBytes.{taken_of, newly_taken, is_dropping}
 use Rattle.flash_laws.specs.Run.OfferedBytes.{receives_on, takes_on, PartLearns, StepLearns, Learns, taken_by, past_of}
 use Rattle.flash_laws.specs.Run.OfferedBytes.{breaks_off, IsCutOff, is_failing, IsLost, ComesAfter}
-use Rattle.flash_laws.specs.Run.{worker_domain, job_pipe, held_size, in_phase, step_wants, wants, is_again, after_give}
+use Rattle.flash_laws.specs.Run.{worker_domain, job_pipe, held_size, in_phase, step_call, next_call, is_again}
+use Rattle.flash_laws.specs.Run.{after_give}
 use Rattle.flash_laws.specs.Run.{after_hand, after_sending, after_step, after_reply, is_left, is_over}
 use Rattle.flash_laws.specs.Site.{server}
 use Rattle.flash_laws.specs.declared.phase.Payload.TheVariants.{Error}
@@ -108,7 +109,7 @@ job-elsewhere m fd c p worker open_on hired =
 takes-nothing : (job : ℕ → List ℕ) (m : State) (w : Wanted) (run : Run) (fd c p : ℕ) (s : Step) (r : Reply)
     → is_part s ≡ false → descriptor m server fd ≡ Some (on.Connection c)
     → descriptor m server (job_pipe run.worker) ≡ Some (on.WriteEnd p)
-    → newly_taken fd (step_wants job fd w run s) r ≡ 0
+    → newly_taken fd (step_call job fd w run s) r ≡ 0
 takes-nothing job m w run fd c p (SendingPart d frame) r plain open_on hired = absurd (cc (plain))
 takes-nothing job m w run fd c p (WritingJob j f) (reply.Count k) plain open_on hired =
     ap (λ b. if b then k else 0) (job-elsewhere m fd c p run.worker open_on hired)
@@ -141,10 +142,10 @@ module _ (steps : EachStepLeavesTheRest) (own : CallsServeTheirDomain) (m n : St
   -- a part that is sent on
   part : (expected : List ℕ) (d : Phase) (r : Reply) (received : List ℕ) (before after : Progress)
       → SendsAll m w expected d
-      → StepsTo m (event.Call server (conn.wants fd (in_phase w d))) r n → is_sent d ≡ false → is_dropping d ≡ false
+      → StepsTo m (event.Call server (conn.next_call fd (in_phase w d))) r n → is_sent d ≡ false → is_dropping d ≡ false
       → is_dropping (conn.after_reply (in_phase w d) r received).phase ≡ false → after ≡ before
       → past_of after + taken_of (conn.after_reply (in_phase w d) r received).phase ≡ past_of before + taken_of d
-      + newly_taken fd (conn.wants fd (in_phase w d)) r
+      + newly_taken fd (conn.next_call fd (in_phase w d)) r
   part expected d r received before after has step unsent at on learns =
       let counts = left.counts steps own m n order w expected fd c d r received open_on has step unsent at on in
       let is = ap (λ (o : Progress). past_of o) learns in
@@ -152,11 +153,11 @@ module _ (steps : EachStepLeavesTheRest) (own : CallsServeTheirDomain) (m n : St
 
   -- what is left
   rest : (d : Phase) (r : Reply) (received : List ℕ) (before after : Progress) (h : HasRest m w before d)
-      → StepsTo m (event.Call server (conn.wants fd (in_phase w d))) r n → PartLearns m d r before after
+      → StepsTo m (event.Call server (conn.next_call fd (in_phase w d))) r n → PartLearns m d r before after
       → is_dropping d ≡ false
       → is_dropping (conn.after_reply (in_phase w d) r received).phase ≡ false
       → past_of after + taken_of (conn.after_reply (in_phase w d) r received).phase ≡ past_of before + taken_of d
-      + newly_taken fd (conn.wants fd (in_phase w d)) r
+      + newly_taken fd (conn.next_call fd (in_phase w d)) r
   rest (phase.MakingHead (Error status)) r received before after h step learns at on =
       let is = ap (λ (o : Progress). past_of o) learns in
       let none = taken-headed status r received in
@@ -183,11 +184,11 @@ module _ (steps : EachStepLeavesTheRest) (own : CallsServeTheirDomain) (m n : St
   -- a part
   sending : (run : Run) (d : Phase) (frame : Option ℕ) (r : Reply) (before after : Progress)
       (h : HasPart m w before run d frame)
-      → StepsTo m (event.Call server (conn.wants fd (in_phase w d))) r n → PartLearns m d r before after
+      → StepsTo m (event.Call server (conn.next_call fd (in_phase w d))) r n → PartLearns m d r before after
       → is_dropping d ≡ false
       → breaks_off (after_sending run d frame r) ≡ false
       → past_of after + taken_by (after_sending run d frame r) ≡ past_of before + taken_of d + newly_taken fd
-      (conn.wants fd (in_phase w d)) r
+      (conn.next_call fd (in_phase w d)) r
   sending run (phase.SendingWhole s) frame r before after h step learns at on =
       part h.part (phase.SendingWhole s) r [] before after (h.has, h.is_part, h.within) step refl refl on learns
   sending run (phase.CuttingPiece s) frame r before after h step learns at on =
@@ -223,7 +224,7 @@ plain-takes : (job : ℕ → List ℕ) (m : State) (w : Wanted) (run : Run) (fd 
     → breaks_off (after_step w run s r received) ≡ false
     → past_of after + taken_by (after_step w run s r received) ≡ past_of before + taken_by (InProgress run s)
     + newly_taken fd
-    (step_wants job fd w run s) r
+    (step_call job fd w run s) r
 plain-takes job m w run fd c s r received before after plain open_on has learns on =
     let past =
     past-step job m w run s r received before after plain has.1
@@ -236,10 +237,10 @@ plain-takes job m w run fd c s r received before after plain open_on has learns 
 pub takes : (steps : EachStepLeavesTheRest) (own : CallsServeTheirDomain) (job : ℕ → List ℕ) (m n : State)
     (fd c worker : ℕ) (w : Wanted) (x : Running) (r : Reply) (received : List ℕ) (before after : Progress)
     → IsOrderly m → descriptor m server fd ≡ Some (on.Connection c) → is_over x ≡ false → HasRun job m w before x
-    → StepsTo m (event.Call server (wants job fd w x)) r n → Learns m x r received before after
+    → StepsTo m (event.Call server (next_call job fd w x)) r n → Learns m x r received before after
     → breaks_off x ≡ false → breaks_off (after_reply worker w x r received) ≡ false
     → past_of after + taken_by (after_reply worker w x r received) ≡ past_of before + taken_by x + newly_taken fd
-    (wants job fd w x) r
+    (next_call job fd w x) r
 takes steps own job m n fd c worker w AwaitingWorker r received before after order open_on going has step learns at on =
     by r
   where
@@ -264,7 +265,7 @@ takes steps own job m n fd c worker w (InProgress run s) r received before after
 
 barred : (why : RefusalsTellWhy) (job : ℕ → List ℕ) (m n : State) (fd c : ℕ) (w : Wanted) (o : Progress) (run : Run)
     (s : Step) (r : Reply) → Bars s r
-    → HasStep job m w o run s → StepsTo m (event.Call server (step_wants job fd w run s)) r n
+    → HasStep job m w o run s → StepsTo m (event.Call server (step_call job fd w run s)) r n
     → IsCutOff m c (InProgress run s)
 barred why job m n fd c w o run (ReadingOutput held frame) (reply.Refused (no.Denied q)) bars has step =
     inr (
@@ -281,20 +282,20 @@ module _ (why : RefusalsTellWhy) (m n : State) (fd c : ℕ) (open_on : descripto
   where
     -- any phase of a response: as that of a file
     aborts : (w : Wanted) (d : Phase) (r : Reply) (received : List ℕ) → is_busy d ≡ true
-        → StepsTo m (event.Call server (conn.wants fd (in_phase w d))) r n
+        → StepsTo m (event.Call server (conn.next_call fd (in_phase w d))) r n
         → is_dropping d ≡ false → is_dropping (conn.after_reply (in_phase w d) r received).phase ≡ true
         → is_gone (conn_at m c).peer ≡ true
     aborts w d r received busy step at off = conn-breaks why m n fd c open_on [] (serve w) received d r busy step at off
 
     rest-drops : (w : Wanted) (o : Progress) (d : Phase) (r : Reply) (received : List ℕ) → HasRest m w o d
-        → StepsTo m (event.Call server (conn.wants fd (in_phase w d))) r n
+        → StepsTo m (event.Call server (conn.next_call fd (in_phase w d))) r n
         → is_dropping d ≡ false → is_dropping (conn.after_reply (in_phase w d) r received).phase ≡ true
         → is_gone (conn_at m c).peer ≡ true
     rest-drops w o d r received h step at off = aborts w d r received (left.busy m h.expected d h.sends) step at off
 
     sending-drops : (w : Wanted) (o : Progress) (run : Run) (d : Phase) (frame : Option ℕ) (r : Reply)
         → HasPart m w o run d frame
-        → StepsTo m (event.Call server (conn.wants fd (in_phase w d))) r n → is_dropping d ≡ false
+        → StepsTo m (event.Call server (conn.next_call fd (in_phase w d))) r n → is_dropping d ≡ false
         → breaks_off (after_sending run d frame r) ≡ true → is_gone (conn_at m c).peer ≡ true
     sending-drops w o run (phase.SendingWhole s) frame r h step at off =
         aborts w (phase.SendingWhole s) r [] refl step at off
@@ -313,7 +314,7 @@ module _ (why : RefusalsTellWhy) (m n : State) (fd c : ℕ) (open_on : descripto
 
 plain-breaks : (why : RefusalsTellWhy) (job : ℕ → List ℕ) (m n : State) (fd c : ℕ) (w : Wanted) (o : Progress)
     (run : Run) (s : Step) (r : Reply) (received : List ℕ) → is_part s ≡ false
-    → HasStep job m w o run s → StepsTo m (event.Call server (step_wants job fd w run s)) r n
+    → HasStep job m w o run s → StepsTo m (event.Call server (step_call job fd w run s)) r n
     → breaks_off (InProgress run s) ≡ false → breaks_off (after_step w run s r received) ≡ true
     → IsCutOff m c (InProgress run s)
 plain-breaks why job m n fd c w o run s r received plain has step at off = by ((quiet w run s r received plain).1 off)
@@ -325,7 +326,7 @@ plain-breaks why job m n fd c w o run s r received plain has step at off = by ((
 pub breaks : (why : RefusalsTellWhy) (job : ℕ → List ℕ) (m n : State) (fd c worker : ℕ) (w : Wanted) (x : Running)
     (r : Reply) (received : List ℕ) (o : Progress)
     → descriptor m server fd ≡ Some (on.Connection c) → is_over x ≡ false → HasRun job m w o x
-    → StepsTo m (event.Call server (wants job fd w x)) r n
+    → StepsTo m (event.Call server (next_call job fd w x)) r n
     → breaks_off x ≡ false → breaks_off (after_reply worker w x r received) ≡ true → IsCutOff m c x
 breaks why job m n fd c worker w AwaitingWorker r received o open_on going has step at off = absurd (by r off)
   where
@@ -430,7 +431,7 @@ not-written why m n fd p a y open_on step put is = absurd put
 plain-fails : (may : RefusalsThatAreLeft) (why : RefusalsTellWhy) (job : ℕ → List ℕ) (m n : State) (fd : ℕ) (w : Wanted)
     (o : Progress) (run : Run) (s : Step) (r : Reply) (received : List ℕ)
     → is_live m server ≡ true → HasRun job m w o (InProgress run s)
-    → StepsTo m (event.Call server (step_wants job fd w run s)) r n
+    → StepsTo m (event.Call server (step_call job fd w run s)) r n
     → is_failing (InProgress run s) ≡ false → is_failing (after_step w run s r received) ≡ true
     → IsLost m (InProgress run s)
 plain-fails may why job m n fd w o run (GivingPipe write) r received lives has step at off =
@@ -463,7 +464,7 @@ plain-fails may why job m n fd w o run s r received lives has step at off = let 
 
 pub fails : (may : RefusalsThatAreLeft) (why : RefusalsTellWhy) (job : ℕ → List ℕ) (m n : State) (fd worker : ℕ)
     (w : Wanted) (x : Running) (r : Reply) (received : List ℕ) (o : Progress)
-    → is_live m server ≡ true → HasRun job m w o x → StepsTo m (event.Call server (wants job fd w x)) r n
+    → is_live m server ≡ true → HasRun job m w o x → StepsTo m (event.Call server (next_call job fd w x)) r n
     → is_failing x ≡ false → is_failing (after_reply worker w x r received) ≡ true → IsLost m x
 fails may why job m n fd worker w (InProgress run s) r received o lives has step at off =
     plain-fails may why job m n fd w o run s r received lives has step at off

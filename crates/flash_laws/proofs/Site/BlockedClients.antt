@@ -17,7 +17,7 @@ use Rattle.iol_core.specs.declared.events.Reply.TheVariants as reply
 use Rattle.iol_core.specs.Run.{StepsTo}
 use Rattle.iol_laws.specs.RefusalsLeft.{may_wait}
 use Rattle.flash_http.specs.Request.{Answer, serve, refuse, Wanted}
-use Rattle.flash_laws.specs.Client.{Client, is_for_script, conn_wants, wants, Readies, IsAwaiting, kept_text}
+use Rattle.flash_laws.specs.Client.{Client, is_for_script, conn_call, next_call, Readies, IsAwaiting, buffered_text}
 use Rattle.flash_laws.specs.Client.{after_drop_whole, file_after_reply, keeps_text, text_on, proceeds, run_after_reply}
 use Rattle.flash_laws.specs.Client.{after_reply, left_over}
 use Rattle.flash_laws.specs.Conn as conn
@@ -78,10 +78,10 @@ same-there clients fd x is =
 
 -- A connection that would block is as it was.
 
-conn-blocked : (kept : List ℕ) (q : Answer) (d : Phase) (received : List ℕ)
-    → conn.after_reply (at kept q d) (reply.Refused no.WouldBlock) received ≡ at kept q d
-conn-blocked kept q Receiving received = refl
-conn-blocked kept q d received = refl
+conn-blocked : (buffered : List ℕ) (q : Answer) (d : Phase) (received : List ℕ)
+    → conn.after_reply (at buffered q d) (reply.Refused no.WouldBlock) received ≡ at buffered q d
+conn-blocked buffered q Receiving received = refl
+conn-blocked buffered q d received = refl
 
 -- so is a run
 
@@ -126,31 +126,33 @@ stands x y over run_is =
 
 -- A client that would block is as it was.
 
-script-blocked : (kept : List ℕ) (q : Answer) (d : Phase) (script received : List ℕ)
-    → file_after_reply true (of (at kept q d) None script) (reply.Refused no.WouldBlock) received
-    ≡ of (at kept q d) None script
-script-blocked kept q (Reading f) script received = by (is_head_only q)
+script-blocked : (buffered : List ℕ) (q : Answer) (d : Phase) (script received : List ℕ)
+    → file_after_reply true (of (at buffered q d) None script) (reply.Refused no.WouldBlock) received
+    ≡ of (at buffered q d) None script
+script-blocked buffered q (Reading f) script received = by (is_head_only q)
   where
-    by : (h : Bool) → of (at kept q (Reading f)) None (kept_text h script (reply.Refused no.WouldBlock) received)
-        ≡ of (at kept q (Reading f)) None script
+    by : (h : Bool)
+        → of (at buffered q (Reading f)) None (buffered_text h script (reply.Refused no.WouldBlock) received)
+        ≡ of (at buffered q (Reading f)) None script
     by true = refl
     by false = refl
-script-blocked kept q (DroppingWhole a Script) script received = by (is_head_only q)
+script-blocked buffered q (DroppingWhole a Script) script received = by (is_head_only q)
   where
-    by : (h : Bool) → of (at kept q (DroppingWhole a Script)) (after_drop_whole h (reply.Refused no.WouldBlock)) script
-        ≡ of (at kept q (DroppingWhole a Script)) None script
+    by : (h : Bool) → of (at buffered q (DroppingWhole a Script)) (after_drop_whole h (reply.Refused no.WouldBlock))
+        script
+        ≡ of (at buffered q (DroppingWhole a Script)) None script
     by true = refl
     by false = refl
-script-blocked kept q d script received = refl
+script-blocked buffered q d script received = refl
 
 pub after_reply-blocked : (scripts : Bool) (worker : ℕ) (c : Conn) (run : Option Running) (script received : List ℕ)
     → after_reply scripts worker (of c run script) (reply.Refused no.WouldBlock) received ≡ of c run script
-after_reply-blocked scripts worker c None script received = by (is_for_script scripts c.q)
+after_reply-blocked scripts worker c None script received = by (is_for_script scripts c.request)
   where
     by : (b : Bool) → file_after_reply b (of c None script) (reply.Refused no.WouldBlock) received ≡ of c None script
-    by true = script-blocked c.kept c.q c.phase script received
-    by false = ap (λ (z : Conn). of z None script) (conn-blocked c.kept c.q c.phase received)
-after_reply-blocked scripts worker c (Some y) script received = by c.q
+    by true = script-blocked c.buffered c.request c.phase script received
+    by false = ap (λ (z : Conn). of z None script) (conn-blocked c.buffered c.request c.phase received)
+after_reply-blocked scripts worker c (Some y) script received = by c.request
   where
     by : (q : Answer) → run_after_reply worker q (of c (Some y) script) y (reply.Refused no.WouldBlock) received
         ≡ of c (Some y) script
@@ -160,12 +162,13 @@ after_reply-blocked scripts worker c (Some y) script received = by c.q
     by (refuse status head_only close) = refl
 
 -- and it is not over
-phase-blocked : WaitLaw → (m : State) (by fd : ℕ) (b : Bool) (kept : List ℕ) (q : Answer) (d : Phase) (x : Client)
-    → WouldWait m by (conn_wants b fd (at kept q d)) → left_by d x ≡ Some x
-phase-blocked waits m by fd true kept q Closed x step = absurd (let may = waits m m by (call.Close fd) step in cc (may))
-phase-blocked waits m by fd false kept q Closed x step =
+phase-blocked : WaitLaw → (m : State) (by fd : ℕ) (b : Bool) (buffered : List ℕ) (q : Answer) (d : Phase) (x : Client)
+    → WouldWait m by (conn_call b fd (at buffered q d)) → left_by d x ≡ Some x
+phase-blocked waits m by fd true buffered q Closed x step =
     absurd (let may = waits m m by (call.Close fd) step in cc (may))
-phase-blocked waits m by fd b kept q d x step = refl
+phase-blocked waits m by fd false buffered q Closed x step =
+    absurd (let may = waits m m by (call.Close fd) step in cc (may))
+phase-blocked waits m by fd b buffered q d x step = refl
 
 left-blocked : WaitLaw
     → (m : State) (by workers fd : ℕ) (clients : List (Option Client)) (c : Conn) (run : Option Running)
@@ -174,7 +177,7 @@ left-blocked : WaitLaw
 left-blocked waits m by workers fd clients c (Some y) script blocks = refl
 left-blocked waits m by workers fd clients c None script blocks = elim blocks.1 [
   | inl passed ↦ absurd (never_passed (has_free workers clients) passed)
-  | inr step ↦ phase-blocked waits m by fd (is_for_script (runs_scripts workers) c.q) c.kept c.q c.phase
+  | inr step ↦ phase-blocked waits m by fd (is_for_script (runs_scripts workers) c.request) c.buffered c.request c.phase
       (of c None script) step
 ]
 
@@ -201,18 +204,18 @@ Stands x y = (y ≡ x) × conn.IsAwaiting y
 abbrev Begins : Conn → Type 0
 Begins y = (p : Answer) × (rest : List ℕ) × (y ≡ at rest p (begins p))
 
-pub conn-ready : (kept : List ℕ) (q : Answer) (d : Phase) (y : Conn) → conn.Readies (at kept q d) y
-    → Stands (at kept q d) y ⊎ Begins y
-conn-ready kept q Receiving y ready = by ready
+pub conn-ready : (buffered : List ℕ) (q : Answer) (d : Phase) (y : Conn) → conn.Readies (at buffered q d) y
+    → Stands (at buffered q d) y ⊎ Begins y
+conn-ready buffered q Receiving y ready = by ready
   where
-    by : Starts (at kept q Receiving) y → Stands (at kept q Receiving) y ⊎ Begins y
+    by : Starts (at buffered q Receiving) y → Stands (at buffered q Receiving) y ⊎ Begins y
     by (inl waits) = inl (waits.1, subst (λ (x : Conn). conn.IsAwaiting x) (sym waits.1) waits.0)
     by (inr some) = inr (some.0, some.1, some.3)
-conn-ready kept q d y ready = inl (ready, subst (λ (x : Conn). conn.IsAwaiting x) (sym ready) tt)
+conn-ready buffered q d y ready = inl (ready, subst (λ (x : Conn). conn.IsAwaiting x) (sym ready) tt)
 
 -- a request that begins does not block
 never-waits : WaitLaw → (m : State) (by fd : ℕ) (b : Bool) (rest : List ℕ) (p : Answer)
-    → WouldWait m by (conn_wants b fd (at rest p (begins p))) → ⊥
+    → WouldWait m by (conn_call b fd (at rest p (begins p))) → ⊥
 never-waits waits m by fd true rest (serve w) step =
     (let may = waits m m by (call.OpenFile w.name modes.Read) step in cc (may))
 never-waits waits m by fd false rest (serve w) step =
@@ -225,16 +228,17 @@ never-waits waits m by fd false rest (refuse status head_only close) step =
 -- what stood is what is ready, where its call would block
 pub ready-blocked : WaitLaw
     → (m : State) (by fd : ℕ) (scripts : Bool) (c : Conn) (run : Option Running) (script : List ℕ) (y : Client)
-    → Readies (of c run script) y → WouldWait m by (wants scripts fd y) → (y ≡ of c run script) × IsAwaiting y
+    → Readies (of c run script) y → WouldWait m by (next_call scripts fd y) → (y ≡ of c run script) × IsAwaiting y
 ready-blocked waits m by fd scripts c (Some z) script y ready step =
     (ready, subst (λ (x : Client). IsAwaiting x) (sym ready) tt)
-ready-blocked waits m by fd scripts c None script y ready step = elim (conn-ready c.kept c.q c.phase ready.0 ready.1) [
-  | inl stands ↦ (
-    ready.2 ∙ ap (λ (x : Conn). of x None script) stands.0,
-    subst (λ (x : Client). IsAwaiting x) (sym ready.2) stands.1,
-  )
-  | inr begun ↦
-      absurd (never-waits waits m by fd (is_for_script scripts begun.0) begun.1 begun.0
-      (subst (λ (x : Client). WouldWait m by (wants scripts fd x)) (ready.2
-      ∙ ap (λ (x : Conn). of x None script) begun.2) step))
-]
+ready-blocked waits m by fd scripts c None script y ready step =
+    elim (conn-ready c.buffered c.request c.phase ready.0 ready.1) [
+      | inl stands ↦ (
+        ready.2 ∙ ap (λ (x : Conn). of x None script) stands.0,
+        subst (λ (x : Client). IsAwaiting x) (sym ready.2) stands.1,
+      )
+      | inr begun ↦
+          absurd (never-waits waits m by fd (is_for_script scripts begun.0) begun.1 begun.0
+          (subst (λ (x : Client). WouldWait m by (next_call scripts fd x)) (ready.2
+          ∙ ap (λ (x : Conn). of x None script) begun.2) step))
+    ]

@@ -38,8 +38,8 @@ pub after_reply-alone : (workers worker : ℕ) (c : Conn) (run : Option Running)
     → after_reply (runs_scripts workers) worker (of c run script) r received ≡ plain (conn.after_reply c r received)
     script
 after_reply-alone workers worker c None script r received none is =
-    ap (λ b. file_after_reply (is_for_script b c.q) (plain c script) r received) (none-run workers none)
-    ∙ ap (λ b. file_after_reply b (plain c script) r received) (none-for c.q)
+    ap (λ b. file_after_reply (is_for_script b c.request) (plain c script) r received) (none-run workers none)
+    ∙ ap (λ b. file_after_reply b (plain c script) r received) (none-for c.request)
 after_reply-alone workers worker c (Some y) script r received none is = absurd (cc (is))
 
 readies-alone : (c : Conn) (run : Option Running) (script : List ℕ) (y : Client) → run ≡ None

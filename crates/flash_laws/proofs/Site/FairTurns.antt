@@ -187,157 +187,159 @@ comes s (x ∷ xs) y fd gd turns home goes other away =
 
 -- nothing is in progress of a further request
 abbrev Still : List ℕ → Phase → Option Running → Type 0
-Still kept (DroppingSent a taken None) None = Unit {0}
-Still kept Disconnecting None = Unit {0}
-Still kept Receiving None = kept ≡ []
-Still kept d None = ⊥
-Still kept d (Some (Finishing (DroppingSent a taken None))) = Unit {0}
-Still kept d (Some y) = ⊥
+Still buffered (DroppingSent a taken None) None = Unit {0}
+Still buffered Disconnecting None = Unit {0}
+Still buffered Receiving None = buffered ≡ []
+Still buffered d None = ⊥
+Still buffered d (Some (Finishing (DroppingSent a taken None))) = Unit {0}
+Still buffered d (Some y) = ⊥
 
 abbrev IsStill : Option Client → Type 0
 IsStill None = Unit {0}
-IsStill (Some x) = Still x.conn.kept x.conn.phase x.run
+IsStill (Some x) = Still x.conn.buffered x.conn.phase x.run
 
 -- its call is out, and it has its turn still
 abbrev Busy : List ℕ → Phase → Option Running → Type 0
-Busy kept (DroppingSent a taken None) None = kept ≡ []
-Busy kept Disconnecting None = Unit {0}
-Busy kept d None = ⊥
-Busy kept d (Some (Finishing (DroppingSent a taken None))) = kept ≡ []
-Busy kept d (Some y) = ⊥
+Busy buffered (DroppingSent a taken None) None = buffered ≡ []
+Busy buffered Disconnecting None = Unit {0}
+Busy buffered d None = ⊥
+Busy buffered d (Some (Finishing (DroppingSent a taken None))) = buffered ≡ []
+Busy buffered d (Some y) = ⊥
 
-answered-still : (kept : List ℕ) (q : Answer) (d : Phase) (run : Option Running) (script : List ℕ)
-    → is_answered (of (at kept q d) run script) ≡ true → Still kept d run
-answered-still kept q (DroppingSent a taken None) None script is = tt
-answered-still kept q (DroppingSent a taken (Some x)) None script is = absurd (cc (is))
-answered-still kept q d None script is = absurd (cc (is))
-answered-still kept q d (Some (Finishing (DroppingSent a taken None))) script is = tt
-answered-still kept q d (Some (Finishing (DroppingSent a taken (Some x)))) script is = absurd (cc (is))
-answered-still kept q d (Some (Finishing e)) script is = absurd (cc (is))
-answered-still kept q d (Some y) script is = absurd (cc (is))
+answered-still : (buffered : List ℕ) (q : Answer) (d : Phase) (run : Option Running) (script : List ℕ)
+    → is_answered (of (at buffered q d) run script) ≡ true → Still buffered d run
+answered-still buffered q (DroppingSent a taken None) None script is = tt
+answered-still buffered q (DroppingSent a taken (Some x)) None script is = absurd (cc (is))
+answered-still buffered q d None script is = absurd (cc (is))
+answered-still buffered q d (Some (Finishing (DroppingSent a taken None))) script is = tt
+answered-still buffered q d (Some (Finishing (DroppingSent a taken (Some x)))) script is = absurd (cc (is))
+answered-still buffered q d (Some (Finishing e)) script is = absurd (cc (is))
+answered-still buffered q d (Some y) script is = absurd (cc (is))
 
-none-kept : (kept : List ℕ) → (length kept == 0) ≡ true → kept ≡ []
-none-kept [] is = refl
-none-kept (b ∷ kept) is = let e : length (b ∷ kept) ≡ 0 = grind (arith, nat_tests, is) in absurd (omega (arith, e))
+none-buffered : (buffered : List ℕ) → (length buffered == 0) ≡ true → buffered ≡ []
+none-buffered [] is = refl
+none-buffered (b ∷ buffered) is = let e : length (b ∷ buffered) ≡ 0 = grind (arith, nat_tests, is) in
+    absurd (omega (arith, e))
 
 -- where nothing is kept its turn does not pass yet
-on-sent : (kept : List ℕ) (later : Bool) → (later || (not (length kept == 0) || false)) ≡ false → kept ≡ []
-on-sent kept later on =
-    none-kept kept
-    (not-false (length kept == 0)
-    (bare-none (not (length kept == 0)) (neither later (not (length kept == 0) || false) on).1))
+on-sent : (buffered : List ℕ) (later : Bool) → (later || (not (length buffered == 0) || false)) ≡ false → buffered ≡ []
+on-sent buffered later on =
+    none-buffered buffered
+    (not-false (length buffered == 0)
+    (bare-none (not (length buffered == 0)) (neither later (not (length buffered == 0) || false) on).1))
 
-on-busy : (kept : List ℕ) (q : Answer) (d : Phase) (run : Option Running) (script : List ℕ) (r : Reply)
-    → leaves_off (Some (of (at kept q d) run script)) r ≡ false
-    → Still kept d run → Busy kept d run
-on-busy kept q (DroppingSent a taken None) None script r on still = on-sent kept (is_later r) on
-on-busy kept q (DroppingSent a taken (Some x)) None script r on still = absurd still
-on-busy kept q Disconnecting None script r on still = tt
-on-busy kept q Receiving None script r on still =
+on-busy : (buffered : List ℕ) (q : Answer) (d : Phase) (run : Option Running) (script : List ℕ) (r : Reply)
+    → leaves_off (Some (of (at buffered q d) run script)) r ≡ false
+    → Still buffered d run → Busy buffered d run
+on-busy buffered q (DroppingSent a taken None) None script r on still = on-sent buffered (is_later r) on
+on-busy buffered q (DroppingSent a taken (Some x)) None script r on still = absurd still
+on-busy buffered q Disconnecting None script r on still = tt
+on-busy buffered q Receiving None script r on still =
     absurd
-    (clash (length kept == 0) (ap (λ (l : List ℕ). length l == 0) still)
-    (neither (is_later r) (length kept == 0) on).1)
-on-busy kept q d None script r on still = absurd still
-on-busy kept q d (Some (Finishing (DroppingSent a taken None))) script r on still = on-sent kept (is_later r) on
-on-busy kept q d (Some (Finishing (DroppingSent a taken (Some x)))) script r on still = absurd still
-on-busy kept q d (Some (Finishing e)) script r on still = absurd still
-on-busy kept q d (Some y) script r on still = absurd still
+    (clash (length buffered == 0) (ap (λ (l : List ℕ). length l == 0) still)
+    (neither (is_later r) (length buffered == 0) on).1)
+on-busy buffered q d None script r on still = absurd still
+on-busy buffered q d (Some (Finishing (DroppingSent a taken None))) script r on still = on-sent buffered (is_later r) on
+on-busy buffered q d (Some (Finishing (DroppingSent a taken (Some x)))) script r on still = absurd still
+on-busy buffered q d (Some (Finishing e)) script r on still = absurd still
+on-busy buffered q d (Some y) script r on still = absurd still
 
 -- it may have the next turn
 or-true : (b : Bool) → (b || true) ≡ true
 or-true true = refl
 or-true false = refl
 
-busy-goes : (free : Bool) (kept : List ℕ) (q : Answer) (d : Phase) (run : Option Running) (script : List ℕ)
-    → Busy kept d run → may_go free (of (at kept q d) run script) ≡ true
-busy-goes free kept q d None script busy = or-true free
-busy-goes free kept q d (Some (Finishing e)) script busy = or-true free
-busy-goes free kept q d (Some y) script busy = absurd busy
+busy-goes : (free : Bool) (buffered : List ℕ) (q : Answer) (d : Phase) (run : Option Running) (script : List ℕ)
+    → Busy buffered d run → may_go free (of (at buffered q d) run script) ≡ true
+busy-goes free buffered q d None script busy = or-true free
+busy-goes free buffered q d (Some (Finishing e)) script busy = or-true free
+busy-goes free buffered q d (Some y) script busy = absurd busy
 
 -- and is as it was
-busy-ready : (kept : List ℕ) (q : Answer) (d : Phase) (run : Option Running) (script : List ℕ) (y : Client)
-    → Busy kept d run → Readies (of (at kept q d) run script) y
-    → y ≡ of (at kept q d) run script
-busy-ready kept q (DroppingSent a taken None) None script y busy ready = ready.2 ∙ ap (λ c. of c None script) ready.1
-busy-ready kept q (DroppingSent a taken (Some x)) None script y busy ready = absurd busy
-busy-ready kept q Disconnecting None script y busy ready = ready.2 ∙ ap (λ c. of c None script) ready.1
-busy-ready kept q d None script y busy ready = absurd busy
-busy-ready kept q d (Some z) script y busy ready = ready
+busy-ready : (buffered : List ℕ) (q : Answer) (d : Phase) (run : Option Running) (script : List ℕ) (y : Client)
+    → Busy buffered d run → Readies (of (at buffered q d) run script) y
+    → y ≡ of (at buffered q d) run script
+busy-ready buffered q (DroppingSent a taken None) None script y busy ready =
+    ready.2 ∙ ap (λ c. of c None script) ready.1
+busy-ready buffered q (DroppingSent a taken (Some x)) None script y busy ready = absurd busy
+busy-ready buffered q Disconnecting None script y busy ready = ready.2 ∙ ap (λ c. of c None script) ready.1
+busy-ready buffered q d None script y busy ready = absurd busy
+busy-ready buffered q d (Some z) script y busy ready = ready
 
 -- it begins nothing
-busy-begins : (kept : List ℕ) (q : Answer) (d : Phase) (run : Option Running) → Busy kept d run → d ≡ begins q
+busy-begins : (buffered : List ℕ) (q : Answer) (d : Phase) (run : Option Running) → Busy buffered d run → d ≡ begins q
     → run ≡ None → ⊥
-busy-begins kept (serve w) (DroppingSent a taken None) None busy is none = cc (is)
-busy-begins kept (refuse status head_only close) (DroppingSent a taken None) None busy is none = cc (is)
-busy-begins kept q (DroppingSent a taken (Some x)) None busy is none = busy
-busy-begins kept (serve w) Disconnecting None busy is none = cc (is)
-busy-begins kept (refuse status head_only close) Disconnecting None busy is none = cc (is)
-busy-begins kept q d None busy is none = busy
-busy-begins kept q d (Some y) busy is none = cc (none)
+busy-begins buffered (serve w) (DroppingSent a taken None) None busy is none = cc (is)
+busy-begins buffered (refuse status head_only close) (DroppingSent a taken None) None busy is none = cc (is)
+busy-begins buffered q (DroppingSent a taken (Some x)) None busy is none = busy
+busy-begins buffered (serve w) Disconnecting None busy is none = cc (is)
+busy-begins buffered (refuse status head_only close) Disconnecting None busy is none = cc (is)
+busy-begins buffered q d None busy is none = busy
+busy-begins buffered q d (Some y) busy is none = cc (none)
 
 -- a response is over, and the connection rests or closes
-ends-still : (b : Bool) (kept : List ℕ) (q : Answer) (script : List ℕ) → kept ≡ []
+ends-still : (b : Bool) (buffered : List ℕ) (q : Answer) (script : List ℕ) → buffered ≡ []
     → IsStill
     (left_by (if b then Receiving else Disconnecting)
-    (of (at kept q (if b then Receiving else Disconnecting)) None script))
-ends-still true kept q script none = none
-ends-still false kept q script none = tt
+    (of (at buffered q (if b then Receiving else Disconnecting)) None script))
+ends-still true buffered q script none = none
+ends-still false buffered q script none = tt
 
-sent-still : (kept : List ℕ) (q : Answer) (a taken : ℕ) (script : List ℕ) (r : Reply) → kept ≡ []
-    → IsStill (left_by (after_taken q a taken None r) (of (at kept q (after_taken q a taken None r)) None script))
-sent-still kept q a taken script reply.Done none = ends-still (keeps q) kept q script none
-sent-still kept q a taken script r none = tt
+sent-still : (buffered : List ℕ) (q : Answer) (a taken : ℕ) (script : List ℕ) (r : Reply) → buffered ≡ []
+    → IsStill (left_by (after_taken q a taken None r) (of (at buffered q (after_taken q a taken None r)) None script))
+sent-still buffered q a taken script reply.Done none = ends-still (keeps q) buffered q script none
+sent-still buffered q a taken script r none = tt
 
-closes-still : (kept : List ℕ) (q : Answer) (script : List ℕ) (r : Reply)
-    → IsStill (left_by (after_disconnect r) (of (at kept q (after_disconnect r)) None script))
-closes-still kept q script reply.Done = tt
-closes-still kept q script r = tt
+closes-still : (buffered : List ℕ) (q : Answer) (script : List ℕ) (r : Reply)
+    → IsStill (left_by (after_disconnect r) (of (at buffered q (after_disconnect r)) None script))
+closes-still buffered q script reply.Done = tt
+closes-still buffered q script r = tt
 
-run-ends : (b : Bool) (kept : List ℕ) (q : Answer) (d : Phase) (a taken : ℕ) (script : List ℕ) → kept ≡ []
+run-ends : (b : Bool) (buffered : List ℕ) (q : Answer) (d : Phase) (a taken : ℕ) (script : List ℕ) → buffered ≡ []
     → IsStill
     (left_over
     (proceeds false (is_over (Finishing (if b then Receiving else Disconnecting)))
-    (of (at kept q d) (Some (Finishing (DroppingSent a taken None))) script) (Finishing (DroppingSent a taken None))
+    (of (at buffered q d) (Some (Finishing (DroppingSent a taken None))) script) (Finishing (DroppingSent a taken None))
     (Finishing (if b then Receiving else Disconnecting))))
-run-ends true kept q d a taken script none = none
-run-ends false kept q d a taken script none = tt
+run-ends true buffered q d a taken script none = none
+run-ends false buffered q d a taken script none = tt
 
-run-still : (worker : ℕ) (kept : List ℕ) (q : Answer) (d : Phase) (a taken : ℕ) (script : List ℕ) (r : Reply)
-    (received : List ℕ) → kept ≡ []
+run-still : (worker : ℕ) (buffered : List ℕ) (q : Answer) (d : Phase) (a taken : ℕ) (script : List ℕ) (r : Reply)
+    (received : List ℕ) → buffered ≡ []
     → IsStill
-    (left_over (run_after_reply worker q (of (at kept q d) (Some (Finishing (DroppingSent a taken None))) script)
+    (left_over (run_after_reply worker q (of (at buffered q d) (Some (Finishing (DroppingSent a taken None))) script)
     (Finishing (DroppingSent a taken None)) r received))
-run-still worker kept (serve w) d a taken script reply.Done received none =
-    run-ends (keeps (serve w)) kept (serve w) d a taken script none
-run-still worker kept (serve w) d a taken script r received none = tt
-run-still worker kept (refuse status head_only close) d a taken script r received none = tt
+run-still worker buffered (serve w) d a taken script reply.Done received none =
+    run-ends (keeps (serve w)) buffered (serve w) d a taken script none
+run-still worker buffered (serve w) d a taken script r received none = tt
+run-still worker buffered (refuse status head_only close) d a taken script r received none = tt
 
-after_reply-sent : (b : Bool) (kept : List ℕ) (q : Answer) (a taken : ℕ) (script : List ℕ) (r : Reply)
-    (received : List ℕ) → kept ≡ []
-    → IsStill (left_over (file_after_reply b (of (at kept q (DroppingSent a taken None)) None script) r received))
-after_reply-sent true kept q a taken script r received none = sent-still kept q a taken script r none
-after_reply-sent false kept q a taken script r received none = sent-still kept q a taken script r none
+after_reply-sent : (b : Bool) (buffered : List ℕ) (q : Answer) (a taken : ℕ) (script : List ℕ) (r : Reply)
+    (received : List ℕ) → buffered ≡ []
+    → IsStill (left_over (file_after_reply b (of (at buffered q (DroppingSent a taken None)) None script) r received))
+after_reply-sent true buffered q a taken script r received none = sent-still buffered q a taken script r none
+after_reply-sent false buffered q a taken script r received none = sent-still buffered q a taken script r none
 
-after_reply-closed : (b : Bool) (kept : List ℕ) (q : Answer) (script : List ℕ) (r : Reply) (received : List ℕ)
-    → IsStill (left_over (file_after_reply b (of (at kept q Disconnecting) None script) r received))
-after_reply-closed true kept q script r received = closes-still kept q script r
-after_reply-closed false kept q script r received = closes-still kept q script r
+after_reply-closed : (b : Bool) (buffered : List ℕ) (q : Answer) (script : List ℕ) (r : Reply) (received : List ℕ)
+    → IsStill (left_over (file_after_reply b (of (at buffered q Disconnecting) None script) r received))
+after_reply-closed true buffered q script r received = closes-still buffered q script r
+after_reply-closed false buffered q script r received = closes-still buffered q script r
 
-busy-after_reply : (scripts : Bool) (worker : ℕ) (kept : List ℕ) (q : Answer) (d : Phase) (run : Option Running)
-    (script : List ℕ) (r : Reply) (received : List ℕ) → Busy kept d run
-    → IsStill (left_over (after_reply scripts worker (of (at kept q d) run script) r received))
-busy-after_reply scripts worker kept q (DroppingSent a taken None) None script r received busy =
-    after_reply-sent (is_for_script scripts q) kept q a taken script r received busy
-busy-after_reply scripts worker kept q (DroppingSent a taken (Some x)) None script r received busy = absurd busy
-busy-after_reply scripts worker kept q Disconnecting None script r received busy =
-    after_reply-closed (is_for_script scripts q) kept q script r received
-busy-after_reply scripts worker kept q d None script r received busy = absurd busy
-busy-after_reply scripts worker kept q d (Some (Finishing (DroppingSent a taken None))) script r received busy =
-    run-still worker kept q d a taken script r received busy
-busy-after_reply scripts worker kept q d (Some (Finishing (DroppingSent a taken (Some x)))) script r received busy =
+busy-after_reply : (scripts : Bool) (worker : ℕ) (buffered : List ℕ) (q : Answer) (d : Phase) (run : Option Running)
+    (script : List ℕ) (r : Reply) (received : List ℕ) → Busy buffered d run
+    → IsStill (left_over (after_reply scripts worker (of (at buffered q d) run script) r received))
+busy-after_reply scripts worker buffered q (DroppingSent a taken None) None script r received busy =
+    after_reply-sent (is_for_script scripts q) buffered q a taken script r received busy
+busy-after_reply scripts worker buffered q (DroppingSent a taken (Some x)) None script r received busy = absurd busy
+busy-after_reply scripts worker buffered q Disconnecting None script r received busy =
+    after_reply-closed (is_for_script scripts q) buffered q script r received
+busy-after_reply scripts worker buffered q d None script r received busy = absurd busy
+busy-after_reply scripts worker buffered q d (Some (Finishing (DroppingSent a taken None))) script r received busy =
+    run-still worker buffered q d a taken script r received busy
+busy-after_reply scripts worker buffered q d (Some (Finishing (DroppingSent a taken (Some x)))) script r received busy =
     absurd busy
-busy-after_reply scripts worker kept q d (Some (Finishing e)) script r received busy = absurd busy
-busy-after_reply scripts worker kept q d (Some y) script r received busy = absurd busy
+busy-after_reply scripts worker buffered q d (Some (Finishing e)) script r received busy = absurd busy
+busy-after_reply scripts worker buffered q d (Some y) script r received busy = absurd busy
 
 -- ---- turns
 
@@ -346,7 +348,7 @@ record Stays (fd : ℕ) (t : Server) : Type 0 where
   client : Client
   turn : t.pending_call ≡ At fd
   there : in_place t.clients fd ≡ Some client
-  busy : Busy client.conn.kept client.conn.phase client.run
+  busy : Busy client.conn.buffered client.conn.phase client.run
 
 stays-filed : (fd : ℕ) (s : Server) (x : OneTurn) → Stays fd s → IsStill (in_place (clients_in s x) fd)
 stays-filed fd s x stays =
@@ -362,17 +364,18 @@ stays-filed fd s x stays =
     ∙ (ap (λ (o : Option Client). in_place (after_reply_at s.workers s.clients fd o x.last received) fd) stays.there
     ∙ at-same s.clients fd after) in
     subst (λ (o : Option Client). IsStill o) (sym is)
-    (busy-after_reply (runs_scripts s.workers) (first_free s.workers s.clients) c.conn.kept c.conn.q c.conn.phase c.run
+    (busy-after_reply (runs_scripts s.workers) (first_free s.workers s.clients) c.conn.buffered c.conn.request
+    c.conn.phase c.run
     c.script x.last received stays.busy)
 
 picked-stays : (workers : ℕ) (clients : List (Option Client)) (fd : ℕ) (made : Turn) (t : Server) (c : Client)
     → in_place clients fd ≡ Some c
-    → Busy c.conn.kept c.conn.phase c.run → t.pending_call ≡ At fd → PicksAt workers clients fd made t.clients
+    → Busy c.conn.buffered c.conn.phase c.run → t.pending_call ≡ At fd → PicksAt workers clients fd made t.clients
     → Stays fd t
 picked-stays workers clients fd made t c there busy turn picks =
     let same : picks.was ≡ c = some-inj picks.was c (sym picks.there ∙ there) in
     let ready : picks.ready ≡ c =
-    busy-ready c.conn.kept c.conn.q c.conn.phase c.run c.script picks.ready busy
+    busy-ready c.conn.buffered c.conn.request c.conn.phase c.run c.script picks.ready busy
     (subst (λ (z : Client). Readies z picks.ready) same picks.readies) in
     record {
       client = c;
@@ -412,10 +415,11 @@ turns-pass s x fd gd other turn still goes did = by (in_place (clients_in s x) f
     on : (c : Client) → in_place (clients_in s x) fd ≡ Some c → leaves_off (Some c) x.last ≡ false → IsStill (Some c)
         → Goes fd gd x.after
     on c is stays undisturbed =
-        let busy = on-busy c.conn.kept c.conn.q c.conn.phase c.run c.script x.last stays undisturbed in
+        let busy = on-busy c.conn.buffered c.conn.request c.conn.phase c.run c.script x.last stays undisturbed in
         let may : goes_in (has_free s.workers (clients_in s x)) (in_place (clients_in s x) fd) ≡ true =
         ap (λ (o : Option Client). goes_in (has_free s.workers (clients_in s x)) o) is
-        ∙ busy-goes (has_free s.workers (clients_in s x)) c.conn.kept c.conn.q c.conn.phase c.run c.script busy in
+        ∙ busy-goes (has_free s.workers (clients_in s x)) c.conn.buffered c.conn.request c.conn.phase c.run c.script
+        busy in
         let r = reaches s.workers (clients_in s x) fd may fd (omega arith) in
         let low = r.low in
         let high = r.high in
@@ -442,8 +446,8 @@ never-begins : (fd : ℕ) (t : Server) → Stays fd t → BeginsAt fd t → ⊥
 never-begins fd t stays begun =
     let same : stays.client ≡ begun.client = some-inj stays.client begun.client (sym stays.there ∙ begun.there) in
     let c = begun.client in
-    busy-begins c.conn.kept c.conn.q c.conn.phase c.run
-    (subst (λ (z : Client). Busy z.conn.kept z.conn.phase z.run) same stays.busy) begun.begins begun.no_script
+    busy-begins c.conn.buffered c.conn.request c.conn.phase c.run
+    (subst (λ (z : Client). Busy z.conn.buffered z.conn.phase z.run) same stays.busy) begun.begins begun.no_script
 
 module _ (y : OneTurn) (fd gd : ℕ) (other : fd ≢ gd) (begun : BeginsAt fd y.after) where
   at-end : Goes fd gd y.after → ⊥
@@ -469,7 +473,7 @@ turns_fair s x xs y fd gd turns answered begun other goes =
     let c = answered.client in
     let still =
     subst (λ (o : Option Client). IsStill o) (sym answered.there)
-    (answered-still c.conn.kept c.conn.q c.conn.phase c.run c.script answered.answered) in
+    (answered-still c.conn.buffered c.conn.request c.conn.phase c.run c.script answered.answered) in
     elim (turns-pass s x fd gd other answered.turn still goes.0 turns.0) [
       | inl there ↦ inl there
       | inr rest ↦ elim rest [

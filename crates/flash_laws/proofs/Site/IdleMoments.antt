@@ -21,7 +21,7 @@ use Rattle.iol_proc.specs.Quiescence.{Claim, Quiesces}
 use Rattle.iol_proc.specs.Turns.{TransitionRelation}
 use Rattle.iol_proc.specs.declared.process.Turn.{Turn}
 use Rattle.iol_proc.specs.declared.process.Turn.TheVariants as turn
-use Rattle.flash_laws.specs.Client.{Client, wants, IsAwaiting}
+use Rattle.flash_laws.specs.Client.{Client, next_call, IsAwaiting}
 use Rattle.flash_laws.specs.Conn.{Conn}
 use Rattle.flash_laws.specs.World.Idle.{WouldWait, BlocksAt, AllBlock, BlockUpTo, HasYielded, IsPolling}
 use Rattle.flash_laws.specs.World.Idle.{server_quiescent, actor_quiescent}
@@ -182,7 +182,7 @@ module _ (waits : WaitLaw) (m : State) (by : ℕ) (s t : Server) (l : Reply) (re
     next-is : t.pending_call ≡ next_pending_call s.workers s.clients s.pending_call l
     next-is = next ∙ ap (λ (xs : List (Option Client)). next_pending_call s.workers xs s.pending_call l) conns-are
 
-    -- all would block where those before would, and none is there from then on
+    -- all places would block, the earlier ones too, and there is no client from then on
     all-of : (k : ℕ) → ((i : ℕ) → i < k → BlocksAt m by s.workers s.clients i) → next_place s.workers s.clients k ≡ None
         → (i : ℕ)
         → BlocksAt m by s.workers s.clients i
@@ -201,17 +201,18 @@ module _ (waits : WaitLaw) (m : State) (by : ℕ) (s t : Server) (l : Reply) (re
         → (t.clients ≡ s.clients) × BlocksAt m by s.workers s.clients fd
     blocks-at c fd step did =
         let scripts = runs_scripts s.workers in
-        let c_is : c ≡ wants scripts fd did.ready = ap (λ (z : Turn). called_in z c) did.call_is in
-        let waiting : WouldWait m by (wants scripts fd did.ready) = subst (λ (z : Call). WouldWait m by z) c_is step in
+        let c_is : c ≡ next_call scripts fd did.ready = ap (λ (z : Turn). called_in z c) did.call_is in
+        let waiting : WouldWait m by (next_call scripts fd did.ready) =
+        subst (λ (z : Call). WouldWait m by z) c_is step in
         let ready = ready-blocked waits m by fd scripts did.was.conn did.was.run did.was.script did.ready did.readies
         waiting in (
           did.after_is
               ∙ (ap (λ (y : Client). with_at s.clients fd (Some y)) ready.0
               ∙ same-there s.clients fd did.was did.there),
           λ x is. (let same : did.was ≡ x = some-inj did.was x (sym did.there ∙ is) in
-              let both : IsAwaiting did.ready × WouldWait m by (wants scripts fd did.ready) = (ready.1, waiting) in
-              let on : IsAwaiting x × WouldWait m by (wants scripts fd x) =
-              subst (λ (y : Client). IsAwaiting y × WouldWait m by (wants scripts fd y)) (ready.0 ∙ same) both in
+              let both : IsAwaiting did.ready × WouldWait m by (next_call scripts fd did.ready) = (ready.1, waiting) in
+              let on : IsAwaiting x × WouldWait m by (next_call scripts fd x) =
+              subst (λ (y : Client). IsAwaiting y × WouldWait m by (next_call scripts fd y)) (ready.0 ∙ same) both in
               (on.0, inr on.1)),
         )
 

@@ -50,15 +50,15 @@ pub conn-same : (m : State) (fd c k : ℕ) → descriptor m server fd ≡ Some (
 conn-same m fd c k is_c is_k = ap number_on (sym is_c ∙ is_k)
 
 -- one that is ready has no request that could begin, where it reads
-pub ready-awaits : (kept : List ℕ) (q : Answer) (d : Phase) (y : Conn)
-    → Readies (record { kept = kept; q = q; phase = d }) y → IsAwaiting y
-ready-awaits kept q Receiving y ready = starts ready
+pub ready-awaits : (buffered : List ℕ) (q : Answer) (d : Phase) (y : Conn)
+    → Readies (record { buffered = buffered; request = q; phase = d }) y → IsAwaiting y
+ready-awaits buffered q Receiving y ready = starts ready
   where
-    begun : (p : Answer) (rest : List ℕ) → IsAwaiting (record { kept = rest; q = p; phase = begins p })
+    begun : (p : Answer) (rest : List ℕ) → IsAwaiting (record { buffered = rest; request = p; phase = begins p })
     begun (serve w) rest = tt
     begun (refuse status head_only close) rest = tt
 
-    starts : Starts (record { kept = kept; q = q; phase = Receiving }) y → IsAwaiting y
+    starts : Starts (record { buffered = buffered; request = q; phase = Receiving }) y → IsAwaiting y
     starts (inl waits) = subst (λ (x : Conn). IsAwaiting x) (sym waits.1) waits.0
     starts (inr some) = subst (λ (x : Conn). IsAwaiting x) (sym some.3) (begun some.0 some.1)
-ready-awaits kept q d y ready = subst (λ (x : Conn). IsAwaiting x) (sym ready) tt
+ready-awaits buffered q d y ready = subst (λ (x : Conn). IsAwaiting x) (sym ready) tt

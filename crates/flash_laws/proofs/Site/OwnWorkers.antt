@@ -99,28 +99,30 @@ on-run worker w c script (InProgress run s) r received k u =
 on-run worker w c script x r received k u = absurd (cc (u))
 
 -- one for which no script runs has none then
-on-script : (kept : List ℕ) (q : Answer) (d : Phase) (script : List ℕ) (r : Reply) (received : List ℕ) (k : ℕ)
-    → is_run_by (file_after_reply true (of (record { kept = kept; q = q; phase = d }) None script) r received) k ≡ true
+on-script : (buffered : List ℕ) (q : Answer) (d : Phase) (script : List ℕ) (r : Reply) (received : List ℕ) (k : ℕ)
+    → is_run_by (file_after_reply true (of (record { buffered = buffered; request = q; phase = d }) None script) r
+    received) k ≡ true
     → ⊥
-on-script kept q (DroppingWhole a Script) script r received k u = by (is_head_only q) r u
+on-script buffered q (DroppingWhole a Script) script r received k u = by (is_head_only q) r u
   where
     by : (h : Bool) (r : Reply)
-        → is_run_by (of (record { kept = kept; q = q; phase = DroppingWhole a Script }) (after_drop_whole h r) script) k
+        → is_run_by (of (record { buffered = buffered; request = q; phase = DroppingWhole a Script })
+        (after_drop_whole h r) script) k
         ≡ true
         → ⊥
     by false reply.Done u = cc (u)
     by b r u = cc (u)
-on-script kept q d script r received k u = cc (u)
+on-script buffered q d script r received k u = cc (u)
 
 pub on-after_reply : (scripts : Bool) (worker : ℕ) (c : Conn) (run : Option Running) (script : List ℕ) (r : Reply)
     (received : List ℕ) (k : ℕ)
     → is_run_by (after_reply scripts worker (of c run script) r received) k ≡ true → Had worker (of c run script) k
-on-after_reply scripts worker c None script r received k u = absurd (by (is_for_script scripts c.q) u)
+on-after_reply scripts worker c None script r received k u = absurd (by (is_for_script scripts c.request) u)
   where
     by : (b : Bool) → is_run_by (file_after_reply b (of c None script) r received) k ≡ true → ⊥
-    by true u = on-script c.kept c.q c.phase script r received k u
+    by true u = on-script c.buffered c.request c.phase script r received k u
     by false u = cc (u)
-on-after_reply scripts worker c (Some y) script r received k u = by c.q u
+on-after_reply scripts worker c (Some y) script r received k u = by c.request u
   where
     by : (q : Answer) → is_run_by (run_after_reply worker q (of c (Some y) script) y r received) k ≡ true
         → Had worker (of c (Some y) script) k

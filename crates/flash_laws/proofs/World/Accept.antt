@@ -56,16 +56,16 @@ use Rattle.flash_laws.proofs.World.TurnLeaves.{conn-left}
 
 -- it is as it was, or its next request begins
 conn-readied : (x y : Conn) → conn.Readies x y
-    → (y ≡ x) ⊎ ((q : Answer) × (rest : List ℕ) × (y ≡ record { kept = rest; q = q; phase = begins q }))
+    → (y ≡ x) ⊎ ((q : Answer) × (rest : List ℕ) × (y ≡ record { buffered = rest; request = q; phase = begins q }))
 conn-readied x y ready = by x.phase refl ready
   where
     began : conn.Starts x y
-        → (y ≡ x) ⊎ ((q : Answer) × (rest : List ℕ) × (y ≡ record { kept = rest; q = q; phase = begins q }))
+        → (y ≡ x) ⊎ ((q : Answer) × (rest : List ℕ) × (y ≡ record { buffered = rest; request = q; phase = begins q }))
     began (inl waits) = inl waits.1
     began (inr some) = inr (some.0, some.1, some.3)
 
     by : (d : Phase) → x.phase ≡ d → conn.Readies (record x { phase = d }) y
-        → (y ≡ x) ⊎ ((q : Answer) × (rest : List ℕ) × (y ≡ record { kept = rest; q = q; phase = begins q }))
+        → (y ≡ x) ⊎ ((q : Answer) × (rest : List ℕ) × (y ≡ record { buffered = rest; request = q; phase = begins q }))
     by phase.Receiving is r = began (subst (λ (d : Phase). conn.Starts (record x { phase = d }) y) (sym is) r)
     by d is r = inl (r ∙ ap (λ (d : Phase). record x { phase = d }) (sym is))
 
@@ -220,8 +220,8 @@ module _ (site_contents : SiteContents) (worker_set : WorkerSet) (laws : AllLaws
         open_on = takes.open_on;
         took = [];
         came_is = waits.came_is ∙ ap (λ (k : Connection). bytes_of k.incoming) (sym takes.conn_is);
-        expected = expected_to site_contents new_connection.q;
-        may = expected-may site_contents new_connection.q;
+        expected = expected_to site_contents new_connection.request;
+        may = expected-may site_contents new_connection.request;
         consistency =
             inl (
               refl,

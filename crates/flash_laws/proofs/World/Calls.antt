@@ -15,7 +15,7 @@ use Rattle.iol_core.specs.declared.events.Event.TheVariants as event
 use Rattle.iol_laws.specs.Frame.{is_conn, is_end, touches_conn, touches_pipe, touches_fd, changes_files, admits_to}
 use Rattle.iol_laws.specs.Frame.{ends, sets_default}
 use Rattle.flash_http.specs.Request.{Answer}
-use Rattle.flash_laws.specs.Client.{Client, is_for_script, conn_wants, job_of, wants, uses_agg}
+use Rattle.flash_laws.specs.Client.{Client, is_for_script, conn_call, job_of, next_call, uses_agg}
 use Rattle.flash_laws.specs.Client.Fits.{expected_in, Fits}
 use Rattle.flash_laws.specs.Client.Holdings.{has_fd}
 use Rattle.flash_laws.specs.Conn as conn
@@ -32,10 +32,10 @@ use Rattle.flash_laws.specs.declared.script_run.Running.{Running}
 use Rattle.iol_proc.specs.declared.process_slot.ProcessSlot.{ProcessSlot}
 use Rattle.flash_laws.proofs.Forms.{at, of}
 use Rattle.flash_laws.proofs.Lists.{clash}
-use Rattle.flash_laws.proofs.Conn.Touches.{fds-wants, conns-wants, pipes-wants, files-wants}
-use Rattle.flash_laws.proofs.Conn.Uses.{gives-wants, has-agg, has-fd}
+use Rattle.flash_laws.proofs.Conn.Touches.{fds-call, conns-call, pipes-call, files-call}
+use Rattle.flash_laws.proofs.Conn.Uses.{gives-call, has-agg, has-fd}
 use Rattle.flash_laws.proofs.World.AllLaws.{AllLaws}
-use Rattle.flash_laws.proofs.World.OwnRun.{wants-run}
+use Rattle.flash_laws.proofs.World.OwnRun.{call-run}
 use Rattle.flash_laws.proofs.World.RunUses.{IsEnd, run-there, run-end}
 use Rattle.flash_laws.proofs.Moves.{either-way}
 
@@ -81,24 +81,25 @@ kind-admits k p is = refl
 
 -- ---- alone
 
-wants-kind : (fd : ℕ) (kept : List ℕ) (q : Answer) (d : Phase)
-    → is_client_call (conn.wants fd (record { kept = kept; q = q; phase = d })) ≡ true
-wants-kind fd kept q (phase.Reading f) = either-way (λ (k : Call). is_client_call k ≡ true) (is_head_only q) refl refl
-wants-kind fd kept q d = refl
+call-kind : (fd : ℕ) (buffered : List ℕ) (q : Answer) (d : Phase)
+    → is_client_call (conn.next_call fd (record { buffered = buffered; request = q; phase = d })) ≡ true
+call-kind fd buffered q (phase.Reading f) =
+    either-way (λ (k : Call). is_client_call k ≡ true) (is_head_only q) refl refl
+call-kind fd buffered q d = refl
 
-module _ (m : State) (fd c : ℕ) (script : List ℕ) (kept : List ℕ) (q : Answer) (expected : List ℕ)
+module _ (m : State) (fd c : ℕ) (script : List ℕ) (buffered : List ℕ) (q : Answer) (expected : List ℕ)
     (open_on : descriptor m server fd ≡ Some (on.Connection c)) where
   plain : (d : Phase) → Has m q expected d
-      → CallsAlone m fd c (of (at kept q d) None script) (conn.wants fd (at kept q d))
+      → CallsAlone m fd c (of (at buffered q d) None script) (conn.next_call fd (at buffered q d))
   plain d has = record {
-    kind = wants-kind fd kept q d;
-    aggs = λ a u. gives-wants fd kept q d a u;
-    fds = λ g u. fds-wants m fd c kept q d g open_on u;
-    conns = λ e u. conns-wants m fd c kept q expected d e open_on has u;
+    kind = call-kind fd buffered q d;
+    aggs = λ a u. gives-call fd buffered q d a u;
+    fds = λ g u. fds-call m fd c buffered q d g open_on u;
+    conns = λ e u. conns-call m fd c buffered q expected d e open_on has u;
     pipes =
-        λ p u. absurd (clash (touches_pipe m (event.Call server (conn.wants fd (at kept q d))) p) u
-        (pipes-wants m fd c kept q expected d p open_on has));
-    files = files-wants m fd c kept q d open_on;
+        λ p u. absurd (clash (touches_pipe m (event.Call server (conn.next_call fd (at buffered q d))) p) u
+        (pipes-call m fd c buffered q expected d p open_on has));
+    files = files-call m fd c buffered q d open_on;
   }
 
   left-of : (a b : Bool) → (a && b) ≡ true → a ≡ true
@@ -107,7 +108,7 @@ module _ (m : State) (fd c : ℕ) (script : List ℕ) (kept : List ℕ) (q : Ans
 
   -- a script is read whole, for HEAD too
   reads : (f : ℕ) → Has m q expected (phase.Reading f)
-      → CallsAlone m fd c (of (at kept q (phase.Reading f)) None script) (call.IolRead f most_read)
+      → CallsAlone m fd c (of (at buffered q (phase.Reading f)) None script) (call.IolRead f most_read)
   reads f has = record {
     kind = refl;
     aggs = λ a u. absurd (cc (u));
@@ -120,7 +121,7 @@ module _ (m : State) (fd c : ℕ) (script : List ℕ) (kept : List ℕ) (q : Ans
   }
 
   scripted : (b : Bool) (d : Phase) → Has m q expected d
-      → CallsAlone m fd c (of (at kept q d) None script) (conn_wants b fd (at kept q d))
+      → CallsAlone m fd c (of (at buffered q d) None script) (conn_call b fd (at buffered q d))
   scripted true (phase.Reading f) has = reads f has
   scripted b d has = plain d has
 
@@ -157,22 +158,23 @@ module _ (site_contents : SiteContents) (worker_set : WorkerSet) (laws : AllLaws
 
   pub calls-alone : (conn : Conn) (run : Option Running) (script : List ℕ)
       → Fits site_contents worker_set m came sent fd c (of conn run script) process_slots
-      → CallsAlone m fd c (of conn run script) (wants site_contents.scripts fd (of conn run script))
+      → CallsAlone m fd c (of conn run script) (next_call site_contents.scripts fd (of conn run script))
   calls-alone conn None script f =
-      scripted m fd c script conn.kept conn.q (expected_in f.expected conn.q conn.phase) f.open_on
-      (is_for_script site_contents.scripts conn.q) conn.phase f.has
+      scripted m fd c script conn.buffered conn.request (expected_in f.expected conn.request conn.phase) f.open_on
+      (is_for_script site_contents.scripts conn.request) conn.phase f.has
   calls-alone conn (Some y) script f =
       subst (λ (k : Call). CallsAlone m fd c (of conn (Some y) script) k)
-      (sym (wants-run site_contents.scripts fd conn (Some y) script f.script.text y f.wanted refl f.script.asks
-      f.kept))
-      (of-run m fd c conn script y (running.wants (job_of f.wanted f.script.text) fd f.wanted y)
+      (sym (call-run site_contents.scripts fd conn (Some y) script f.script.text y f.wanted refl f.script.asks
+      f.buffered))
+      (of-run m fd c conn script y (running.next_call (job_of f.wanted f.script.text) fd f.wanted y)
       ((laws.run_keeps (job_of f.wanted f.script.text)).alone m fd c f.wanted y f.so_far f.open_on f.ongoing f.has))
 
   -- what it uses is there
   pub there-agg : (conn : Conn) (run : Option Running) (script : List ℕ) (a : ℕ)
       → Fits site_contents worker_set m came sent fd c (of conn run script) process_slots
       → uses_agg (of conn run script) a ≡ true → IsReadable m a
-  there-agg conn None script a f u = has-agg m conn.q (expected_in f.expected conn.q conn.phase) conn.phase a u f.has
+  there-agg conn None script a f u =
+      has-agg m conn.request (expected_in f.expected conn.request conn.phase) conn.phase a u f.has
   there-agg conn (Some y) script a f u = run-there m a (job_of f.wanted f.script.text) f.wanted f.so_far y u f.has
 
   -- and what it has: a file, or an end of a pipe
@@ -181,5 +183,5 @@ module _ (site_contents : SiteContents) (worker_set : WorkerSet) (laws : AllLaws
       → has_fd (of conn run script) g ≡ true
       → ((i : ℕ) × (pos : ℕ) × (descriptor m server g ≡ Some (on.File i pos modes.Read))) ⊎ IsEnd m g
   there-fd conn None script g f u =
-      inl (has-fd m conn.q (expected_in f.expected conn.q conn.phase) conn.phase g u f.has)
+      inl (has-fd m conn.request (expected_in f.expected conn.request conn.phase) conn.phase g u f.has)
   there-fd conn (Some y) script g f u = inr (run-end m g (job_of f.wanted f.script.text) f.wanted f.so_far y u f.has)

@@ -62,22 +62,22 @@ Changes k j sent after = Stays k j sent after ⊎ Leaves k j sent after
 -- ---- the invariant, over what becomes of a connection
 
 consistency_goes : (site_contents : SiteContents) (k j : Connection) (took sent after : List ℕ) (x : Client)
-    (expected : List ℕ) → MayBeExpected site_contents x.conn.q expected → Changes k j sent after
+    (expected : List ℕ) → MayBeExpected site_contents x.conn.request expected → Changes k j sent after
     → ConsistencyAlone site_contents expected k took sent x → ConsistencyAlone site_contents expected j took after x
 consistency_goes site_contents k j took sent after x expected may (inl s) consistency =
     consistency-stays site_contents k j took sent after s.total s.gone s.ended x expected consistency
 consistency_goes site_contents k j took sent after x expected may (inr l) consistency =
     consistency-leaves site_contents k j took sent after l.dropped l.gone l.total x expected may consistency
 
-run_goes : (site_contents : SiteContents) (k j : Connection) (took sent after kept : List ℕ) (x : Client)
+run_goes : (site_contents : SiteContents) (k j : Connection) (took sent after buffered : List ℕ) (x : Client)
     → Changes k j sent after → (w : Wanted) (expected : List ℕ) → MayBeExpected site_contents (serve w) expected
     → (o : Progress) (y : Running)
-    → ConsistencyRun site_contents expected k took sent kept w o y
-    → ConsistencyRun site_contents expected j took after kept w o y
-run_goes site_contents k j took sent after kept x (inl s) w expected may o y consistency =
-    run-stays site_contents k j took sent after s.total s.gone s.ended kept w expected o y consistency
-run_goes site_contents k j took sent after kept x (inr l) w expected may o y consistency =
-    run-leaves site_contents k j took sent after l.dropped l.gone l.total kept w expected may o y consistency
+    → ConsistencyRun site_contents expected k took sent buffered w o y
+    → ConsistencyRun site_contents expected j took after buffered w o y
+run_goes site_contents k j took sent after buffered x (inl s) w expected may o y consistency =
+    run-stays site_contents k j took sent after s.total s.gone s.ended buffered w expected o y consistency
+run_goes site_contents k j took sent after buffered x (inr l) w expected may o y consistency =
+    run-leaves site_contents k j took sent after l.dropped l.gone l.total buffered w expected may o y consistency
 
 came_on : (came took incoming now more : List ℕ) → came ≡ took ++ incoming → now ≡ incoming ++ more
     → came ++ more ≡ took ++ now
@@ -135,10 +135,10 @@ module _ (site_contents : SiteContents) (worker_set : WorkerSet) (laws : AllLaws
     consistency = consistency_goes site_contents (conn_at m c) (conn_at n c) f.took sent after (of x None script)
         f.expected f.may changes f.consistency;
     has =
-        has-stays m n x.q (expected_in f.expected x.q x.phase) x.phase
+        has-stays m n x.request (expected_in f.expected x.request x.phase) x.phase
         (λ a bytes u is. readable-stays laws.the.steps m n e r step a bytes is (left.aggs a u))
         (λ g y u is. leaves.fds server g y is (left.fds g u)) f.has;
-    finds = finds_on site_contents m n x.q script x.phase (λ g y u is. leaves.fds server g y is (left.fds g u))
+    finds = finds_on site_contents m n x.request script x.phase (λ g y u is. leaves.fds server g y is (left.fds g u))
         left.site (λ p may. leaves.readers server p may) f.finds;
     proper = f.proper;
   }
@@ -176,11 +176,11 @@ module _ (site_contents : SiteContents) (worker_set : WorkerSet) (laws : AllLaws
     shown = f.shown;
     may_show = f.may_show;
     fresh = f.fresh;
-    kept = f.kept;
+    buffered = f.buffered;
     so_far = f.so_far;
     has = (laws.runs (job_of f.wanted f.script.text)).stays m n f.wanted y e r f.so_far step left.aggs left.fds f.has;
     ongoing = f.ongoing;
-    consistency = run_goes site_contents (conn_at m c) (conn_at n c) f.took sent after x.kept (of x (Some y) script)
+    consistency = run_goes site_contents (conn_at m c) (conn_at n c) f.took sent after x.buffered (of x (Some y) script)
         changes f.wanted
         (response_to f.wanted (made_of f.wanted f.script.lines f.shown))
         (shown-may site_contents (of x (Some y) script) f.wanted f.script f.shown f.may_show) f.so_far y

@@ -50,24 +50,24 @@ module _ (site_contents : SiteContents) (k j : Connection) (took sent after : Li
       → ConsistencyAlone site_contents expected j took after x
   consistency-stays x expected (inl a) = inl (
     a.0,
-    subst (λ (l : List ℕ). Answers site_contents took l x.conn.kept (asked x.conn.q x.conn.phase)
+    subst (λ (l : List ℕ). Answers site_contents took l x.conn.buffered (asked x.conn.request x.conn.phase)
         (given_of expected (is_at_rest x.conn.phase) (taken_of x.conn.phase))) total a.1,
   )
   consistency-stays x expected (inr (inl f)) = inr (inl (finished-stays x.conn.phase f))
   consistency-stays x expected (inr (inr l)) = inr (inr (left-stays l))
 
-  pub run-stays : (kept : List ℕ) (w : Wanted) (expected : List ℕ) (o : Progress) (y : Running)
-      → ConsistencyRun site_contents expected k took sent kept w o y
-      → ConsistencyRun site_contents expected j took after kept w o y
-  run-stays kept w expected o y (inl g) = inl (record {
+  pub run-stays : (buffered : List ℕ) (w : Wanted) (expected : List ℕ) (o : Progress) (y : Running)
+      → ConsistencyRun site_contents expected k took sent buffered w o y
+      → ConsistencyRun site_contents expected j took after buffered w o y
+  run-stays buffered w expected o y (inl g) = inl (record {
     answers =
         subst
-        (λ (l : List ℕ). Answers site_contents took l kept (serve w ∷ []) (take (past_of o + taken_by y) expected))
+        (λ (l : List ℕ). Answers site_contents took l buffered (serve w ∷ []) (take (past_of o + taken_by y) expected))
         total g.answers;
     may = g.may;
     whole = g.whole;
   })
-  run-stays kept w expected o y (inr l) = inr (left-stays l)
+  run-stays buffered w expected o y (inr l) = inr (left-stays l)
 
 -- ---- the peer is gone, and what was to be sent is dropped
 
@@ -84,13 +84,13 @@ module _ (site_contents : SiteContents) (k j : Connection) (took sent after drop
             (subst (λ (l : List ℕ). Begins site_contents took l) total begins);
       }
 
-  pub consistency-leaves : (x : Client) (expected : List ℕ) → MayBeExpected site_contents x.conn.q expected
+  pub consistency-leaves : (x : Client) (expected : List ℕ) → MayBeExpected site_contents x.conn.request expected
       → ConsistencyAlone site_contents expected k took sent x → ConsistencyAlone site_contents expected j took after x
   consistency-leaves x expected may consistency =
       inr (inr (left-alone (begins-consistency site_contents k took sent x expected may consistency)))
 
-  pub run-leaves : (kept : List ℕ) (w : Wanted) (expected : List ℕ) → MayBeExpected site_contents (serve w) expected
-      → (o : Progress) (y : Running) → ConsistencyRun site_contents expected k took sent kept w o y
-      → ConsistencyRun site_contents expected j took after kept w o y
-  run-leaves kept w expected may o y consistency =
-      inr (left-alone (begins-run site_contents k took sent kept w expected may o y consistency))
+  pub run-leaves : (buffered : List ℕ) (w : Wanted) (expected : List ℕ) → MayBeExpected site_contents (serve w) expected
+      → (o : Progress) (y : Running) → ConsistencyRun site_contents expected k took sent buffered w o y
+      → ConsistencyRun site_contents expected j took after buffered w o y
+  run-leaves buffered w expected may o y consistency =
+      inr (left-alone (begins-run site_contents k took sent buffered w expected may o y consistency))

@@ -10,7 +10,7 @@ use Rattle.iol_core.specs.declared.events.Event.TheVariants as event
 use Rattle.iol_laws.specs.Frame.{touches_pipe}
 use Rattle.iol_proc.specs.declared.process_slot.ProcessSlot.{ProcessSlot}
 use Rattle.flash_http.specs.Request.{Wanted}
-use Rattle.flash_laws.specs.Client.{uses_fd, job_of, wants}
+use Rattle.flash_laws.specs.Client.{uses_fd, job_of, next_call}
 use Rattle.flash_laws.specs.Client.Fits.{expected_in, made_of, FitsRun, Fits}
 use Rattle.flash_laws.specs.Client.Holdings.{has_fd}
 use Rattle.flash_laws.specs.Conn as conn
@@ -18,7 +18,7 @@ use Rattle.flash_laws.specs.Conn.{Conn}
 use Rattle.flash_laws.specs.Workers.WorkerSet.{WorkerSet}
 use Rattle.flash_laws.specs.Run.Fits.{Progress, HasStep, HasLeft}
 use Rattle.flash_laws.specs.Run.Holdings.{has_end}
-use Rattle.flash_laws.specs.Run.{job_pipe, is_reading, step_fd, ends_of, step_wants}
+use Rattle.flash_laws.specs.Run.{job_pipe, is_reading, step_fd, ends_of, step_call}
 use Rattle.flash_laws.specs.Run as running
 use Rattle.flash_laws.specs.SiteContents.{SiteContents}
 use Rattle.flash_laws.specs.Site.{server}
@@ -39,7 +39,7 @@ use Rattle.flash_laws.proofs.Forms.{of}
 use Rattle.flash_laws.proofs.Conn.Responses.{some-inj}
 use Rattle.flash_laws.proofs.Lists.{self}
 use Rattle.flash_laws.proofs.Conn.Uses.{same-number, has-fd, one-of}
-use Rattle.flash_laws.proofs.World.OwnRun.{wants-run}
+use Rattle.flash_laws.proofs.World.OwnRun.{call-run}
 
 -- what a run that reads reads from
 pub reads-from : (job : ℕ → List ℕ) (m : State) (w : Wanted) (o : Progress) (run : Run) (s : Step)
@@ -79,7 +79,7 @@ which-end job m w o run s g has u = elim (one-of (is_reading s && (run.from == g
 
 -- a call that touches a pipe is one of a run that reads, or the job's, or makes the pipe
 pub touches-reading : (job : ℕ → List ℕ) (m : State) (fd : ℕ) (w : Wanted) (run : Run) (s : Step) (p : ℕ)
-    → touches_pipe m (event.Call server (step_wants job fd w run s)) p ≡ true → is_reading s ≡ true
+    → touches_pipe m (event.Call server (step_call job fd w run s)) p ≡ true → is_reading s ≡ true
 touches-reading job m fd w run (DroppingFrame f held) p u = absurd (cc (u))
 touches-reading job m fd w run (MakingEnd held) p u = absurd (cc (u))
 touches-reading job m fd w run (FillingEnd held size frame) p u = absurd (cc (u))
@@ -104,14 +104,14 @@ module _ (site_contents : SiteContents) (worker_set : WorkerSet) (m : State) (ca
   pub touches-from : (conn : Conn) (run : Option Running) (script : List ℕ)
       → Fits site_contents worker_set m came sent fd c (of conn run script) process_slots
       → (v : Run) (s : Step) (q : ℕ) → run ≡ Some (InProgress v s)
-      → touches_pipe m (event.Call server (wants site_contents.scripts fd (of conn run script))) q ≡ true
+      → touches_pipe m (event.Call server (next_call site_contents.scripts fd (of conn run script))) q ≡ true
       → is_reading s ≡ true
   touches-from conn None script f v s q is u = absurd (cc (is))
   touches-from conn (Some y) script f v s q is u =
       touches-reading (job_of f.wanted f.script.text) m fd f.wanted v s q
       (subst (λ (k : Call). touches_pipe m (event.Call server k) q ≡ true)
-      (wants-run site_contents.scripts fd conn (Some y) script f.script.text y f.wanted refl f.script.asks f.kept
-      ∙ ap (λ (z : Running). running.wants (job_of f.wanted f.script.text) fd f.wanted z)
+      (call-run site_contents.scripts fd conn (Some y) script f.script.text y f.wanted refl f.script.asks f.buffered
+      ∙ ap (λ (z : Running). running.next_call (job_of f.wanted f.script.text) fd f.wanted z)
       (some-inj y (InProgress v s) is)) u)
 
   -- no run gives its pipe back
@@ -162,7 +162,7 @@ module _ (site_contents : SiteContents) (worker_set : WorkerSet) (m : State) (ca
       → has_fd (of conn run script) g ≡ true → k < worker_set.count
       → descriptor m server g ≡ Some (on.WriteEnd (worker_set.job_queue k)) → ⊥
   no-job_queue conn None script g k f u lt is =
-      (let file = (has-fd m conn.q (expected_in f.expected conn.q conn.phase) conn.phase g u f.has).2 in
+      (let file = (has-fd m conn.request (expected_in f.expected conn.request conn.phase) conn.phase g u f.has).2 in
       absurd (cc (file, is)))
   no-job_queue conn (Some y) script g k f u lt is = write-apart conn y script g k f u lt is
 

@@ -10,7 +10,7 @@ use Rattle.iol_core.specs.declared.events.Reply.{Reply}
 use Rattle.iol_laws.specs.Caller.{readable_at}
 use Rattle.iol_laws.specs.Order.{IsOrderly}
 use Rattle.iol_proc.specs.declared.process_slot.ProcessSlot.{ProcessSlot}
-use Rattle.flash_laws.specs.Client.{Client, uses_agg, is_for_script, job_of, wants, after_reply, left_over}
+use Rattle.flash_laws.specs.Client.{Client, uses_agg, is_for_script, job_of, next_call, after_reply, left_over}
 use Rattle.flash_laws.specs.Client.Fits.{expected_in, FitsRun, Fits}
 use Rattle.flash_laws.specs.Conn as conn
 use Rattle.flash_laws.specs.Conn.{Conn}
@@ -31,7 +31,7 @@ use Rattle.flash_laws.proofs.Forms.{of}
 use Rattle.flash_laws.proofs.Client.Holdings.{script-uses, on-uses, conn-brought, conn-left}
 use Rattle.flash_laws.proofs.Site.OwnWorkers.{left-over-is}
 use Rattle.flash_laws.proofs.World.AllLaws.{AllLaws}
-use Rattle.flash_laws.proofs.World.OwnRun.{wants-run, after_reply-run}
+use Rattle.flash_laws.proofs.World.OwnRun.{call-run, after_reply-run}
 use Rattle.flash_laws.proofs.World.OwnTurn.{IsOwnTurn}
 use Rattle.flash_laws.proofs.World.Owners.{used-here, used-on}
 
@@ -51,11 +51,11 @@ module _ (site_contents : SiteContents) (worker_set : WorkerSet) (laws : AllLaws
     (received : List ℕ) (a : ℕ) where
   module _ (y : Running) (f : FitsRun site_contents worker_set m came sent fd c (of conn (Some y) script) y
       process_slots)
-      (step : StepsTo m (event.Call server (wants site_contents.scripts fd (of conn (Some y) script))) r n) where
-    calls : StepsTo m (event.Call server (running.wants (job_of f.wanted f.script.text) fd f.wanted y)) r n
+      (step : StepsTo m (event.Call server (next_call site_contents.scripts fd (of conn (Some y) script))) r n) where
+    calls : StepsTo m (event.Call server (running.next_call (job_of f.wanted f.script.text) fd f.wanted y)) r n
     calls =
         subst (λ (k : Call). StepsTo m (event.Call server k) r n)
-        (wants-run site_contents.scripts fd conn (Some y) script f.script.text y f.wanted refl f.script.asks f.kept)
+        (call-run site_contents.scripts fd conn (Some y) script f.script.text y f.wanted refl f.script.asks f.buffered)
         step
 
     run-uses : uses_agg (after_reply site_contents.scripts worker (of conn (Some y) script) r received) a
@@ -67,13 +67,15 @@ module _ (site_contents : SiteContents) (worker_set : WorkerSet) (laws : AllLaws
         (is_over (running.after_reply worker f.wanted y r received)) refl
 
   brought : (run : Option Running) → Fits site_contents worker_set m came sent fd c (of conn run script) process_slots
-      → StepsTo m (event.Call server (wants site_contents.scripts fd (of conn run script))) r n
+      → StepsTo m (event.Call server (next_call site_contents.scripts fd (of conn run script))) r n
       → readable_at m server a ≡ None → IsReadable n a
       → uses_agg (after_reply site_contents.scripts worker (of conn run script) r received) a ≡ true
   brought None f step before after =
-      script-uses conn.kept conn.q conn.phase script r received a (is_for_script site_contents.scripts conn.q)
-      ∙ conn-brought laws.aggs laws.the.own laws.the.files m n order fd c conn.kept conn.q conn.phase
-      (expected_in f.expected conn.q conn.phase) r received after.0 a (is_for_script site_contents.scripts conn.q)
+      script-uses conn.buffered conn.request conn.phase script r received a
+      (is_for_script site_contents.scripts conn.request)
+      ∙ conn-brought laws.aggs laws.the.own laws.the.files m n order fd c conn.buffered conn.request conn.phase
+      (expected_in f.expected conn.request conn.phase) r received after.0 a
+      (is_for_script site_contents.scripts conn.request)
       fixed.access fixed.site.lives f.open_on f.has step before after.1
   brought (Some y) f step before after =
       run-uses y f step
@@ -81,14 +83,16 @@ module _ (site_contents : SiteContents) (worker_set : WorkerSet) (laws : AllLaws
       a order f.open_on f.ongoing f.has (calls y f step) before after.1
 
   left : (run : Option Running) → Fits site_contents worker_set m came sent fd c (of conn run script) process_slots
-      → StepsTo m (event.Call server (wants site_contents.scripts fd (of conn run script))) r n
+      → StepsTo m (event.Call server (next_call site_contents.scripts fd (of conn run script))) r n
       → uses_agg (of conn run script) a ≡ true
       → uses_agg (after_reply site_contents.scripts worker (of conn run script) r received) a ≡ false
       → readable_at n server a ≡ None
   left None f step u unused =
-      conn-left laws.aggs laws.the.own laws.the.files m n order fd conn.kept conn.q conn.phase r received a
-      (is_for_script site_contents.scripts conn.q) step u
-      (sym (script-uses conn.kept conn.q conn.phase script r received a (is_for_script site_contents.scripts conn.q))
+      conn-left laws.aggs laws.the.own laws.the.files m n order fd conn.buffered conn.request conn.phase r received a
+      (is_for_script site_contents.scripts conn.request) step u
+      (sym
+      (script-uses conn.buffered conn.request conn.phase script r received a
+      (is_for_script site_contents.scripts conn.request))
       ∙ unused)
   left (Some y) f step u unused =
       (laws.run_keeps (job_of f.wanted f.script.text)).left m n fd worker f.wanted y f.so_far r received a order f.has

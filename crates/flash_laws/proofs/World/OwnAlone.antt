@@ -17,7 +17,7 @@ use Rattle.flash_http.specs.declared.windows.Window.TheVariants.{Wait, Head, Too
 use Rattle.flash_http.specs.Window.{window_in, FitsIn}
 use Rattle.flash_http.specs.Request.{Answer, serve, refuse, IsAnswerTo}
 use Rattle.flash_laws.specs.Answers.{Next, NextIn, Reads}
-use Rattle.flash_laws.specs.Client.{Client, wants, Readies, IsAwaiting, is_for_script, after_reply}
+use Rattle.flash_laws.specs.Client.{Client, next_call, Readies, IsAwaiting, is_for_script, after_reply}
 use Rattle.flash_laws.specs.Client.Fits.{IsProper, ConsistencyAlone, expected_in, Finds, FitsAlone, Fits}
 use Rattle.flash_laws.specs.Conn as conn
 use Rattle.flash_laws.specs.Conn.{Conn, begins}
@@ -46,7 +46,7 @@ module _ (site_contents : SiteContents) (worker_set : WorkerSet) (laws : AllLaws
       → x.run ≡ None
       → FitsAlone site_contents m came sent fd c x → IsAwaiting x → is_closing x.conn.phase ≡ false
       → IsAmong site_contents.refuses.of_server r
-      → StepsTo m (event.Call server (wants site_contents.scripts fd x)) r n → Names n r received
+      → StepsTo m (event.Call server (next_call site_contents.scripts fd x)) r n → Names n r received
       → Fits site_contents worker_set n came sent fd c (after_reply site_contents.scripts worker x r received)
       process_slots
   alone_step m n came sent fd c worker x r received process_slots order fixed none f waits busy undisturbed step names =
@@ -54,12 +54,13 @@ module _ (site_contents : SiteContents) (worker_set : WorkerSet) (laws : AllLaws
     where
       by : (run : Option Running) → run ≡ None → FitsAlone site_contents m came sent fd c (with_run x run)
           → IsAwaiting (with_run x run)
-          → StepsTo m (event.Call server (wants site_contents.scripts fd (with_run x run))) r n
+          → StepsTo m (event.Call server (next_call site_contents.scripts fd (with_run x run))) r n
           → Fits site_contents worker_set n came sent fd c
           (after_reply site_contents.scripts worker (with_run x run) r received) process_slots
       by None none f waits step =
-          alone_phase site_contents worker_set laws m n came sent fd c x.conn.kept x.script order process_slots
-          (is_for_script site_contents.scripts x.conn.q) x.conn.q x.conn.phase r received refl fixed.site f waits
+          alone_phase site_contents worker_set laws m n came sent fd c x.conn.buffered x.script order process_slots
+          (is_for_script site_contents.scripts x.conn.request) x.conn.request x.conn.phase r received refl fixed.site f
+          waits
           busy undisturbed step names
       by (Some y) none f waits step = absurd (cc (none))
 
@@ -98,8 +99,8 @@ module _ (site_contents : SiteContents) (worker_set : WorkerSet) (laws : AllLaws
 
       -- a request begins
       starts : (q : Answer) (p : Answer) (rest : List ℕ)
-          → FitsAlone site_contents m came sent fd c (alone x.conn.kept x.script q phase.Receiving)
-          → Next x.conn.kept p rest → FitsAlone site_contents m came sent fd c (alone rest x.script p (begins p))
+          → FitsAlone site_contents m came sent fd c (alone x.conn.buffered x.script q phase.Receiving)
+          → Next x.conn.buffered p rest → FitsAlone site_contents m came sent fd c (alone rest x.script p (begins p))
       starts q p rest f next =
           record {
             open_on = f.open_on;
@@ -114,7 +115,7 @@ module _ (site_contents : SiteContents) (worker_set : WorkerSet) (laws : AllLaws
           }
         where
           proper : IsProper p
-          proper = next_proper x.conn.kept p rest next
+          proper = next_proper x.conn.buffered p rest next
 
           b : Has m p (expected_in (expected_to site_contents p) p (begins p)) (begins p)
               × Finds site_contents m p x.script (begins p) × (asked p (begins p) ≡ p ∷ [])
@@ -122,7 +123,7 @@ module _ (site_contents : SiteContents) (worker_set : WorkerSet) (laws : AllLaws
           b = begun p proper
 
           consistencies : ConsistencyAlone site_contents f.expected (conn_at m c) f.took sent
-              (alone x.conn.kept x.script q phase.Receiving)
+              (alone x.conn.buffered x.script q phase.Receiving)
               → ConsistencyAlone site_contents (expected_to site_contents p) (conn_at m c) f.took sent
               (alone rest x.script p (begins p))
           consistencies (inl owes) = inl (
@@ -132,8 +133,9 @@ module _ (site_contents : SiteContents) (worker_set : WorkerSet) (laws : AllLaws
               open_yet = owes.1.open_yet;
               reads =
                   subst (λ (l : List Answer). Reads f.took (owes.1.done ++ l) rest) (sym b.2)
-                  (reads-more f.took owes.1.done x.conn.kept p rest
-                  (subst (λ (l : List Answer). Reads f.took l x.conn.kept) (append-nil owes.1.done) owes.1.reads) next);
+                  (reads-more f.took owes.1.done x.conn.buffered p rest
+                  (subst (λ (l : List Answer). Reads f.took l x.conn.buffered) (append-nil owes.1.done) owes.1.reads)
+                  next);
               before = owes.1.before;
               responds = owes.1.responds;
               out_is = owes.1.out_is ∙ ap (λ (l : List ℕ). owes.1.before ++ l) (sym b.3);
@@ -143,8 +145,8 @@ module _ (site_contents : SiteContents) (worker_set : WorkerSet) (laws : AllLaws
           consistencies (inr (inr gone)) = inr (inr gone)
 
       readied : (q : Answer) (d : Phase) (z : Conn)
-          → FitsAlone site_contents m came sent fd c (alone x.conn.kept x.script q d)
-          → conn.Readies (record { kept = x.conn.kept; q = q; phase = d }) z
+          → FitsAlone site_contents m came sent fd c (alone x.conn.buffered x.script q d)
+          → conn.Readies (record { buffered = x.conn.buffered; request = q; phase = d }) z
           → FitsAlone site_contents m came sent fd c (record { conn = z; run = None; script = x.script })
       readied q phase.Receiving z f (inl waits) =
           subst
@@ -165,7 +167,7 @@ module _ (site_contents : SiteContents) (worker_set : WorkerSet) (laws : AllLaws
       by None none f ready = (
         ap (λ (z : Client). z.run) ready.2,
         subst (λ (z : Client). FitsAlone site_contents m came sent fd c z) (sym ready.2)
-            (readied x.conn.q x.conn.phase ready.0 f ready.1),
+            (readied x.conn.request x.conn.phase ready.0 f ready.1),
       )
       by (Some z) none f ready = absurd (cc (none))
 

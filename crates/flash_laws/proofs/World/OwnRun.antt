@@ -13,7 +13,8 @@ use Rattle.iol_laws.specs.Order.{IsOrderly}
 use Rattle.iol_proc.specs.declared.process_slot.ProcessSlot.{ProcessSlot}
 use Rattle.flash_http.specs.Request.{Answer, serve, Wanted}
 use Rattle.flash_cgi.specs.Expected.{Made}
-use Rattle.flash_laws.specs.Client.{Client, job_of, run_wants, wants, awaits, keeps_text, text_on, after_run, proceeds}
+use Rattle.flash_laws.specs.Client.{Client, job_of, run_call, next_call, awaits, keeps_text, text_on, after_run}
+use Rattle.flash_laws.specs.Client.{proceeds}
 use Rattle.flash_laws.specs.Client.{run_on, run_after_reply, after_reply}
 use Rattle.flash_laws.specs.Client.Fits.{IsProper, IsScript, made_of, response_to, expected_in, ConsistencyAlone}
 use Rattle.flash_laws.specs.Client.Fits.{FitsRun, Fits, Finds}
@@ -36,7 +37,7 @@ use Rattle.flash_laws.specs.declared.script_run.Running.{Running}
 use Rattle.flash_laws.specs.declared.script_run.Running.TheVariants.{AwaitingWorker, Finishing, Disconnecting}
 use Rattle.flash_laws.proofs.Forms.{of}
 use Rattle.flash_laws.proofs.Conn.Responses.{some-inj}
-use Rattle.flash_laws.proofs.Run.Ends.{keeps-back, wants-text}
+use Rattle.flash_laws.proofs.Run.Ends.{keeps-back, call-text}
 use Rattle.flash_laws.proofs.Run.Starts.{starts-back}
 use Rattle.flash_laws.proofs.Site.OpenDescriptors.{no-true}
 use Rattle.flash_laws.proofs.World.AllLaws.{AllLaws}
@@ -62,23 +63,23 @@ IsHired worker_set m x worker process_slots = awaits x ≡ true → (worker < wo
 
 -- ---- a client with a run wants what that does, and is told what that is told
 
-pub wants-run : (scripts : Bool) (fd : ℕ) (c : Conn) (run : Option Running) (script text : List ℕ) (y : Running)
+pub call-run : (scripts : Bool) (fd : ℕ) (c : Conn) (run : Option Running) (script text : List ℕ) (y : Running)
     (w : Wanted) → run ≡ Some y
-    → c.q ≡ serve w → (keeps_text y ≡ true → script ≡ text)
-    → wants scripts fd (of c run script) ≡ running.wants (job_of w text) fd w y
-wants-run scripts fd c None script text y w has asks kept = absurd (cc (has))
-wants-run scripts fd c (Some z) script text y w has asks kept =
-    ap (λ (v : Running). run_wants fd c.q script v) (some-inj z y has)
-    ∙ (ap (λ (q : Answer). run_wants fd q script y) asks ∙ wants-text fd w y script text kept)
+    → c.request ≡ serve w → (keeps_text y ≡ true → script ≡ text)
+    → next_call scripts fd (of c run script) ≡ running.next_call (job_of w text) fd w y
+call-run scripts fd c None script text y w has asks buffered = absurd (cc (has))
+call-run scripts fd c (Some z) script text y w has asks buffered =
+    ap (λ (v : Running). run_call fd c.request script v) (some-inj z y has)
+    ∙ (ap (λ (q : Answer). run_call fd q script y) asks ∙ call-text fd w y script text buffered)
 
 pub after_reply-run : (scripts : Bool) (worker : ℕ) (c : Conn) (run : Option Running) (script : List ℕ) (y : Running)
     (w : Wanted) (r : Reply) (received : List ℕ)
-    → run ≡ Some y → c.q ≡ serve w
+    → run ≡ Some y → c.request ≡ serve w
     → after_reply scripts worker (of c run script) r received ≡ run_on (of c (Some y) script) y
     (running.after_reply worker w y r received)
 after_reply-run scripts worker c None script y w r received has asks = absurd (cc (has))
 after_reply-run scripts worker c (Some z) script y w r received has asks =
-    ap (λ (v : Running). run_after_reply worker c.q (of c (Some v) script) v r received) (some-inj z y has)
+    ap (λ (v : Running). run_after_reply worker c.request (of c (Some v) script) v r received) (some-inj z y has)
     ∙ ap (λ (q : Answer). run_after_reply worker q (of c (Some y) script) y r received) asks
 
 waits-run : (c : Conn) (run : Option Running) (script : List ℕ) (y : Running) → run ≡ Some y → y ≡ AwaitingWorker
@@ -91,11 +92,11 @@ runs-run : (c : Conn) (run : Option Running) (script : List ℕ) (y : Running) (
 runs-run c run script y k has u = ap (λ (o : Option Running). is_run_by (of c o script) k) (sym has) ∙ u
 
 -- the text stays kept as long as it is wanted
-text-kept : (was now : Bool) (script text : List ℕ) → (now ≡ true → was ≡ true) → (was ≡ true → script ≡ text)
+text-buffered : (was now : Bool) (script text : List ℕ) → (now ≡ true → was ≡ true) → (was ≡ true → script ≡ text)
     → now ≡ true → text_on was now script ≡ text
-text-kept true true script text back kept is = kept refl
-text-kept false true script text back kept is = absurd (let e = back refl in cc (e))
-text-kept b false script text back kept is = absurd (cc (is))
+text-buffered true true script text back buffered is = buffered refl
+text-buffered false true script text back buffered is = absurd (let e = back refl in cc (e))
+text-buffered b false script text back buffered is = absurd (cc (is))
 
 rests-has : (site_contents : SiteContents) (expected : List ℕ) (n : State) (q : Answer) (script : List ℕ) (d : Phase)
     → (d ≡ phase.Receiving) ⊎ (d ≡ phase.Disconnecting)
@@ -118,7 +119,7 @@ module _ (site_contents : SiteContents) (worker_set : WorkerSet) (laws : AllLaws
       → IsFixedFor site_contents worker_set m → AreAtJobQueues worker_set m process_slots
       → run ≡ Some y → FitsRun site_contents worker_set m came sent fd c (of conn run script) y process_slots
       → IsHired worker_set m (of conn run script) worker process_slots → IsAmong site_contents.refuses.of_server r
-      → StepsTo m (event.Call server (wants site_contents.scripts fd (of conn run script))) r n → Names n r received
+      → StepsTo m (event.Call server (next_call site_contents.scripts fd (of conn run script))) r n → Names n r received
       → Proceeds site_contents worker_set n came sent fd c (of conn run script)
       (after_reply site_contents.scripts worker (of conn run script) r received) process_slots
   run_goes m n came sent fd c worker conn run script y r received process_slots order order_n fixed job_queues has f
@@ -143,11 +144,12 @@ module _ (site_contents : SiteContents) (worker_set : WorkerSet) (laws : AllLaws
       after_reply_is = after_reply-run site_contents.scripts worker conn run script y f.wanted r received has
           f.script.asks
 
-      call_is : wants site_contents.scripts fd (of conn run script) ≡ running.wants (job_of f.wanted f.script.text) fd
+      call_is : next_call site_contents.scripts fd (of conn run script)
+          ≡ running.next_call (job_of f.wanted f.script.text) fd
           f.wanted y
-      call_is = wants-run site_contents.scripts fd conn run script f.script.text y f.wanted has f.script.asks f.kept
+      call_is = call-run site_contents.scripts fd conn run script f.script.text y f.wanted has f.script.asks f.buffered
 
-      calls : StepsTo m (event.Call server (running.wants (job_of f.wanted f.script.text) fd f.wanted y)) r n
+      calls : StepsTo m (event.Call server (running.next_call (job_of f.wanted f.script.text) fd f.wanted y)) r n
       calls = subst (λ (k : Call). StepsTo m (event.Call server k) r n) call_is step
 
       hires : y ≡ AwaitingWorker → (worker < worker_set.count) × ((process_slot : ProcessSlot worker_set.Worker)
@@ -181,17 +183,18 @@ module _ (site_contents : SiteContents) (worker_set : WorkerSet) (laws : AllLaws
           calls names replied.1 replied.2
 
       t : ConsistencyAfter site_contents (response_to f.wanted (made_of f.wanted f.script.lines f.shown)) m n c f.took
-          sent conn.kept f.wanted replied.0 (running.after_reply worker f.wanted y r received)
-      t = consistency_step site_contents worker_set laws m n fd c worker f.took sent conn.kept w job y r received
+          sent conn.buffered f.wanted replied.0 (running.after_reply worker f.wanted y r received)
+      t = consistency_step site_contents worker_set laws m n fd c worker f.took sent conn.buffered w job y r received
           f.so_far after expected may_be order f.open_on f.script.proper f.ongoing f.has calls names replied.1 replied.2
           d.cut d.may f.consistency
 
-      alone : KeepsToItself m fd c y (running.wants (job_of f.wanted f.script.text) fd f.wanted y)
+      alone : KeepsToItself m fd c y (running.next_call (job_of f.wanted f.script.text) fd f.wanted y)
       alone = (laws.run_keeps job).alone m fd c w y f.so_far f.open_on f.ongoing f.has
 
-      untouched : touches_fd m (event.Call server (running.wants (job_of f.wanted f.script.text) fd f.wanted y)) server
+      untouched : touches_fd m (event.Call server (running.next_call (job_of f.wanted f.script.text) fd f.wanted y))
+          server
           fd ≡ false
-      untouched = no-true (touches_fd m (event.Call server (running.wants job fd w y)) server fd) (λ u.
+      untouched = no-true (touches_fd m (event.Call server (running.next_call job fd w y)) server fd) (λ u.
           let there = run-end m fd job w f.so_far y (alone.fds fd u) f.has in
           elim there.1 [
             | inl read ↦ (let e = f.open_on in absurd (cc (e, read)))
@@ -200,7 +203,7 @@ module _ (site_contents : SiteContents) (worker_set : WorkerSet) (laws : AllLaws
           ])
 
       open_on : descriptor n server fd ≡ Some (on.Connection c)
-      open_on = (laws.the.steps.leaves m n (event.Call server (running.wants job fd w y)) r calls).fds server fd
+      open_on = (laws.the.steps.leaves m n (event.Call server (running.next_call job fd w y)) r calls).fds server fd
           (on.Connection c) f.open_on untouched
 
       came_is : came ≡ f.took ++ bytes_of (conn_at n c).incoming
@@ -220,9 +223,10 @@ module _ (site_contents : SiteContents) (worker_set : WorkerSet) (laws : AllLaws
               may = subst (λ (q : Answer). MayBeExpected site_contents q expected) (sym s.asks) may_be;
               consistency =
                   subst (λ (q : Answer). ConsistencyAlone site_contents expected (conn_at n c) f.took sent
-                  (of (record { kept = conn.kept; q = q; phase = after_run z }) None [])) (sym s.asks) (t.ends over);
-              has = (rests-has site_contents expected n conn.q [] (after_run z) (t.rests over)).0;
-              finds = (rests-has site_contents expected n conn.q [] (after_run z) (t.rests over)).1;
+                  (of (record { buffered = conn.buffered; request = q; phase = after_run z }) None [])) (sym s.asks)
+                  (t.ends over);
+              has = (rests-has site_contents expected n conn.request [] (after_run z) (t.rests over)).0;
+              finds = (rests-has site_contents expected n conn.request [] (after_run z) (t.rests over)).1;
               proper = subst (λ (q : Answer). IsProper q) (sym s.asks) s.proper;
             };
             freed =
@@ -257,7 +261,8 @@ module _ (site_contents : SiteContents) (worker_set : WorkerSet) (laws : AllLaws
               shown = f.shown;
               may_show = f.may_show;
               fresh = λ starts. f.fresh (starts-back worker w y r received starts);
-              kept = text-kept (keeps_text y) (keeps_text z) script s.text (keeps-back worker w y r received) f.kept;
+              buffered = text-buffered (keeps_text y) (keeps_text z) script s.text (keeps-back worker w y r received)
+                  f.buffered;
               so_far = after;
               has = replied.2;
               ongoing = over;
@@ -281,7 +286,7 @@ module _ (site_contents : SiteContents) (worker_set : WorkerSet) (laws : AllLaws
       → IsFixedFor site_contents worker_set m → AreAtJobQueues worker_set m process_slots
       → x.run ≡ Some y → FitsRun site_contents worker_set m came sent fd c x y process_slots
       → IsHired worker_set m x worker process_slots → IsAmong site_contents.refuses.of_server r
-      → StepsTo m (event.Call server (wants site_contents.scripts fd x)) r n → Names n r received
+      → StepsTo m (event.Call server (next_call site_contents.scripts fd x)) r n → Names n r received
       → Proceeds site_contents worker_set n came sent fd c x (after_reply site_contents.scripts worker x r received)
       process_slots
   run_step m n came sent fd c worker x y r received process_slots =

@@ -19,7 +19,7 @@ use Rattle.iol_laws.specs.Frame.{Leaves, touches_conn, touches_pipe, touches_fd}
 use Rattle.iol_laws.specs.Order.{IsOrderly}
 use Rattle.iol_proc.specs.declared.process_slot.ProcessSlot.{ProcessSlot}
 use Rattle.flash_http.specs.Request.{serve, Wanted}
-use Rattle.flash_laws.specs.Client.{Client, uses_agg, uses_fd, is_for_script, conn_wants, wants, IsAwaiting, awaits}
+use Rattle.flash_laws.specs.Client.{Client, uses_agg, uses_fd, is_for_script, conn_call, next_call, IsAwaiting, awaits}
 use Rattle.flash_laws.specs.Client.{file_after_reply, after_reply, left_over}
 use Rattle.flash_laws.specs.Client.Fits.{expected_in, FitsAlone, FitsBy, Fits}
 use Rattle.flash_laws.specs.Client.Holdings.{has_fd}
@@ -75,7 +75,7 @@ pub record IsOwnTurn (site_contents : SiteContents) (worker_set : WorkerSet) (m 
   pub waits : IsAwaiting x
   pub goes : may_go (has_free worker_set.count clients) x ≡ true
   pub among : IsAmong site_contents.refuses.of_server r
-  pub step : StepsTo m (event.Call server (wants site_contents.scripts fd x)) r n
+  pub step : StepsTo m (event.Call server (next_call site_contents.scripts fd x)) r n
   pub names : Names n r received
 
 module _ (site_contents : SiteContents) (worker_set : WorkerSet) (laws : AllLaws worker_set) (m n : State) (p : Past)
@@ -86,7 +86,7 @@ module _ (site_contents : SiteContents) (worker_set : WorkerSet) (laws : AllLaws
   x = of conn run script
 
   abbrev ev : Event
-  ev = event.Call server (wants site_contents.scripts fd (of conn run script))
+  ev = event.Call server (next_call site_contents.scripts fd (of conn run script))
 
   mine : FitsAt site_contents worker_set m p fd (of conn run script) process_slots
   mine = t.fit.each fd (of conn run script) t.there
@@ -97,18 +97,18 @@ module _ (site_contents : SiteContents) (worker_set : WorkerSet) (laws : AllLaws
   f : Fits site_contents worker_set m (p.came c) (p.sent c) fd c (of conn run script) process_slots
   f = (t.fit.each fd (of conn run script) t.there).fits
 
-  alone : CallsAlone m fd c (of conn run script) (wants site_contents.scripts fd (of conn run script))
+  alone : CallsAlone m fd c (of conn run script) (next_call site_contents.scripts fd (of conn run script))
   alone = calls-alone site_contents worker_set laws m (p.came c) (p.sent c) fd c process_slots conn run script f
 
   open_on : descriptor m server fd ≡ Some (on.Connection c)
   open_on = opens-on site_contents worker_set laws m (p.came c) (p.sent c) fd c process_slots conn run script f
 
-  leaves : Leaves m (event.Call server (wants site_contents.scripts fd (of conn run script))) n
-  leaves = laws.the.steps.leaves m n (event.Call server (wants site_contents.scripts fd x)) r t.step
+  leaves : Leaves m (event.Call server (next_call site_contents.scripts fd (of conn run script))) n
+  leaves = laws.the.steps.leaves m n (event.Call server (next_call site_contents.scripts fd x)) r t.step
 
   pub own-site : KeepsSite m n
-  own-site = site-stays site_contents.finds m n (event.Call server (wants site_contents.scripts fd x)) leaves
-      t.fixed.site alone.files (λ q. kind-admits (wants site_contents.scripts fd x) q alone.kind)
+  own-site = site-stays site_contents.finds m n (event.Call server (next_call site_contents.scripts fd x)) leaves
+      t.fixed.site alone.files (λ q. kind-admits (next_call site_contents.scripts fd x) q alone.kind)
 
   none-returned : (v : Run) (write : ℕ) → run ≡ Some (InProgress v (ClosingPipe write)) → ⊥
   none-returned = no-returns site_contents worker_set m (p.came c) (p.sent c) fd c process_slots conn run script f
@@ -128,7 +128,7 @@ module _ (site_contents : SiteContents) (worker_set : WorkerSet) (laws : AllLaws
 
   -- a connection elsewhere keeps its descriptor
   un-conn : (gd e : ℕ) → fd ≢ gd → descriptor m server gd ≡ Some (on.Connection e)
-      → touches_fd m (event.Call server (wants site_contents.scripts fd (of conn run script))) server gd ≡ false
+      → touches_fd m (event.Call server (next_call site_contents.scripts fd (of conn run script))) server gd ≡ false
   un-conn gd e differ is =
       no-true (touches_fd m ev server gd) (λ u. elim (alone.fds gd u) [
         | inl has ↦ not-conn gd e has is
@@ -138,7 +138,7 @@ module _ (site_contents : SiteContents) (worker_set : WorkerSet) (laws : AllLaws
 
   -- and so does a job queue's
   un-job_queue : (k : ℕ) → k < worker_set.count
-      → touches_fd m (event.Call server (wants site_contents.scripts fd (of conn run script))) server (job_pipe k)
+      → touches_fd m (event.Call server (next_call site_contents.scripts fd (of conn run script))) server (job_pipe k)
       ≡ false
   un-job_queue k lt = no-true (touches_fd m ev server (job_pipe k)) (λ u. elim (alone.fds (job_pipe k) u) [
     | inl has ↦ no-job_queue site_contents worker_set m (p.came c) (p.sent c) fd c process_slots conn run script
@@ -173,7 +173,7 @@ module _ (site_contents : SiteContents) (worker_set : WorkerSet) (laws : AllLaws
       leaves.pipes q (no-true (touches_pipe m ev q) (λ u. by run refl (alone.pipes q u) u))
     where
       by : (o : Option Running) → run ≡ o → MayTouchPipe m o q
-          → touches_pipe m (event.Call server (wants site_contents.scripts fd (of conn run script))) q ≡ true → ⊥
+          → touches_pipe m (event.Call server (next_call site_contents.scripts fd (of conn run script))) q ≡ true → ⊥
       by None none may u = may
       by (Some AwaitingWorker) is_run may u =
           no-reader-there m (ap (λ j. (pipe_at m j).reading) may ∙ t.order.all_stand server v.from (on.ReadEnd q) reads)
@@ -250,7 +250,7 @@ module _ (site_contents : SiteContents) (worker_set : WorkerSet) (laws : AllLaws
           (λ given. differ (t.fit.aggs_apart fd gd a x y t.there is (alone.aggs a given) u));
       fds = λ g u. no-true (touches_fd m ev server g) (un-touched g u);
       site = own-site;
-      others = λ k lt runs. own-call (wants site_contents.scripts fd (of conn run script)) (worker_domain k) k refl;
+      others = λ k lt runs. own-call (next_call site_contents.scripts fd (of conn run script)) (worker_domain k) k refl;
       job_queues = λ k lt runs. job_queue-stays k lt (other-worker gd k y differ is runs);
       pipe = λ v s q has_run reads has apart going. pipe-stays gd y v s q differ is has reads apart;
     }
@@ -311,13 +311,13 @@ module _ (site_contents : SiteContents) (worker_set : WorkerSet) (laws : AllLaws
   closing is_none is_closes =
       by r (laws.the.own.closes_conn m n server fd c r t.order open_on did_close) did_close (after_reply_is r)
     where
-      closes : (b : Bool) → conn_wants b fd conn ≡ call.Close fd
-      closes false = ap (λ (d : Phase). conn_wants false fd (record conn { phase = d })) is_closes
-      closes true = ap (λ (d : Phase). conn_wants true fd (record conn { phase = d })) is_closes
+      closes : (b : Bool) → conn_call b fd conn ≡ call.Close fd
+      closes false = ap (λ (d : Phase). conn_call false fd (record conn { phase = d })) is_closes
+      closes true = ap (λ (d : Phase). conn_call true fd (record conn { phase = d })) is_closes
 
-      call_is : wants site_contents.scripts fd (of conn run script) ≡ call.Close fd
-      call_is = ap (λ (o : Option Running). wants site_contents.scripts fd (of conn o script)) is_none
-          ∙ closes (is_for_script site_contents.scripts conn.q)
+      call_is : next_call site_contents.scripts fd (of conn run script) ≡ call.Close fd
+      call_is = ap (λ (o : Option Running). next_call site_contents.scripts fd (of conn o script)) is_none
+          ∙ closes (is_for_script site_contents.scripts conn.request)
 
       did_close : StepsTo m (event.Call server (call.Close fd)) r n
       did_close = subst (λ (k : Call). StepsTo m (event.Call server k) r n) call_is t.step
@@ -326,7 +326,7 @@ module _ (site_contents : SiteContents) (worker_set : WorkerSet) (laws : AllLaws
           ≡ of (record conn { phase = after_disconnect s }) None script
       after_reply_is s =
           ap (λ (o : Option Running). after_reply site_contents.scripts worker (of conn o script) s received) is_none
-          ∙ filing (is_for_script site_contents.scripts conn.q)
+          ∙ filing (is_for_script site_contents.scripts conn.request)
         where
           filing : (b : Bool)
               → file_after_reply b (of conn None script) s received ≡ of (record conn { phase = after_disconnect s })
@@ -381,7 +381,8 @@ module _ (site_contents : SiteContents) (worker_set : WorkerSet) (laws : AllLaws
       closed : (d : Phase) → conn.phase ≡ d → is_closing d ≡ true → run ≡ None → Became after
       closed phase.Disconnecting is closing_is none = closing none is
       closed phase.Closed is closing_is none =
-          absurd (subst (λ (d : Phase). Has m conn.q (expected_in (of-fits None none).expected conn.q d) d) is
+          absurd (subst (λ (d : Phase). Has m conn.request (expected_in (of-fits None none).expected conn.request d) d)
+          is
           (of-fits None none).has)
       closed d is closing_is none = absurd (cc (closing_is))
 
@@ -413,7 +414,7 @@ module _ (site_contents : SiteContents) (worker_set : WorkerSet) (laws : AllLaws
   left-some None z text g is = by z.phase refl is
     where
       by : (d : Phase) → z.phase ≡ d → left_by d (of z None text) ≡ None → ⊥
-      by phase.Closed over is = subst (λ (d : Phase). Has n z.q (expected_in g.expected z.q d) d) over g.has
+      by phase.Closed over is = subst (λ (d : Phase). Has n z.request (expected_in g.expected z.request d) d) over g.has
       by d over is = cc (is)
   left-some (Some y) z text g is = cc (is)
 
@@ -472,7 +473,7 @@ module _ (site_contents : SiteContents) (worker_set : WorkerSet) (laws : AllLaws
       (record {
         other_pool = foreign.other_pool;
         taken =
-            laws.the.other.accepted m n server (wants site_contents.scripts fd x) r k t.order t.step foreign.taken;
+            laws.the.other.accepted m n server (next_call site_contents.scripts fd x) r k t.order t.step foreign.taken;
       })))
   elsewhere k (inr (inr (inl ended))) =
       let same = away k (not-closed m fd c k t.order open_on ended.closed) in
@@ -486,7 +487,8 @@ module _ (site_contents : SiteContents) (worker_set : WorkerSet) (laws : AllLaws
       (ap (λ (w : Client). uses_agg w a) (left-over-is after.conn after.run after.script y is_y) ∙ uses)) [
         | inl old ↦ differ (t.fit.aggs_apart fd gd a x z t.there is_z old uses_z)
         | inr made ↦
-            (let none = agg-new laws.the m n (wants site_contents.scripts fd x) r a t.order alone.kind t.step made in
+            (let none = agg-new laws.the m n (next_call site_contents.scripts fd x) r a t.order alone.kind t.step
+            made in
             let at = t.fit.each gd z is_z in
             let some =
             (there-agg site_contents worker_set laws m (p.came at.conn) (p.sent at.conn) gd at.conn process_slots
@@ -501,7 +503,7 @@ module _ (site_contents : SiteContents) (worker_set : WorkerSet) (laws : AllLaws
 
   asks-of : (o : Option Running)
       → FitsBy site_contents worker_set o m (p.came c) (p.sent c) fd c (of conn run script) process_slots
-      → o ≡ Some AwaitingWorker → (w : Wanted) × (conn.q ≡ serve w)
+      → o ≡ Some AwaitingWorker → (w : Wanted) × (conn.request ≡ serve w)
   asks-of None g is = absurd (cc (is))
   asks-of (Some v) g is = (g.wanted, g.script.asks)
 
@@ -558,7 +560,7 @@ module _ (site_contents : SiteContents) (worker_set : WorkerSet) (laws : AllLaws
       -- one that ran for nobody, and runs for nobody
       stays : is_free clients k ≡ true → worker_set.Free n (worker_set.job_queue k) process_slot
       stays was = laws.workers.free_others m n (worker_set.job_queue k) process_slot ev r t.fixed.placed t.step
-          (own-call (wants site_contents.scripts fd (of conn run script)) process_slot.by k place.1)
+          (own-call (next_call site_contents.scripts fd (of conn run script)) process_slot.by k place.1)
           (job_queue-stays k place.0 (free-runs clients k fd x was t.there)) (t.fit.free k process_slot sits was)
 
       by : (b : Bool) → is_free clients k ≡ b → worker_set.Free n (worker_set.job_queue k) process_slot
@@ -608,7 +610,8 @@ module _ (site_contents : SiteContents) (worker_set : WorkerSet) (laws : AllLaws
       received))) process_slots
   all_after = replaced site_contents worker_set m n p clients fd (left_over after) process_slots t.fit
       (laws.the.rises m n ev r t.step) here there (λ k. elsewhere k (t.fit.others k))
-      (λ z. after_reply-call (p.gone z) m n server (wants site_contents.scripts fd x) r z t.order t.step (t.fit.left z))
+      (λ z. after_reply-call (p.gone z) m n server (next_call site_contents.scripts fd x) r z t.order t.step
+      (t.fit.left z))
       mixed_agg mixed_fd own_after free_after job_queues_after
 
 -- a turn of the server for the client at a descriptor

@@ -13,7 +13,7 @@ use Rattle.iol_core.specs.declared.events.Reply.TheVariants as reply
 use Rattle.iol_laws.specs.Caller.{readable_at, is_agg, is_fd, gives_away}
 use Rattle.iol_laws.specs.Order.{IsOrderly}
 use Rattle.flash_http.specs.Request.{Answer, serve, refuse, Wanted}
-use Rattle.flash_laws.specs.Client.{is_for_script, conn_wants, run_wants, wants, uses_agg, after_drop_whole}
+use Rattle.flash_laws.specs.Client.{is_for_script, conn_call, run_call, next_call, uses_agg, after_drop_whole}
 use Rattle.flash_laws.specs.Client.{file_after_reply, after_run, proceeds, run_after_reply, after_reply}
 use Rattle.flash_laws.specs.Client.Holdings.{has_fd}
 use Rattle.flash_laws.specs.Conn as conn
@@ -46,20 +46,21 @@ use Rattle.flash_laws.proofs.Lists.{not-false}
 abbrev NewAgg : Reply → (a : ℕ) → (was : Bool) → Type 0
 NewAgg r a was = (was ≡ true) ⊎ (is_agg r a ≡ true)
 
-script-uses : (kept : List ℕ) (q : Answer) (d : Phase) (script : List ℕ) (r : Reply) (received : List ℕ) (a : ℕ)
-    → uses_agg (file_after_reply true (of (at kept q d) None script) r received) a ≡ true
+script-uses : (buffered : List ℕ) (q : Answer) (d : Phase) (script : List ℕ) (r : Reply) (received : List ℕ) (a : ℕ)
+    → uses_agg (file_after_reply true (of (at buffered q d) None script) r received) a ≡ true
     → NewAgg r a (conn.uses_agg d a)
-script-uses kept q (Reading f) script (reply.Agg n) received a u = inr u
-script-uses kept q (Reading f) script r received a u = uses-after_reply kept q (Reading f) r received a u
-script-uses kept q (DroppingWhole b Script) script r received a u = by (is_head_only q) r u
+script-uses buffered q (Reading f) script (reply.Agg n) received a u = inr u
+script-uses buffered q (Reading f) script r received a u = uses-after_reply buffered q (Reading f) r received a u
+script-uses buffered q (DroppingWhole b Script) script r received a u = by (is_head_only q) r u
   where
     by : (h : Bool) (r : Reply)
-        → uses_agg (of (conn.after_reply (at kept q (DroppingWhole b Script)) r received) (after_drop_whole h r) script)
+        → uses_agg (of (conn.after_reply (at buffered q (DroppingWhole b Script)) r received) (after_drop_whole h r)
+        script)
         a
         ≡ true → NewAgg r a ((b == a) || false)
     by false reply.Done u = absurd (cc (u))
-    by other r u = uses-after_reply kept q (DroppingWhole b Script) r received a u
-script-uses kept q d script r received a u = uses-after_reply kept q d r received a u
+    by other r u = uses-after_reply buffered q (DroppingWhole b Script) r received a u
+script-uses buffered q d script r received a u = uses-after_reply buffered q d r received a u
 
 over-uses : (z : Running) (a : ℕ) → is_over z ≡ true → conn.uses_agg (after_run z) a ≡ true
     → running.uses_agg z a ≡ true
@@ -71,13 +72,13 @@ pub client-uses : (scripts : Bool) (worker : ℕ) (c : Conn) (run : Option Runni
     (received : List ℕ) (a : ℕ)
     → uses_agg (after_reply scripts worker (of c run script) r received) a ≡ true
     → NewAgg r a (uses_agg (of c run script) a)
-client-uses scripts worker c None script r received a u = by (is_for_script scripts c.q) u
+client-uses scripts worker c None script r received a u = by (is_for_script scripts c.request) u
   where
     by : (b : Bool) → uses_agg (file_after_reply b (of c None script) r received) a ≡ true
         → NewAgg r a (conn.uses_agg c.phase a)
-    by true u = script-uses c.kept c.q c.phase script r received a u
-    by false u = uses-after_reply c.kept c.q c.phase r received a u
-client-uses scripts worker c (Some y) script r received a u = by c.q u
+    by true u = script-uses c.buffered c.request c.phase script r received a u
+    by false u = uses-after_reply c.buffered c.request c.phase r received a u
+client-uses scripts worker c (Some y) script r received a u = by c.request u
   where
     on : (w : Wanted) (b e : Bool) → is_over (running.after_reply worker w y r received) ≡ e
         → uses_agg (proceeds b e (of c (Some y) script) y (running.after_reply worker w y r received)) a ≡ true
@@ -108,25 +109,26 @@ abbrev NewFd : Option Running → Reply → (g : ℕ) → (was : Bool) → Type 
 NewFd run r g was =
     (was ≡ true) ⊎ (((run ≡ None) × (is_fd r g ≡ true)) ⊎ ((run ≡ Some AwaitingWorker) × (is_fds r g ≡ true)))
 
-plain-fds : (kept : List ℕ) (q : Answer) (d : Phase) (r : Reply) (received : List ℕ) (g : ℕ)
-    → conn.uses_fd (conn.after_reply (at kept q d) r received).phase g ≡ true → NewFd None r g (conn.uses_fd d g)
-plain-fds kept q d r received g u =
-    elim (uses_fd-after_reply kept q d r received g u) [ inl had ↦ inl had | inr new ↦ inr (inl (refl, new)) ]
+plain-fds : (buffered : List ℕ) (q : Answer) (d : Phase) (r : Reply) (received : List ℕ) (g : ℕ)
+    → conn.uses_fd (conn.after_reply (at buffered q d) r received).phase g ≡ true → NewFd None r g (conn.uses_fd d g)
+plain-fds buffered q d r received g u =
+    elim (uses_fd-after_reply buffered q d r received g u) [ inl had ↦ inl had | inr new ↦ inr (inl (refl, new)) ]
 
-script-fds : (kept : List ℕ) (q : Answer) (d : Phase) (script : List ℕ) (r : Reply) (received : List ℕ) (g : ℕ)
-    → has_fd (file_after_reply true (of (at kept q d) None script) r received) g ≡ true
+script-fds : (buffered : List ℕ) (q : Answer) (d : Phase) (script : List ℕ) (r : Reply) (received : List ℕ) (g : ℕ)
+    → has_fd (file_after_reply true (of (at buffered q d) None script) r received) g ≡ true
     → NewFd None r g (conn.uses_fd d g)
-script-fds kept q (Reading f) script (reply.Agg n) received g u = inl u
-script-fds kept q (Reading f) script r received g u = plain-fds kept q (Reading f) r received g u
-script-fds kept q (DroppingWhole b Script) script r received g u = by (is_head_only q) r u
+script-fds buffered q (Reading f) script (reply.Agg n) received g u = inl u
+script-fds buffered q (Reading f) script r received g u = plain-fds buffered q (Reading f) r received g u
+script-fds buffered q (DroppingWhole b Script) script r received g u = by (is_head_only q) r u
   where
     by : (h : Bool) (r : Reply)
-        → has_fd (of (conn.after_reply (at kept q (DroppingWhole b Script)) r received) (after_drop_whole h r) script) g
+        → has_fd (of (conn.after_reply (at buffered q (DroppingWhole b Script)) r received) (after_drop_whole h r)
+        script) g
         ≡ true
         → NewFd None r g false
     by false reply.Done u = absurd (cc (u))
-    by other r u = plain-fds kept q (DroppingWhole b Script) r received g u
-script-fds kept q d script r received g u = plain-fds kept q d r received g u
+    by other r u = plain-fds buffered q (DroppingWhole b Script) r received g u
+script-fds buffered q d script r received g u = plain-fds buffered q d r received g u
 
 -- what is left of a response uses no descriptor
 left-fd : (w : Wanted) (d : Phase) (r : Reply) (received : List ℕ) (g : ℕ) → is_left d ≡ true
@@ -214,13 +216,13 @@ pub client-fds : (scripts : Bool) (worker : ℕ) (c : Conn) (run : Option Runnin
     → ((y : Running) → run ≡ Some y → is_over y ≡ false)
     → has_fd (after_reply scripts worker (of c run script) r received) g ≡ true
     → NewFd run r g (has_fd (of c run script) g)
-client-fds scripts worker c None script r received g ongoing u = by (is_for_script scripts c.q) u
+client-fds scripts worker c None script r received g ongoing u = by (is_for_script scripts c.request) u
   where
     by : (b : Bool) → has_fd (file_after_reply b (of c None script) r received) g ≡ true
         → NewFd None r g (conn.uses_fd c.phase g)
-    by true u = script-fds c.kept c.q c.phase script r received g u
-    by false u = plain-fds c.kept c.q c.phase r received g u
-client-fds scripts worker c (Some y) script r received g ongoing u = by c.q u
+    by true u = script-fds c.buffered c.request c.phase script r received g u
+    by false u = plain-fds c.buffered c.request c.phase r received g u
+client-fds scripts worker c (Some y) script r received g ongoing u = by c.request u
   where
     on : (w : Wanted) (b e : Bool) → is_over y ≡ b → is_over (running.after_reply worker w y r received) ≡ e
         → has_fd (proceeds b e (of c (Some y) script) y (running.after_reply worker w y r received)) g ≡ true
@@ -246,26 +248,26 @@ fds-new laws m n (reply.Fds from write) g step u =
     ]
 fds-new laws m n r g step u = absurd (cc (u))
 
-script-away : (b : Bool) (fd : ℕ) (c : Conn) → gives_away (conn_wants b fd c) ≡ false
-script-away false fd c = no-more fd c.kept c.q c.phase
+script-away : (b : Bool) (fd : ℕ) (c : Conn) → gives_away (conn_call b fd c) ≡ false
+script-away false fd c = no-more fd c.buffered c.request c.phase
 script-away true fd c = by c.phase
   where
-    by : (d : Phase) → gives_away (conn_wants true fd (at c.kept c.q d)) ≡ false
+    by : (d : Phase) → gives_away (conn_call true fd (at c.buffered c.request d)) ≡ false
     by (Reading f) = refl
-    by d = no-more fd c.kept c.q d
+    by d = no-more fd c.buffered c.request d
 
 pub fd-new : (laws : TheLaws) (m n : State) (scripts : Bool) (fd : ℕ) (c : Conn) (run : Option Running)
     (script : List ℕ) (w : Wanted) (r : Reply) (g : ℕ) → IsOrderly m
-    → (run ≡ Some AwaitingWorker → c.q ≡ serve w)
-    → StepsTo m (event.Call server (wants scripts fd (of c run script))) r n
+    → (run ≡ Some AwaitingWorker → c.request ≡ serve w)
+    → StepsTo m (event.Call server (next_call scripts fd (of c run script))) r n
     → ((run ≡ None) × (is_fd r g ≡ true)) ⊎ ((run ≡ Some AwaitingWorker) × (is_fds r g ≡ true))
     → descriptor m server g ≡ None
 fd-new laws m n scripts fd c None script w r g order asks step (inl new) =
-    laws.fresh.fd m n server (conn_wants (is_for_script scripts c.q) fd c) r g order step
-    (script-away (is_for_script scripts c.q) fd c) new.1
+    laws.fresh.fd m n server (conn_call (is_for_script scripts c.request) fd c) r g order step
+    (script-away (is_for_script scripts c.request) fd c) new.1
 fd-new laws m n scripts fd c (Some AwaitingWorker) script w r g order asks step (inr new) =
     fds-new laws m n r g
-    (subst (λ (q : Answer). StepsTo m (event.Call server (run_wants fd q script AwaitingWorker)) r n)
+    (subst (λ (q : Answer). StepsTo m (event.Call server (run_call fd q script AwaitingWorker)) r n)
     (asks refl) step) new.1
 fd-new laws m n scripts fd c (Some y) script w r g order asks step (inl new) = absurd (let e = new.0 in cc (e))
 fd-new laws m n scripts fd c run script w r g order asks step (inr new) = absurd (let e = new.0 in cc (e))

@@ -108,13 +108,13 @@ module _ (laws : WindowLaws) where
   }
 
 -- what is owed begins the answer to what was read
-module _ (site_contents : SiteContents) (took out kept : List ℕ) (q : Answer) (expected : List ℕ)
+module _ (site_contents : SiteContents) (took out buffered : List ℕ) (q : Answer) (expected : List ℕ)
     (may : MayBeExpected site_contents q expected) where
-  pub begins-resting : Answers site_contents took out kept [] [] → Begins site_contents took out
+  pub begins-resting : Answers site_contents took out buffered [] [] → Begins site_contents took out
   begins-resting o = record {
     qs = o.done;
-    rest = kept;
-    reads = subst (λ (l : List Answer). Reads took l kept) (append-nil o.done) o.reads;
+    rest = buffered;
+    reads = subst (λ (l : List Answer). Reads took l buffered) (append-nil o.done) o.reads;
     order = order-all o.done o.open_yet;
     whole = o.before;
     responds = o.responds;
@@ -122,11 +122,11 @@ module _ (site_contents : SiteContents) (took out kept : List ℕ) (q : Answer) 
     all = sym (append-nil o.before) ∙ (sym o.out_is ∙ sym (append-nil out));
   }
 
-  pub begins-part : (taken : ℕ) → Answers site_contents took out kept (q ∷ []) (take taken expected)
+  pub begins-part : (taken : ℕ) → Answers site_contents took out buffered (q ∷ []) (take taken expected)
       → Begins site_contents took out
   begins-part taken o = record {
     qs = o.done ++ q ∷ [];
-    rest = kept;
+    rest = buffered;
     reads = o.reads;
     order = order-more o.done q o.open_yet;
     whole = o.before ++ expected;
@@ -138,7 +138,7 @@ module _ (site_contents : SiteContents) (took out kept : List ℕ) (q : Answer) 
   }
 
   pub begins-answers : (d : Phase)
-      → Answers site_contents took out kept (asked q d) (given_of expected (is_at_rest d) (taken_of d))
+      → Answers site_contents took out buffered (asked q d) (given_of expected (is_at_rest d) (taken_of d))
       → Begins site_contents took out
   begins-answers Receiving o = begins-resting o
   begins-answers (DroppingInput a) o = begins-resting o
@@ -146,21 +146,23 @@ module _ (site_contents : SiteContents) (took out kept : List ℕ) (q : Answer) 
 
 -- of a client for which no script runs
 pub begins-consistency : (site_contents : SiteContents) (k : Connection) (took sent : List ℕ) (x : Client)
-    (expected : List ℕ) → MayBeExpected site_contents x.conn.q expected
+    (expected : List ℕ) → MayBeExpected site_contents x.conn.request expected
     → ConsistencyAlone site_contents expected k took sent x
     → Begins site_contents took (sent ++ bytes_of k.outgoing)
 begins-consistency site_contents k took sent x expected may (inl owes) =
-    begins-answers site_contents took (sent ++ bytes_of k.outgoing) x.conn.kept x.conn.q expected may x.conn.phase
+    begins-answers site_contents took (sent ++ bytes_of k.outgoing) x.conn.buffered x.conn.request expected may
+    x.conn.phase
     owes.1
 begins-consistency site_contents k took sent x expected may (inr (inl finished)) = finished.begins
 begins-consistency site_contents k took sent x expected may (inr (inr gone)) = gone.begins
 
 -- of one for which a script runs
-pub begins-run : (site_contents : SiteContents) (k : Connection) (took sent kept : List ℕ) (w : Wanted)
+pub begins-run : (site_contents : SiteContents) (k : Connection) (took sent buffered : List ℕ) (w : Wanted)
     (expected : List ℕ) → MayBeExpected site_contents (serve w) expected
-    → (o : Progress) (y : Running) → ConsistencyRun site_contents expected k took sent kept w o y
+    → (o : Progress) (y : Running) → ConsistencyRun site_contents expected k took sent buffered w o y
     → Begins site_contents took (sent ++ bytes_of k.outgoing)
-begins-run site_contents k took sent kept w expected may o y (inl g) =
-    begins-part site_contents took (sent ++ bytes_of k.outgoing) kept (serve w) expected may (past_of o + taken_by y)
+begins-run site_contents k took sent buffered w expected may o y (inl g) =
+    begins-part site_contents took (sent ++ bytes_of k.outgoing) buffered (serve w) expected may
+    (past_of o + taken_by y)
     g.answers
-begins-run site_contents k took sent kept w expected may o y (inr l) = l.begins
+begins-run site_contents k took sent buffered w expected may o y (inr l) = l.begins

@@ -26,7 +26,7 @@ use Rattle.flash_laws.specs.Conn.OfferedBytes.{newly_taken}
 use Rattle.flash_laws.specs.Run.Fits.{Progress, Ran, Broken, NotRun, Follows, IsLeft, HasNone, HasLeft, HasRun}
 use Rattle.flash_laws.specs.Run.Fits.{MayAnswer}
 use Rattle.flash_laws.specs.Run.OfferedBytes.{Learns, taken_by, past_of, IsNextOf, breaks_off}
-use Rattle.flash_laws.specs.Run.{wants, after_reply, is_over}
+use Rattle.flash_laws.specs.Run.{next_call, after_reply, is_over}
 use Rattle.flash_laws.specs.Answers.Scripts.{script_response}
 use Rattle.flash_laws.specs.SiteContents.{SiteContents, MayBeExpected, Responds}
 use Rattle.flash_laws.specs.Site.{server}
@@ -40,16 +40,21 @@ use Rattle.flash_laws.proofs.World.AllLaws.{AllLaws}
 use Rattle.flash_laws.proofs.World.Responses.{responds-more, begins-part}
 
 -- a client whose run ended: its connection goes on where that left off
-abbrev pub past_run : (kept : List ℕ) → Wanted → Running → Client
-past_run kept w z = record { conn = record { kept = kept; q = serve w; phase = after_run z }; run = None; script = [] }
+abbrev pub past_run : (buffered : List ℕ) → Wanted → Running → Client
+past_run buffered w z = record {
+  conn = record { buffered = buffered; request = serve w; phase = after_run z };
+  run =
+      None;
+  script = [];
+}
 
 -- what ties it after the call: as a run that goes on, or, where that is over, as a connection alone, which rests or
 -- closes
 pub record ConsistencyAfter (site_contents : SiteContents) (expected : List ℕ) (m n : State) (c : ℕ)
-    (took sent kept : List ℕ) (w : Wanted) (after : Progress)
+    (took sent buffered : List ℕ) (w : Wanted) (after : Progress)
     (z : Running) : Type 0 where
-  pub goes : is_over z ≡ false → ConsistencyRun site_contents expected (conn_at n c) took sent kept w after z
-  pub ends : is_over z ≡ true → ConsistencyAlone site_contents expected (conn_at n c) took sent (past_run kept w z)
+  pub goes : is_over z ≡ false → ConsistencyRun site_contents expected (conn_at n c) took sent buffered w after z
+  pub ends : is_over z ≡ true → ConsistencyAlone site_contents expected (conn_at n c) took sent (past_run buffered w z)
   pub rests : is_over z ≡ true → (after_run z ≡ phase.Receiving) ⊎ (after_run z ≡ phase.Disconnecting)
   -- nothing of the stream was read
   pub unread : bytes_of (conn_at n c).incoming ≡ bytes_of (conn_at m c).incoming
@@ -152,13 +157,13 @@ module _ (m n : State) (c : ℕ) (w : Wanted) (o : Progress) (taken new : ℕ) w
       ∙ ap (λ (l : List ℕ). bytes_of (conn_at m c).outgoing ++ l) (put.puts.text_is ∙ sym front))
 
   -- so the request in progress is answered up to so many more
-  answered_on : (site_contents : SiteContents) (took sent kept : List ℕ) (now : List Answer) (expected : List ℕ)
+  answered_on : (site_contents : SiteContents) (took sent buffered : List ℕ) (now : List Answer) (expected : List ℕ)
       (count : ℕ) → Wrote m n c w o taken new → MayAnswer w o expected
       → count ≡ past_of o + taken + new
-      → Answers site_contents took (sent ++ bytes_of (conn_at m c).outgoing) kept now
+      → Answers site_contents took (sent ++ bytes_of (conn_at m c).outgoing) buffered now
       (take (past_of o + taken) expected)
-      → Answers site_contents took (sent ++ bytes_of (conn_at n c).outgoing) kept now (take count expected)
-  answered_on site_contents took sent kept now expected count did may count_is a = record {
+      → Answers site_contents took (sent ++ bytes_of (conn_at n c).outgoing) buffered now (take count expected)
+  answered_on site_contents took sent buffered now expected count did may count_is a = record {
     done = a.done;
     open_yet = a.open_yet;
     reads = a.reads;
@@ -230,7 +235,8 @@ closed_whole w x expected proper may none = (none.0, (elim none.1 [ inl last ↦
 
 -- ---- the invariant after it
 
-module _ (site_contents : SiteContents) (m n : State) (c : ℕ) (took sent kept : List ℕ) (w : Wanted) (response : List ℕ)
+module _ (site_contents : SiteContents) (m n : State) (c : ℕ) (took sent buffered : List ℕ) (w : Wanted)
+    (response : List ℕ)
     (may_be : MayBeExpected site_contents (serve w) response)
     (after : Progress) (z : Running) where
   -- what was written
@@ -241,13 +247,14 @@ module _ (site_contents : SiteContents) (m n : State) (c : ℕ) (took sent kept 
   abbrev Alone : Phase → Type 0
   Alone d =
       ConsistencyAlone site_contents response (conn_at n c) took sent
-      (record { conn = record { kept = kept; q = serve w; phase = d }; run = None; script = [] })
+      (record { conn = record { buffered = buffered; request = serve w; phase = d }; run = None; script = [] })
 
   rests_or_closes : Ending w after z → (after_run z ≡ phase.Receiving) ⊎ (after_run z ≡ phase.Disconnecting)
   rests_or_closes e = (elim e.1 [ inl rest ↦ inl rest.0 | inr close ↦ inr close.0 ])
 
   -- all of the response is written
-  answered_whole : (a : Answers site_contents took out kept (serve w ∷ []) (take (past_of after + taken_by z) response))
+  answered_whole :
+      (a : Answers site_contents took out buffered (serve w ∷ []) (take (past_of after + taken_by z) response))
       → taken_by z ≡ 0
       → MayAnswer w after response → IsLeft w after [] → Responds site_contents (a.done ++ serve w ∷ []) out
   answered_whole a none may rest =
@@ -258,7 +265,7 @@ module _ (site_contents : SiteContents) (m n : State) (c : ℕ) (took sent kept 
       (responds-more site_contents a.done (serve w) a.before response a.responds may_be)
 
   -- it goes on with the next request
-  resting : Answers site_contents took out kept (serve w ∷ []) (take (past_of after + taken_by z) response)
+  resting : Answers site_contents took out buffered (serve w ∷ []) (take (past_of after + taken_by z) response)
       → taken_by z ≡ 0
       → MayAnswer w after response → IsLeft w after [] → w.keep ≡ true → Alone phase.Receiving
   resting a none may rest keep = inl (
@@ -266,7 +273,7 @@ module _ (site_contents : SiteContents) (m n : State) (c : ℕ) (took sent kept 
     record {
       done = a.done ++ serve w ∷ [];
       open_yet = all-more a.done (serve w) a.open_yet keep;
-      reads = subst (λ (l : List Answer). Reads took l kept) (sym (append-nil (a.done ++ serve w ∷ []))) a.reads;
+      reads = subst (λ (l : List Answer). Reads took l buffered) (sym (append-nil (a.done ++ serve w ∷ []))) a.reads;
       before = out;
       responds = answered_whole a none may rest;
       out_is = sym (append-nil out);
@@ -274,25 +281,25 @@ module _ (site_contents : SiteContents) (m n : State) (c : ℕ) (took sent kept 
   )
 
   -- or this was the last one
-  closing : Answers site_contents took out kept (serve w ∷ []) (take (past_of after + taken_by z) response)
+  closing : Answers site_contents took out buffered (serve w ∷ []) (take (past_of after + taken_by z) response)
       → taken_by z ≡ 0
       → MayAnswer w after response → IsLeft w after [] → w.keep ≡ false → Alone phase.Disconnecting
   closing a none may rest last = inr (inl (record {
     quits = refl;
     finished = record {
       qs = a.done ++ serve w ∷ [];
-      rest = kept;
+      rest = buffered;
       reads = a.reads;
       order = order-more a.done (serve w) a.open_yet;
       responds = answered_whole a none may rest;
       no_more = inl (last-more a.done (serve w) last);
     };
-    begins = begins-part site_contents took out kept (serve w) response may_be (past_of after + taken_by z) a;
+    begins = begins-part site_contents took out buffered (serve w) response may_be (past_of after + taken_by z) a;
   }))
 
   -- so it is consistent as a connection alone
   ended : IsProper (serve w)
-      → Answers site_contents took out kept (serve w ∷ []) (take (past_of after + taken_by z) response)
+      → Answers site_contents took out buffered (serve w ∷ []) (take (past_of after + taken_by z) response)
       → MayAnswer w after response → Ending w after z → Alone (after_run z)
   ended proper a may e = by e.1
     where
@@ -306,9 +313,9 @@ module _ (site_contents : SiteContents) (m n : State) (c : ℕ) (took sent kept 
   -- the response goes on, or is all written
   pub proceeds : IsProper (serve w) → bytes_of (conn_at n c).incoming ≡ bytes_of (conn_at m c).incoming
       → (is_over z ≡ true → Ending w after z)
-      → Answers site_contents took out kept (serve w ∷ []) (take (past_of after + taken_by z) response)
+      → Answers site_contents took out buffered (serve w ∷ []) (take (past_of after + taken_by z) response)
       → MayAnswer w after response → breaks_off z ≡ false
-      → ConsistencyAfter site_contents response m n c took sent kept w after z
+      → ConsistencyAfter site_contents response m n c took sent buffered w after z
   proceeds proper unread over a may whole = record {
     goes = λ on. inl (record { answers = a; may = may; whole = whole });
     ends = λ is. ended proper a may (over is);
@@ -321,7 +328,7 @@ module _ (site_contents : SiteContents) (m n : State) (c : ℕ) (took sent kept 
       → (is_over z ≡ true → Ending w after z)
       → conn_at n c ≡ conn_at m c
       → IsLeftAlone site_contents (conn_at m c) took (sent ++ bytes_of (conn_at m c).outgoing)
-      → ConsistencyAfter site_contents response m n c took sent kept w after z
+      → ConsistencyAfter site_contents response m n c took sent buffered w after z
   left_alone unread over same was = record {
     goes = λ on. inr left;
     ends = λ is. inr (inr left);
@@ -333,30 +340,30 @@ module _ (site_contents : SiteContents) (m n : State) (c : ℕ) (took sent kept 
       left = subst (λ (x : Connection). IsLeftAlone site_contents x took (sent ++ bytes_of x.outgoing)) (sym same) was
 
 module _ (site_contents : SiteContents) (worker_set : WorkerSet) (laws : AllLaws worker_set) where
-  pub consistency_step : (m n : State) (fd c worker : ℕ) (took sent kept : List ℕ) (w : Wanted) (job : ℕ
+  pub consistency_step : (m n : State) (fd c worker : ℕ) (took sent buffered : List ℕ) (w : Wanted) (job : ℕ
       → List ℕ) (y : Running) (r : Reply)
       (received : List ℕ) (o after : Progress) (expected : List ℕ) → MayBeExpected site_contents (serve w) expected
       → IsOrderly m → descriptor m server fd ≡ Some (on.Connection c)
       → IsProper (serve w) → is_over y ≡ false → HasRun job m w o y
-      → StepsTo m (event.Call server (wants job fd w y)) r n → Names n r received
+      → StepsTo m (event.Call server (next_call job fd w y)) r n → Names n r received
       → Learns m y r received o after → HasRun job n w after (after_reply worker w y r received)
       → (breaks_off y ≡ false → breaks_off (after_reply worker w y r received) ≡ true
       → is_gone (conn_at m c).peer ≡ true)
       → (breaks_off y ≡ false → breaks_off (after_reply worker w y r received) ≡ false → MayAnswer w o expected
       → MayAnswer w after expected)
-      → ConsistencyRun site_contents expected (conn_at m c) took sent kept w o y
-      → ConsistencyAfter site_contents expected m n c took sent kept w after (after_reply worker w y r received)
-  consistency_step m n fd c worker took sent kept w job y r received o after expected may_be order open_on proper
+      → ConsistencyRun site_contents expected (conn_at m c) took sent buffered w o y
+      → ConsistencyAfter site_contents expected m n c took sent buffered w after (after_reply worker w y r received)
+  consistency_step m n fd c worker took sent buffered w job y r received o after expected may_be order open_on proper
       ongoing has step names learns stands cut may consistency = by consistency
     where
       z : Running
       z = after_reply worker w y r received
 
       new : ℕ
-      new = newly_taken fd (wants job fd w y) r
+      new = newly_taken fd (next_call job fd w y) r
 
       did : Wrote m n c w o (taken_by y) new
-      did = wrote laws.the.steps laws.the.own m n order fd c open_on w o (taken_by y) (wants job fd w y) r step
+      did = wrote laws.the.steps laws.the.own m n order fd c open_on w o (taken_by y) (next_call job fd w y) r step
           ((laws.run_keeps job).alone m fd c w y o open_on ongoing has).conns
           (λ a is. (laws.runs job).offers m fd c a w y o open_on has is)
 
@@ -367,26 +374,28 @@ module _ (site_contents : SiteContents) (worker_set : WorkerSet) (laws : AllLaws
       over is = ending job n w after z is stands
 
       left : IsLeftAlone site_contents (conn_at m c) took (sent ++ bytes_of (conn_at m c).outgoing)
-          → ConsistencyAfter site_contents expected m n c took sent kept w after z
+          → ConsistencyAfter site_contents expected m n c took sent buffered w after z
       left was =
-          left_alone site_contents m n c took sent kept w expected may_be after z unread over
+          left_alone site_contents m n c took sent buffered w expected may_be after z unread over
           (gone_still m n c w o (taken_by y) new did was.gone) was
 
-      by : ConsistencyRun site_contents expected (conn_at m c) took sent kept w o y
-          → ConsistencyAfter site_contents expected m n c took sent kept w after z
+      by : ConsistencyRun site_contents expected (conn_at m c) took sent buffered w o y
+          → ConsistencyAfter site_contents expected m n c took sent buffered w after z
       by (inl goes) = cases (breaks_off z) refl
         where
-          cases : (b : Bool) → breaks_off z ≡ b → ConsistencyAfter site_contents expected m n c took sent kept w after z
+          cases : (b : Bool) → breaks_off z ≡ b
+              → ConsistencyAfter site_contents expected m n c took sent buffered w after z
           cases true is = left (record {
             gone = cut goes.whole is;
-            begins = begins-part site_contents took (sent ++ bytes_of (conn_at m c).outgoing) kept (serve w) expected
+            begins = begins-part site_contents took (sent ++ bytes_of (conn_at m c).outgoing) buffered (serve w)
+                expected
                 may_be (past_of o + taken_by y) goes.answers;
           })
           cases false is =
               let count = (laws.runs job).takes m n fd c worker w y r received o after order open_on ongoing has step
               learns goes.whole is in
-              proceeds site_contents m n c took sent kept w expected may_be after z proper unread over
-              (answered_on m n c w o (taken_by y) new site_contents took sent kept (serve w ∷ []) expected
+              proceeds site_contents m n c took sent buffered w expected may_be after z proper unread over
+              (answered_on m n c w o (taken_by y) new site_contents took sent buffered (serve w ∷ []) expected
               (past_of after + taken_by z) did goes.may count goes.answers)
               (may goes.whole is goes.may) is
       by (inr was) = left was

@@ -16,7 +16,7 @@ use Rattle.iol_proc.specs.ReadableBytes.{readable_to}
 use Rattle.iol_proc.specs.declared.process.Turn.{Turn}
 use Rattle.iol_proc.specs.declared.process.Turn.TheVariants as turn
 use Rattle.iol_proc.specs.declared.process_slot.ProcessSlot.{ProcessSlot}
-use Rattle.flash_laws.specs.Client.{Client, Readies, IsAwaiting, wants, after_reply, left_over}
+use Rattle.flash_laws.specs.Client.{Client, Readies, IsAwaiting, next_call, after_reply, left_over}
 use Rattle.flash_laws.specs.Conn.{Conn}
 use Rattle.flash_laws.specs.Workers.WorkerSet.{WorkerSet, IsFixedFor}
 use Rattle.flash_laws.specs.Conn.Fits.{Names}
@@ -49,7 +49,7 @@ use Rattle.flash_laws.proofs.World.Owners.{owned-ready, owned-accept}
 pub client-awaits : (c : Conn) (run : Option Running) (script : List ℕ) (y : Client) → Readies (of c run script) y
     → IsAwaiting y
 client-awaits c None script y ready =
-    subst (λ (z : Client). IsAwaiting z) (sym ready.2) (ready-awaits c.kept c.q c.phase ready.0 ready.1)
+    subst (λ (z : Client). IsAwaiting z) (sym ready.2) (ready-awaits c.buffered c.request c.phase ready.0 ready.1)
 client-awaits c (Some z) script y ready = subst (λ (v : Client). IsAwaiting v) (sym ready) tt
 
 module _ (site_contents : SiteContents) (worker_set : WorkerSet) (laws : AllLaws worker_set) where
@@ -155,17 +155,18 @@ module _ (site_contents : SiteContents) (worker_set : WorkerSet) (laws : AllLaws
               ap (λ (xs : List (Option Client)). in_place xs fd) picks.after_is
               ∙ at-same clients fd (Some picks.ready) in
               let at = ready.each fd picks.ready there in
-              let call_is : made ≡ turn.Make (wants site_contents.scripts fd picks.ready) = picks.call_is
-              ∙ ap (λ b. turn.Make (wants b fd picks.ready)) (sym fixed.scripts) in
-              let step : StepsTo m (event.Call server (wants site_contents.scripts fd picks.ready)) r n =
+              let call_is : made ≡ turn.Make (next_call site_contents.scripts fd picks.ready) = picks.call_is
+              ∙ ap (λ b. turn.Make (next_call b fd picks.ready)) (sym fixed.scripts) in
+              let step : StepsTo m (event.Call server (next_call site_contents.scripts fd picks.ready)) r n =
               subst (λ (z : Turn). Made m z r n) call_is did in
               let alone = calls-alone site_contents worker_set laws m (p.came at.conn) (p.sent at.conn) fd at.conn
               process_slots picks.ready.conn picks.ready.run picks.ready.script at.fits in
-              let receive = receives m n (wants site_contents.scripts fd picks.ready) r order step alone.kind in
+              let receive = receives m n (next_call site_contents.scripts fd picks.ready) r order step alone.kind in
               let own_call : IsOwnTurn site_contents worker_set m n p after fd picks.ready r receive.0 process_slots =
               record {
                 order = order;
-                order_after = laws.the.orders.step m n (event.Call server (wants site_contents.scripts fd picks.ready))
+                order_after =
+                    laws.the.orders.step m n (event.Call server (next_call site_contents.scripts fd picks.ready))
                     r
                     order step;
                 fixed = fixed;
@@ -183,7 +184,7 @@ module _ (site_contents : SiteContents) (worker_set : WorkerSet) (laws : AllLaws
               subst (λ (xs : List (Option Client)). AreOwned m p xs) (sym picks.after_is)
               (owned-ready m p clients fd picks.was picks.ready picks.there picks.readies owned) in
               record {
-                goes = goes-by (wants site_contents.scripts fd picks.ready) step alone.kind went.0;
+                goes = goes-by (next_call site_contents.scripts fd picks.ready) step alone.kind went.0;
                 received = receive.0;
                 names = receive.1;
                 fit =

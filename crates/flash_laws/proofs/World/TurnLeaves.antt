@@ -176,7 +176,7 @@ in_slots_again site_contents worker_set n came sent fd c k x (Some y) script pro
   shown = f.shown;
   may_show = f.may_show;
   fresh = f.fresh;
-  kept = f.kept;
+  buffered = f.buffered;
   so_far = f.so_far;
   has = f.has;
   ongoing = f.ongoing;

@@ -97,7 +97,7 @@ module _ (laws : WindowLaws) (site_contents : SiteContents) (worker_set : Worker
   )
   begun fd k x (Some y) f = (
     f.open_on,
-    with-more k f.took f.came_is (begins-run site_contents (conn_at m k) f.took (p.sent k) x.conn.kept f.wanted
+    with-more k f.took f.came_is (begins-run site_contents (conn_at m k) f.took (p.sent k) x.conn.buffered f.wanted
         (response_to f.wanted (made_of f.wanted f.script.lines f.shown))
         (shown-may site_contents x f.wanted f.script f.shown f.may_show) f.so_far y f.consistency),
   )

@@ -17,7 +17,7 @@ use Rattle.flash_cgi.specs.declared.line.Line.{Line}
 use Rattle.flash_laws.specs.Answers.Scripts.{script_response}
 use Rattle.flash_laws.specs.Answers.{Found, keeps, Reads, last_may_close, last_closes}
 use Rattle.flash_laws.specs.Client.{Client, is_for_script, can_run, job_of, keeps_text}
-use Rattle.flash_laws.specs.Conn.{most_kept, most_read, name_of, text_of, is_head_only}
+use Rattle.flash_laws.specs.Conn.{most_buffered, most_read, name_of, text_of, is_head_only}
 use Rattle.flash_laws.specs.Workers.WorkerSet.{WorkerSet}
 use Rattle.flash_laws.specs.SiteContents.Expected.{outcomes_by}
 use Rattle.flash_laws.specs.Conn.Fits.{Has, quits, asked}
@@ -40,7 +40,7 @@ use Rattle.flash_laws.specs.declared.script_run.Running.{Running}
 -- a request whose query is no longer than a head, and that closes the connection if its response has no chunks, or a
 -- request that is refused with a status of this server: all requests in a stream are such
 abbrev pub IsProper : Answer → Type 0
-IsProper (serve w) = (length w.query ≤ most_kept) × (IsFalse w.chunked → IsFalse w.keep)
+IsProper (serve w) = (length w.query ≤ most_buffered) × (IsFalse w.chunked → IsFalse w.keep)
 IsProper (refuse status head_only close) = IsTrue (is_error_status status)
 
 -- whether there is no request
@@ -60,11 +60,11 @@ pub record Finished (site_contents : SiteContents) (k : Connection) (took out : 
 
 -- The requests before the one in progress have their whole responses, that one has these bytes, and the rest of the
 -- stream is buffered.
-pub record Answers (site_contents : SiteContents) (took out kept : List ℕ) (now : List Answer) (given : List ℕ) :
+pub record Answers (site_contents : SiteContents) (took out buffered : List ℕ) (now : List Answer) (given : List ℕ) :
     Type 0 where
   pub done : List Answer
   pub open_yet : IsTrue (list_all (λ p. keeps p) done)
-  pub reads : Reads took (done ++ now) kept
+  pub reads : Reads took (done ++ now) buffered
   pub before : List ℕ
   pub responds : Responds site_contents done before
   pub out_is : out ≡ before ++ given
@@ -85,13 +85,13 @@ abbrev pub expected_in : (expected : List ℕ) → Answer → Phase → List ℕ
 expected_in expected q d = if is_read d then text_of q Script else expected
 
 module _ (site_contents : SiteContents) where
-  -- the text of a script that can run was read, and is kept unless the request is HEAD
+  -- the text of a script that can run was read, and is buffered unless the request is HEAD
   pub record HasText (q : Answer) (script : List ℕ) : Type 0 where
     pub asks : IsTrue (is_for_script site_contents.scripts q)
     pub text : List ℕ
     pub found : site_contents.finds (name_of q) ≡ Found text
     pub runs : IsTrue (can_run text)
-    pub kept : IsFalse (is_head_only q) → script ≡ text
+    pub buffered : IsFalse (is_head_only q) → script ≡ text
 
   -- the file that is being read is the requested one
   pub record FindsFile (m : State) (q : Answer) (fd : ℕ) : Type 0 where
@@ -119,8 +119,8 @@ module _ (site_contents : SiteContents) where
 
   abbrev pub ConsistencyAlone : (expected : List ℕ) → Connection → (took sent : List ℕ) → Client → Type 0
   ConsistencyAlone expected k took sent x =
-      (IsFalse (quits x.conn.phase) × Answers site_contents took (sent ++ bytes_of k.outgoing) x.conn.kept
-      (asked x.conn.q x.conn.phase)
+      (IsFalse (quits x.conn.phase) × Answers site_contents took (sent ++ bytes_of k.outgoing) x.conn.buffered
+      (asked x.conn.request x.conn.phase)
       (given_of expected (is_at_rest x.conn.phase) (taken_of x.conn.phase)))
       ⊎ (IsFinished k took (sent ++ bytes_of k.outgoing) x.conn.phase
       ⊎ IsLeftAlone site_contents k took (sent ++ bytes_of k.outgoing))
@@ -133,11 +133,11 @@ module _ (site_contents : SiteContents) where
     pub came_is : came ≡ took ++ bytes_of (conn_at m c).incoming
     -- the response to the request in progress
     pub expected : List ℕ
-    pub may : MayBeExpected site_contents x.conn.q expected
+    pub may : MayBeExpected site_contents x.conn.request expected
     pub consistency : ConsistencyAlone expected (conn_at m c) took sent x
-    pub has : Has m x.conn.q (expected_in expected x.conn.q x.conn.phase) x.conn.phase
-    pub finds : Finds m x.conn.q x.script x.conn.phase
-    pub proper : IsProper x.conn.q
+    pub has : Has m x.conn.request (expected_in expected x.conn.request x.conn.phase) x.conn.phase
+    pub finds : Finds m x.conn.request x.script x.conn.phase
+    pub proper : IsProper x.conn.request
 
 -- ---- with the run of a script
 
@@ -152,7 +152,7 @@ response_to w made = script_response w (output_of made)
 module _ (site_contents : SiteContents) where
   -- The script that a client requested, and its output.
   pub record IsScript (x : Client) (w : Wanted) : Type 0 where
-    pub asks : x.conn.q ≡ serve w
+    pub asks : x.conn.request ≡ serve w
     pub stands : x.conn.phase ≡ phase.MakingHead Script
     pub get : IsFalse w.head_only
     pub is_for : IsTrue (is_for_script site_contents.scripts (serve w))
@@ -163,15 +163,17 @@ module _ (site_contents : SiteContents) where
     pub proper : IsProper (serve w)
 
   -- the expected response may be the one that is being sent
-  pub record Proceeds (expected : List ℕ) (took out kept : List ℕ) (w : Wanted) (o : Progress) (y : Running) :
+  pub record Proceeds (expected : List ℕ) (took out buffered : List ℕ) (w : Wanted) (o : Progress) (y : Running) :
       Type 0 where
-    pub answers : Answers site_contents took out kept (serve w ∷ []) (take (past_of o + taken_by y) expected)
+    pub answers : Answers site_contents took out buffered (serve w ∷ []) (take (past_of o + taken_by y) expected)
     pub may : run.MayAnswer w o expected
     pub whole : IsFalse (breaks_off y)
 
-  abbrev pub ConsistencyRun : (expected : List ℕ) → Connection → (took sent kept : List ℕ) → Wanted → Progress → Running
+  abbrev pub ConsistencyRun : (expected : List ℕ) → Connection → (took sent buffered : List ℕ) → Wanted → Progress
+      → Running
       → Type 0
-  ConsistencyRun expected k took sent kept w o y = Proceeds expected took (sent ++ bytes_of k.outgoing) kept w o y
+  ConsistencyRun expected k took sent buffered w o y =
+      Proceeds expected took (sent ++ bytes_of k.outgoing) buffered w o y
       ⊎ IsLeftAlone site_contents k took (sent ++ bytes_of k.outgoing)
 
 module _ (site_contents : SiteContents) (worker_set : WorkerSet) where
@@ -187,12 +189,12 @@ module _ (site_contents : SiteContents) (worker_set : WorkerSet) where
     pub shown : List Outcome
     pub may_show : AllMayShow site_contents (outcomes_by site_contents.shows script.lines) shown
     pub fresh : IsTrue (is_starting y) → shown ≡ outcomes_by site_contents.shows script.lines
-    pub kept : IsTrue (keeps_text y) → x.script ≡ script.text
+    pub buffered : IsTrue (keeps_text y) → x.script ≡ script.text
     pub so_far : Progress
     pub has : HasRun (job_of wanted script.text) m wanted so_far y
     pub ongoing : IsFalse (is_over y)
     pub consistency : ConsistencyRun site_contents (response_to wanted (made_of wanted script.lines shown))
-        (conn_at m c) took sent x.conn.kept wanted so_far y
+        (conn_at m c) took sent x.conn.buffered wanted so_far y
     pub job_queue : HasWorkerAt worker_set m process_slots (made_of wanted script.lines shown) so_far y
 
   abbrev pub FitsBy : Option Running → State → (came sent : List ℕ) → (fd c : ℕ) → Client

@@ -13,7 +13,7 @@ use Rattle.iol_core.specs.declared.events.Reply.{Reply}
 use Rattle.iol_core.specs.declared.events.Reply.TheVariants as reply
 use Rattle.iol_laws.specs.Caller.{readable_at}
 use Rattle.iol_laws.specs.Order.{IsOrderly}
-use Rattle.flash_laws.specs.Client.{Client, new_client, uses_agg, is_for_script, wants, Readies, keeps_text, awaits}
+use Rattle.flash_laws.specs.Client.{Client, new_client, uses_agg, is_for_script, next_call, Readies, keeps_text, awaits}
 use Rattle.flash_laws.specs.Client.{after_reply}
 use Rattle.flash_laws.specs.Client.OfferedBytes.{is_ending}
 use Rattle.flash_laws.specs.Conn as conn
@@ -36,7 +36,7 @@ abbrev pub is_to_run : (scripts : Bool) → Client → Bool
 is_to_run scripts x = by x.run
   where
     by : Option Running → Bool
-    by None = is_for_script scripts x.conn.q && (not (is_head_only x.conn.q) && is_read x.conn.phase)
+    by None = is_for_script scripts x.conn.request && (not (is_head_only x.conn.request) && is_read x.conn.phase)
     by (Some y) = keeps_text y
 
 -- no text is held except that of a script that will run
@@ -48,12 +48,12 @@ pub record ClientKeepsNothing (scripts : Bool) : Type 0 where
   pub brought : (m n : State) (fd c worker : ℕ) (x : Client) (known : Known) (r : Reply) (received bytes : List ℕ)
       (a : ℕ)
       → IsOrderly m → HasAccess m → IsTrue (is_live m server) → descriptor m server fd ≡ Some (on.Connection c)
-      → IsFalse (is_ending x) → HasKnown scripts m x known → StepsTo m (event.Call server (wants scripts fd x)) r n
+      → IsFalse (is_ending x) → HasKnown scripts m x known → StepsTo m (event.Call server (next_call scripts fd x)) r n
       → readable_at m server a ≡ None → readable_at n server a ≡ Some bytes
       → IsTrue (uses_agg (after_reply scripts worker x r received) a)
   -- the same for the descriptor of a file, and for both ends of a pipe
   pub opened : (m n : State) (fd worker f : ℕ) (x : Client) (received : List ℕ) → x.run ≡ None
-      → StepsTo m (event.Call server (wants scripts fd x)) (reply.Fd f) n
+      → StepsTo m (event.Call server (next_call scripts fd x)) (reply.Fd f) n
       → IsTrue (has_fd (after_reply scripts worker x (reply.Fd f) received) f)
   pub piped : (m : State) (worker from write : ℕ) (x : Client) (known : Known) (received : List ℕ) (g : ℕ)
       → IsTrue (awaits x)
@@ -62,12 +62,12 @@ pub record ClientKeepsNothing (scripts : Bool) : Type 0 where
   -- an aggregate that it no longer uses is gone
   pub left : (m n : State) (fd worker : ℕ) (x : Client) (known : Known) (r : Reply) (received : List ℕ) (a : ℕ)
       → IsOrderly m
-      → HasKnown scripts m x known → StepsTo m (event.Call server (wants scripts fd x)) r n
+      → HasKnown scripts m x known → StepsTo m (event.Call server (next_call scripts fd x)) r n
       → IsTrue (uses_agg x a) → IsFalse (uses_agg (after_reply scripts worker x r received) a)
       → readable_at n server a ≡ None
   -- the same for the descriptor of a file, and for each end of a pipe, which is closed, or given to the worker
   pub shut : (m n : State) (fd worker : ℕ) (x : Client) (known : Known) (r : Reply) (received : List ℕ) (g : ℕ)
-      → HasKnown scripts m x known → StepsTo m (event.Call server (wants scripts fd x)) r n
+      → HasKnown scripts m x known → StepsTo m (event.Call server (next_call scripts fd x)) r n
       → IsTrue (has_fd x g) → IsFalse (has_fd (after_reply scripts worker x r received) g)
       → descriptor n server g ≡ None
   -- no text is held except that of a script that will run: a new client has none, and replies preserve this

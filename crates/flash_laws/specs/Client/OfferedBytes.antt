@@ -19,7 +19,7 @@ use Rattle.iol_laws.specs.Frame.{touches_fd}
 use Rattle.iol_laws.specs.Order.{IsOrderly}
 use Rattle.flash_http.specs.Request.{Answer, serve, Wanted}
 use Rattle.flash_laws.specs.Answers.{Outcome}
-use Rattle.flash_laws.specs.Client.{Client, uses_agg, uses_fd, job_of, wants, is_for_script, awaits, after_run}
+use Rattle.flash_laws.specs.Client.{Client, uses_agg, uses_fd, job_of, next_call, is_for_script, awaits, after_run}
 use Rattle.flash_laws.specs.Client.{after_reply}
 use Rattle.flash_laws.specs.Conn as conn
 use Rattle.flash_laws.specs.Conn.{begins, most_read}
@@ -40,8 +40,13 @@ use Rattle.flash_laws.specs.declared.script_run.Running.{Running}
 use Rattle.flash_laws.specs.declared.script_run.Running.TheVariants.{InProgress}
 
 -- a client for which this request begins
-abbrev pub begun : (kept : List ℕ) → Answer → Client
-begun kept q = record { conn = record { kept = kept; q = q; phase = begins q }; run = None; script = [] }
+abbrev pub begun : (buffered : List ℕ) → Answer → Client
+begun buffered q = record {
+  conn = record { buffered = buffered; request = q; phase = begins q };
+  run = None;
+  script =
+      [];
+}
 
 -- whether only the close of its connection is left to do
 abbrev pub is_ending : Client → Bool
@@ -67,7 +72,7 @@ abbrev pub Learns : (scripts : Bool) → State → Client → Reply → (receive
 Learns scripts m x r received before after = by x.run
   where
     by : Option Running → Type 0
-    by None = ConnLearns (is_for_script scripts x.conn.q) x.conn.phase r received before after
+    by None = ConnLearns (is_for_script scripts x.conn.request) x.conn.phase r received before after
     by (Some y) = RunLearns m y r received before after
 
 -- the number of bytes taken of those that are being sent
@@ -111,12 +116,12 @@ drops_rest x = by x.run
     by (Some y) = run.breaks_off y
 
 -- the buffered stream after a reply: the former one, followed by the bytes of the stream that were read
-abbrev pub kept_by : Client → Reply → (received : List ℕ) → List ℕ
-kept_by x r received = by x.run x.conn.phase r
+abbrev pub buffered_after : Client → Reply → (received : List ℕ) → List ℕ
+buffered_after x r received = by x.run x.conn.phase r
   where
     by : Option Running → Phase → Reply → List ℕ
-    by None phase.Receiving (reply.Agg n) = x.conn.kept ++ received
-    by y d r = x.conn.kept
+    by None phase.Receiving (reply.Agg n) = x.conn.buffered ++ received
+    by y d r = x.conn.buffered
 
 -- The client advances as its run does, with its connection unchanged; once the run is over, the connection continues
 -- its phase.
@@ -130,7 +135,7 @@ pub record ProceedsAs (x : Client) (z : Running) (after : Client) : Type 0 where
 pub record IsAsItsRun (scripts : Bool) (m : State) (x : Client) (w : Wanted) (y : Running) (text : List ℕ)
     (o : Progress) : Type 0 where
   pub has : HasRun (job_of w text) m w o y
-  pub asks : (fd : ℕ) → wants scripts fd x ≡ running.wants (job_of w text) fd w y
+  pub asks : (fd : ℕ) → next_call scripts fd x ≡ running.next_call (job_of w text) fd w y
   pub aggs : (a : ℕ) → uses_agg x a ≡ running.uses_agg y a
   pub fds : (g : ℕ) → uses_fd x g ≡ running.uses_fd y g
   pub reports : (worker : ℕ) (r : Reply) (received : List ℕ)
@@ -140,7 +145,7 @@ pub record IsAsItsRun (scripts : Bool) (m : State) (x : Client) (w : Wanted) (y 
 -- replies; so the laws of connections (`Conn/OfferedBytes`) apply to it.
 pub record IsAsItsConn (scripts : Bool) (m : State) (x : Client) (o : Outcome) : Type 0 where
   pub has : file.HasAnswer m x.conn o
-  pub asks : (fd : ℕ) → wants scripts fd x ≡ conn.wants fd x.conn
+  pub asks : (fd : ℕ) → next_call scripts fd x ≡ conn.next_call fd x.conn
   pub aggs : (a : ℕ) → uses_agg x a ≡ conn.uses_agg x.conn.phase a
   pub fds : (g : ℕ) → uses_fd x g ≡ conn.uses_fd x.conn.phase g
   pub reports : (worker : ℕ) (r : Reply) (received : List ℕ)
@@ -149,8 +154,8 @@ pub record IsAsItsConn (scripts : Bool) (m : State) (x : Client) (o : Outcome) :
 -- `scripts` is whether scripts are run.
 pub record ClientOffersTheResponse (scripts : Bool) : Type 0 where
   -- when a request begins, nothing is needed
-  pub starts : (m : State) (fd : ℕ) (kept : List ℕ) (q : Answer) (o : Outcome)
-      → FirstCall q (wants scripts fd (begun kept q)) × HasKnown scripts m (begun kept q) (OfFile o)
+  pub starts : (m : State) (fd : ℕ) (buffered : List ℕ) (q : Answer) (o : Outcome)
+      → FirstCall q (next_call scripts fd (begun buffered q)) × HasKnown scripts m (begun buffered q) (OfFile o)
   -- after the reply to its call the result is known or unchanged, and the machine has the data for the next step; the
   -- free worker is one with a job pipe
   pub replied : (m n : State) (fd c worker : ℕ) (x : Client) (r : Reply) (received : List ℕ) (before : Known)
@@ -158,7 +163,7 @@ pub record ClientOffersTheResponse (scripts : Bool) : Type 0 where
       → IsTrue (is_live m server) → descriptor m server fd ≡ Some (on.Connection c)
       → (IsTrue (awaits x) → HasJobPipe m worker)
       → IsFalse (is_ending x)
-      → HasKnown scripts m x before → StepsTo m (event.Call server (wants scripts fd x)) r n → Names n r received
+      → HasKnown scripts m x before → StepsTo m (event.Call server (next_call scripts fd x)) r n → Names n r received
       → (after : Known) × Learns scripts m x r received before after
       × HasKnown scripts n (after_reply scripts worker x r received) after
   -- the same for any other event that neither consumes nor moves what the client uses
@@ -168,46 +173,46 @@ pub record ClientOffersTheResponse (scripts : Bool) : Type 0 where
       → HasKnown scripts n x known
   -- it writes the next bytes of the response to its connection, or a job to a worker
   pub offers : (m : State) (fd g a : ℕ) (x : Client) (known : Known) → HasKnown scripts m x known
-      → wants scripts fd x ≡ call.IolWrite g a
-      → ((g ≡ fd) × IsNextOf m x.conn.q known a (taken_by x)) ⊎ HandsJob x g a
+      → next_call scripts fd x ≡ call.IolWrite g a
+      → ((g ≡ fd) × IsNextOf m x.conn.request known a (taken_by x)) ⊎ HandsJob x g a
   -- the bytes that the connection took count as taken, while the response is neither over nor aborted
   pub takes : (m n : State) (fd c worker : ℕ) (x : Client) (r : Reply) (received : List ℕ) (before after : Known)
       → IsOrderly m
       → descriptor m server fd ≡ Some (on.Connection c) → IsFalse (is_ending x) → HasKnown scripts m x before
-      → StepsTo m (event.Call server (wants scripts fd x)) r n → Learns scripts m x r received before after
+      → StepsTo m (event.Call server (next_call scripts fd x)) r n → Learns scripts m x r received before after
       → IsFalse (drops_rest x) → IsFalse (drops_rest (after_reply scripts worker x r received))
       → IsTrue (is_working (after_reply scripts worker x r received))
       → taken_before after + taken_by (after_reply scripts worker x r received)
-      ≡ taken_before before + taken_by x + newly_taken fd (wants scripts fd x) r
+      ≡ taken_before before + taken_by x + newly_taken fd (next_call scripts fd x) r
   -- for a request that is not for a script the client behaves as its connection
-  pub files : (m : State) (x : Client) (o : Outcome) → IsFalse (is_for_script scripts x.conn.q)
+  pub files : (m : State) (x : Client) (o : Outcome) → IsFalse (is_for_script scripts x.conn.request)
       → HasKnown scripts m x (OfFile o)
       → IsAsItsConn scripts m x o
   -- while a script runs it behaves as its run
   pub runs : (m : State) (x : Client) (w : Wanted) (y : Running) (text : List ℕ) (o : Progress) → x.run ≡ Some y
-      → x.conn.q ≡ serve w → IsFalse (is_over y) → HasKnown scripts m x (OfScript text o)
+      → x.conn.request ≡ serve w → IsFalse (is_over y) → HasKnown scripts m x (OfScript text o)
       → IsAsItsRun scripts m x w y text o
   -- the text of a script is read whole, also for HEAD
-  pub whole : (fd f : ℕ) (x : Client) → x.run ≡ None → IsTrue (is_for_script scripts x.conn.q)
+  pub whole : (fd f : ℕ) (x : Client) → x.run ≡ None → IsTrue (is_for_script scripts x.conn.request)
       → x.conn.phase ≡ phase.Reading f
-      → wants scripts fd x ≡ call.IolRead f most_read
+      → next_call scripts fd x ≡ call.IolRead f most_read
   -- replies leave its request unchanged, and append the bytes read to its buffered stream
   pub keeps : (worker : ℕ) (x : Client) (r : Reply) (received : List ℕ)
-      → ((after_reply scripts worker x r received).conn.q ≡ x.conn.q)
-      × ((after_reply scripts worker x r received).conn.kept ≡ kept_by x r received)
+      → ((after_reply scripts worker x r received).conn.request ≡ x.conn.request)
+      × ((after_reply scripts worker x r received).conn.buffered ≡ buffered_after x r received)
   -- each reply reduces the rank of its request, unless more of its script's output was read, or its call is retried
   -- later
   pub rank : Client → Rank
   pub nears : (m n : State) (fd c worker : ℕ) (x : Client) (r : Reply) (received : List ℕ) (known : Known) → IsOrderly m
       → IsTrue (is_live m server) → descriptor m server fd ≡ Some (on.Connection c) → IsTrue (is_working x)
-      → HasKnown scripts m x known → CanMake m (wants scripts fd x)
-      → StepsTo m (event.Call server (wants scripts fd x)) r n → Names n r received
+      → HasKnown scripts m x known → CanMake m (next_call scripts fd x)
+      → StepsTo m (event.Call server (next_call scripts fd x)) r n → Names n r received
       → Nears rank x r (after_reply scripts worker x r received) ⊎ ReceivesMore x r received
   -- a successful call is not repeated
   pub moves : (m n : State) (fd worker : ℕ) (x : Client) (r : Reply) (received : List ℕ) (known : Known)
       → IsFalse (is_ending x)
-      → HasKnown scripts m x known → StepsTo m (event.Call server (wants scripts fd x)) r n
-      → after_reply scripts worker x r received ≡ x → IsTrue (may_repeat (wants scripts fd x) r)
+      → HasKnown scripts m x known → StepsTo m (event.Call server (next_call scripts fd x)) r n
+      → after_reply scripts worker x r received ≡ x → IsTrue (may_repeat (next_call scripts fd x) r)
 
 abbrev pub ClientsAreOfferedTheResponse : Type 0
 ClientsAreOfferedTheResponse = (scripts : Bool) → ClientOffersTheResponse scripts

@@ -79,7 +79,7 @@ is_silent d = is_read d
 
 -- the run is to begin, with the text that was read
 pub record IsToRun (x : Client) (text : List ℕ) (o : Progress) : Type 0 where
-  pub kept : x.script ≡ text
+  pub buffered : x.script ≡ text
   pub fresh : o ≡ nothing_yet
 
 -- all of the response was taken, or it was aborted
@@ -113,7 +113,7 @@ pub record HasNoRun (scripts : Bool) (m : State) (w : Wanted) (x : Client) (text
 pub record IsRun (m : State) (w : Wanted) (y : Running) (script text : List ℕ) (o : Progress) : Type 0 where
   pub answers : IsFalse w.head_only
   pub has : HasRun (job_of w text) m w o y
-  pub kept : IsTrue (keeps_text y) → script ≡ text
+  pub buffered : IsTrue (keeps_text y) → script ≡ text
 
 abbrev pub RunsIn : (scripts : Bool) → State → Wanted → Client → (text : List ℕ) → Progress → Option Running → Type 0
 RunsIn scripts m w x text o None = HasNoRun scripts m w x text o
@@ -127,9 +127,9 @@ HasScript scripts m x (refuse status head_only close) text o = ⊥
 pub record HasFile (m : State) (x : Client) (o : Outcome) : Type 0 where
   pub none : x.run ≡ None
   pub unread : IsFalse (is_read x.conn.phase)
-  pub has : Has m x.conn.q (response x.conn.q o) x.conn.phase
+  pub has : Has m x.conn.request (response x.conn.request o) x.conn.phase
 
 -- The machine has what the response needs, with the known results.
 abbrev pub HasKnown : (scripts : Bool) → State → Client → Known → Type 0
 HasKnown scripts m x (OfFile o) = HasFile m x o
-HasKnown scripts m x (OfScript text o) = HasScript scripts m x x.conn.q text o
+HasKnown scripts m x (OfScript text o) = HasScript scripts m x x.conn.request text o

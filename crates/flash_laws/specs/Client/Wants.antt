@@ -19,7 +19,7 @@ abbrev pub ClientReceives : (scripts : Bool) → Client → Reply → (received 
 ClientReceives scripts x r received = by x.run
   where
     by : Option Running → Type 0
-    by None = Receives (is_for_script scripts x.conn.q) x.conn.phase r received
+    by None = Receives (is_for_script scripts x.conn.request) x.conn.phase r received
     by (Some y) = ⊥
 
 -- whether its next call has bytes of its own

@@ -16,7 +16,7 @@ use Rattle.iol_laws.specs.Caller.{readable_at}
 use Rattle.iol_laws.specs.Frame.{touches_fd, touches_conn, touches_pipe, changes_files, admits_to}
 use Rattle.iol_laws.specs.Order.{IsOrderly}
 use Rattle.flash_laws.specs.Answers.{Outcome}
-use Rattle.flash_laws.specs.Conn.{Conn, uses_agg, uses_fd, wants, after_reply}
+use Rattle.flash_laws.specs.Conn.{Conn, uses_agg, uses_fd, next_call, after_reply}
 use Rattle.flash_laws.specs.declared.phase.Phase.{Phase}
 use Rattle.flash_laws.specs.Conn.OfferedBytes.{HasAnswer}
 use Rattle.flash_laws.specs.Site.{server}
@@ -36,23 +36,23 @@ pub record KeepsNothing : Type 0 where
   -- an aggregate returned by a call for a connection is used by it
   pub brought : (m n : State) (fd c : ℕ) (x : Conn) (o : Outcome) (r : Reply) (received bytes : List ℕ) (a : ℕ)
       → IsOrderly m → HasAccess m → IsTrue (is_live m server) → descriptor m server fd ≡ Some (on.Connection c)
-      → HasAnswer m x o → StepsTo m (event.Call server (wants fd x)) r n
+      → HasAnswer m x o → StepsTo m (event.Call server (next_call fd x)) r n
       → readable_at m server a ≡ None → readable_at n server a ≡ Some bytes
       → IsTrue (uses_agg (after_reply x r received).phase a)
   -- the same for a descriptor
   pub opened : (m n : State) (fd f : ℕ) (x : Conn) (received : List ℕ)
-      → StepsTo m (event.Call server (wants fd x)) (reply.Fd f) n
+      → StepsTo m (event.Call server (next_call fd x)) (reply.Fd f) n
       → IsTrue (uses_fd (after_reply x (reply.Fd f) received).phase f)
   -- an aggregate that it no longer uses is gone
   pub left : (m n : State) (fd : ℕ) (x : Conn) (r : Reply) (received : List ℕ) (a : ℕ) → IsOrderly m
-      → StepsTo m (event.Call server (wants fd x)) r n
+      → StepsTo m (event.Call server (next_call fd x)) r n
       → IsTrue (uses_agg x.phase a) → IsFalse (uses_agg (after_reply x r received).phase a)
       → readable_at n server a ≡ None
   -- the same for the descriptor of a file
   pub shut : (m n : State) (fd : ℕ) (x : Conn) (r : Reply) (received : List ℕ) (g : ℕ)
-      → StepsTo m (event.Call server (wants fd x)) r n
+      → StepsTo m (event.Call server (next_call fd x)) r n
       → IsTrue (uses_fd x.phase g) → IsFalse (uses_fd (after_reply x r received).phase g) → descriptor n server g ≡ None
   -- its calls touch only what it has, including the last, which closes it
   pub alone : (m : State) (fd c : ℕ) (x : Conn) (o : Outcome) → descriptor m server fd ≡ Some (on.Connection c)
       → HasAnswer m x o
-      → TouchesItsOwn m fd c x.phase (wants fd x)
+      → TouchesItsOwn m fd c x.phase (next_call fd x)

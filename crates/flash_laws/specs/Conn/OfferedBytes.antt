@@ -24,7 +24,7 @@ use Rattle.iol_laws.specs.Order.{IsOrderly}
 use Rattle.iol_laws.specs.Reasons.{IsHidden}
 use Rattle.flash_http.specs.Request.{Answer, serve, refuse}
 use Rattle.flash_laws.specs.Answers.{Outcome, Found, Failed, error_text, response}
-use Rattle.flash_laws.specs.Conn.{Conn, uses_agg, uses_fd, wants, begins, status_of, after_reply}
+use Rattle.flash_laws.specs.Conn.{Conn, uses_agg, uses_fd, next_call, begins, status_of, after_reply}
 use Rattle.flash_laws.specs.declared.phase.Phase.{Phase}
 use Rattle.flash_laws.specs.declared.phase.Phase.TheVariants.{Receiving, Opening, Reading, SendingWhole, CuttingPiece}
 use Rattle.flash_laws.specs.declared.phase.Phase.TheVariants.{SendingPiece, DroppingPiece, DroppingSent}
@@ -36,7 +36,7 @@ use Rattle.flash_laws.specs.Site.{server}
 
 -- the machine has what the response with this outcome needs; before an outcome is known it needs nothing
 abbrev pub HasAnswer : State → Conn → Outcome → Type 0
-HasAnswer m x o = Has m x.q (response x.q o) x.phase
+HasAnswer m x o = Has m x.request (response x.request o) x.phase
 
 -- the first call for a request opens the file of its name; a refused request needs none
 abbrev pub FirstCall : Answer → Call → Type 0
@@ -88,16 +88,16 @@ may_repeat k r = false
 
 pub record OffersTheResponse : Type 0 where
   -- when a request begins, nothing is needed
-  pub starts : (m : State) (fd : ℕ) (kept : List ℕ) (q : Answer) (o : Outcome)
-      → FirstCall q (wants fd (record { kept = kept; q = q; phase = begins q }))
-      × HasAnswer m (record { kept = kept; q = q; phase = begins q }) o
+  pub starts : (m : State) (fd : ℕ) (buffered : List ℕ) (q : Answer) (o : Outcome)
+      → FirstCall q (next_call fd (record { buffered = buffered; request = q; phase = begins q }))
+      × HasAnswer m (record { buffered = buffered; request = q; phase = begins q }) o
   -- after the reply to its call the outcome is the result of the call, or unchanged, and the machine has the data for
   -- the next step
   pub replied : (m n : State) (fd c : ℕ) (x : Conn) (r : Reply) (received : List ℕ) (before : Outcome)
       → IsOrderly m → HasAccess m
       → IsTrue (is_live m server) → descriptor m server fd ≡ Some (on.Connection c)
       → IsFalse (is_closing x.phase)
-      → HasAnswer m x before → StepsTo m (event.Call server (wants fd x)) r n → Names n r received
+      → HasAnswer m x before → StepsTo m (event.Call server (next_call fd x)) r n → Names n r received
       → (after : Outcome) × Learns x.phase r received before after × HasAnswer n (after_reply x r received) after
   -- the same for any other event that neither consumes nor moves what the connection uses
   pub stays : (m n : State) (x : Conn) (e : Event) (r : Reply) (o : Outcome) → StepsTo m e r n
@@ -106,41 +106,42 @@ pub record OffersTheResponse : Type 0 where
       → HasAnswer n x o
   -- the bytes offered to the connection are the next ones
   pub offers : (m : State) (fd a : ℕ) (x : Conn) (o : Outcome) → HasAnswer m x o
-      → wants fd x ≡ call.IolWrite fd a
-      → IsNextOf m x.q o a (taken_of x.phase)
+      → next_call fd x ≡ call.IolWrite fd a
+      → IsNextOf m x.request o a (taken_of x.phase)
   -- the bytes that the connection took count as taken, while the response is neither over nor aborted
   pub takes : (m n : State) (fd c : ℕ) (x : Conn) (r : Reply) (received : List ℕ) (o : Outcome) → IsOrderly m
       → descriptor m server fd ≡ Some (on.Connection c) → HasAnswer m x o
-      → StepsTo m (event.Call server (wants fd x)) r n
+      → StepsTo m (event.Call server (next_call fd x)) r n
       → IsFalse (is_dropping x.phase) → IsFalse (is_dropping (after_reply x r received).phase)
       → IsTrue (is_busy (after_reply x r received).phase)
-      → taken_of (after_reply x r received).phase ≡ taken_of x.phase + newly_taken fd (wants fd x) r
+      → taken_of (after_reply x r received).phase ≡ taken_of x.phase + newly_taken fd (next_call fd x) r
   -- after it is sent all of it is taken
   pub whole : (m : State) (x : Conn) (o : Outcome) (a taken : ℕ) → x.phase ≡ DroppingSent a taken None → HasAnswer m x o
-      → drop taken (response x.q o) ≡ []
+      → drop taken (response x.request o) ≡ []
   -- it is aborted only if its peer is gone
   pub breaks : (m n : State) (fd c : ℕ) (x : Conn) (r : Reply) (received : List ℕ) (o : Outcome)
       → descriptor m server fd ≡ Some (on.Connection c) → IsTrue (is_busy x.phase) → HasAnswer m x o
-      → StepsTo m (event.Call server (wants fd x)) r n → IsFalse (is_dropping x.phase)
+      → StepsTo m (event.Call server (next_call fd x)) r n → IsFalse (is_dropping x.phase)
       → IsTrue (is_dropping (after_reply x r received).phase) → IsTrue (is_gone (conn_at m c).peer)
   -- a connection that is to be closed is closed by its next call, and then over
   pub closes : (m n : State) (fd c : ℕ) (x : Conn) (r : Reply) (received : List ℕ) → IsOrderly m
       → IsTrue (is_live m server)
       → descriptor m server fd ≡ Some (on.Connection c) → x.phase ≡ Disconnecting
-      → StepsTo m (event.Call server (wants fd x)) r n
+      → StepsTo m (event.Call server (next_call fd x)) r n
       → (r ≡ reply.Done) × ((after_reply x r received).phase ≡ Closed) × IsTrue (conn_at n c).closed
   -- each reply reduces the rank of a request, unless its call is retried later
   pub rank : Conn → Rank
   pub nears : (m n : State) (fd c : ℕ) (x : Conn) (r : Reply) (received : List ℕ) (o : Outcome) → IsOrderly m
       → IsTrue (is_live m server) → descriptor m server fd ≡ Some (on.Connection c) → IsTrue (is_busy x.phase)
-      → HasAnswer m x o → CanMake m (wants fd x) → StepsTo m (event.Call server (wants fd x)) r n → Names n r received
+      → HasAnswer m x o → CanMake m (next_call fd x) → StepsTo m (event.Call server (next_call fd x)) r n
+      → Names n r received
       → Nears rank x r (after_reply x r received)
   -- a connection that reads the stream retries only later, or if the bytes are not for the server
   pub reads : (m n : State) (fd c : ℕ) (x : Conn) (r : Reply) (received : List ℕ) → IsTrue (is_live m server)
       → descriptor m server fd ≡ Some (on.Connection c) → x.phase ≡ Receiving
-      → StepsTo m (event.Call server (wants fd x)) r n → after_reply x r received ≡ x
+      → StepsTo m (event.Call server (next_call fd x)) r n → after_reply x r received ≡ x
       → IsTrue (is_later r) ⊎ ((p : ℕ) × IsHidden m server p (conn_at m c).incoming)
   -- a successful call is not repeated
   pub moves : (m n : State) (fd : ℕ) (x : Conn) (r : Reply) (received : List ℕ) → IsFalse (is_closing x.phase)
-      → StepsTo m (event.Call server (wants fd x)) r n → after_reply x r received ≡ x
-      → IsTrue (may_repeat (wants fd x) r)
+      → StepsTo m (event.Call server (next_call fd x)) r n → after_reply x r received ≡ x
+      → IsTrue (may_repeat (next_call fd x) r)

@@ -34,7 +34,7 @@ abbrev pub is_bare : Conn → Bool
 is_bare x = by x.phase
   where
     by : Phase → Bool
-    by Receiving = length x.kept == 0
+    by Receiving = length x.buffered == 0
     by d = false
 
 -- whether its response is taken whole, and more input is buffered, in which the next request may begin
@@ -42,7 +42,7 @@ abbrev pub has_answered : Conn → Bool
 has_answered x = by x.phase
   where
     by : Phase → Bool
-    by (DroppingSent a taken None) = not (length x.kept == 0)
+    by (DroppingSent a taken None) = not (length x.buffered == 0)
     by d = false
 
 -- whether its turn passes to the next: its call is to be retried later, its response is taken whole and more input is

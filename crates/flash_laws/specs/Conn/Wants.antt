@@ -27,7 +27,7 @@ abbrev pub needs_memory : Conn → Bool
 needs_memory x = by x.phase
   where
     by : Phase → Bool
-    by Receiving = can_begin (window_in x.kept)
+    by Receiving = can_begin (window_in x.buffered)
     by d = has_bytes d
 
 -- it was reading, and a byte arrived

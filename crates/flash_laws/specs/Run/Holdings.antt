@@ -18,7 +18,7 @@ use Rattle.iol_laws.specs.Frame.{touches_conn, touches_pipe, touches_fd, changes
 use Rattle.iol_laws.specs.Order.{IsOrderly}
 use Rattle.flash_http.specs.Request.{Wanted}
 use Rattle.flash_laws.specs.Run.Fits.{Progress, HasRun}
-use Rattle.flash_laws.specs.Run.{job_pipe, uses_agg, ends_of, wants, after_reply, is_over}
+use Rattle.flash_laws.specs.Run.{job_pipe, uses_agg, ends_of, next_call, after_reply, is_over}
 use Rattle.flash_laws.specs.Site.{server}
 use Rattle.flash_laws.specs.declared.script_run.Step.TheVariants.{WritingJob, ClosingPipe}
 use Rattle.flash_laws.specs.declared.script_run.Running.{Running}
@@ -68,30 +68,30 @@ pub record RunKeepsNothing (job : ℕ → List ℕ) : Type 0 where
   pub brought : (m n : State) (fd c worker : ℕ) (w : Wanted) (x : Running) (o : Progress) (r : Reply)
       (received bytes : List ℕ) (a : ℕ)
       → IsOrderly m → descriptor m server fd ≡ Some (on.Connection c) → IsFalse (is_over x) → HasRun job m w o x
-      → StepsTo m (event.Call server (wants job fd w x)) r n
+      → StepsTo m (event.Call server (next_call job fd w x)) r n
       → readable_at m server a ≡ None → readable_at n server a ≡ Some bytes
       → IsTrue (uses_agg (after_reply worker w x r received) a)
   -- both ends of a pipe returned by a call for it belong to it
   pub opened : (m n : State) (fd worker : ℕ) (w : Wanted) (x : Running) (o : Progress) (from write : ℕ)
       (received : List ℕ) (g : ℕ)
       → IsFalse (is_over x) → HasRun job m w o x
-      → StepsTo m (event.Call server (wants job fd w x)) (reply.Fds from write) n
+      → StepsTo m (event.Call server (next_call job fd w x)) (reply.Fds from write) n
       → IsTrue ((from == g) || (write == g))
       → IsTrue (has_end (after_reply worker w x (reply.Fds from write) received) g)
   -- an aggregate that it no longer uses is gone
   pub left : (m n : State) (fd worker : ℕ) (w : Wanted) (x : Running) (o : Progress) (r : Reply) (received : List ℕ)
       (a : ℕ)
-      → IsOrderly m → HasRun job m w o x → StepsTo m (event.Call server (wants job fd w x)) r n
+      → IsOrderly m → HasRun job m w o x → StepsTo m (event.Call server (next_call job fd w x)) r n
       → IsTrue (uses_agg x a) → IsFalse (uses_agg (after_reply worker w x r received) a) → readable_at n server a ≡ None
   -- the same for an end of its pipe, which is closed, or given to the worker
   pub shut : (m n : State) (fd worker : ℕ) (w : Wanted) (x : Running) (o : Progress) (r : Reply) (received : List ℕ)
       (g : ℕ)
-      → HasRun job m w o x → StepsTo m (event.Call server (wants job fd w x)) r n
+      → HasRun job m w o x → StepsTo m (event.Call server (next_call job fd w x)) r n
       → IsTrue (has_end x g) → IsFalse (has_end (after_reply worker w x r received) g) → descriptor n server g ≡ None
   -- its calls touch only what it has
   pub alone : (m : State) (fd c : ℕ) (w : Wanted) (x : Running) (o : Progress)
       → descriptor m server fd ≡ Some (on.Connection c)
-      → IsFalse (is_over x) → HasRun job m w o x → KeepsToItself m fd c x (wants job fd w x)
+      → IsFalse (is_over x) → HasRun job m w o x → KeepsToItself m fd c x (next_call job fd w x)
 
 abbrev pub RunsKeepNothing : Type 0
 RunsKeepNothing = (job : ℕ → List ℕ) → RunKeepsNothing job

@@ -24,7 +24,7 @@ use Rattle.flash_laws.specs.Conn.Fits.{Names}
 use Rattle.flash_laws.specs.Conn.Progress.{Rank, Nears, CanMake}
 use Rattle.flash_laws.specs.Conn.OfferedBytes.{taken_of, newly_taken, is_dropping, may_repeat}
 use Rattle.flash_laws.specs.Run.Fits.{Progress, Ran, Broken, NotRun, nothing_yet, MayAnswer, HasRun, HasJobPipe}
-use Rattle.flash_laws.specs.Run.{uses_agg, uses_fd, worker_domain, job_pipe, held_size, wants, after_reply, is_over}
+use Rattle.flash_laws.specs.Run.{uses_agg, uses_fd, worker_domain, job_pipe, held_size, next_call, after_reply, is_over}
 use Rattle.flash_laws.specs.Site.{server}
 use Rattle.flash_laws.specs.declared.phase.Phase.{Phase}
 use Rattle.flash_laws.specs.declared.phase.Phase.TheVariants as phase
@@ -183,7 +183,7 @@ pub record RunOffersTheResponse (job : ℕ → List ℕ) : Type 0 where
       (before : Progress)
       → IsOrderly m → descriptor m server fd ≡ Some (on.Connection c) → (x ≡ AwaitingWorker → HasJobPipe m worker)
       → IsFalse (is_over x) → HasRun job m w before x
-      → StepsTo m (event.Call server (wants job fd w x)) r n → Names n r received
+      → StepsTo m (event.Call server (next_call job fd w x)) r n → Names n r received
       → (after : Progress) × Learns m x r received before after
       × HasRun job n w after (after_reply worker w x r received)
   -- the same for any other event that neither consumes nor moves what the run uses
@@ -194,37 +194,37 @@ pub record RunOffersTheResponse (job : ℕ → List ℕ) : Type 0 where
   -- the bytes offered to the connection are the next ones
   pub offers : (m : State) (fd c a : ℕ) (w : Wanted) (x : Running) (o : Progress)
       → descriptor m server fd ≡ Some (on.Connection c) → HasRun job m w o x
-      → wants job fd w x ≡ call.IolWrite fd a → IsNextOf m w o a (taken_by x)
+      → next_call job fd w x ≡ call.IolWrite fd a → IsNextOf m w o a (taken_by x)
   -- after it is aborted no bytes are offered
   pub silent : (m : State) (fd a : ℕ) (w : Wanted) (x : Running) → HasRun job m w Broken x
-      → wants job fd w x ≢ call.IolWrite fd a
+      → next_call job fd w x ≢ call.IolWrite fd a
   -- the bytes that the connection took count as taken, while the response is not aborted
   pub takes : (m n : State) (fd c worker : ℕ) (w : Wanted) (x : Running) (r : Reply) (received : List ℕ)
       (before after : Progress)
       → IsOrderly m → descriptor m server fd ≡ Some (on.Connection c) → IsFalse (is_over x) → HasRun job m w before x
-      → StepsTo m (event.Call server (wants job fd w x)) r n → Learns m x r received before after
+      → StepsTo m (event.Call server (next_call job fd w x)) r n → Learns m x r received before after
       → IsFalse (breaks_off x) → IsFalse (breaks_off (after_reply worker w x r received))
       → past_of after + taken_by (after_reply worker w x r received) ≡ past_of before + taken_by x + newly_taken fd
-      (wants job fd w x) r
+      (next_call job fd w x) r
   -- it is aborted only if the peer is gone, or the server may not read the output
   pub breaks : (m n : State) (fd c worker : ℕ) (w : Wanted) (x : Running) (r : Reply) (received : List ℕ) (o : Progress)
       → descriptor m server fd ≡ Some (on.Connection c) → IsFalse (is_over x) → HasRun job m w o x
-      → StepsTo m (event.Call server (wants job fd w x)) r n
+      → StepsTo m (event.Call server (next_call job fd w x)) r n
       → IsFalse (breaks_off x) → IsTrue (breaks_off (after_reply worker w x r received)) → IsCutOff m c x
   -- a script is given up only if its worker's domain has ended, or its job pipe has no reader
   pub fails : (m n : State) (fd worker : ℕ) (w : Wanted) (x : Running) (r : Reply) (received : List ℕ) (o : Progress)
-      → IsTrue (is_live m server) → HasRun job m w o x → StepsTo m (event.Call server (wants job fd w x)) r n
+      → IsTrue (is_live m server) → HasRun job m w o x → StepsTo m (event.Call server (next_call job fd w x)) r n
       → IsFalse (is_failing x) → IsTrue (is_failing (after_reply worker w x r received)) → IsLost m x
   -- each reply reduces the rank, unless more of the output was read, or the call is retried later
   pub rank : Wanted → Running → Rank
   pub nears : (m n : State) (fd c worker : ℕ) (w : Wanted) (x : Running) (r : Reply) (received : List ℕ) (o : Progress)
       → IsOrderly m → IsTrue (is_live m server) → descriptor m server fd ≡ Some (on.Connection c) → IsFalse (is_over x)
-      → HasRun job m w o x → CanMake m (wants job fd w x) → StepsTo m (event.Call server (wants job fd w x)) r n
+      → HasRun job m w o x → CanMake m (next_call job fd w x) → StepsTo m (event.Call server (next_call job fd w x)) r n
       → Names n r received → Nears (rank w) x r (after_reply worker w x r received) ⊎ ReceivesMore x r received
   -- a successful call is not repeated
   pub moves : (m n : State) (fd worker : ℕ) (w : Wanted) (x : Running) (r : Reply) (received : List ℕ) (o : Progress)
-      → IsFalse (is_over x) → HasRun job m w o x → StepsTo m (event.Call server (wants job fd w x)) r n
-      → after_reply worker w x r received ≡ x → IsTrue (may_repeat (wants job fd w x) r)
+      → IsFalse (is_over x) → HasRun job m w o x → StepsTo m (event.Call server (next_call job fd w x)) r n
+      → after_reply worker w x r received ≡ x → IsTrue (may_repeat (next_call job fd w x) r)
   -- no output is read while the bytes of a whole chunk are buffered
   pub reads : (m : State) (w : Wanted) (o : Progress) (run : Run) (held : Option (ℕ × ℕ)) (frame : Option ℕ)
       → HasRun job m w o (InProgress run (ReadingOutput held frame)) → held_size held < CHUNK_BYTES
@@ -233,7 +233,7 @@ pub record RunOffersTheResponse (job : ℕ → List ℕ) : Type 0 where
   pub receives : (m n : State) (fd : ℕ) (w : Wanted) (o : Progress) (run : Run) (held : Option (ℕ × ℕ))
       (frame : Option ℕ) (r : Reply)
       → IsOrderly m → HasRun job m w o (InProgress run (ReadingOutput held frame))
-      → StepsTo m (event.Call server (wants job fd w (InProgress run (ReadingOutput held frame)))) r n
+      → StepsTo m (event.Call server (next_call job fd w (InProgress run (ReadingOutput held frame)))) r n
       → (p : ℕ) × (descriptor m server run.from ≡ Some (on.ReadEnd p))
       × ReadsPipe m server p (CHUNK_BYTES - held_size held) r n
   -- it reads until the end of the output, or until it may not read, also after the response is aborted
@@ -241,7 +241,7 @@ pub record RunOffersTheResponse (job : ℕ → List ℕ) : Type 0 where
       → IsTrue (is_stopping (after_reply worker w x r received)) → StopsBy x r received
   -- a run begins with a new pipe, which is empty, and with its worker
   pub opens : (m n : State) (fd worker : ℕ) (w : Wanted) (from write : ℕ) (received : List ℕ)
-      → StepsTo m (event.Call server (wants job fd w AwaitingWorker)) (reply.Fds from write) n
+      → StepsTo m (event.Call server (next_call job fd w AwaitingWorker)) (reply.Fds from write) n
       → (after_reply worker w AwaitingWorker (reply.Fds from write) received
       ≡ InProgress (record { worker = worker; from = from; broken = false }) (GivingPipe write))
       × ((p : ℕ) × (pipe_at n p ≡ new_pipe) × (descriptor n server from ≡ Some (on.ReadEnd p))
@@ -249,14 +249,14 @@ pub record RunOffersTheResponse (job : ℕ → List ℕ) : Type 0 where
   -- the worker gets the write end of the pipe that the server reads, and the job names its descriptor of it
   pub gives : (m n : State) (fd worker : ℕ) (w : Wanted) (o : Progress) (run : Run) (write f : ℕ) (received : List ℕ)
       → HasRun job m w o (InProgress run (GivingPipe write))
-      → StepsTo m (event.Call server (wants job fd w (InProgress run (GivingPipe write)))) (reply.Fd f) n
+      → StepsTo m (event.Call server (next_call job fd w (InProgress run (GivingPipe write)))) (reply.Fd f) n
       → (after_reply worker w (InProgress run (GivingPipe write)) (reply.Fd f) received ≡ InProgress run (MakingJob f))
       × ((p : ℕ) × (descriptor n server run.from ≡ Some (on.ReadEnd p))
       × (descriptor n (worker_domain run.worker) f ≡ Some (on.WriteEnd p)))
   -- the job is appended to that worker's job pipe, as much of it as fits
   pub hands : (m n : State) (fd : ℕ) (w : Wanted) (o : Progress) (run : Run) (j f : ℕ) (r : Reply) → IsOrderly m
       → HasRun job m w o (InProgress run (WritingJob j f))
-      → StepsTo m (event.Call server (wants job fd w (InProgress run (WritingJob j f)))) r n
+      → StepsTo m (event.Call server (next_call job fd w (InProgress run (WritingJob j f)))) r n
       → (p : ℕ) × (descriptor m server (job_pipe run.worker) ≡ Some (on.WriteEnd p)) × WritesPipe m p (job f) r n
   -- nothing of the response is made or sent before that
   pub in_turn : (worker : ℕ) (w : Wanted) (x : Running) (r : Reply) (received : List ℕ)

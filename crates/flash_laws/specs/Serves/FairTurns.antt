@@ -66,7 +66,7 @@ pub record BeginsAt (fd : ℕ) (s : Server) : Type 0 where
   pub client : Client
   pub turn : s.pending_call ≡ At fd
   pub there : in_place s.clients fd ≡ Some client
-  pub begins : client.conn.phase ≡ begins client.conn.q
+  pub begins : client.conn.phase ≡ begins client.conn.request
   pub no_script : client.run ≡ None
 
 -- From the turn with whose reply a response is taken whole, to the turn in which the same client begins a request, each

@@ -10,7 +10,7 @@ use Rattle.iol_core.specs.declared.events.Event.TheVariants as event
 use Rattle.iol_core.specs.declared.events.Reply.{Reply}
 use Rattle.iol_core.specs.declared.events.Reply.TheVariants as reply
 use Rattle.iol_proc.specs.Quiescence.{Claim}
-use Rattle.flash_laws.specs.Client.{Client, wants, IsAwaiting}
+use Rattle.flash_laws.specs.Client.{Client, next_call, IsAwaiting}
 use Rattle.flash_laws.specs.Site.Places.{has_free, may_go, runs_scripts}
 use Rattle.flash_laws.specs.declared.phase.PendingCall.{PendingCall}
 use Rattle.flash_laws.specs.declared.phase.PendingCall.TheVariants.{Nothing, Accepting, At}
@@ -25,7 +25,7 @@ WouldWait m by k = StepsTo m (event.Call by k) (reply.Refused no.WouldBlock) m
 -- a client has no request that could begin, and waits for a worker while all are busy, or its call would block
 abbrev pub Blocks : State → (by workers : ℕ) → List (Option Client) → (place : ℕ) → Client → Type 0
 Blocks m by workers clients place x = IsAwaiting x
-    × (IsFalse (may_go (has_free workers clients) x) ⊎ WouldWait m by (wants (runs_scripts workers) place x))
+    × (IsFalse (may_go (has_free workers clients) x) ⊎ WouldWait m by (next_call (runs_scripts workers) place x))
 
 -- the same for the client at an index, if there is one
 abbrev pub BlocksAt : State → (by workers : ℕ) → List (Option Client) → (place : ℕ) → Type 0

@@ -13,10 +13,11 @@ use Rattle.flash_laws.specs.Conn.Policy.{most_conns}
 use Rattle.flash_laws.specs.SiteContents.{SiteContents, MayBeExpected, Responds}
 use Rattle.flash_laws.specs.Site.{server}
 
--- The server has the maximum number of connections: that many are kept, and each of these is open.
-pub record IsFull {A : Type 0} (m : State) (kept : List (Option A)) : Type 0 where
-  pub most : IsFalse (nat_lt (taken kept) most_conns)
-  pub each : (fd : ℕ) (x : A) → in_place kept fd ≡ Some x → (c : ℕ) × (descriptor m server fd ≡ Some (on.Connection c))
+-- The server has the maximum number of connections: that many are in the list, and each of these is open.
+pub record IsFull {A : Type 0} (m : State) (clients : List (Option A)) : Type 0 where
+  pub most : IsFalse (nat_lt (taken clients) most_conns)
+  pub each : (fd : ℕ) (x : A) → in_place clients fd ≡ Some x
+      → (c : ℕ) × (descriptor m server fd ≡ Some (on.Connection c))
 
 -- No input of the stream asks for the connection to be closed: after each of its requests it stays open, and there is
 -- no further request (RFC 9112, section 9.3).

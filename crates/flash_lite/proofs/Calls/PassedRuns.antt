@@ -104,8 +104,8 @@ run_passes (e ∷ es) (r ∷ rs) slots s t same plain run none =
     let stays : (meaning s e).after.slots ≡ s.slots = plain_slots s e plain.0 in
     let mid : run.0 ≡ over s.slots (meaning s e).after =
     one.after ∙ ap (λ (x : List (List ℕ)). over x (meaning s e).after) stays in
-    let kept : run.0.slots ≡ slots = ap (λ (m : State). m.slots) one.after ∙ (stays ∙ same) in
-    let rest = run_passes es rs slots run.0 t kept plain.1 run.2 one.rest in
+    let buffered : run.0.slots ≡ slots = ap (λ (m : State). m.slots) one.after ∙ (stays ∙ same) in
+    let rest = run_passes es rs slots run.0 t buffered plain.1 run.2 one.rest in
     (s.slots, same, one.unrefused, subst (λ (m : State). Passes (λ x. x ≡ slots) m es t) mid rest)
 
 -- ---- lists of plain events

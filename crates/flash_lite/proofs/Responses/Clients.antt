@@ -12,9 +12,9 @@ use Rattle.iol_core.specs.declared.events.Reply.{Reply}
 use Rattle.iol_core.specs.declared.events.Reply.TheVariants as reply
 use Rattle.flash_http.specs.Request.{Answer}
 use Rattle.flash_http.specs.Window.{window_in}
-use Rattle.flash_laws.specs.Client.{Client, Readies, has_answered, is_bare, can_run, kept_if, conn_wants}
+use Rattle.flash_laws.specs.Client.{Client, Readies, has_answered, is_bare, can_run, buffered_if, conn_call}
 use Rattle.flash_laws.specs.Client.{conn_after_reply, file_after_reply, after_drop_whole, is_for_script, left_over}
-use Rattle.flash_laws.specs.Client.{wants, awaits}
+use Rattle.flash_laws.specs.Client.{next_call, awaits}
 use Rattle.flash_laws.specs.Client.Wants.{Receives, ClientReceives, needs_memory, WantsOn}
 use Rattle.flash_laws.specs.Conn as conn
 use Rattle.flash_laws.specs.Conn.{Conn, is_head_only}
@@ -42,7 +42,7 @@ use Rattle.flash_lite.specs.declared.conn.Onward.TheVariants as going
 use Rattle.flash_lite.specs.declared.client.scripts.Found.TheVariants as reports
 
 abbrev at : List ℕ → Answer → Phase → Conn
-at kept q d = record { kept = kept; q = q; phase = d }
+at buffered q d = record { buffered = buffered; request = q; phase = d }
 
 -- for it no script runs
 abbrev pub plain : Conn → List ℕ → Client
@@ -50,39 +50,41 @@ plain c script = record { conn = c; run = None; script = script }
 
 -- ---- its call
 
-wants-whole : (script : Bool) (fd : ℕ) (kept : List ℕ) (q : Answer) (d : Phase)
-    → whole script d (conn.wants fd (at kept q d)) ≡ conn_wants script fd (at kept q d)
-wants-whole false fd kept q d = refl
-wants-whole true fd kept q Receiving = refl
-wants-whole true fd kept q (DroppingInput a) = refl
-wants-whole true fd kept q Opening = refl
-wants-whole true fd kept q (Reading f) = refl
-wants-whole true fd kept q (ClosingFile f k) = refl
-wants-whole true fd kept q (Slicing a from to len) = refl
-wants-whole true fd kept q (DroppingWhole a k) = refl
-wants-whole true fd kept q (MakingHead k) = refl
-wants-whole true fd kept q (Joining a size body len) = refl
-wants-whole true fd kept q (SendingWhole s) = refl
-wants-whole true fd kept q (CuttingPiece s) = refl
-wants-whole true fd kept q (SendingPiece s piece) = refl
-wants-whole true fd kept q (DroppingPiece s piece) = refl
-wants-whole true fd kept q (DroppingSent a taken more) = refl
-wants-whole true fd kept q (AbortingPiece piece a more) = refl
-wants-whole true fd kept q (Aborting a more) = refl
-wants-whole true fd kept q Disconnecting = refl
-wants-whole true fd kept q Closed = refl
+call-whole : (script : Bool) (fd : ℕ) (buffered : List ℕ) (q : Answer) (d : Phase)
+    → whole script d (conn.next_call fd (at buffered q d)) ≡ conn_call script fd (at buffered q d)
+call-whole false fd buffered q d = refl
+call-whole true fd buffered q Receiving = refl
+call-whole true fd buffered q (DroppingInput a) = refl
+call-whole true fd buffered q Opening = refl
+call-whole true fd buffered q (Reading f) = refl
+call-whole true fd buffered q (ClosingFile f k) = refl
+call-whole true fd buffered q (Slicing a from to len) = refl
+call-whole true fd buffered q (DroppingWhole a k) = refl
+call-whole true fd buffered q (MakingHead k) = refl
+call-whole true fd buffered q (Joining a size body len) = refl
+call-whole true fd buffered q (SendingWhole s) = refl
+call-whole true fd buffered q (CuttingPiece s) = refl
+call-whole true fd buffered q (SendingPiece s piece) = refl
+call-whole true fd buffered q (DroppingPiece s piece) = refl
+call-whole true fd buffered q (DroppingSent a taken more) = refl
+call-whole true fd buffered q (AbortingPiece piece a more) = refl
+call-whole true fd buffered q (Aborting a more) = refl
+call-whole true fd buffered q Disconnecting = refl
+call-whole true fd buffered q Closed = refl
 
-pub whole_wants : (script : Bool) (fd : ℕ) (x : Conn) → whole script x.phase (conn.wants fd x) ≡ conn_wants script fd x
-whole_wants script fd x = wants-whole script fd x.kept x.q x.phase
+pub whole_call : (script : Bool) (fd : ℕ) (x : Conn)
+    → whole script x.phase (conn.next_call fd x) ≡ conn_call script fd x
+whole_call script fd x = call-whole script fd x.buffered x.request x.phase
 
-wants-plain-of : (scripts : Bool) (fd : ℕ) (c : Conn) (run : Option Running) (script : List ℕ) → run ≡ None
-    → conn_wants (is_for_script scripts c.q) fd c ≡ wants scripts fd (record { conn = c; run = run; script = script })
-wants-plain-of scripts fd c None script none = refl
-wants-plain-of scripts fd c (Some y) script none = absurd (cc (none))
+call-plain-of : (scripts : Bool) (fd : ℕ) (c : Conn) (run : Option Running) (script : List ℕ) → run ≡ None
+    → conn_call (is_for_script scripts c.request) fd c
+    ≡ next_call scripts fd (record { conn = c; run = run; script = script })
+call-plain-of scripts fd c None script none = refl
+call-plain-of scripts fd c (Some y) script none = absurd (cc (none))
 
-wants-plain : (scripts : Bool) (fd : ℕ) (y : Client) → y.run ≡ None
-    → conn_wants (is_for_script scripts y.conn.q) fd y.conn ≡ wants scripts fd y
-wants-plain scripts fd y none = wants-plain-of scripts fd y.conn y.run y.script none
+call-plain : (scripts : Bool) (fd : ℕ) (y : Client) → y.run ≡ None
+    → conn_call (is_for_script scripts y.conn.request) fd y.conn ≡ next_call scripts fd y
+call-plain scripts fd y none = call-plain-of scripts fd y.conn y.run y.script none
 
 -- ---- where no script runs
 
@@ -112,14 +114,14 @@ asks-plain x k r received g = record {
 
 pub asks_alone : (scripts : Bool) (fd : ℕ) (x y : Client) (r : Reply) (received : List ℕ) (k : Call) → x.run ≡ None
     → onward.Proceeds x.conn r received y.conn
-    → y.run ≡ None → y.script ≡ x.script → k ≡ conn_wants (is_for_script scripts y.conn.q) fd y.conn
-    → Proceeds (conn_after_reply x r received) r y × (k ≡ wants scripts fd y)
+    → y.run ≡ None → y.script ≡ x.script → k ≡ conn_call (is_for_script scripts y.conn.request) fd y.conn
+    → Proceeds (conn_after_reply x r received) r y × (k ≡ next_call scripts fd y)
 asks_alone scripts fd x y r received k none g runs same is =
     let e : plain y.conn x.script ≡ y = ap (λ (l : List ℕ). plain y.conn l) (sym same)
     ∙ ap (λ (o : Option Running). record { conn = y.conn; run = o; script = y.script }) (sym runs) in (
       subst (λ (z : Client). Proceeds (conn_after_reply x r received) r z) e (asks-plain x y.conn r received g),
       is
-          ∙ ap (λ (z : Client). wants scripts fd z) e,
+          ∙ ap (λ (z : Client). next_call scripts fd z) e,
     )
 
 pub leaves_alone : (x y : Client) (k : Conn) (r : Reply) (received : List ℕ) (d : Phase) → x.run ≡ None
@@ -195,17 +197,17 @@ course_reply scripts fd t x r (Leaves Stays) y now c =
 
 -- it goes on with this, and no script runs for it
 pub goes_as : (scripts : Bool) (fd : ℕ) (t y : Client) (r : Reply) (k : Call) → Proceeds t r t → t.run ≡ None → y ≡ t
-    → k ≡ conn_wants (is_for_script scripts y.conn.q) fd y.conn → Proceeds t r y × (k ≡ wants scripts fd y)
+    → k ≡ conn_call (is_for_script scripts y.conn.request) fd y.conn → Proceeds t r y × (k ≡ next_call scripts fd y)
 goes_as scripts fd t y r k goes none is asks = (
   subst (λ (z : Client). Proceeds t r z) (sym is) goes,
   asks
-      ∙ wants-plain scripts fd y (ap (λ (z : Client). z.run) is ∙ none),
+      ∙ call-plain scripts fd y (ap (λ (z : Client). z.run) is ∙ none),
 )
 
 -- ---- a script is found
 
 abbrev of : List ℕ → Answer → Phase → Option Running → List ℕ → Client
-of kept q d run script = record { conn = at kept q d; run = run; script = script }
+of buffered q d run script = record { conn = at buffered q d; run = run; script = script }
 
 never : (b : Bool) (f n : ℕ) → (if b then reports.Runs else reports.AsFile) ≡ reports.Text f n → ⊥
 never true f n is = absurd (cc (is))
@@ -216,61 +218,65 @@ record IsText (b : Bool) (x : Client) (r : Reply) (received : List ℕ) (f n : �
   now : is_later r ≡ false
   receives : 0 < length received → Receives b x.conn.phase r received
 
-text-found : (b : Bool) (kept : List ℕ) (q : Answer) (d : Phase) (run : Option Running) (script : List ℕ) (r : Reply)
+text-found : (b : Bool) (buffered : List ℕ) (q : Answer) (d : Phase) (run : Option Running) (script : List ℕ)
+    (r : Reply)
     (received : List ℕ) (h : Bool) (f n : ℕ)
-    → found b d r h ≡ reports.Text f n → IsText b (of kept q d run script) r received f n
-text-found false kept q d run script r received h f n is = absurd (cc (is))
-text-found true kept q (Reading g) run script (reply.Agg m) received h f n is =
+    → found b d r h ≡ reports.Text f n → IsText b (of buffered q d run script) r received f n
+text-found false buffered q d run script r received h f n is = absurd (cc (is))
+text-found true buffered q (Reading g) run script (reply.Agg m) received h f n is =
     let eg : g ≡ f = cc in
     let em : m ≡ n = cc in
     record {
-      after_reply = ap (λ k. text_received (of kept q (Reading g) run script) k m received) eg
-          ∙ ap (λ k. text_received (of kept q (Reading g) run script) f k received) em;
+      after_reply = ap (λ k. text_received (of buffered q (Reading g) run script) k m received) eg
+          ∙ ap (λ k. text_received (of buffered q (Reading g) run script) f k received) em;
       now = refl;
       receives = λ some. some;
     }
-text-found true kept q (Reading g) run script r received h f n is = absurd (cc (is))
-text-found true kept q (DroppingWhole a Script) run script r received h f n is = absurd (never (runs r h) f n is)
-text-found true kept q d run script r received h f n is = absurd (cc (is))
+text-found true buffered q (Reading g) run script r received h f n is = absurd (cc (is))
+text-found true buffered q (DroppingWhole a Script) run script r received h f n is = absurd (never (runs r h) f n is)
+text-found true buffered q d run script r received h f n is = absurd (cc (is))
 
 record IsBegun (b : Bool) (x : Client) (r : Reply) (received : List ℕ) : Type 0 where
   after_reply : file_after_reply b x r received ≡ left_with x Begins
 
-run-found : (b : Bool) (kept : List ℕ) (q : Answer) (d : Phase) (run : Option Running) (script : List ℕ) (r : Reply)
+run-found : (b : Bool) (buffered : List ℕ) (q : Answer) (d : Phase) (run : Option Running) (script : List ℕ) (r : Reply)
     (received : List ℕ) (h : Bool)
-    → is_head_only q ≡ h → found b d r h ≡ reports.Runs → IsBegun b (of kept q d run script) r received
-run-found false kept q d run script r received h e is = absurd (cc (is))
-run-found true kept q (Reading g) run script (reply.Agg m) received h e is = absurd (cc (is))
-run-found true kept q (Reading g) run script r received h e is = absurd (cc (is))
-run-found true kept q (DroppingWhole a Script) run script reply.Done received true e is = absurd (cc (is))
-run-found true kept q (DroppingWhole a Script) run script reply.Done received false e is =
+    → is_head_only q ≡ h → found b d r h ≡ reports.Runs → IsBegun b (of buffered q d run script) r received
+run-found false buffered q d run script r received h e is = absurd (cc (is))
+run-found true buffered q (Reading g) run script (reply.Agg m) received h e is = absurd (cc (is))
+run-found true buffered q (Reading g) run script r received h e is = absurd (cc (is))
+run-found true buffered q (DroppingWhole a Script) run script reply.Done received true e is = absurd (cc (is))
+run-found true buffered q (DroppingWhole a Script) run script reply.Done received false e is =
     record {
       after_reply =
           ap (λ b. record {
-            conn = at kept q (MakingHead Script);
+            conn = at buffered q (MakingHead Script);
             run = after_drop_whole b reply.Done;
             script =
                 script;
           }) e;
     }
-run-found true kept q (DroppingWhole a Script) run script r received h e is = absurd (cc (is))
-run-found true kept q d run script r received h e is = absurd (cc (is))
+run-found true buffered q (DroppingWhole a Script) run script r received h e is = absurd (cc (is))
+run-found true buffered q d run script r received h e is = absurd (cc (is))
 
-file-found : (b : Bool) (kept : List ℕ) (q : Answer) (d : Phase) (run : Option Running) (script : List ℕ) (r : Reply)
+file-found : (b : Bool) (buffered : List ℕ) (q : Answer) (d : Phase) (run : Option Running) (script : List ℕ)
+    (r : Reply)
     (received : List ℕ) (h : Bool)
     → is_head_only q ≡ h → found b d r h ≡ reports.AsFile
-    → file_after_reply b (of kept q d run script) r received ≡ conn_after_reply (of kept q d run script) r received
-file-found false kept q d run script r received h e is = refl
-file-found true kept q (Reading g) run script (reply.Agg m) received h e is = absurd (cc (is))
-file-found true kept q (Reading g) run script r received h e is = refl
-file-found true kept q (DroppingWhole a Script) run script reply.Done received true e is =
-    ap (λ b. record { conn = at kept q (MakingHead Script); run = after_drop_whole b reply.Done; script = script }) e
-file-found true kept q (DroppingWhole a Script) run script reply.Done received false e is = absurd (cc (is))
-file-found true kept q (DroppingWhole a Script) run script r received true e is =
-    ap (λ b. record { conn = at kept q (DroppingWhole a Script); run = after_drop_whole b r; script = script }) e
-file-found true kept q (DroppingWhole a Script) run script r received false e is =
-    ap (λ b. record { conn = at kept q (DroppingWhole a Script); run = after_drop_whole b r; script = script }) e
-file-found true kept q d run script r received h e is = refl
+    → file_after_reply b (of buffered q d run script) r received ≡ conn_after_reply (of buffered q d run script) r
+    received
+file-found false buffered q d run script r received h e is = refl
+file-found true buffered q (Reading g) run script (reply.Agg m) received h e is = absurd (cc (is))
+file-found true buffered q (Reading g) run script r received h e is = refl
+file-found true buffered q (DroppingWhole a Script) run script reply.Done received true e is =
+    ap (λ b. record { conn = at buffered q (MakingHead Script); run = after_drop_whole b reply.Done; script = script })
+    e
+file-found true buffered q (DroppingWhole a Script) run script reply.Done received false e is = absurd (cc (is))
+file-found true buffered q (DroppingWhole a Script) run script r received true e is =
+    ap (λ b. record { conn = at buffered q (DroppingWhole a Script); run = after_drop_whole b r; script = script }) e
+file-found true buffered q (DroppingWhole a Script) run script r received false e is =
+    ap (λ b. record { conn = at buffered q (DroppingWhole a Script); run = after_drop_whole b r; script = script }) e
+file-found true buffered q d run script r received h e is = refl
 
 -- one that begins waits for a worker
 begun-passes : (x : Client) (r : Reply) → leaves_off (left_over (left_with x Begins)) r ≡ true
@@ -291,37 +297,40 @@ pub empty_runs : (text : List ℕ) → length text ≡ 0 → can_run text ≡ tr
 empty_runs [] none = ap (λ b. is_some (if b then lines_in [] else None)) (is_utf8-from_IsUtf8 [] IsUtf8-nil)
 empty_runs (b ∷ text) none = absurd (omega (arith, none))
 
-kept-none : (h : Bool) (text : List ℕ) → kept_if h false text ≡ []
-kept-none true text = refl
-kept-none false text = refl
+buffered-none : (h : Bool) (text : List ℕ) → buffered_if h false text ≡ []
+buffered-none true text = refl
+buffered-none false text = refl
 
-pub long_kept : (h : Bool) (text : List ℕ) → MAX_SCRIPT_BYTES < length text → kept_if h (can_run text) text ≡ []
-long_kept h text long = ap (λ b. kept_if h b text) (long_runs text long) ∙ kept-none h text
+pub long_buffered : (h : Bool) (text : List ℕ) → MAX_SCRIPT_BYTES < length text → buffered_if h (can_run text) text ≡ []
+long_buffered h text long = ap (λ b. buffered_if h b text) (long_runs text long) ∙ buffered-none h text
 
 pub received_goes : (scripts : Bool) (fd : ℕ) (x y : Client) (f n : ℕ) (received : List ℕ) (k : Call)
     → y ≡ text_received x f n received
-    → k ≡ conn_wants (is_for_script scripts y.conn.q) fd y.conn → Proceeds (text_received x f n received) reply.Done y
-    × (k ≡ wants scripts fd y)
+    → k ≡ conn_call (is_for_script scripts y.conn.request) fd y.conn
+    → Proceeds (text_received x f n received) reply.Done y
+    × (k ≡ next_call scripts fd y)
 received_goes scripts fd x y f n received k is asks =
     goes_as scripts fd (text_received x f n received) y reply.Done k
     (record { on = refl; stays = refl; readies = ((text_received x f n received).conn, refl, refl) }) refl is asks
 
 pub file_receives : (scripts : Bool) (fd : ℕ) (x y : Client) (r : Reply) (received : List ℕ) (o : Course) (f n : ℕ)
-    → reports.Text f n ≡ found (is_for_script scripts x.conn.q) x.conn.phase r (is_head_only x.conn.q)
+    → reports.Text f n ≡ found (is_for_script scripts x.conn.request) x.conn.phase r (is_head_only x.conn.request)
     → IsCourse scripts fd (text_received x f n received) x reply.Done o y
-    → IsCourse scripts fd (file_after_reply (is_for_script scripts x.conn.q) x r received) x r o y
+    → IsCourse scripts fd (file_after_reply (is_for_script scripts x.conn.request) x r received) x r o y
 file_receives scripts fd x y r received o f n is course =
-    let t = text-found (is_for_script scripts x.conn.q) x.conn.kept x.conn.q x.conn.phase x.run x.script r received
-    (is_head_only x.conn.q) f n (sym is) in
+    let t = text-found (is_for_script scripts x.conn.request) x.conn.buffered x.conn.request x.conn.phase x.run x.script
+    r received
+    (is_head_only x.conn.request) f n (sym is) in
     subst (λ (z : Client). IsCourse scripts fd z x r o y) (sym t.after_reply)
     (course_reply scripts fd (text_received x f n received) x r o y t.now course)
 
 pub file_runs : (scripts : Bool) (x : Client) (r : Reply) (received : List ℕ)
-    → reports.Runs ≡ found (is_for_script scripts x.conn.q) x.conn.phase r (is_head_only x.conn.q)
-    → IsLeft (file_after_reply (is_for_script scripts x.conn.q) x r received) x r Begins x
+    → reports.Runs ≡ found (is_for_script scripts x.conn.request) x.conn.phase r (is_head_only x.conn.request)
+    → IsLeft (file_after_reply (is_for_script scripts x.conn.request) x r received) x r Begins x
 file_runs scripts x r received is =
-    let t = run-found (is_for_script scripts x.conn.q) x.conn.kept x.conn.q x.conn.phase x.run x.script r received
-    (is_head_only x.conn.q) refl (sym is) in
+    let t = run-found (is_for_script scripts x.conn.request) x.conn.buffered x.conn.request x.conn.phase x.run x.script
+    r received
+    (is_head_only x.conn.request) refl (sym is) in
     record {
       passed = ap (λ (z : Client). leaves_off (left_over z) r) t.after_reply ∙ begun-passes x r;
       after_reply_is = t.after_reply;
@@ -331,19 +340,20 @@ file_runs scripts x r received is =
     }
 
 pub file_alone : (scripts : Bool) (fd : ℕ) (x y : Client) (r : Reply) (received : List ℕ) (o : Course)
-    → reports.AsFile ≡ found (is_for_script scripts x.conn.q) x.conn.phase r (is_head_only x.conn.q)
+    → reports.AsFile ≡ found (is_for_script scripts x.conn.request) x.conn.phase r (is_head_only x.conn.request)
     → IsCourse scripts fd (conn_after_reply x r received) x r o y
-    → IsCourse scripts fd (file_after_reply (is_for_script scripts x.conn.q) x r received) x r o y
+    → IsCourse scripts fd (file_after_reply (is_for_script scripts x.conn.request) x r received) x r o y
 file_alone scripts fd x y r received o is course =
-    let same = file-found (is_for_script scripts x.conn.q) x.conn.kept x.conn.q x.conn.phase x.run x.script r received
-    (is_head_only x.conn.q) refl (sym is) in
+    let same = file-found (is_for_script scripts x.conn.request) x.conn.buffered x.conn.request x.conn.phase x.run
+    x.script r received
+    (is_head_only x.conn.request) refl (sym is) in
     subst (λ (z : Client). IsCourse scripts fd z x r o y) (sym same) course
 
 -- ---- memory
 
 receives-none : (scripts : Bool) (c : Conn) (run : Option Running) (script : List ℕ) (r : Reply) (received : List ℕ)
     → run ≡ None
-    → Receives (is_for_script scripts c.q) c.phase r received
+    → Receives (is_for_script scripts c.request) c.phase r received
     → ClientReceives scripts (record { conn = c; run = run; script = script }) r received
 receives-none scripts c None script r received none receives = receives
 receives-none scripts c (Some y) script r received none receives = absurd (cc (none))
@@ -356,25 +366,27 @@ receives-more true (Reading f) r received receives = absurd receives
 receives-more true d r received receives = receives
 
 pub receives_wants : (scripts : Bool) (x : Client) (r : Reply) (received : List ℕ) (f n : ℕ) → x.run ≡ None
-    → reports.Text f n ≡ found (is_for_script scripts x.conn.q) x.conn.phase r (is_head_only x.conn.q)
+    → reports.Text f n ≡ found (is_for_script scripts x.conn.request) x.conn.phase r (is_head_only x.conn.request)
     → 0 < length received
-    → WantsOn scripts (file_after_reply (is_for_script scripts x.conn.q) x r received) x r received
+    → WantsOn scripts (file_after_reply (is_for_script scripts x.conn.request) x r received) x r received
 receives_wants scripts x r received f n none is some =
-    let t = text-found (is_for_script scripts x.conn.q) x.conn.kept x.conn.q x.conn.phase x.run x.script r received
-    (is_head_only x.conn.q) f n (sym is) in
+    let t = text-found (is_for_script scripts x.conn.request) x.conn.buffered x.conn.request x.conn.phase x.run x.script
+    r received
+    (is_head_only x.conn.request) f n (sym is) in
     inl (receives-none scripts x.conn x.run x.script r received none (t.receives some))
 
 pub alone_wants : (scripts : Bool) (x : Client) (r : Reply) (received : List ℕ) → x.run ≡ None
-    → reports.AsFile ≡ found (is_for_script scripts x.conn.q) x.conn.phase r (is_head_only x.conn.q)
+    → reports.AsFile ≡ found (is_for_script scripts x.conn.request) x.conn.phase r (is_head_only x.conn.request)
     → wanting.WantsOn x.conn r received
-    → WantsOn scripts (file_after_reply (is_for_script scripts x.conn.q) x r received) x r received
+    → WantsOn scripts (file_after_reply (is_for_script scripts x.conn.request) x r received) x r received
 alone_wants scripts x r received none is (inl here) =
     inl
     (receives-none scripts x.conn x.run x.script r received none
-    (receives-more (is_for_script scripts x.conn.q) x.conn.phase r received here))
+    (receives-more (is_for_script scripts x.conn.request) x.conn.phase r received here))
 alone_wants scripts x r received none is (inr on) =
-    let same = file-found (is_for_script scripts x.conn.q) x.conn.kept x.conn.q x.conn.phase x.run x.script r received
-    (is_head_only x.conn.q) refl (sym is) in
+    let same = file-found (is_for_script scripts x.conn.request) x.conn.buffered x.conn.request x.conn.phase x.run
+    x.script r received
+    (is_head_only x.conn.request) refl (sym is) in
     inr (
       ap (λ (z : Client). leaves_off (left_over z) r) same
           ∙ (leaves-plain (conn.after_reply x.conn r received) x.script r ∙ on.0),
@@ -385,20 +397,20 @@ alone_wants scripts x r received none is (inr on) =
 
 pub rests_asks : (scripts : Bool) (fd : ℕ) (x y : Client) (c : Conn) (k j : Call)
     → onward.Frees fd x.conn (going.Asks j) c
-    → y ≡ plain c [] → k ≡ conn_wants (is_for_script scripts y.conn.q) fd y.conn
-    → Proceeds (ended x Receiving) reply.Done y × (k ≡ wants scripts fd y)
+    → y ≡ plain c [] → k ≡ conn_call (is_for_script scripts y.conn.request) fd y.conn
+    → Proceeds (ended x Receiving) reply.Done y × (k ≡ next_call scripts fd y)
 rests_asks scripts fd x y c k j f is asks =
     let goes : Proceeds (ended x Receiving) reply.Done (plain c []) =
     record { on = f.0; stays = refl; readies = (c, f.1, refl) } in (
       subst (λ (z : Client). Proceeds (ended x Receiving) reply.Done z) (sym is) goes,
       asks
-          ∙ wants-plain scripts fd y (ap (λ (z : Client). z.run) is),
+          ∙ call-plain scripts fd y (ap (λ (z : Client). z.run) is),
     )
 
 pub rests_leaves : (fd : ℕ) (x y : Client) (c : Conn) (d : Phase) → onward.Frees fd x.conn (going.Leaves d) c
     → y ≡ record { conn = c; run = x.run; script = x.script } → IsLeft (ended x Receiving) x reply.Done (Ends d) y
 rests_leaves fd x y c d f is =
-    let none : (length x.conn.kept == 0) ≡ true = ap (λ (l : List ℕ). length l == 0) f.1 in
+    let none : (length x.conn.buffered == 0) ≡ true = ap (λ (l : List ℕ). length l == 0) f.1 in
     record {
       passed = none;
       after_reply_is = ap (λ (e : Phase). ended x e) (sym f.0);
@@ -411,23 +423,24 @@ rests_leaves fd x y c d f is =
     }
 
 pub rests_wants : (x : Client) → policy.is_bare (record x.conn { phase = Receiving }) ≡ false
-    → wanting.can_begin (window_in x.conn.kept) ≡ true
+    → wanting.can_begin (window_in x.conn.buffered) ≡ true
     → (leaves_off (left_over (ended x Receiving)) reply.Done ≡ false) × (needs_memory (ended x Receiving) ≡ true)
 rests_wants x some begins = (some, begins)
 
-goes-ended : (kept : List ℕ) (q : Answer) (d : Phase) → d ≢ Receiving → d ≢ Closed → is_left d ≡ false
-    → Proceeds (plain (at kept q d) []) reply.Done (plain (at kept q d) [])
-goes-ended kept q Receiving busy on over = absurd (busy refl)
-goes-ended kept q Closed busy on over = absurd (on refl)
-goes-ended kept q (DroppingSent a taken more) busy on over = absurd (cc (over))
-goes-ended kept q d busy on over = record { on = refl; stays = refl; readies = (at kept q d, refl, refl) }
+goes-ended : (buffered : List ℕ) (q : Answer) (d : Phase) → d ≢ Receiving → d ≢ Closed → is_left d ≡ false
+    → Proceeds (plain (at buffered q d) []) reply.Done (plain (at buffered q d) [])
+goes-ended buffered q Receiving busy on over = absurd (busy refl)
+goes-ended buffered q Closed busy on over = absurd (on refl)
+goes-ended buffered q (DroppingSent a taken more) busy on over = absurd (cc (over))
+goes-ended buffered q d busy on over = record { on = refl; stays = refl; readies = (at buffered q d, refl, refl) }
 
 pub ends_asks : (scripts : Bool) (fd : ℕ) (x y : Client) (d : Phase) (k : Call) → d ≢ Receiving → d ≢ Closed
     → is_left d ≡ false → y ≡ ended x d
-    → k ≡ conn_wants (is_for_script scripts y.conn.q) fd y.conn → Proceeds (ended x d) reply.Done y
-    × (k ≡ wants scripts fd y)
+    → k ≡ conn_call (is_for_script scripts y.conn.request) fd y.conn → Proceeds (ended x d) reply.Done y
+    × (k ≡ next_call scripts fd y)
 ends_asks scripts fd x y d k busy on over is asks =
-    goes_as scripts fd (ended x d) y reply.Done k (goes-ended x.conn.kept x.conn.q d busy on over) refl is asks
+    goes_as scripts fd (ended x d) y reply.Done k (goes-ended x.conn.buffered x.conn.request d busy on over) refl is
+    asks
 
 pub ends_wants : (x : Client) (d : Phase) → d ≢ Receiving → d ≢ Closed → wanting.has_bytes d ≡ true
     → (leaves_off (left_over (ended x d)) reply.Done ≡ false) × (needs_memory (ended x d) ≡ true)

@@ -9,7 +9,7 @@ use Rattle.flash_http.specs.Request.{Answer, serve, refuse, Wanted}
 use Rattle.flash_laws.proofs.Conn.Responses.{some-inj}
 use Rattle.flash_laws.proofs.Run.OfferedBytes.{keeps}
 use Rattle.flash_laws.specs.Client.{Client, has_answered, is_bare, keeps_text, text_on, after_run, proceeds}
-use Rattle.flash_laws.specs.Client.{run_after_reply, run_wants, wants, left_over, awaits}
+use Rattle.flash_laws.specs.Client.{run_after_reply, run_call, next_call, left_over, awaits}
 use Rattle.flash_laws.specs.Client.Wants.{needs_memory, WantsOn}
 use Rattle.flash_laws.specs.Conn as conn
 use Rattle.flash_laws.specs.Conn.Policy.{is_later}
@@ -180,11 +180,12 @@ or-after true = refl
 or-after false = refl
 
 stays-as : (worker : ℕ) (x : Client) (y : Running) (r : Reply) (received : List ℕ) → x.run ≡ Some y → is_over y ≡ false
-    → run_after worker x.conn.q y r received ≡ y → (is_later r || (waits y || (has_answered_by x.conn y || false)))
-    ≡ true → IsLeft (run_after_reply worker x.conn.q x y r received) x r Stays x
+    → run_after worker x.conn.request y r received ≡ y
+    → (is_later r || (waits y || (has_answered_by x.conn y || false)))
+    ≡ true → IsLeft (run_after_reply worker x.conn.request x y r received) x r Stays x
 stays-as worker x y r received is going z passes =
-    let same : run_after_reply worker x.conn.q x y r received ≡ x =
-    after_reply-is worker x.conn.q x y r received is going
+    let same : run_after_reply worker x.conn.request x y r received ≡ x =
+    after_reply-is worker x.conn.request x y r received is going
     ∙ (ap (λ (v : Running). proceeds false (is_over v) x y v) z
     ∙ (ap (λ b. proceeds false b x y y) going ∙ stands x y is)) in
     record {
@@ -199,34 +200,34 @@ stays-as worker x y r received is going z passes =
 
 pub run_stays : (worker : ℕ) (x : Client) (y : Running) (r : Reply) (received : List ℕ) → x.run ≡ Some y
     → is_over y ≡ false → is_later r ≡ true
-    → IsLeft (run_after_reply worker x.conn.q x y r received) x r Stays x
+    → IsLeft (run_after_reply worker x.conn.request x y r received) x r Stays x
 run_stays worker x y r received is going later =
-    stays-as worker x y r received is going (after-later worker x.conn.q y r received going later)
+    stays-as worker x y r received is going (after-later worker x.conn.request y r received going later)
     (or-true (is_later r) (waits y || (has_answered_by x.conn y || false)) later)
 
 on-after_reply : (worker : ℕ) (x : Client) (y z : Running) (r : Reply) (received : List ℕ) → x.run ≡ Some y
     → is_over y ≡ false
-    → z ≡ run_after worker x.conn.q y r received → is_over z ≡ false
-    → run_after_reply worker x.conn.q x y r received ≡ proceeds false false x y z
+    → z ≡ run_after worker x.conn.request y r received → is_over z ≡ false
+    → run_after_reply worker x.conn.request x y r received ≡ proceeds false false x y z
 on-after_reply worker x y z r received is going z_is on =
-    after_reply-is worker x.conn.q x y r received is going
+    after_reply-is worker x.conn.request x y r received is going
     ∙ (ap (λ (v : Running). proceeds false (is_over v) x y v) (sym z_is) ∙ ap (λ b. proceeds false b x y z) on)
 
 over-after_reply : (worker : ℕ) (x : Client) (y z : Running) (r : Reply) (received : List ℕ) → x.run ≡ Some y
     → is_over y ≡ false
-    → z ≡ run_after worker x.conn.q y r received → is_over z ≡ true
-    → run_after_reply worker x.conn.q x y r received ≡ ended x (after_run z)
+    → z ≡ run_after worker x.conn.request y r received → is_over z ≡ true
+    → run_after_reply worker x.conn.request x y r received ≡ ended x (after_run z)
 over-after_reply worker x y z r received is going z_is over =
-    after_reply-is worker x.conn.q x y r received is going
+    after_reply-is worker x.conn.request x y r received is going
     ∙ (ap (λ (v : Running). proceeds false (is_over v) x y v) (sym z_is) ∙ ap (λ b. proceeds false b x y z) over)
 
 pub run_waits : (worker : ℕ) (x : Client) (y z : Running) (r : Reply) (received : List ℕ) → x.run ≡ Some y
     → is_over y ≡ false
-    → z ≡ run_after worker x.conn.q y r received → waits z ≡ true
-    → IsLeft (run_after_reply worker x.conn.q x y r received) x r Stays x
+    → z ≡ run_after worker x.conn.request y r received → waits z ≡ true
+    → IsLeft (run_after_reply worker x.conn.request x y r received) x r Stays x
 run_waits worker x y z r received is going z_is waiting =
-    let still : run_after worker x.conn.q y r received ≡ y =
-    still-waits worker x.conn.q y r received (ap (λ (v : Running). waits v) (sym z_is) ∙ waiting) in
+    let still : run_after worker x.conn.request y r received ≡ y =
+    still-waits worker x.conn.request y r received (ap (λ (v : Running). waits v) (sym z_is) ∙ waiting) in
     let waited : waits y ≡ true = ap (λ (v : Running). waits v) (sym (z_is ∙ still)) ∙ waiting in
     stays-as worker x y r received is going still
     (ap (λ b. is_later r || (b || (has_answered_by x.conn y || false))) waited ∙ or-after (is_later r))
@@ -255,14 +256,15 @@ answered-left c d has = absurd (cc (has))
 
 pub run_answers : (worker : ℕ) (x : Client) (y z : Running) (d : Phase) (r : Reply) (received : List ℕ) → x.run ≡ Some y
     → is_over y ≡ false
-    → z ≡ run_after worker x.conn.q y r received → IsSmallRunning z → z ≡ Finishing d → has_answered_by x.conn z ≡ true
-    → IsLeft (run_after_reply worker x.conn.q x y r received) x r (Continues d) x
+    → z ≡ run_after worker x.conn.request y r received → IsSmallRunning z → z ≡ Finishing d
+    → has_answered_by x.conn z ≡ true
+    → IsLeft (run_after_reply worker x.conn.request x y r received) x r (Continues d) x
 run_answers worker x y z d r received is going z_is small phase has =
     let now : has_answered_by x.conn (Finishing d) ≡ true = ap (λ (v : Running). has_answered_by x.conn v) (sym phase)
     ∙ has in
     let on : is_over (Finishing d) ≡ false = ap (λ b. not b) (answered-left x.conn d now) in
-    let text : keeps_text y ≡ false = no-text worker x.conn.q y r received d (sym z_is ∙ phase) in
-    let same : run_after_reply worker x.conn.q x y r received ≡ left_with x (Continues d) =
+    let text : keeps_text y ≡ false = no-text worker x.conn.request y r received d (sym z_is ∙ phase) in
+    let same : run_after_reply worker x.conn.request x y r received ≡ left_with x (Continues d) =
     on-after_reply worker x y z r received is going z_is (ap (λ (v : Running). is_over v) phase ∙ on)
     ∙ (ap (λ (v : Running). proceeds false false x y v) phase
     ∙ ap (λ b. record { conn = x.conn; run = Some (Finishing d); script = text_on b false x.script }) text) in
@@ -289,27 +291,27 @@ proceeds-on x y z r now going more = record {
 
 pub run_goes : (scripts : Bool) (fd worker : ℕ) (x n : Client) (y z : Running) (r : Reply) (received : List ℕ)
     (k : Call) → x.run ≡ Some y → is_over y ≡ false
-    → is_later r ≡ false → z ≡ run_after worker x.conn.q y r received → waits z ≡ false
+    → is_later r ≡ false → z ≡ run_after worker x.conn.request y r received → waits z ≡ false
     → has_answered_by x.conn z ≡ false → is_over z ≡ false → n ≡ proceeds false false x y z
-    → k ≡ run_wants fd n.conn.q n.script z → Proceeds (run_after_reply worker x.conn.q x y r received) r n
-    × (k ≡ wants scripts fd n)
+    → k ≡ run_call fd n.conn.request n.script z → Proceeds (run_after_reply worker x.conn.request x y r received) r n
+    × (k ≡ next_call scripts fd n)
 run_goes scripts fd worker x n y z r received k is going now z_is runs more on n_is asks =
     let after_reply = on-after_reply worker x y z r received is going z_is on in (
       subst (λ (t : Client). Proceeds t r n) (sym after_reply)
           (subst (λ (v : Client). Proceeds (proceeds false false x y z) r v) (sym n_is)
           (proceeds-on x y z r now runs more)),
       asks
-          ∙ (ap (λ (v : Client). run_wants fd v.conn.q v.script z) n_is
-          ∙ ap (λ (v : Client). wants scripts fd v) (sym n_is)),
+          ∙ (ap (λ (v : Client). run_call fd v.conn.request v.script z) n_is
+          ∙ ap (λ (v : Client). next_call scripts fd v) (sym n_is)),
     )
 
 pub run_ends : (scripts : Bool) (fd worker : ℕ) (x n : Client) (y z : Running) (d : Phase) (r : Reply)
     (received : List ℕ) (o : Course) → x.run ≡ Some y → is_over y ≡ false
-    → is_later r ≡ false → z ≡ run_after worker x.conn.q y r received → is_over z ≡ true → d ≡ after_run z
+    → is_later r ≡ false → z ≡ run_after worker x.conn.request y r received → is_over z ≡ true → d ≡ after_run z
     → IsCourse scripts fd (ended x d) x reply.Done o n
-    → IsCourse scripts fd (run_after_reply worker x.conn.q x y r received) x r o n
+    → IsCourse scripts fd (run_after_reply worker x.conn.request x y r received) x r o n
 run_ends scripts fd worker x n y z d r received o is going now z_is over d_is course =
-    let after_reply : run_after_reply worker x.conn.q x y r received ≡ ended x d =
+    let after_reply : run_after_reply worker x.conn.request x y r received ≡ ended x d =
     over-after_reply worker x y z r received is going z_is over ∙ ap (λ (e : Phase). ended x e) (sym d_is) in
     subst (λ (t : Client). IsCourse scripts fd t x r o n) (sym after_reply)
     (course_reply scripts fd (ended x d) x r o n now course)
@@ -322,9 +324,9 @@ on_err (Err e) P p = p
 
 pub goes_wants : (scripts : Bool) (worker : ℕ) (x : Client) (y z : Running) (r : Reply) (received : List ℕ)
     → x.run ≡ Some y → is_over y ≡ false
-    → is_later r ≡ false → z ≡ run_after worker x.conn.q y r received → waits z ≡ false
+    → is_later r ≡ false → z ≡ run_after worker x.conn.request y r received → waits z ≡ false
     → has_answered_by x.conn z ≡ false → is_over z ≡ false → makes_any z ≡ true
-    → WantsOn scripts (run_after_reply worker x.conn.q x y r received) x r received
+    → WantsOn scripts (run_after_reply worker x.conn.request x y r received) x r received
 goes_wants scripts worker x y z r received is going now z_is runs more on makes =
     let after_reply = on-after_reply worker x y z r received is going z_is on in
     inr (
@@ -338,11 +340,11 @@ leaves-now (Some x) r now = ap (λ (b : Bool). b || (awaits x || (has_answered x
 
 pub run_wants_on : (scripts : Bool) (worker : ℕ) (x : Client) (y z : Running) (d : Phase) (r : Reply)
     (received : List ℕ) → x.run ≡ Some y → is_over y ≡ false
-    → is_later r ≡ false → z ≡ run_after worker x.conn.q y r received → is_over z ≡ true → d ≡ after_run z
+    → is_later r ≡ false → z ≡ run_after worker x.conn.request y r received → is_over z ≡ true → d ≡ after_run z
     → (leaves_off (left_over (ended x d)) reply.Done ≡ false) × (needs_memory (ended x d) ≡ true)
-    → WantsOn scripts (run_after_reply worker x.conn.q x y r received) x r received
+    → WantsOn scripts (run_after_reply worker x.conn.request x y r received) x r received
 run_wants_on scripts worker x y z d r received is going now z_is over d_is wants =
-    let after_reply : run_after_reply worker x.conn.q x y r received ≡ ended x d =
+    let after_reply : run_after_reply worker x.conn.request x y r received ≡ ended x d =
     over-after_reply worker x y z r received is going z_is over ∙ ap (λ (e : Phase). ended x e) (sym d_is) in
     inr (
       ap (λ (t : Client). leaves_off (left_over t) r) after_reply

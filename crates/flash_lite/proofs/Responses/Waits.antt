@@ -5,13 +5,15 @@ use Rattle.flash_laws.specs.Conn.{IsAwaiting, Readies}
 use Rattle.flash_laws.specs.declared.phase.Phase.{Phase}
 use Rattle.flash_laws.specs.declared.phase.Phase.TheVariants.{Receiving}
 
-pub busy_awaits : (kept : List ℕ) (q : Answer) (d : Phase) → d ≢ Receiving
-    → IsAwaiting (record { kept = kept; q = q; phase = d })
-busy_awaits kept q Receiving busy = absurd (busy refl)
-busy_awaits kept q d busy = tt
+pub busy_awaits : (buffered : List ℕ) (q : Answer) (d : Phase) → d ≢ Receiving
+    → IsAwaiting (record { buffered = buffered; request = q; phase = d })
+busy_awaits buffered q Receiving busy = absurd (busy refl)
+busy_awaits buffered q d busy = tt
 
 -- a connection that waits for what it reads is ready as it is
-pub awaits_ready : (kept : List ℕ) (q : Answer) (d : Phase) → IsAwaiting (record { kept = kept; q = q; phase = d })
-    → Readies (record { kept = kept; q = q; phase = d }) (record { kept = kept; q = q; phase = d })
-awaits_ready kept q Receiving waits = inl (waits, refl)
-awaits_ready kept q d waits = refl
+pub awaits_ready : (buffered : List ℕ) (q : Answer) (d : Phase)
+    → IsAwaiting (record { buffered = buffered; request = q; phase = d })
+    → Readies (record { buffered = buffered; request = q; phase = d })
+    (record { buffered = buffered; request = q; phase = d })
+awaits_ready buffered q Receiving waits = inl (waits, refl)
+awaits_ready buffered q d waits = refl

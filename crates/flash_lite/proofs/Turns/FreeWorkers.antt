@@ -228,19 +228,19 @@ after_reply-same : (scripts : Bool) (a b : ℕ) (c : Conn) (run : Option Running
     → after_reply scripts a (of c run script) r received ≡ after_reply scripts b (of c run script) r received
 after_reply-same scripts a b c None script r received idle = refl
 after_reply-same scripts a b c (Some AwaitingWorker) script r received idle = absurd (cc (idle))
-after_reply-same scripts a b c (Some (InProgress run s)) script r received idle = by c.q
+after_reply-same scripts a b c (Some (InProgress run s)) script r received idle = by c.request
   where
     by : (q : Answer) → run_after_reply a q (of c (Some (InProgress run s)) script) (InProgress run s) r received
         ≡ run_after_reply b q (of c (Some (InProgress run s)) script) (InProgress run s) r received
     by (serve w) = refl
     by (refuse status head_only close) = refl
-after_reply-same scripts a b c (Some (Finishing d)) script r received idle = by c.q
+after_reply-same scripts a b c (Some (Finishing d)) script r received idle = by c.request
   where
     by : (q : Answer) → run_after_reply a q (of c (Some (Finishing d)) script) (Finishing d) r received
         ≡ run_after_reply b q (of c (Some (Finishing d)) script) (Finishing d) r received
     by (serve w) = refl
     by (refuse status head_only close) = refl
-after_reply-same scripts a b c (Some Finished) script r received idle = by c.q
+after_reply-same scripts a b c (Some Finished) script r received idle = by c.request
   where
     by : (q : Answer) → run_after_reply a q (of c (Some Finished) script) Finished r received
         ≡ run_after_reply b q (of c (Some Finished) script) Finished r received

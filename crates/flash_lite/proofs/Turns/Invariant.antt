@@ -5,7 +5,7 @@ use Rattle.iol_proc.specs.declared.process.Turn.{Turn}
 use Rattle.flash_laws.specs.Serves.Rounds.{in_rounds}
 use Rattle.flash_laws.specs.Serves.{received_of, server_turns}
 use Rattle.flash_laws.proofs.Site.OwnWorkers.{workers_shared}
-use Rattle.flash_lite.specs.Table.{Table, IsKept, serving}
+use Rattle.flash_lite.specs.Table.{Table, IsBetweenTurns, serving}
 use Rattle.flash_lite.specs.ServerTurn.{Turns}
 use Rattle.flash_lite.specs.declared.site.TheConstants.{MAX_WORKERS}
 use Rattle.flash_lite.proofs.Few.{few_turn}
@@ -19,14 +19,15 @@ account_turn s t last readable received made receives turns =
     (all.policy, all.picks, all.hired)
 
 pub kept_turn : (s t : Table) (last : Reply) (readable : ℕ → Option (List ℕ)) (received : List ℕ) (made : Turn)
-    → received ≡ received_of last readable → IsKept s → Turns s last received made t → IsKept t
-kept_turn s t last readable received made receives kept turns =
+    → received ≡ received_of last readable → IsBetweenTurns s → Turns s last received made t → IsBetweenTurns t
+kept_turn s t last readable received made receives between turns =
     let all = account_turn s t last readable received made receives turns in record {
-      few = few_turn s.workers s.clients s.pending_call last received t.pending_call made t.clients kept.few turns.picks
+      few = few_turn s.workers s.clients s.pending_call last received t.pending_call made t.clients between.few
+          turns.picks
           turns.policy;
-      hired = subst (λ k. k ≤ MAX_WORKERS) (sym turns.hired) kept.hired;
-      shared = workers_shared.turns (serving s) (serving t) last readable made kept.shared (tt, all.1, all.2);
+      hired = subst (λ k. k ≤ MAX_WORKERS) (sym turns.hired) between.hired;
+      shared = workers_shared.turns (serving s) (serving t) last readable made between.shared (tt, all.1, all.2);
       reports = turns.reports;
       none = λ zero. let same : s.workers ≡ 0 = sym turns.hired ∙ zero in
-          workers_shared.none (serving s) (serving t) last readable made same (kept.none same) (tt, all.1, all.2);
+          workers_shared.none (serving s) (serving t) last readable made same (between.none same) (tt, all.1, all.2);
     }

@@ -6,12 +6,12 @@ use Rattle.iol_proc.specs.Quiet.{IsCopyFree, IsCopyFreeCall}
 use Rattle.iol_proc.specs.declared.process.Turn.{Turn}
 use Rattle.iol_proc.specs.declared.process.Turn.TheVariants as turn
 use Rattle.flash_http.specs.Request.{Answer, serve, refuse, Wanted}
-use Rattle.flash_laws.specs.Client.{Client, is_for_script, conn_wants, job_of, run_wants, wants}
+use Rattle.flash_laws.specs.Client.{Client, is_for_script, conn_call, job_of, run_call, next_call}
 use Rattle.flash_laws.specs.Conn as conn
 use Rattle.flash_laws.specs.Conn.{Conn, is_head_only, most_read}
 use Rattle.flash_laws.specs.Site.Places.{runs_scripts}
 use Rattle.flash_laws.specs.Run as running
-use Rattle.flash_laws.specs.Run.{in_phase, step_wants}
+use Rattle.flash_laws.specs.Run.{in_phase, step_call}
 use Rattle.flash_laws.specs.Serves.{Picks}
 use Rattle.flash_laws.specs.declared.phase.Phase.{Phase}
 use Rattle.flash_laws.specs.declared.phase.Phase.TheVariants.{Reading}
@@ -30,33 +30,33 @@ reading : (head_only : Bool) (f : ℕ) → IsCopyFreeCall (if head_only then cal
 reading true f = tt
 reading false f = tt
 
-phase : (fd : ℕ) (kept : List ℕ) (q : Answer) (d : Phase)
-    → IsCopyFreeCall (conn.wants fd (record { kept = kept; q = q; phase = d }))
-phase fd kept q (Reading f) = reading (is_head_only q) f
-phase fd kept q d = tt
+phase : (fd : ℕ) (buffered : List ℕ) (q : Answer) (d : Phase)
+    → IsCopyFreeCall (conn.next_call fd (record { buffered = buffered; request = q; phase = d }))
+phase fd buffered q (Reading f) = reading (is_head_only q) f
+phase fd buffered q d = tt
 
-script-phase : (script : Bool) (fd : ℕ) (kept : List ℕ) (q : Answer) (d : Phase)
-    → IsCopyFreeCall (conn_wants script fd (record { kept = kept; q = q; phase = d }))
-script-phase true fd kept q (Reading f) = tt
-script-phase true fd kept q d = tt
-script-phase false fd kept q d = phase fd kept q d
+script-phase : (script : Bool) (fd : ℕ) (buffered : List ℕ) (q : Answer) (d : Phase)
+    → IsCopyFreeCall (conn_call script fd (record { buffered = buffered; request = q; phase = d }))
+script-phase true fd buffered q (Reading f) = tt
+script-phase true fd buffered q d = tt
+script-phase false fd buffered q d = phase fd buffered q d
 
-step : (job : ℕ → List ℕ) (fd : ℕ) (w : Wanted) (run : Run) (s : Step) → IsCopyFreeCall (step_wants job fd w run s)
-step job fd w run (act.SendingPart d frame) = phase fd (in_phase w d).kept (in_phase w d).q d
+step : (job : ℕ → List ℕ) (fd : ℕ) (w : Wanted) (run : Run) (s : Step) → IsCopyFreeCall (step_call job fd w run s)
+step job fd w run (act.SendingPart d frame) = phase fd (in_phase w d).buffered (in_phase w d).request d
 step job fd w run s = tt
 
-run : (job : ℕ → List ℕ) (fd : ℕ) (w : Wanted) (y : Running) → IsCopyFreeCall (running.wants job fd w y)
+run : (job : ℕ → List ℕ) (fd : ℕ) (w : Wanted) (y : Running) → IsCopyFreeCall (running.next_call job fd w y)
 run job fd w AwaitingWorker = tt
 run job fd w (InProgress r s) = step job fd w r s
-run job fd w (Finishing d) = phase fd (in_phase w d).kept (in_phase w d).q d
+run job fd w (Finishing d) = phase fd (in_phase w d).buffered (in_phase w d).request d
 run job fd w Finished = tt
 
 quiet-wants : (scripts : Bool) (fd : ℕ) (c : Conn) (r : Option Running) (script : List ℕ)
-    → IsCopyFreeCall (wants scripts fd (record { conn = c; run = r; script = script }))
-quiet-wants scripts fd c None script = script-phase (is_for_script scripts c.q) fd c.kept c.q c.phase
-quiet-wants scripts fd c (Some y) script = by c.q
+    → IsCopyFreeCall (next_call scripts fd (record { conn = c; run = r; script = script }))
+quiet-wants scripts fd c None script = script-phase (is_for_script scripts c.request) fd c.buffered c.request c.phase
+quiet-wants scripts fd c (Some y) script = by c.request
   where
-    by : (q : Answer) → IsCopyFreeCall (run_wants fd q script y)
+    by : (q : Answer) → IsCopyFreeCall (run_call fd q script y)
     by (serve w) = run (λ g. job_of w script g) fd w y
     by (refuse status head_only close) = tt
 

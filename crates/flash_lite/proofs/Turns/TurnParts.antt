@@ -19,7 +19,7 @@ use Rattle.flash_laws.specs.Site.OtherConns.{with_at}
 use Rattle.flash_laws.specs.declared.phase.PendingCall.{PendingCall}
 use Rattle.flash_laws.specs.declared.phase.PendingCall.TheVariants.{Nothing, Accepting, At}
 use Rattle.flash_lite.specs.Course.{Proceeds, IsLeft, worker_of}
-use Rattle.flash_lite.specs.Table.{Table, ReportsFree, IsKept}
+use Rattle.flash_lite.specs.Table.{Table, ReportsFree, IsBetweenTurns}
 use Rattle.flash_lite.specs.ServerTurn.{AtAcceptStep, CourseAt, PicksFrom, Turns, TurnsFree, accept_step_to, filed_by}
 use Rattle.flash_lite.specs.ServerTurn.{has_in, first_in, is_worker, left_at, left_as, most_with, worker_at, worker_in}
 use Rattle.flash_lite.specs.ServerTurn.{worker_left}
@@ -56,36 +56,37 @@ picked s t r received from most made l is next same opens picks left hired repor
 }
 
 -- the clients stay as they are
-stays : (s t : Table) (r : Reply) (received : List ℕ) (from : ℕ) (made : Turn) → IsKept s
+stays : (s t : Table) (r : Reply) (received : List ℕ) (from : ℕ) (made : Turn) → IsBetweenTurns s
     → filed_by s r received ≡ s.clients
     → next_pending_call s.workers s.clients s.pending_call r ≡ pending_call_from s.workers s.clients from
     → PicksFrom (runs_scripts s.workers) (has_in s.workers s.free) s.clients from MAX_CONNS t.pending_call made
     → t ≡ table s.clients t.pending_call s.workers s.free → Turns s r received made t
-stays s t r received from made kept is next picks same =
+stays s t r received from made between is next picks same =
     let clients : t.clients ≡ s.clients = ap (λ (u : Table). u.clients) same in
     let free : t.free ≡ s.free = ap (λ (u : Table). u.free) same in
     picked s t r received from MAX_CONNS made s.clients is next (same_itself from s.clients) refl
     (subst (λ b. PicksFrom (runs_scripts s.workers) b s.clients from MAX_CONNS t.pending_call made)
-    (has_is s.workers s.free s.clients kept.reports kept.hired) picks)
+    (has_is s.workers s.free s.clients between.reports between.hired) picks)
     clients (ap (λ (u : Table). u.workers) same)
     (subst (λ (l : List (Option Client)). ReportsFree t.free l) (sym clients)
-    (subst (λ (f : List Bool). ReportsFree f s.clients) (sym free) kept.reports))
+    (subst (λ (f : List Bool). ReportsFree f s.clients) (sym free) between.reports))
 
-pub nothing_turns : (s t : Table) (r : Reply) (received : List ℕ) (made : Turn) → IsKept s → s.pending_call ≡ Nothing
+pub nothing_turns : (s t : Table) (r : Reply) (received : List ℕ) (made : Turn) → IsBetweenTurns s
+    → s.pending_call ≡ Nothing
     → PicksFrom (runs_scripts s.workers) (has_in s.workers s.free) s.clients 0 MAX_CONNS t.pending_call made
     → t ≡ table s.clients t.pending_call s.workers s.free → Turns s r received made t
-nothing_turns s t r received made kept flies picks same =
-    stays s t r received 0 made kept (ap (λ (w : PendingCall). filed s.workers s.clients w r received) flies)
+nothing_turns s t r received made between flies picks same =
+    stays s t r received 0 made between (ap (λ (w : PendingCall). filed s.workers s.clients w r received) flies)
     (ap (λ (w : PendingCall). next_pending_call s.workers s.clients w r) flies) picks same
 
 pub none_turns : (s t : Table) (fd : ℕ) (r : Reply) (received : List ℕ) (now : List (Option Client)) (made : Turn)
-    → IsKept s → s.pending_call ≡ At fd → in_place s.clients fd ≡ None
+    → IsBetweenTurns s → s.pending_call ≡ At fd → in_place s.clients fd ≡ None
     → now ≡ s.clients
     → PicksFrom (runs_scripts s.workers) (has_in s.workers s.free) now (fd + 1) MAX_CONNS t.pending_call made
     → t ≡ table now t.pending_call s.workers s.free
     → Turns s r received made t
-none_turns s t fd r received now made kept flies none is picks same =
-    stays s t r received (fd + 1) made kept
+none_turns s t fd r received now made between flies none is picks same =
+    stays s t r received (fd + 1) made between
     (ap (λ (w : PendingCall). filed s.workers s.clients w r received) flies
     ∙ filed_none s.workers s.clients fd r received none)
     (ap (λ (w : PendingCall). next_pending_call s.workers s.clients w r) flies
@@ -103,12 +104,12 @@ accept_step-picks workers l Nothing made at = (refl, at)
 accept_step-picks workers l Accepting made at = (refl, at)
 accept_step-picks workers l (At g) made at = absurd at
 
-accepted-of : (s t : Table) (fd : ℕ) (made : Turn) → IsKept s → s.pending_call ≡ Accepting
+accepted-of : (s t : Table) (fd : ℕ) (made : Turn) → IsBetweenTurns s → s.pending_call ≡ Accepting
     → t.clients ≡ with_at s.clients fd (Some new_client)
     → t.pending_call ≡ accept_step_to t.clients MAX_CONNS → AtAcceptStep t.pending_call made → t.workers ≡ s.workers
     → TurnsFree s.free (worker_at s.clients fd) None t.free
     → Turns s (reply.Fd fd) [] made t
-accepted-of s t fd made kept flies clients pending_call at hired turned =
+accepted-of s t fd made between flies clients pending_call at hired turned =
     let is : filed_by s (reply.Fd fd) [] ≡ t.clients =
     ap (λ (w : PendingCall). filed s.workers s.clients w (reply.Fd fd) []) flies ∙ sym clients in
     record {
@@ -119,32 +120,32 @@ accepted-of s t fd made kept flies clients pending_call at hired turned =
           (accept_step-picks s.workers t.clients t.pending_call made at);
       hired = hired;
       reports = subst (λ (l : List (Option Client)). ReportsFree t.free l) (sym clients)
-          (reports_turned s.workers s.clients s.free t.free fd (Some new_client) None kept.shared.own kept.reports
+          (reports_turned s.workers s.clients s.free t.free fd (Some new_client) None between.shared.own between.reports
           turned (λ k. refl));
     }
 
-pub accepted_turns : (s t : Table) (fd : ℕ) (r : Reply) (was : Option ℕ) (made : Turn) → IsKept s
+pub accepted_turns : (s t : Table) (fd : ℕ) (r : Reply) (was : Option ℕ) (made : Turn) → IsBetweenTurns s
     → s.pending_call ≡ Accepting → r ≡ reply.Fd fd
     → t.clients ≡ with_at s.clients fd (Some new_client) → t.pending_call ≡ accept_step_to t.clients MAX_CONNS
     → AtAcceptStep t.pending_call made → t.workers ≡ s.workers
     → was ≡ worker_at s.clients fd → TurnsFree s.free was None t.free → Turns s r [] made t
-accepted_turns s t fd r was made kept flies came clients pending_call at hired was_is turned =
+accepted_turns s t fd r was made between flies came clients pending_call at hired was_is turned =
     subst (λ (z : Reply). Turns s z [] made t) (sym came)
-    (accepted-of s t fd made kept flies clients pending_call at hired
+    (accepted-of s t fd made between flies clients pending_call at hired
     (subst (λ (o : Option ℕ). TurnsFree s.free o None t.free) was_is turned))
 
-pub over_turns : (s t : Table) (r : Reply) (made : Turn) → IsKept s → s.pending_call ≡ Accepting
+pub over_turns : (s t : Table) (r : Reply) (made : Turn) → IsBetweenTurns s → s.pending_call ≡ Accepting
     → next_pending_call s.workers s.clients Accepting r ≡ Nothing
     → filed s.workers s.clients Accepting r [] ≡ s.clients → t ≡ table s.clients Nothing s.workers s.free
     → made ≡ turn.Yield → Turns s r [] made t
-over_turns s t r made kept flies next stays same yields =
+over_turns s t r made between flies next stays same yields =
     let is : filed_by s r [] ≡ s.clients = ap (λ (w : PendingCall). filed s.workers s.clients w r []) flies ∙ stays in
     subst (λ (u : Table). Turns s r [] made u) (sym same) (record {
       policy = sym (ap (λ (l : List (Option Client)). next_pending_call s.workers l s.pending_call r) is
           ∙ (ap (λ (w : PendingCall). next_pending_call s.workers s.clients w r) flies ∙ next));
       picks = (sym is, yields);
       hired = refl;
-      reports = kept.reports;
+      reports = between.reports;
     })
 
 -- of what came nothing is received then
@@ -175,16 +176,17 @@ pub table_same : (s : Table) (now : List (Option Client)) → now ≡ s.clients
     → table now s.pending_call s.workers s.free ≡ s
 table_same s now is = ap (λ (l : List (Option Client)). table l s.pending_call s.workers s.free) is
 
-module _ (s : Table) (kept : IsKept s) (fd : ℕ) (flies : s.pending_call ≡ At fd) (r : Reply) (received : List ℕ) where
+module _ (s : Table) (between : IsBetweenTurns s) (fd : ℕ) (flies : s.pending_call ≡ At fd) (r : Reply)
+    (received : List ℕ) where
   goes-at : PendingCallGoes s.workers s.clients (At fd)
-  goes-at = subst (λ (w : PendingCall). PendingCallGoes s.workers s.clients w) flies kept.shared.goes
+  goes-at = subst (λ (w : PendingCall). PendingCallGoes s.workers s.clients w) flies between.shared.goes
 
   -- with the worker that the words name
   pub by_words : (a : ℕ) (x : Client) → a ≡ min (first_in s.workers s.free) 7 → in_place s.clients fd ≡ Some x
       → after_reply (runs_scripts s.workers) a x r received ≡ after_reply_by s.workers s.clients x r received
   by_words a x is there =
-      after_reply_by_worker (runs_scripts s.workers) s.workers a s.clients fd x r received goes-at there kept.hired
-      (is ∙ ap (λ k. min k 7) (first_is s.workers s.free s.clients kept.reports kept.hired))
+      after_reply_by_worker (runs_scripts s.workers) s.workers a s.clients fd x r received goes-at there between.hired
+      (is ∙ ap (λ k. min k 7) (first_is s.workers s.free s.clients between.reports between.hired))
 
   pub at-is : (l : List (Option Client)) → filed s.workers s.clients (At fd) r received ≡ l → filed_by s r received ≡ l
   at-is l is = ap (λ (w : PendingCall). filed s.workers s.clients w r received) flies ∙ is
@@ -250,8 +252,8 @@ module _ (s : Table) (kept : IsKept s) (fd : ℕ) (flies : s.pending_call ≡ At
       ∙ get_or-set_same s.clients fd (Some w.now) none w.within in
       let reports : ReportsFree t.free after =
       subst (λ (m : List (Option Client)). ReportsFree t.free m) (set w.now ∙ sym w.after_is)
-      (reports_turned s.workers s.clients s.free t.free fd (Some w.now) (worker_at after fd) kept.shared.own
-      kept.reports turned
+      (reports_turned s.workers s.clients s.free t.free fd (Some w.now) (worker_at after fd) between.shared.own
+      between.reports turned
       (λ j. runs-some w.now j ∙ ap (λ (o : Option Client). is_worker (worker_in o) j) (sym had))) in
       subst (λ (u : Table). Turns s r received (turn.Make k) u) (sym same) (record {
         policy =
@@ -312,7 +314,7 @@ module _ (s : Table) (kept : IsKept s) (fd : ℕ) (flies : s.pending_call ≡ At
       ∙ (sym (filed_there s.workers s.clients fd w.was r received w.there w.within) ∙ w.filed_is) in
       subst (λ (m : List (Option Client)). ReportsFree free m) at
       (reports_turned s.workers s.clients s.free free fd (left_over z) (worker_left l (worker_at s.clients fd))
-      kept.shared.own kept.reports turned
+      between.shared.own between.reports turned
       (λ k. left-runs l z w.was k w.by.after_reply_is
       ∙ ap (λ (o : Option ℕ). is_worker (worker_left l o) k) (sym worker)))
 
@@ -342,7 +344,7 @@ module _ (s : Table) (kept : IsKept s) (fd : ℕ) (flies : s.pending_call ≡ At
       let w = left-at a l now is course in
       let reports : ReportsFree free (left_at s.clients fd l) = left-reports l now free w turned in
       let has : has_in s.workers free ≡ has_free s.workers (left_at s.clients fd l) =
-      has_is s.workers free (left_at s.clients fd l) reports kept.hired in
+      has_is s.workers free (left_at s.clients fd l) reports between.hired in
       let old : PicksFrom (runs_scripts s.workers) (has_in s.workers free) s.clients (fd + 1) (most_with l)
       t.pending_call made =
       subst (λ (n : List (Option Client)). PicksFrom (runs_scripts s.workers) (has_in s.workers free) n (fd + 1)

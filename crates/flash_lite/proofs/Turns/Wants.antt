@@ -10,7 +10,7 @@ use Rattle.flash_laws.specs.Serves.Rounds.{next_in}
 use Rattle.flash_laws.specs.Serves.Wants.{MayWant, WantsFrom, WantsHere, WantsPast, wants_in, wants_there}
 use Rattle.flash_laws.specs.declared.phase.PendingCall.TheVariants.{Nothing, At}
 use Rattle.flash_laws.specs.Client.Wants.{WantsOn}
-use Rattle.flash_lite.specs.Table.{Table, IsKept, ReportsFree}
+use Rattle.flash_lite.specs.Table.{Table, IsBetweenTurns, ReportsFree}
 use Rattle.flash_lite.specs.ServerTurn.{CourseAt, TurnsFree, first_in, has_in, left_as, left_at, worker_at, worker_left}
 use Rattle.flash_lite.specs.declared.client.Course.TheVariants.{Leaves}
 use Rattle.flash_lite.specs.declared.client.Left.{Left}
@@ -30,12 +30,12 @@ wants-same free from l clients same wants = by (next_in free clients from) refl 
         ap (λ (o : Option ℕ). wants_in l o) (next-same free from l clients same ∙ is)
         ∙ (ap (λ (o : Option Client). wants_there o) (same.each g (found_in free clients from g is).0) ∙ wants)
 
-pub nothing_wants : (s : Table) (r : Reply) (received : List ℕ) → IsKept s → s.pending_call ≡ Nothing
+pub nothing_wants : (s : Table) (r : Reply) (received : List ℕ) → IsBetweenTurns s → s.pending_call ≡ Nothing
     → WantsFrom (has_in s.workers s.free) s.clients 0
     → MayWant s.workers s.clients s.pending_call r received
-nothing_wants s r received kept flies wants =
+nothing_wants s r received between flies wants =
     subst (λ w. MayWant s.workers s.clients w r received) (sym flies)
-    (subst (λ b. WantsFrom b s.clients 0) (has_is s.workers s.free s.clients kept.reports kept.hired) wants)
+    (subst (λ b. WantsFrom b s.clients 0) (has_is s.workers s.free s.clients between.reports between.hired) wants)
 
 past-of : (workers : ℕ) (clients l : List (Option Client)) (fd : ℕ) (r : Reply) (received : List ℕ)
     → filed workers clients (At fd) r received ≡ l → WantsPast workers l fd r
@@ -43,17 +43,18 @@ past-of : (workers : ℕ) (clients l : List (Option Client)) (fd : ℕ) (r : Rep
 past-of workers clients l fd r received is past =
     inr (subst (λ (m : List (Option Client)). WantsPast workers m fd r) (sym is) past)
 
-pub none_wants : (s : Table) (fd : ℕ) (r : Reply) (received : List ℕ) (now : List (Option Client)) → IsKept s
+pub none_wants : (s : Table) (fd : ℕ) (r : Reply) (received : List ℕ) (now : List (Option Client)) → IsBetweenTurns s
     → in_place s.clients fd ≡ None → now ≡ s.clients
     → WantsFrom (has_in s.workers s.free) now (fd + 1) → MayWant s.workers s.clients (At fd) r received
-none_wants s fd r received now kept none same wants =
+none_wants s fd r received now between none same wants =
     past-of s.workers s.clients s.clients fd r received (filed_none s.workers s.clients fd r received none) (
       ap (λ (o : Option Client). leaves_off o r) none,
-      subst (λ b. WantsFrom b s.clients (fd + 1)) (has_is s.workers s.free s.clients kept.reports kept.hired)
+      subst (λ b. WantsFrom b s.clients (fd + 1)) (has_is s.workers s.free s.clients between.reports between.hired)
           (subst (λ (l : List (Option Client)). WantsFrom (has_in s.workers s.free) l (fd + 1)) same wants),
     )
 
-module _ (s : Table) (kept : IsKept s) (fd : ℕ) (flies : s.pending_call ≡ At fd) (r : Reply) (received : List ℕ) where
+module _ (s : Table) (between : IsBetweenTurns s) (fd : ℕ) (flies : s.pending_call ≡ At fd) (r : Reply)
+    (received : List ℕ) where
   pub here_wants : (a : ℕ) → a ≡ min (first_in s.workers s.free) 7
       → WantsHere (runs_scripts s.workers) a (in_place s.clients fd) r received
       → MayWant s.workers s.clients (At fd) r received
@@ -64,7 +65,7 @@ module _ (s : Table) (kept : IsKept s) (fd : ℕ) (flies : s.pending_call ≡ At
       by None there wants = absurd wants
       by (Some x) there wants =
           subst (λ (t : Client). WantsOn (runs_scripts s.workers) t x r received)
-          (by_words s kept fd flies r received a x is there) wants
+          (by_words s between fd flies r received a x is there) wants
 
   pub left_wants : (a : ℕ) (l : Left) (now : List (Option Client)) (had has : Option ℕ) (free : List Bool)
       → a ≡ min (first_in s.workers s.free) 7
@@ -72,12 +73,12 @@ module _ (s : Table) (kept : IsKept s) (fd : ℕ) (flies : s.pending_call ≡ At
       → had ≡ worker_at s.clients fd → has ≡ worker_left l had → TurnsFree s.free had has free
       → WantsFrom (has_in s.workers free) now (fd + 1) → MayWant s.workers s.clients (At fd) r received
   left_wants a l now had has free is course had_is left_is turns wants =
-      let turned = freed_by s kept fd flies r received l had has free had_is left_is turns in
-      let w = left-at s kept fd flies r received a l now is course in
+      let turned = freed_by s between fd flies r received l had has free had_is left_is turns in
+      let w = left-at s between fd flies r received a l now is course in
       let reports : ReportsFree free (left_at s.clients fd l) =
-      left-reports s kept fd flies r received l now free w turned in
+      left-reports s between fd flies r received l now free w turned in
       let has : has_in s.workers free ≡ has_free s.workers (left_at s.clients fd l) =
-      has_is s.workers free (left_at s.clients fd l) reports kept.hired in
+      has_is s.workers free (left_at s.clients fd l) reports between.hired in
       let here : WantsFrom (has_free s.workers (left_at s.clients fd l)) s.clients (fd + 1) =
       subst (λ b. WantsFrom b s.clients (fd + 1)) has
       (subst (λ (m : List (Option Client)). WantsFrom (has_in s.workers free) m (fd + 1)) w.same wants) in

@@ -28,10 +28,10 @@ pub world_new : (s : Site) (slots : List (List ℕ)) (old sys : SystemState) (w 
     → IsStrictlyIncreasing (domains_of w.process_slots) → w.resource_failure ≡ false
     → IsNewWorld s slots (copied w)
 world_new s slots old sys w ps begins placed leaves same new procs machine process_slots rises failure_free =
-    let kept : (machine_of sys).slots ≡ slots = same ∙ ap (λ (m : State). m.slots) begins in
+    let buffered : (machine_of sys).slots ≡ slots = same ∙ ap (λ (m : State). m.slots) begins in
     let is : machine_of w.machine ≡ machine_of sys = ap (λ (x : SystemState). machine_of x) machine in
     let in_slots = in_slots_by s ps w.process_slots procs process_slots rises in record {
-      machine = is ∙ ((leaves slots begins).state ∙ ap (λ (l : List (List ℕ)). state_of s l) kept);
+      machine = is ∙ ((leaves slots begins).state ∙ ap (λ (l : List (List ℕ)). state_of s l) buffered);
       process_slots = in_slots;
       failure_free = failure_free;
       new =

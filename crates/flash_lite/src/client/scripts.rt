@@ -1,5 +1,5 @@
 //! Finds a script: it is opened, read and closed like any file, but read whole also for HEAD, and
-//! its text is kept until the job is made.
+//! its text is buffered until the job is made.
 ghost use Rattle.std.specs.Prelude.{◌≡◌, ◌<◌, IfNone, IfOk, IfSome, OnErr, length};
 ghost use Rattle.std.specs.List.{concat};
 ghost use Rattle.flash_http.specs.MediaType as names;
@@ -162,9 +162,9 @@ fn can_run(alloc: Global, text: &[u8]) -> Result<bool, AllocError>
     Ok(script.is_some())
 }
 
-// The text that is kept: that of a script that will run.
-fn kept_if(alloc: Global, head_only: bool, runs: bool, text: Vec<u8>) -> Vec<u8>
-    ensures { result.items ≡ spec.kept_if head_only runs text.items }
+// The text that is buffered: that of a script that will run.
+fn buffered_if(alloc: Global, head_only: bool, runs: bool, text: Vec<u8>) -> Vec<u8>
+    ensures { result.items ≡ spec.buffered_if head_only runs text.items }
 {
     if head_only || !runs {
         Vec::new(alloc)
@@ -173,23 +173,23 @@ fn kept_if(alloc: Global, head_only: bool, runs: bool, text: Vec<u8>) -> Vec<u8>
     }
 }
 
-/// Returns whether the text that was read is a script, and the text to be kept. A text that
+/// Returns whether the text that was read is a script, and the text to be buffered. A text that
 /// exceeds the limit of a script is not copied, and an empty text needs no memory.
-#[tactic(auto, using(crate::proofs::Responses::Clients::long_runs, crate::proofs::Responses::Clients::long_kept))]
+#[tactic(auto, using(crate::proofs::Responses::Clients::long_runs, crate::proofs::Responses::Clients::long_buffered))]
 pub(crate) fn received_text(
     alloc: Global,
     head_only: bool,
     parts: Option<Parts<'_>>,
 ) -> Result<(bool, Vec<u8>), AllocError>
     ensures runs { IfOk result (λ r. r.0 ≡ spec.can_run (received parts.entry)) }
-    ensures kept { IfOk result
-        (λ r. r.1.items ≡ course.kept_script head_only (received parts.entry)) }
+    ensures buffered { IfOk result
+        (λ r. r.1.items ≡ course.buffered_script head_only (received parts.entry)) }
     ensures wants { OnErr result (0 < length (received parts.entry)) }
 {
     match gather(alloc, parts, MAX_SCRIPT_BYTES)? {
         Some(text) => {
             let runs = can_run(alloc, text.as_slice())?;
-            Ok((runs, kept_if(alloc, head_only, runs, text)))
+            Ok((runs, buffered_if(alloc, head_only, runs, text)))
         }
         None => Ok((false, Vec::new(alloc))),
     }

@@ -32,10 +32,10 @@ pub(crate) struct Clients {
 impl Model for Clients {
     ghost use Rattle.std.specs.Prelude.{◌≤◌, ◌^◌, List, Option, length};
     ghost use Rattle.std.specs.Vec.{vec_capacity};
-    ghost use Rattle.flash_laws.specs.Prelude.{Client as Kept};
+    ghost use Rattle.flash_laws.specs.Prelude.{Client as ClientState};
     ghost use Rattle.flash_lite.specs.Order.{ReportsWhoGoes};
 
-    ghost Value = { List (Option Kept) };
+    ghost Value = { List (Option ClientState) };
 
     ghost view = { λ s. s.places.items };
 

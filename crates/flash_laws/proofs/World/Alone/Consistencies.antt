@@ -17,13 +17,19 @@ use Rattle.flash_laws.proofs.Conn.Responses.{all-more, order-more, last-more}
 use Rattle.flash_laws.proofs.Lists.{clash}
 use Rattle.flash_laws.proofs.World.Responses.{responds-more, begins-consistency}
 
-abbrev pub alone : (kept script : List ℕ) → Answer → Phase → Client
-alone kept script q d = record { conn = record { kept = kept; q = q; phase = d }; run = None; script = script }
+abbrev pub alone : (buffered script : List ℕ) → Answer → Phase → Client
+alone buffered script q d = record {
+  conn = record { buffered = buffered; request = q; phase = d };
+  run = None;
+  script =
+      script;
+}
 
 -- it fits in a state of the machine
-abbrev pub FitsAt : SiteContents → (came sent : List ℕ) (fd c : ℕ) (kept script : List ℕ) → State → Answer → Phase
+abbrev pub FitsAt : SiteContents → (came sent : List ℕ) (fd c : ℕ) (buffered script : List ℕ) → State → Answer → Phase
     → Type 0
-FitsAt site_contents came sent fd c kept script s q d = FitsAlone site_contents s came sent fd c (alone kept script q d)
+FitsAt site_contents came sent fd c buffered script s q d =
+    FitsAlone site_contents s came sent fd c (alone buffered script q d)
 
 -- what is given of the response to the request in progress
 abbrev pub part_of : (expected : List ℕ) → Phase → List ℕ
@@ -33,12 +39,12 @@ part_of expected d = given_of expected (is_at_rest d) (taken_of d)
 abbrev pub Stands : (expected : List ℕ) → (q : Answer) → (part : List ℕ) → Phase → Type 0
 Stands expected q part e = (asked q e ≡ q ∷ []) × (part_of expected e ≡ part) × (quits e ≡ false)
 
-module _ (site_contents : SiteContents) (kept script : List ℕ) where
+module _ (site_contents : SiteContents) (buffered script : List ℕ) where
   -- what ties it before ties it after, with the one response and the other
   abbrev pub ConsistenciesOn : (expected later : List ℕ) → Answer → (d e : Phase) → Type 0
   ConsistenciesOn expected later q d e = (k : Connection) (took sent : List ℕ)
-      → ConsistencyAlone site_contents expected k took sent (alone kept script q d)
-      → ConsistencyAlone site_contents later k took sent (alone kept script q e)
+      → ConsistencyAlone site_contents expected k took sent (alone buffered script q d)
+      → ConsistencyAlone site_contents later k took sent (alone buffered script q e)
 
   -- where as much is asked and given
   pub consistency_on : (expected later : List ℕ) (q : Answer) (d e : Phase) → asked q e ≡ asked q d
@@ -48,7 +54,7 @@ module _ (site_contents : SiteContents) (kept script : List ℕ) where
     record {
       done = o.1.done;
       open_yet = o.1.open_yet;
-      reads = subst (λ (l : List Answer). Reads took (o.1.done ++ l) kept) (sym same_asked) o.1.reads;
+      reads = subst (λ (l : List Answer). Reads took (o.1.done ++ l) buffered) (sym same_asked) o.1.reads;
       before = o.1.before;
       responds = o.1.responds;
       out_is = o.1.out_is ∙ ap (λ (l : List ℕ). o.1.before ++ l) (sym same_given);
@@ -83,7 +89,7 @@ module _ (site_contents : SiteContents) (kept script : List ℕ) where
       record {
         done = o.1.done ++ q ∷ [];
         open_yet = all-more o.1.done q o.1.open_yet keep;
-        reads = subst (λ (l : List Answer). Reads took l kept) (sym (append-nil (o.1.done ++ q ∷ []))) o.1.reads;
+        reads = subst (λ (l : List Answer). Reads took l buffered) (sym (append-nil (o.1.done ++ q ∷ []))) o.1.reads;
         before = sent ++ bytes_of k.outgoing;
         responds = taken-whole taken o.1.done o.1.before (sent ++ bytes_of k.outgoing) o.1.responds none o.1.out_is;
         out_is = sym (append-nil (sent ++ bytes_of k.outgoing));
@@ -99,7 +105,7 @@ module _ (site_contents : SiteContents) (kept script : List ℕ) where
       quits = refl;
       finished = record {
         qs = o.1.done ++ q ∷ [];
-        rest = kept;
+        rest = buffered;
         reads = o.1.reads;
         order =
             order-more o.1.done q o.1.open_yet;
@@ -108,7 +114,8 @@ module _ (site_contents : SiteContents) (kept script : List ℕ) where
         no_more =
             inl (last-more o.1.done q last);
       };
-      begins = begins-consistency site_contents k took sent (alone kept script q (DroppingSent a taken None)) expected
+      begins = begins-consistency site_contents k took sent (alone buffered script q (DroppingSent a taken None))
+          expected
           may
           (inl o);
     }))

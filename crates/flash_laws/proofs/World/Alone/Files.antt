@@ -24,7 +24,7 @@ use Rattle.iol_laws.specs.CallerFiles as of
 use Rattle.flash_http.specs.Range.{selected}
 use Rattle.flash_http.specs.Request.{Answer, serve, refuse, Wanted}
 use Rattle.flash_laws.specs.Answers.{Outcome, Found, Failed, body_unless, chosen, file_text, unsatisfiable, response}
-use Rattle.flash_laws.specs.Client.{is_for_script, can_run, kept_if, script_after_reply}
+use Rattle.flash_laws.specs.Client.{is_for_script, can_run, buffered_if, script_after_reply}
 use Rattle.flash_laws.specs.Client.Fits.{ConsistencyAlone, expected_in, Finds, FitsAlone}
 use Rattle.flash_laws.specs.Conn as conn
 use Rattle.flash_laws.specs.Conn.{Conn, most_read, name_of, count_of, text_of, status_of}
@@ -56,19 +56,19 @@ pub expected-is : (expected : List ℕ) (q : Answer) (d : Phase) → is_read d �
 expected-is expected q d is = ap (λ b. if b then text_of q Script else expected) is
 
 module _ (site_contents : SiteContents) (worker_set : WorkerSet) (laws : AllLaws worker_set) (m n : State)
-    (came sent : List ℕ) (fd c : ℕ) (kept script : List ℕ)
+    (came sent : List ℕ) (fd c : ℕ) (buffered script : List ℕ)
     (order : IsOrderly m) where
   abbrev Fitting : State → Answer → Phase → Type 0
-  Fitting = FitsAt site_contents came sent fd c kept script
+  Fitting = FitsAt site_contents came sent fd c buffered script
 
   -- a call that leaves the connection itself; the text that is kept may be another
   pub moves_to : (text : List ℕ) (q : Answer) (d e : Phase) (k : Call) (r : Reply) (later : List ℕ)
       → MayBeExpected site_contents q later → (f : Fitting m q d)
       → StepsTo m (event.Call server k) r n → touches_conn m (event.Call server k) c ≡ false
       → touches_fd m (event.Call server k) server fd ≡ false
-      → ConsistenciesOn site_contents kept script f.expected later q d e
+      → ConsistenciesOn site_contents buffered script f.expected later q d e
       → Has n q (expected_in later q e) e → Finds site_contents n q text e
-      → FitsAlone site_contents n came sent fd c (alone kept text q e)
+      → FitsAlone site_contents n came sent fd c (alone buffered text q e)
   moves_to text q d e k r later may f step un un_fd consistencies has finds =
       let leaves = laws.the.steps.leaves m n (event.Call server k) r step in
       let conn = leaves.conns c un in
@@ -79,7 +79,7 @@ module _ (site_contents : SiteContents) (worker_set : WorkerSet) (laws : AllLaws
         may = may;
         came_is = f.came_is ∙ ap (λ (x : Connection). f.took ++ bytes_of x.incoming) (sym conn);
         consistency =
-            subst (λ (x : Connection). ConsistencyAlone site_contents later x f.took sent (alone kept script q e))
+            subst (λ (x : Connection). ConsistencyAlone site_contents later x f.took sent (alone buffered script q e))
             (sym conn) (consistencies (conn_at m c) f.took sent f.consistency);
         has = has;
         finds = finds;
@@ -98,28 +98,28 @@ module _ (site_contents : SiteContents) (worker_set : WorkerSet) (laws : AllLaws
       → Finds site_contents n q script e → Fitting n q e
   goes q part d e k r later may f step un un_fd was stands has finds =
       moves_to script q d e k r later may f step un un_fd
-      (consistency_on site_contents kept script f.expected later q d e (stands.0 ∙ sym was.0) (stands.1 ∙ sym was.1)
+      (consistency_on site_contents buffered script f.expected later q d e (stands.0 ∙ sym was.0) (stands.1 ∙ sym was.1)
       was.2 stands.2) has finds
 
   -- what the machine has, and what is found, after a call that opens and reads nothing
   pub has_after_reply : (q : Answer) (d : Phase) (r : Reply) (received : List ℕ) → (f : Fitting m q d)
       → is_opening d ≡ false → is_closing d ≡ false → is_read d ≡ false
-      → StepsTo m (event.Call server (conn.wants fd (at kept q d))) r n → Names n r received
-      → Has n q (expected_in f.expected q (conn.after_reply (at kept q d) r received).phase)
-      (conn.after_reply (at kept q d) r received).phase
+      → StepsTo m (event.Call server (conn.next_call fd (at buffered q d))) r n → Names n r received
+      → Has n q (expected_in f.expected q (conn.after_reply (at buffered q d) r received).phase)
+      (conn.after_reply (at buffered q d) r received).phase
   has_after_reply q d r received f un busy unread step names =
-      subst (λ (l : List ℕ). Has n q l (conn.after_reply (at kept q d) r received).phase)
-      (sym (expected-is f.expected q (conn.after_reply (at kept q d) r received).phase
-      (phases.unread-after_reply kept q d r received unread)))
-      (having.phase laws.the.steps laws.the.own m n order kept fd c q d f.expected r received f.open_on un busy
+      subst (λ (l : List ℕ). Has n q l (conn.after_reply (at buffered q d) r received).phase)
+      (sym (expected-is f.expected q (conn.after_reply (at buffered q d) r received).phase
+      (phases.unread-after_reply buffered q d r received unread)))
+      (having.phase laws.the.steps laws.the.own m n order buffered fd c q d f.expected r received f.open_on un busy
       (subst (λ (l : List ℕ). Has m q l d) (expected-is f.expected q d unread) f.has) step names)
 
   pub finds_after_reply : (q : Answer) (d : Phase) (r : Reply) (received : List ℕ) → is_opening d ≡ false
       → is_read d ≡ false
       → Finds site_contents m q script d
-      → Finds site_contents n q script (conn.after_reply (at kept q d) r received).phase
+      → Finds site_contents n q script (conn.after_reply (at buffered q d) r received).phase
   finds_after_reply q d r received un unread found =
-      finds-after_reply site_contents m n kept q script d r received un unread found
+      finds-after_reply site_contents m n buffered q script d r received un unread found
 
   -- the file's descriptor is not the connection's
   pub differ-fds : (g f pos : ℕ) → descriptor m server g ≡ Some (on.File f pos modes.Read)
@@ -218,7 +218,7 @@ module _ (site_contents : SiteContents) (worker_set : WorkerSet) (laws : AllLaws
   pub reads : (q : Answer) (g : ℕ) (r : Reply) (received : List ℕ) → is_for_script site_contents.scripts q ≡ false
       → IsFixed site_contents.finds m → Fitting m q (Reading g)
       → IsAmong site_contents.refuses.of_server r
-      → StepsTo m (event.Call server (conn.wants fd (at kept q (Reading g)))) r n
+      → StepsTo m (event.Call server (conn.next_call fd (at buffered q (Reading g)))) r n
       → Names n r received → Fitting n q (conn.after_read g r received)
   reads (refuse status head_only close) g r received none fixed f undisturbed step names = absurd f.has.0
   reads (serve w) g r received none fixed f undisturbed step names = which w.head_only refl step
@@ -301,7 +301,7 @@ module _ (site_contents : SiteContents) (worker_set : WorkerSet) (laws : AllLaws
       → IsFixed site_contents.finds m → Fitting m q (Reading g)
       → IsAmong site_contents.refuses.of_server r → StepsTo m (event.Call server (call.IolRead g most_read)) r n
       → Names n r received
-      → FitsAlone site_contents n came sent fd c (script_after_reply (alone kept script q (Reading g)) r received)
+      → FitsAlone site_contents n came sent fd c (script_after_reply (alone buffered script q (Reading g)) r received)
   reads_text (refuse status head_only close) g r received asks fixed f undisturbed step names = absurd f.has.0
   reads_text (serve w) g r received asks fixed f undisturbed step names =
       by r (laws.the.files.reads_file m n server g f.finds.number 0 most_read modes.Read r order fixed.lives f.finds.may
@@ -312,7 +312,7 @@ module _ (site_contents : SiteContents) (worker_set : WorkerSet) (laws : AllLaws
           → StepsTo m (event.Call server (call.IolRead g most_read)) r n → IsAmong site_contents.refuses.of_server r
           → Names n r received
           → FitsAlone site_contents n came sent fd c
-          (script_after_reply (alone kept script (serve w) (Reading g)) r received)
+          (script_after_reply (alone buffered script (serve w) (Reading g)) r received)
       by (reply.Agg a) did step undisturbed names = runs (can_run received) refl
         where
           found : site_contents.finds w.name ≡ Found received
@@ -335,19 +335,19 @@ module _ (site_contents : SiteContents) (worker_set : WorkerSet) (laws : AllLaws
               × (touches_fd m (event.Call server (call.IolRead g most_read)) server fd ≡ false)
           apart = reads_apart g f.finds.number most_read f.finds.open_on f.open_on
 
-          kept_whole : (b h : Bool) → b ≡ true → h ≡ false → kept_if h b received ≡ received
-          kept_whole true false runs get = refl
-          kept_whole true true runs get = absurd (cc (get))
-          kept_whole false h runs get = absurd (cc (runs))
+          buffered_whole : (b h : Bool) → b ≡ true → h ≡ false → buffered_if h b received ≡ received
+          buffered_whole true false runs get = refl
+          buffered_whole true true runs get = absurd (cc (get))
+          buffered_whole false h runs get = absurd (cc (runs))
 
           runs : (b : Bool) → can_run received ≡ b
               → FitsAlone site_contents n came sent fd c
-              (alone kept (kept_if w.head_only b received) (serve w) (ClosingFile g (TextOf a b)))
+              (alone buffered (buffered_if w.head_only b received) (serve w) (ClosingFile g (TextOf a b)))
           runs true is =
-              moves_to (kept_if w.head_only true received) (serve w) (Reading g) (ClosingFile g (TextOf a true))
+              moves_to (buffered_if w.head_only true received) (serve w) (Reading g) (ClosingFile g (TextOf a true))
               (call.IolRead g most_read) (reply.Agg a) (expected_to site_contents (serve w))
               (expected-may site_contents (serve w)) f step apart.0 apart.1
-              (consistency_on site_contents kept script f.expected (expected_to site_contents (serve w)) (serve w)
+              (consistency_on site_contents buffered script f.expected (expected_to site_contents (serve w)) (serve w)
               (Reading g) (ClosingFile g (TextOf a true)) refl refl refl refl) (
                 (f.finds.number, 0 + length (take most_read (content m f.finds.number)), did.moves),
                 ((received, names), refl),
@@ -357,14 +357,14 @@ module _ (site_contents : SiteContents) (worker_set : WorkerSet) (laws : AllLaws
                 text = received;
                 found = found;
                 runs = is;
-                kept =
-                    λ get. kept_whole true w.head_only refl get;
+                buffered =
+                    λ get. buffered_whole true w.head_only refl get;
               })
           runs false is =
-              moves_to (kept_if w.head_only false received) (serve w) (Reading g) (ClosingFile g (TextOf a false))
+              moves_to (buffered_if w.head_only false received) (serve w) (Reading g) (ClosingFile g (TextOf a false))
               (call.IolRead g most_read) (reply.Agg a) (expected_to site_contents (serve w))
               (expected-may site_contents (serve w)) f step apart.0 apart.1
-              (consistency_on site_contents kept script f.expected (expected_to site_contents (serve w)) (serve w)
+              (consistency_on site_contents buffered script f.expected (expected_to site_contents (serve w)) (serve w)
               (Reading g) (ClosingFile g (TextOf a false)) refl refl refl refl) (
                 (f.finds.number, 0 + length (take most_read (content m f.finds.number)), did.moves),
                 ((received, names), may false is),

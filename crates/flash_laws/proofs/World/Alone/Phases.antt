@@ -26,7 +26,7 @@ use Rattle.flash_cgi.specs.Script.{script_of}
 use Rattle.flash_cgi.specs.declared.line.Line.{Line}
 use Rattle.flash_laws.specs.Answers.{Failed, keeps}
 use Rattle.flash_laws.specs.Client as client
-use Rattle.flash_laws.specs.Client.{is_for_script, conn_wants, conn_after_reply, script_after_reply, file_after_reply}
+use Rattle.flash_laws.specs.Client.{is_for_script, conn_call, conn_after_reply, script_after_reply, file_after_reply}
 use Rattle.flash_laws.specs.Client.Fits.{ConsistencyAlone, expected_in, HasText, Finds, FitsAlone, ConsistencyRun}
 use Rattle.flash_laws.specs.Client.Fits.{FitsRun, Fits, made_of, response_to}
 use Rattle.flash_laws.specs.Conn as conn
@@ -68,10 +68,10 @@ some-lines None is = absurd (cc (is))
 some-lines (Some lines) is = (lines, refl)
 
 module _ (site_contents : SiteContents) (worker_set : WorkerSet) (laws : AllLaws worker_set) (m n : State)
-    (came sent : List ℕ) (fd c : ℕ) (kept script : List ℕ)
+    (came sent : List ℕ) (fd c : ℕ) (buffered script : List ℕ)
     (order : IsOrderly m) where
   abbrev Fitting : State → Answer → Phase → Type 0
-  Fitting = FitsAt site_contents came sent fd c kept script
+  Fitting = FitsAt site_contents came sent fd c buffered script
 
   -- ---- what the phases rest on, of these states
 
@@ -79,69 +79,72 @@ module _ (site_contents : SiteContents) (worker_set : WorkerSet) (laws : AllLaws
       → MayBeExpected site_contents q later → (f : Fitting m q d)
       → StepsTo m (event.Call server k) r n → touches_conn m (event.Call server k) c ≡ false
       → touches_fd m (event.Call server k) server fd ≡ false
-      → ConsistenciesOn site_contents kept script f.expected later q d e
+      → ConsistenciesOn site_contents buffered script f.expected later q d e
       → Has n q (expected_in later q e) e → Finds site_contents n q text e
-      → FitsAlone site_contents n came sent fd c (alone kept text q e)
-  moves_to = files.moves_to site_contents worker_set laws m n came sent fd c kept script order
+      → FitsAlone site_contents n came sent fd c (alone buffered text q e)
+  moves_to = files.moves_to site_contents worker_set laws m n came sent fd c buffered script order
 
   same : (q : Answer) (d : Phase) → Fitting m q d → n ≡ m → Fitting n q d
-  same = files.same site_contents worker_set laws m n came sent fd c kept script order
+  same = files.same site_contents worker_set laws m n came sent fd c buffered script order
 
   goes : (q : Answer) (part : List ℕ) (d e : Phase) (k : Call) (r : Reply) (f : Fitting m q d)
       → StepsTo m (event.Call server k) r n → touches_conn m (event.Call server k) c ≡ false
       → touches_fd m (event.Call server k) server fd ≡ false
       → Stands f.expected q part d → Stands f.expected q part e → Has n q (expected_in f.expected q e) e
       → Finds site_contents n q script e → Fitting n q e
-  goes q part d e k r f = files.goes site_contents worker_set laws m n came sent fd c kept script order q part d e k r
+  goes q part d e k r f = files.goes site_contents worker_set laws m n came sent fd c buffered script order q part d e k
+      r
       f.expected f.may f
 
   has_after_reply : (q : Answer) (d : Phase) (r : Reply) (received : List ℕ) → (f : Fitting m q d)
       → is_opening d ≡ false → is_closing d ≡ false → is_read d ≡ false
-      → StepsTo m (event.Call server (conn.wants fd (at kept q d))) r n → Names n r received
-      → Has n q (expected_in f.expected q (conn.after_reply (at kept q d) r received).phase)
-      (conn.after_reply (at kept q d) r received).phase
-  has_after_reply = files.has_after_reply site_contents worker_set laws m n came sent fd c kept script order
+      → StepsTo m (event.Call server (conn.next_call fd (at buffered q d))) r n → Names n r received
+      → Has n q (expected_in f.expected q (conn.after_reply (at buffered q d) r received).phase)
+      (conn.after_reply (at buffered q d) r received).phase
+  has_after_reply = files.has_after_reply site_contents worker_set laws m n came sent fd c buffered script order
 
   finds_after_reply : (q : Answer) (d : Phase) (r : Reply) (received : List ℕ) → is_opening d ≡ false
       → is_read d ≡ false
       → Finds site_contents m q script d
-      → Finds site_contents n q script (conn.after_reply (at kept q d) r received).phase
-  finds_after_reply = files.finds_after_reply site_contents worker_set laws m n came sent fd c kept script order
+      → Finds site_contents n q script (conn.after_reply (at buffered q d) r received).phase
+  finds_after_reply = files.finds_after_reply site_contents worker_set laws m n came sent fd c buffered script order
 
   differ-fds : (g f pos : ℕ) → descriptor m server g ≡ Some (on.File f pos modes.Read)
       → descriptor m server fd ≡ Some (on.Connection c) → (g == fd) ≡ false
-  differ-fds = files.differ-fds site_contents worker_set laws m n came sent fd c kept script order
+  differ-fds = files.differ-fds site_contents worker_set laws m n came sent fd c buffered script order
 
   unused : (g f pos : ℕ) → descriptor m server g ≡ Some (on.File f pos modes.Read)
       → (list_any (is_conn c) (descriptor m server g ∷ []) || false) ≡ false
-  unused = files.unused site_contents worker_set laws m n came sent fd c kept script order
+  unused = files.unused site_contents worker_set laws m n came sent fd c buffered script order
 
   -- ---- each phase that opens and reads no file
 
   -- where its tie stays
   on-consistency : (q : Answer) (d : Phase) (r : Reply) (received : List ℕ) (f : Fitting m q d) → is_opening d ≡ false
       → is_closing d ≡ false → is_read d ≡ false
-      → StepsTo m (event.Call server (conn.wants fd (at kept q d))) r n → Names n r received
-      → touches_conn m (event.Call server (conn.wants fd (at kept q d))) c ≡ false
-      → touches_fd m (event.Call server (conn.wants fd (at kept q d))) server fd ≡ false
-      → ConsistenciesOn site_contents kept script f.expected f.expected q d
-      (conn.after_reply (at kept q d) r received).phase
-      → Fitting n q (conn.after_reply (at kept q d) r received).phase
+      → StepsTo m (event.Call server (conn.next_call fd (at buffered q d))) r n → Names n r received
+      → touches_conn m (event.Call server (conn.next_call fd (at buffered q d))) c ≡ false
+      → touches_fd m (event.Call server (conn.next_call fd (at buffered q d))) server fd ≡ false
+      → ConsistenciesOn site_contents buffered script f.expected f.expected q d
+      (conn.after_reply (at buffered q d) r received).phase
+      → Fitting n q (conn.after_reply (at buffered q d) r received).phase
   on-consistency q d r received f un busy unread step names un_conn un_fd consistencies =
-      moves_to script q d (conn.after_reply (at kept q d) r received).phase (conn.wants fd (at kept q d)) r f.expected
+      moves_to script q d (conn.after_reply (at buffered q d) r received).phase (conn.next_call fd (at buffered q d)) r
+      f.expected
       f.may f step un_conn un_fd consistencies
       (has_after_reply q d r received f un busy unread step names) (finds_after_reply q d r received un unread f.finds)
 
   -- where it goes on with the request
   on-stands : (part : List ℕ) (q : Answer) (d : Phase) (r : Reply) (received : List ℕ) (f : Fitting m q d)
       → is_opening d ≡ false → is_closing d ≡ false → is_read d ≡ false
-      → StepsTo m (event.Call server (conn.wants fd (at kept q d))) r n → Names n r received
-      → touches_conn m (event.Call server (conn.wants fd (at kept q d))) c ≡ false
-      → touches_fd m (event.Call server (conn.wants fd (at kept q d))) server fd ≡ false
-      → Stands f.expected q part d → Stands f.expected q part (conn.after_reply (at kept q d) r received).phase
-      → Fitting n q (conn.after_reply (at kept q d) r received).phase
+      → StepsTo m (event.Call server (conn.next_call fd (at buffered q d))) r n → Names n r received
+      → touches_conn m (event.Call server (conn.next_call fd (at buffered q d))) c ≡ false
+      → touches_fd m (event.Call server (conn.next_call fd (at buffered q d))) server fd ≡ false
+      → Stands f.expected q part d → Stands f.expected q part (conn.after_reply (at buffered q d) r received).phase
+      → Fitting n q (conn.after_reply (at buffered q d) r received).phase
   on-stands part q d r received f un busy unread step names un_conn un_fd was stands =
-      goes q part d (conn.after_reply (at kept q d) r received).phase (conn.wants fd (at kept q d)) r f step un_conn
+      goes q part d (conn.after_reply (at buffered q d) r received).phase (conn.next_call fd (at buffered q d)) r f step
+      un_conn
       un_fd was stands
       (has_after_reply q d r received f un busy unread step names) (finds_after_reply q d r received un unread f.finds)
 
@@ -192,7 +195,7 @@ module _ (site_contents : SiteContents) (worker_set : WorkerSet) (laws : AllLaws
       → Fitting m q (DroppingWhole a Script)
       → StepsTo m (event.Call server (call.AggDrop a)) r n
       → Fits site_contents worker_set n came sent fd c
-      (script_after_reply (alone kept script q (DroppingWhole a Script)) r received) process_slots
+      (script_after_reply (alone buffered script q (DroppingWhole a Script)) r received) process_slots
   runs process_slots (refuse status head_only close) a r received f step = absurd (let bad = f.finds.asks in cc (bad))
   runs process_slots (serve w) a r received f step =
       by w.head_only r refl (laws.the.own.drops m n server a r order step) step
@@ -210,8 +213,9 @@ module _ (site_contents : SiteContents) (worker_set : WorkerSet) (laws : AllLaws
       may_be b is = subst (λ (t : Bool). MayPutOut t w nothing_yet (expected_to site_contents (serve w))) is may
 
       consistencies : (k : Connection) (took sent : List ℕ) → w.head_only ≡ false
-          → ConsistencyAlone site_contents f.expected k took sent (alone kept script (serve w) (DroppingWhole a Script))
-          → ConsistencyRun site_contents (expected_to site_contents (serve w)) k took sent kept w nothing_yet
+          → ConsistencyAlone site_contents f.expected k took sent
+          (alone buffered script (serve w) (DroppingWhole a Script))
+          → ConsistencyRun site_contents (expected_to site_contents (serve w)) k took sent buffered w nothing_yet
           AwaitingWorker
       consistencies k took sent get (inl owes) = inl (record { answers = owes.1; may = may_be false get; whole = refl })
       consistencies k took sent get (inr (inl finished)) = absurd (let bad = finished.quits in cc (bad))
@@ -219,7 +223,7 @@ module _ (site_contents : SiteContents) (worker_set : WorkerSet) (laws : AllLaws
 
       begins : w.head_only ≡ false → StepsTo m (event.Call server (call.AggDrop a)) reply.Done n
           → FitsRun site_contents worker_set n came sent fd c (record {
-            conn = at kept (serve w) (MakingHead Script);
+            conn = at buffered (serve w) (MakingHead Script);
             run =
                 Some AwaitingWorker;
             script = script;
@@ -251,15 +255,15 @@ module _ (site_contents : SiteContents) (worker_set : WorkerSet) (laws : AllLaws
             shown = shown;
             may_show = all-show site_contents shown;
             fresh = λ starts. refl;
-            kept = λ u. f.finds.kept get;
+            buffered = λ u. f.finds.buffered get;
             so_far = nothing_yet;
             has = refl;
             ongoing = refl;
             consistency =
-                subst (λ (l : List ℕ). ConsistencyRun site_contents l (conn_at n c) f.took sent kept w nothing_yet
+                subst (λ (l : List ℕ). ConsistencyRun site_contents l (conn_at n c) f.took sent buffered w nothing_yet
                 AwaitingWorker) is_expected
                 (subst (λ (x : Connection). ConsistencyRun site_contents (expected_to site_contents (serve w)) x f.took
-                sent kept w nothing_yet AwaitingWorker) (sym conn)
+                sent buffered w nothing_yet AwaitingWorker) (sym conn)
                 (consistencies (conn_at m c) f.took sent get f.consistency));
             job_queue = tt;
           }
@@ -268,12 +272,12 @@ module _ (site_contents : SiteContents) (worker_set : WorkerSet) (laws : AllLaws
           → StepsTo m (event.Call server (call.AggDrop a)) r n
           → Fits site_contents worker_set n came sent fd c
           (record {
-            conn = at kept (serve w) (after_drop_whole a Script r);
+            conn = at buffered (serve w) (after_drop_whole a Script r);
             run = client.after_drop_whole b r;
             script = script;
           }) process_slots
       by true reply.Done is did step =
-          files.goes site_contents worker_set laws m n came sent fd c kept script order (serve w) []
+          files.goes site_contents worker_set laws m n came sent fd c buffered script order (serve w) []
           (DroppingWhole a Script)
           (MakingHead Script) (call.AggDrop a) reply.Done (expected_to site_contents (serve w))
           (expected-may site_contents (serve w)) f step refl refl (refl, refl, refl) (refl, refl, refl)
@@ -299,21 +303,21 @@ module _ (site_contents : SiteContents) (worker_set : WorkerSet) (laws : AllLaws
   drops-quit (Some x) = refl
 
   sent-consistencies : (q : Answer) (a taken : ℕ) (more : Following) (f : Fitting m q (DroppingSent a taken more))
-      → ConsistenciesOn site_contents kept script f.expected f.expected q (DroppingSent a taken more)
+      → ConsistenciesOn site_contents buffered script f.expected f.expected q (DroppingSent a taken more)
       (proceeds q taken more)
   sent-consistencies q a taken more f = after more f.has
     where
       ended : (b : Bool) → keeps q ≡ b → drop taken f.expected ≡ []
-          → ConsistenciesOn site_contents kept script f.expected f.expected q (DroppingSent a taken None)
+          → ConsistenciesOn site_contents buffered script f.expected f.expected q (DroppingSent a taken None)
           (if b then Receiving else Disconnecting)
-      ended true keep none = ends site_contents kept script f.expected q f.may a taken keep none
-      ended false keep none = ends-last site_contents kept script f.expected q f.may a taken keep none
+      ended true keep none = ends site_contents buffered script f.expected q f.may a taken keep none
+      ended false keep none = ends-last site_contents buffered script f.expected q f.may a taken keep none
 
       after : (more : Following) → HoldsMore m f.expected a taken more
-          → ConsistenciesOn site_contents kept script f.expected f.expected q (DroppingSent a taken more)
+          → ConsistenciesOn site_contents buffered script f.expected f.expected q (DroppingSent a taken more)
           (proceeds q taken more)
       after (Some x) h =
-          consistency_on site_contents kept script f.expected f.expected q (DroppingSent a taken (Some x))
+          consistency_on site_contents buffered script f.expected f.expected q (DroppingSent a taken (Some x))
           (SendingWhole (whole x.0 x.1 taken None)) refl refl refl refl
       after None h = ended (keeps q) refl (sym h.next ∙ h.follows)
 
@@ -327,20 +331,22 @@ module _ (site_contents : SiteContents) (worker_set : WorkerSet) (laws : AllLaws
 
   phase : (q : Answer) (d : Phase) (r : Reply) (received : List ℕ) → is_of_text d ≡ false
       → IsFixed site_contents.finds m → Fitting m q d
-      → conn.IsAwaiting (at kept q d) → is_closing d ≡ false → IsAmong site_contents.refuses.of_server r
-      → StepsTo m (event.Call server (conn.wants fd (at kept q d))) r n → Names n r received
-      → FitsAlone site_contents n came sent fd c (conn_after_reply (alone kept script q d) r received)
+      → conn.IsAwaiting (at buffered q d) → is_closing d ≡ false → IsAmong site_contents.refuses.of_server r
+      → StepsTo m (event.Call server (conn.next_call fd (at buffered q d))) r n → Names n r received
+      → FitsAlone site_contents n came sent fd c (conn_after_reply (alone buffered script q d) r received)
   phase q Receiving r received plain fixed f waits busy undisturbed step names =
-      rests site_contents laws.the m n came sent fd c kept script order q r received f waits step names
+      rests site_contents laws.the m n came sent fd c buffered script order q r received f waits step names
   phase q (DroppingInput a) r received plain fixed f waits busy undisturbed step names =
       on-consistency q (DroppingInput a) r received f refl refl refl step names refl refl
-      (after-done (ConsistenciesOn site_contents kept script f.expected f.expected q (DroppingInput a)) r
-      (consistency_on site_contents kept script f.expected f.expected q (DroppingInput a) (DroppingInput a) refl refl
+      (after-done (ConsistenciesOn site_contents buffered script f.expected f.expected q (DroppingInput a)) r
+      (consistency_on site_contents buffered script f.expected f.expected q (DroppingInput a) (DroppingInput a) refl
+      refl
       refl refl)
-      (consistency_on site_contents kept script f.expected f.expected q (DroppingInput a) Receiving refl refl refl
+      (consistency_on site_contents buffered script f.expected f.expected q (DroppingInput a) Receiving refl refl refl
       refl))
   phase q Opening r received plain fixed f waits busy undisturbed step names =
-      files.opens site_contents worker_set laws m n came sent fd c kept script order q r received fixed f undisturbed
+      files.opens site_contents worker_set laws m n came sent fd c buffered script order q r received fixed f
+      undisturbed
       step
   phase q (Reading g) r received plain fixed f waits busy undisturbed step names = absurd (cc (plain))
   phase q (ClosingFile g (TextOf a true)) r received plain fixed f waits busy undisturbed step names =
@@ -362,7 +368,7 @@ module _ (site_contents : SiteContents) (worker_set : WorkerSet) (laws : AllLaws
       on-stands [] q (Joining a size body len) r received f refl refl refl step names refl refl (refl, refl, refl)
       (after-agg (Stands f.expected q []) r (refl, refl, refl) (λ x. (refl, refl, refl)))
   phase q (SendingWhole s) r received plain fixed f waits busy undisturbed step names =
-      sends site_contents laws.the m n came sent fd c kept script order q s r f step
+      sends site_contents laws.the m n came sent fd c buffered script order q s r f step
       (has_after_reply q (SendingWhole s) r received f refl refl refl step names)
       (finds_after_reply q (SendingWhole s) r received refl refl f.finds)
   phase q (CuttingPiece s) r received plain fixed f waits busy undisturbed step names =
@@ -370,7 +376,7 @@ module _ (site_contents : SiteContents) (worker_set : WorkerSet) (laws : AllLaws
       (refl, refl, refl) (after-agg (Stands f.expected q (take s.taken f.expected)) r (refl, refl, refl)
       (λ x. (refl, refl, refl)))
   phase q (SendingPiece s piece) r received plain fixed f waits busy undisturbed step names =
-      offers site_contents laws.the m n came sent fd c kept script order q s piece r f step
+      offers site_contents laws.the m n came sent fd c buffered script order q s piece r f step
       (has_after_reply q (SendingPiece s piece) r received f refl refl refl step names)
       (finds_after_reply q (SendingPiece s piece) r received refl refl f.finds)
   phase q (DroppingPiece s piece) r received plain fixed f waits busy undisturbed step names =
@@ -379,18 +385,18 @@ module _ (site_contents : SiteContents) (worker_set : WorkerSet) (laws : AllLaws
       (swaps-stands f.expected q s))
   phase q (DroppingSent a taken more) r received plain fixed f waits busy undisturbed step names =
       on-consistency q (DroppingSent a taken more) r received f refl refl refl step names refl refl
-      (after-done (ConsistenciesOn site_contents kept script f.expected f.expected q (DroppingSent a taken more)) r
-      (consistency_on site_contents kept script f.expected f.expected q (DroppingSent a taken more)
+      (after-done (ConsistenciesOn site_contents buffered script f.expected f.expected q (DroppingSent a taken more)) r
+      (consistency_on site_contents buffered script f.expected f.expected q (DroppingSent a taken more)
       (DroppingSent a taken more) refl
       refl refl refl) (sent-consistencies q a taken more f))
   phase q (AbortingPiece piece a more) r received plain fixed f waits busy undisturbed step names =
       on-consistency q (AbortingPiece piece a more) r received f refl refl refl step names refl refl
-      (hush site_contents kept script f.expected f.expected q (AbortingPiece piece a more)
+      (hush site_contents buffered script f.expected f.expected q (AbortingPiece piece a more)
       (conn.after_break piece a more r) refl
       (after-done (λ e. quits e ≡ true) r refl refl))
   phase q (Aborting a more) r received plain fixed f waits busy undisturbed step names =
       on-consistency q (Aborting a more) r received f refl refl refl step names refl refl
-      (hush site_contents kept script f.expected f.expected q (Aborting a more) (conn.after_drop a more r) refl
+      (hush site_contents buffered script f.expected f.expected q (Aborting a more) (conn.after_drop a more r) refl
       (after-done (λ e. quits e ≡ true) r refl (drops-quit more)))
   phase q Disconnecting r received plain fixed f waits busy undisturbed step names = absurd (cc (busy))
   phase q Closed r received plain fixed f waits busy undisturbed step names = absurd (cc (busy))
@@ -398,17 +404,17 @@ module _ (site_contents : SiteContents) (worker_set : WorkerSet) (laws : AllLaws
   pub alone_phase : (process_slots : List (ProcessSlot worker_set.Worker)) (b : Bool) (q : Answer) (d : Phase)
       (r : Reply) (received : List ℕ)
       → is_for_script site_contents.scripts q ≡ b → IsFixed site_contents.finds m → Fitting m q d
-      → conn.IsAwaiting (at kept q d) → is_closing d ≡ false → IsAmong site_contents.refuses.of_server r
-      → StepsTo m (event.Call server (conn_wants b fd (at kept q d))) r n → Names n r received
-      → Fits site_contents worker_set n came sent fd c (file_after_reply b (alone kept script q d) r received)
+      → conn.IsAwaiting (at buffered q d) → is_closing d ≡ false → IsAmong site_contents.refuses.of_server r
+      → StepsTo m (event.Call server (conn_call b fd (at buffered q d))) r n → Names n r received
+      → Fits site_contents worker_set n came sent fd c (file_after_reply b (alone buffered script q d) r received)
       process_slots
   alone_phase process_slots false q (Reading g) r received is fixed f waits busy undisturbed step names =
-      files.reads site_contents worker_set laws m n came sent fd c kept script order q g r received is fixed f
+      files.reads site_contents worker_set laws m n came sent fd c buffered script order q g r received is fixed f
       undisturbed step names
   alone_phase process_slots false q (DroppingWhole a Script) r received is fixed f waits busy undisturbed step names =
       absurd (clash (is_for_script site_contents.scripts q) f.finds.asks is)
   alone_phase process_slots true q (Reading g) r received is fixed f waits busy undisturbed step names =
-      files.reads_text site_contents worker_set laws m n came sent fd c kept script order q g r received is fixed f
+      files.reads_text site_contents worker_set laws m n came sent fd c buffered script order q g r received is fixed f
       undisturbed step names
   alone_phase process_slots true q (DroppingWhole a Script) r received is fixed f waits busy undisturbed step names =
       runs process_slots q a r received f step

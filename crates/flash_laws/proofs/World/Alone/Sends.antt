@@ -26,7 +26,7 @@ use Rattle.flash_laws.specs.Answers.{Reads}
 use Rattle.flash_laws.specs.Client.{conn_after_reply}
 use Rattle.flash_laws.specs.Client.Fits.{ConsistencyAlone, expected_in, Finds, FitsAlone}
 use Rattle.flash_laws.specs.Conn as conn
-use Rattle.flash_laws.specs.Conn.{Conn, most_kept, piece_end, after_taking, next_piece}
+use Rattle.flash_laws.specs.Conn.{Conn, most_buffered, piece_end, after_taking, next_piece}
 use Rattle.flash_laws.specs.Conn.Fits.{Has, HoldsRestFrom, quits, Names}
 use Rattle.flash_laws.specs.SiteContents.{SiteContents, Responds}
 use Rattle.flash_laws.specs.Site.{server}
@@ -44,9 +44,9 @@ use Rattle.flash_laws.proofs.World.Alone.Consistencies.{alone, FitsAt, part_of, 
 use Rattle.flash_laws.proofs.World.Responses.{begins-append, begins-consistency}
 
 module _ (site_contents : SiteContents) (the : TheLaws) (m n : State) (came sent : List ℕ) (fd c : ℕ)
-    (kept script : List ℕ) (order : IsOrderly m) where
+    (buffered script : List ℕ) (order : IsOrderly m) where
   abbrev Fitting : State → Answer → Phase → Type 0
-  Fitting = FitsAt site_contents came sent fd c kept script
+  Fitting = FitsAt site_contents came sent fd c buffered script
 
   same : (q : Answer) (d : Phase) → Fitting m q d → n ≡ m → Fitting n q d
   same q d f is = subst (λ (s : State). Fitting s q d) (sym is) f
@@ -77,7 +77,7 @@ module _ (site_contents : SiteContents) (the : TheLaws) (m n : State) (came sent
     may = f.may;
     came_is = f.came_is ∙ ap (λ (x : Connection). f.took ++ bytes_of x.incoming) (sym puts.conn);
     consistency =
-        subst (λ (x : Connection). ConsistencyAlone site_contents f.expected x f.took sent (alone kept script q e))
+        subst (λ (x : Connection). ConsistencyAlone site_contents f.expected x f.took sent (alone buffered script q e))
         (sym puts.conn) (consistent f.consistency);
     has = has;
     finds = finds;
@@ -99,15 +99,17 @@ module _ (site_contents : SiteContents) (the : TheLaws) (m n : State) (came sent
           ∙ (append_assoc before (take taken f.expected) (take k bytes)
           ∙ ap (λ (l : List ℕ). before ++ l) (sym more_given ∙ sym stands.1))))
 
-      consistent : ConsistencyAlone site_contents f.expected (conn_at m c) f.took sent (alone kept script q d)
+      consistent : ConsistencyAlone site_contents f.expected (conn_at m c) f.took sent (alone buffered script q d)
           → ConsistencyAlone site_contents f.expected
-          (record (conn_at m c) { outgoing = (conn_at m c).outgoing ++ puts.text }) f.took sent (alone kept script q e)
+          (record (conn_at m c) { outgoing = (conn_at m c).outgoing ++ puts.text }) f.took sent
+          (alone buffered script q e)
       consistent (inl owes) = inl (
         stands.2,
         record {
           done = owes.1.done;
           open_yet = owes.1.open_yet;
-          reads = subst (λ (l : List Answer). Reads f.took (owes.1.done ++ l) kept) (was.0 ∙ sym stands.0) owes.1.reads;
+          reads = subst (λ (l : List Answer). Reads f.took (owes.1.done ++ l) buffered) (was.0 ∙ sym stands.0)
+              owes.1.reads;
           before = owes.1.before;
           responds = owes.1.responds;
           out_is = out owes.1.before (owes.1.out_is ∙ ap (λ (l : List ℕ). owes.1.before ++ l) was.1);
@@ -128,12 +130,12 @@ module _ (site_contents : SiteContents) (the : TheLaws) (m n : State) (came sent
     came_is = f.came_is ∙ ap (λ (s : State). f.took ++ bytes_of (conn_at s c).incoming) (sym same);
     consistency =
         subst (λ (s : State). ConsistencyAlone site_contents f.expected (conn_at s c) f.took sent
-        (alone kept script q e)) (sym same)
+        (alone buffered script q e)) (sym same)
         (inr
         (inr (record {
           gone = the.reasons.peer_is_gone m n server fd c a f.open_on step;
           begins =
-              begins-consistency site_contents (conn_at m c) f.took sent (alone kept script q d) f.expected f.may
+              begins-consistency site_contents (conn_at m c) f.took sent (alone buffered script q d) f.expected f.may
               f.consistency;
         })));
     has = has;
@@ -200,29 +202,29 @@ module _ (site_contents : SiteContents) (the : TheLaws) (m n : State) (came sent
       by r did step has finds = absurd did
 
   -- what came on the stream is kept, or its end was seen
-  pub rests : (q : Answer) (r : Reply) (received : List ℕ) → Fitting m q Receiving → window_in kept ≡ Wait
-      → StepsTo m (event.Call server (call.IolRead fd (most_kept - length kept))) r n → Names n r received
-      → FitsAlone site_contents n came sent fd c (conn_after_reply (alone kept script q Receiving) r received)
+  pub rests : (q : Answer) (r : Reply) (received : List ℕ) → Fitting m q Receiving → window_in buffered ≡ Wait
+      → StepsTo m (event.Call server (call.IolRead fd (most_buffered - length buffered))) r n → Names n r received
+      → FitsAlone site_contents n came sent fd c (conn_after_reply (alone buffered script q Receiving) r received)
   rests q r received f waits step names =
       by r (the.own.read_conn m n server fd c count r order f.open_on step) step names
     where
       count : ℕ
-      count = most_kept - length kept
+      count = most_buffered - length buffered
 
-      some : 0 < most_kept - length kept
-      some = let fits : FitsIn (length kept) Wait =
-          subst (λ (w : Window). FitsIn (length kept) w) waits (the.windows.fit kept) in omega (arith, fits)
+      some : 0 < most_buffered - length buffered
+      some = let fits : FitsIn (length buffered) Wait =
+          subst (λ (w : Window). FitsIn (length buffered) w) waits (the.windows.fit buffered) in omega (arith, fits)
 
-      got_some : (a : ℕ) (takes : o.Takes m server c (most_kept - length kept) a n)
-          → StepsTo m (event.Call server (call.IolRead fd (most_kept - length kept))) (reply.Agg a) n
+      got_some : (a : ℕ) (takes : o.Takes m server c (most_buffered - length buffered) a n)
+          → StepsTo m (event.Call server (call.IolRead fd (most_buffered - length buffered))) (reply.Agg a) n
           → (bytes : List ℕ) → readable_at n server a ≡ Some bytes → (after : List ℕ) (d : Phase)
-          → (ConsistencyAlone site_contents f.expected (conn_at m c) f.took sent (alone kept script q Receiving)
+          → (ConsistencyAlone site_contents f.expected (conn_at m c) f.took sent (alone buffered script q Receiving)
           → ConsistencyAlone site_contents f.expected (record (conn_at m c) { incoming = takes.incoming })
           (f.took ++ bytes) sent (alone after script q d))
           → Has n q (expected_in f.expected q d) d → Finds site_contents n q script d
           → FitsAlone site_contents n came sent fd c (alone after script q d)
       got_some a takes step bytes named after d consistencies has finds = record {
-        open_on = open_still (call.IolRead fd (most_kept - length kept)) (reply.Agg a) step f.open_on
+        open_on = open_still (call.IolRead fd (most_buffered - length buffered)) (reply.Agg a) step f.open_on
             (itself fd (is_file (descriptor m server fd)));
         took = f.took ++ bytes;
         expected = f.expected;
@@ -245,17 +247,17 @@ module _ (site_contents : SiteContents) (the : TheLaws) (m n : State) (came sent
           same_bytes : bytes_of takes.text ≡ bytes
           same_bytes = some-inj _ _ (sym takes.is_readable ∙ named)
 
-      by : (r : Reply) → o.ReadsConn m server c (most_kept - length kept) r n
-          → StepsTo m (event.Call server (call.IolRead fd (most_kept - length kept))) r n
+      by : (r : Reply) → o.ReadsConn m server c (most_buffered - length buffered) r n
+          → StepsTo m (event.Call server (call.IolRead fd (most_buffered - length buffered))) r n
           → Names n r received
-          → FitsAlone site_contents n came sent fd c (conn_after_reply (alone kept script q Receiving) r received)
+          → FitsAlone site_contents n came sent fd c (conn_after_reply (alone buffered script q Receiving) r received)
       by (reply.Agg a) takes step names = ended received names
         where
           ended : (l : List ℕ) → readable_at n server a ≡ Some l
               → FitsAlone site_contents n came sent fd c
-              (conn_after_reply (alone kept script q Receiving) (reply.Agg a) l)
+              (conn_after_reply (alone buffered script q Receiving) (reply.Agg a) l)
           ended [] names =
-              got_some a takes step [] names kept (Aborting a None) consistencies
+              got_some a takes step [] names buffered (Aborting a None) consistencies
               (record { after = []; readable = ([], names); follows = refl; apart = refl }) tt
             where
               text_none : takes.text ≡ []
@@ -266,17 +268,17 @@ module _ (site_contents : SiteContents) (the : TheLaws) (m n : State) (came sent
                   ∙ (sym takes.was ∙ (takes.ended some text_none).0)
 
               consistencies : ConsistencyAlone site_contents f.expected (conn_at m c) f.took sent
-                  (alone kept script q Receiving)
+                  (alone buffered script q Receiving)
                   → ConsistencyAlone site_contents f.expected (record (conn_at m c) { incoming = takes.incoming })
-                  (f.took ++ []) sent (alone kept script q (Aborting a None))
+                  (f.took ++ []) sent (alone buffered script q (Aborting a None))
               consistencies (inl owes) = inr (inl (record {
                 quits = refl;
                 finished = record {
                   qs = owes.1.done;
-                  rest = kept;
+                  rest = buffered;
                   reads =
-                      subst (λ (l : List ℕ). Reads l owes.1.done kept) (sym (append-nil f.took))
-                      (subst (λ (l : List Answer). Reads f.took l kept) (append-nil owes.1.done) owes.1.reads);
+                      subst (λ (l : List ℕ). Reads l owes.1.done buffered) (sym (append-nil f.took))
+                      (subst (λ (l : List Answer). Reads f.took l buffered) (append-nil owes.1.done) owes.1.reads);
                   order = order-all owes.1.done owes.1.open_yet;
                   responds =
                       subst (λ (l : List ℕ). Responds site_contents owes.1.done l)
@@ -284,7 +286,7 @@ module _ (site_contents : SiteContents) (the : TheLaws) (m n : State) (came sent
                   no_more = inr (waits, rest_none, (takes.ended some text_none).1);
                 };
                 begins = begins-append the.windows site_contents f.took [] (sent ++ bytes_of (conn_at m c).outgoing)
-                    (begins-consistency site_contents (conn_at m c) f.took sent (alone kept script q Receiving)
+                    (begins-consistency site_contents (conn_at m c) f.took sent (alone buffered script q Receiving)
                     f.expected
                     f.may f.consistency);
               }))
@@ -299,12 +301,13 @@ module _ (site_contents : SiteContents) (the : TheLaws) (m n : State) (came sent
                         gone.begins;
                   }))
           ended (b ∷ l) names =
-              got_some a takes step (b ∷ l) names (kept ++ (b ∷ l)) (DroppingInput a) consistencies (b ∷ l, names) tt
+              got_some a takes step (b ∷ l) names (buffered ++ (b ∷ l)) (DroppingInput a) consistencies (b ∷ l, names)
+              tt
             where
               consistencies : ConsistencyAlone site_contents f.expected (conn_at m c) f.took sent
-                  (alone kept script q Receiving)
+                  (alone buffered script q Receiving)
                   → ConsistencyAlone site_contents f.expected (record (conn_at m c) { incoming = takes.incoming })
-                  (f.took ++ (b ∷ l)) sent (alone (kept ++ (b ∷ l)) script q (DroppingInput a))
+                  (f.took ++ (b ∷ l)) sent (alone (buffered ++ (b ∷ l)) script q (DroppingInput a))
               consistencies (inl owes) =
                   inl (
                     refl,
@@ -312,7 +315,7 @@ module _ (site_contents : SiteContents) (the : TheLaws) (m n : State) (came sent
                       done = owes.1.done;
                       open_yet = owes.1.open_yet;
                       reads =
-                          reads-append the.windows f.took (b ∷ l) (owes.1.done ++ []) kept owes.1.reads;
+                          reads-append the.windows f.took (b ∷ l) (owes.1.done ++ []) buffered owes.1.reads;
                       before = owes.1.before;
                       responds = owes.1.responds;
                       out_is = owes.1.out_is;

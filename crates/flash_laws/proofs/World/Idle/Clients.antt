@@ -13,9 +13,9 @@ use Rattle.iol_laws.specs.Order.{IsOrderly}
 use Rattle.iol_laws.specs.RefusalsLeft.{may_wait}
 use Rattle.flash_http.specs.Request.{Answer}
 use Rattle.flash_laws.specs.Answers.{Reads}
-use Rattle.flash_laws.specs.Client.{IsAwaiting, uses_agg, script_wants, conn_wants}
+use Rattle.flash_laws.specs.Client.{IsAwaiting, uses_agg, script_call, conn_call}
 use Rattle.flash_laws.specs.Client.Fits.{FitsAlone, ConsistencyAlone}
-use Rattle.flash_laws.specs.Conn.{most_kept, most_read, name_of, text_of, is_head_only, piece_end, wants}
+use Rattle.flash_laws.specs.Conn.{most_buffered, most_read, name_of, text_of, is_head_only, piece_end, next_call}
 use Rattle.flash_laws.specs.Workers.WorkerSet.{WorkerSet, IsFixedFor}
 use Rattle.flash_laws.specs.World.Remains.{StaysOpen}
 use Rattle.flash_laws.specs.World.Idle.{WouldWait}
@@ -49,35 +49,35 @@ goes worker_set laws m k never step = clash (may_wait k) (laws.left.waits m m se
 module _ (site_contents : SiteContents) (worker_set : WorkerSet) (laws : AllLaws worker_set) (m : State)
     (order : IsOrderly m) (fixed : IsFixedFor site_contents worker_set m) where
   -- a file is read at once
-  reads-on : (came sent : List ℕ) (fd c g : ℕ) (kept : List ℕ) (q : Answer) (script : List ℕ)
-      → FitsAlone site_contents m came sent fd c (alone kept script q (Reading g))
+  reads-on : (came sent : List ℕ) (fd c g : ℕ) (buffered : List ℕ) (q : Answer) (script : List ℕ)
+      → FitsAlone site_contents m came sent fd c (alone buffered script q (Reading g))
       → WouldWait m server (call.IolRead g most_read) → ⊥
-  reads-on came sent fd c g kept q script f step =
+  reads-on came sent fd c g buffered q script f step =
       let bad =
       (laws.the.files.reads_file m m server g f.finds.number 0 most_read modes.Read (reply.Refused no.WouldBlock)
       order fixed.site.lives f.finds.may refl f.finds.open_on step).0 in
       cc (bad)
 
   -- a connection at rest whose bytes are all taken
-  rests : (came sent : List ℕ) (fd c : ℕ) (kept : List ℕ) (q : Answer) (script : List ℕ)
-      → FitsAlone site_contents m came sent fd c (alone kept script q Receiving)
-      → IsAwaiting (alone kept script q Receiving) → ((conn_at m c).incoming ≡ []) × ((conn_at m c).peer ≡ None)
+  rests : (came sent : List ℕ) (fd c : ℕ) (buffered : List ℕ) (q : Answer) (script : List ℕ)
+      → FitsAlone site_contents m came sent fd c (alone buffered script q Receiving)
+      → IsAwaiting (alone buffered script q Receiving) → ((conn_at m c).incoming ≡ []) × ((conn_at m c).peer ≡ None)
       → IsAnsweredSoFar site_contents m came sent c
-  rests came sent fd c kept q script f waits empty = by f.consistency
+  rests came sent fd c buffered q script f waits empty = by f.consistency
     where
       came-is : came ≡ f.took
       came-is = f.came_is ∙ (ap (λ (t : Text). f.took ++ bytes_of t) empty.0 ∙ append-nil f.took)
 
-      by : ConsistencyAlone site_contents f.expected (conn_at m c) f.took sent (alone kept script q Receiving)
+      by : ConsistencyAlone site_contents f.expected (conn_at m c) f.took sent (alone buffered script q Receiving)
           → IsAnsweredSoFar site_contents m came sent c
       by (inl o) =
-          let reads : Reads f.took o.1.done kept =
-          subst (λ (l : List Answer). Reads f.took l kept) (append-nil o.1.done) o.1.reads in
+          let reads : Reads f.took o.1.done buffered =
+          subst (λ (l : List Answer). Reads f.took l buffered) (append-nil o.1.done) o.1.reads in
           record {
             whole = subst (λ (l : List ℕ). IsAnswer site_contents l (sent ++ bytes_of (conn_at m c).outgoing))
                 (sym came-is) (record {
                   qs = o.1.done;
-                  rest = kept;
+                  rest = buffered;
                   reads = reads;
                   order = order-all o.1.done o.1.open_yet;
                   responds =
@@ -89,73 +89,75 @@ module _ (site_contents : SiteContents) (worker_set : WorkerSet) (laws : AllLaws
             peer = empty.1;
             stays =
                 subst (λ (l : List ℕ). StaysOpen l) (sym came-is)
-                (record { qs = o.1.done; rest = kept; reads = reads; open_yet = o.1.open_yet; no_more = waits });
+                (record { qs = o.1.done; rest = buffered; reads = reads; open_yet = o.1.open_yet; no_more = waits });
           }
       by (inr (inl finished)) = absurd (let bad = finished.quits in cc (bad))
       by (inr (inr left)) =
           absurd (clash (is_gone (conn_at m c).peer) left.gone (ap (λ (w : Option How). is_gone w) empty.1))
 
   -- a client alone is answered, and uses no aggregate, or is held up
-  abbrev pub AloneLeft : (came sent : List ℕ) (c : ℕ) (kept script : List ℕ) → Answer → Phase → Type 0
-  AloneLeft came sent c kept script q d =
-      (IsAnsweredSoFar site_contents m came sent c × ((a : ℕ) → uses_agg (alone kept script q d) a ≡ false))
+  abbrev pub AloneLeft : (came sent : List ℕ) (c : ℕ) (buffered script : List ℕ) → Answer → Phase → Type 0
+  AloneLeft came sent c buffered script q d =
+      (IsAnsweredSoFar site_contents m came sent c × ((a : ℕ) → uses_agg (alone buffered script q d) a ≡ false))
       ⊎ IsHeldUp m c
 
-  by-phase : (came sent : List ℕ) (fd c : ℕ) (kept script : List ℕ) (q : Answer) (d : Phase)
-      → FitsAlone site_contents m came sent fd c (alone kept script q d)
-      → IsAwaiting (alone kept script q d) → WouldWait m server (wants fd (at kept q d))
-      → AloneLeft came sent c kept script q d
-  by-phase came sent fd c kept script q Receiving f waits step =
-      let empty = laws.the.reasons.conn_is_empty m m server fd c (most_kept - length kept) f.open_on step in
-      inl (rests came sent fd c kept q script f waits empty, λ a. refl)
-  by-phase came sent fd c kept script q (SendingWhole s) f waits step =
+  by-phase : (came sent : List ℕ) (fd c : ℕ) (buffered script : List ℕ) (q : Answer) (d : Phase)
+      → FitsAlone site_contents m came sent fd c (alone buffered script q d)
+      → IsAwaiting (alone buffered script q d) → WouldWait m server (next_call fd (at buffered q d))
+      → AloneLeft came sent c buffered script q d
+  by-phase came sent fd c buffered script q Receiving f waits step =
+      let empty = laws.the.reasons.conn_is_empty m m server fd c (most_buffered - length buffered) f.open_on step in
+      inl (rests came sent fd c buffered q script f waits empty, λ a. refl)
+  by-phase came sent fd c buffered script q (SendingWhole s) f waits step =
       inr (laws.the.reasons.conn_is_full m m server fd c s.agg f.open_on step)
-  by-phase came sent fd c kept script q (SendingPiece s piece) f waits step =
+  by-phase came sent fd c buffered script q (SendingPiece s piece) f waits step =
       inr (laws.the.reasons.conn_is_full m m server fd c piece f.open_on step)
-  by-phase came sent fd c kept script q (DroppingInput a) f waits step =
+  by-phase came sent fd c buffered script q (DroppingInput a) f waits step =
       absurd (goes worker_set laws m (call.AggDrop a) refl step)
-  by-phase came sent fd c kept script q Opening f waits step =
+  by-phase came sent fd c buffered script q Opening f waits step =
       absurd (goes worker_set laws m (call.OpenFile (name_of q) modes.Read) refl step)
-  by-phase came sent fd c kept script q (Reading g) f waits step =
+  by-phase came sent fd c buffered script q (Reading g) f waits step =
       absurd (either-of (λ (k : Call). WouldWait m server k → ⊥) (is_head_only q) (call.Length g)
       (call.IolRead g most_read) (λ step. goes worker_set laws m (call.Length g) refl step)
-      (λ step. reads-on came sent fd c g kept q script f step) step)
-  by-phase came sent fd c kept script q (ClosingFile g k) f waits step =
+      (λ step. reads-on came sent fd c g buffered q script f step) step)
+  by-phase came sent fd c buffered script q (ClosingFile g k) f waits step =
       absurd (goes worker_set laws m (call.Close g) refl step)
-  by-phase came sent fd c kept script q (Slicing a first last len) f waits step =
+  by-phase came sent fd c buffered script q (Slicing a first last len) f waits step =
       absurd (goes worker_set laws m (call.AggCut a first last) refl step)
-  by-phase came sent fd c kept script q (DroppingWhole a k) f waits step =
+  by-phase came sent fd c buffered script q (DroppingWhole a k) f waits step =
       absurd (goes worker_set laws m (call.AggDrop a) refl step)
-  by-phase came sent fd c kept script q (MakingHead k) f waits step =
+  by-phase came sent fd c buffered script q (MakingHead k) f waits step =
       absurd (goes worker_set laws m (call.AggMake (text_of q k)) refl step)
-  by-phase came sent fd c kept script q (Joining a size body len) f waits step =
+  by-phase came sent fd c buffered script q (Joining a size body len) f waits step =
       absurd (goes worker_set laws m (call.AggJoin a body) refl step)
-  by-phase came sent fd c kept script q (CuttingPiece s) f waits step =
+  by-phase came sent fd c buffered script q (CuttingPiece s) f waits step =
       absurd (goes worker_set laws m (call.AggCut s.agg s.from (piece_end s)) refl step)
-  by-phase came sent fd c kept script q (DroppingPiece s piece) f waits step =
+  by-phase came sent fd c buffered script q (DroppingPiece s piece) f waits step =
       absurd (goes worker_set laws m (call.AggDrop piece) refl step)
-  by-phase came sent fd c kept script q (DroppingSent a taken more) f waits step =
+  by-phase came sent fd c buffered script q (DroppingSent a taken more) f waits step =
       absurd (goes worker_set laws m (call.AggDrop a) refl step)
-  by-phase came sent fd c kept script q (AbortingPiece piece a more) f waits step =
+  by-phase came sent fd c buffered script q (AbortingPiece piece a more) f waits step =
       absurd (goes worker_set laws m (call.AggDrop piece) refl step)
-  by-phase came sent fd c kept script q (Aborting a more) f waits step =
+  by-phase came sent fd c buffered script q (Aborting a more) f waits step =
       absurd (goes worker_set laws m (call.AggDrop a) refl step)
-  by-phase came sent fd c kept script q Disconnecting f waits step =
+  by-phase came sent fd c buffered script q Disconnecting f waits step =
       absurd (goes worker_set laws m (call.Close fd) refl step)
-  by-phase came sent fd c kept script q Closed f waits step = absurd f.has
+  by-phase came sent fd c buffered script q Closed f waits step = absurd f.has
 
   -- so it is of one whose request is for a script, whose text is read whole
-  for-script : (came sent : List ℕ) (fd c : ℕ) (kept script : List ℕ) (q : Answer) (d : Phase)
-      → FitsAlone site_contents m came sent fd c (alone kept script q d)
-      → IsAwaiting (alone kept script q d) → WouldWait m server (script_wants fd (at kept q d))
-      → AloneLeft came sent c kept script q d
-  for-script came sent fd c kept script q (Reading g) f waits step =
-      absurd (reads-on came sent fd c g kept q script f step)
-  for-script came sent fd c kept script q d f waits step = by-phase came sent fd c kept script q d f waits step
+  for-script : (came sent : List ℕ) (fd c : ℕ) (buffered script : List ℕ) (q : Answer) (d : Phase)
+      → FitsAlone site_contents m came sent fd c (alone buffered script q d)
+      → IsAwaiting (alone buffered script q d) → WouldWait m server (script_call fd (at buffered q d))
+      → AloneLeft came sent c buffered script q d
+  for-script came sent fd c buffered script q (Reading g) f waits step =
+      absurd (reads-on came sent fd c g buffered q script f step)
+  for-script came sent fd c buffered script q d f waits step = by-phase came sent fd c buffered script q d f waits step
 
   -- and so it is of each, whichever it is
-  pub alone-left : (came sent : List ℕ) (fd c : ℕ) (scripts : Bool) (kept script : List ℕ) (q : Answer) (d : Phase)
-      → FitsAlone site_contents m came sent fd c (alone kept script q d) → IsAwaiting (alone kept script q d)
-      → WouldWait m server (conn_wants scripts fd (at kept q d)) → AloneLeft came sent c kept script q d
-  alone-left came sent fd c true kept script q d f waits step = for-script came sent fd c kept script q d f waits step
-  alone-left came sent fd c false kept script q d f waits step = by-phase came sent fd c kept script q d f waits step
+  pub alone-left : (came sent : List ℕ) (fd c : ℕ) (scripts : Bool) (buffered script : List ℕ) (q : Answer) (d : Phase)
+      → FitsAlone site_contents m came sent fd c (alone buffered script q d) → IsAwaiting (alone buffered script q d)
+      → WouldWait m server (conn_call scripts fd (at buffered q d)) → AloneLeft came sent c buffered script q d
+  alone-left came sent fd c true buffered script q d f waits step =
+      for-script came sent fd c buffered script q d f waits step
+  alone-left came sent fd c false buffered script q d f waits step =
+      by-phase came sent fd c buffered script q d f waits step

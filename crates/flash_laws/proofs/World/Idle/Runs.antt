@@ -17,7 +17,7 @@ use Rattle.flash_cgi.specs.Expected.{Made}
 use Rattle.flash_laws.specs.Workers.WorkerSet.{WorkerSet, IsFixedFor}
 use Rattle.flash_laws.specs.World.Idle.{WouldWait}
 use Rattle.flash_laws.specs.Run.Fits.{Progress, IsPart, sent_agg, HasStep, HasRun}
-use Rattle.flash_laws.specs.Run.{worker_domain, job_pipe, in_phase, held_size, step_wants, wants, is_over}
+use Rattle.flash_laws.specs.Run.{worker_domain, job_pipe, in_phase, held_size, step_call, next_call, is_over}
 use Rattle.flash_laws.specs.Answers.Scripts.{script_text, frame_of, place_in_frame, end_around}
 use Rattle.flash_laws.specs.Site.ClientConsistency.{AreAtJobQueues}
 use Rattle.flash_laws.specs.SiteContents.{SiteContents}
@@ -74,7 +74,7 @@ module _ (site_contents : SiteContents) (worker_set : WorkerSet) (laws : AllLaws
     (order : IsOrderly m) (fixed : IsFixedFor site_contents worker_set m) where
   -- a part of the response is offered
   sending : (fd c : ℕ) (w : Wanted) (d : Phase) → descriptor m server fd ≡ Some (on.Connection c) → OnlySends d
-      → WouldWait m server (conn.wants fd (in_phase w d)) → IsHeldUp m c
+      → WouldWait m server (conn.next_call fd (in_phase w d)) → IsHeldUp m c
   sending fd c w (phase.SendingWhole s) open_on may step =
       laws.the.reasons.conn_is_full m m server fd c s.agg open_on step
   sending fd c w (phase.SendingPiece s piece) open_on may step =
@@ -134,7 +134,7 @@ module _ (site_contents : SiteContents) (worker_set : WorkerSet) (laws : AllLaws
 
     by-step : (job : ℕ → List ℕ) (fd c : ℕ) (w : Wanted) (s : Step) → descriptor m server fd ≡ Some (on.Connection c)
         → HasStep job m w o run s
-        → AtJobQueue worker_set m process_slots run made o s → WouldWait m server (step_wants job fd w run s)
+        → AtJobQueue worker_set m process_slots run made o s → WouldWait m server (step_call job fd w run s)
         → IsHeldUp m c
     by-step job fd c w (SendingPart d frame) open_on has job_queue step =
         sending fd c w d open_on (only-part m has.part d has.is_part) step
@@ -187,7 +187,7 @@ module _ (site_contents : SiteContents) (worker_set : WorkerSet) (laws : AllLaws
       (process_slots : List (ProcessSlot worker_set.Worker)) (made : Made) (o : Progress)
       → AreAtJobQueues worker_set m process_slots → WorkersAreQuiescent worker_set m process_slots
       → descriptor m server fd ≡ Some (on.Connection c) → is_over y ≡ false
-      → HasRun job m w o y → HasWorkerAt worker_set m process_slots made o y → WouldWait m server (wants job fd w y)
+      → HasRun job m w o y → HasWorkerAt worker_set m process_slots made o y → WouldWait m server (next_call job fd w y)
       → IsHeldUp m c
   run-left fd c w job AwaitingWorker process_slots made o job_queues quiescent open_on going has job_queue step =
       absurd (goes worker_set laws m call.Pipe refl step)

@@ -46,7 +46,7 @@ use Rattle.flash_laws.proofs.Site.OpenDescriptors.{held-open, conn-same}
 use Rattle.flash_laws.proofs.World.AllLaws.{AllLaws}
 use Rattle.flash_laws.proofs.World.Idle.Clients.{IsAnsweredSoFar, alone-left}
 use Rattle.flash_laws.proofs.World.Idle.Runs.{WorkersAreQuiescent, run-left}
-use Rattle.flash_laws.proofs.World.OwnRun.{wants-run}
+use Rattle.flash_laws.proofs.World.OwnRun.{call-run}
 
 -- the descriptor of a client is open on its connection
 fits-open : (site_contents : SiteContents) (worker_set : WorkerSet) (m : State) (came sent : List ℕ) (fd c : ℕ)
@@ -89,7 +89,8 @@ module _ (site_contents : SiteContents) (worker_set : WorkerSet) (laws : AllLaws
     | inl passed ↦ absurd (never_passed (has_free workers clients) passed)
     | inr step ↦
         elim (alone-left site_contents worker_set laws m order fixed (p.came c) (p.sent c) fd c
-        (is_for_script (runs_scripts workers) conn.q) conn.kept script conn.q conn.phase f blocks.0 step) [
+        (is_for_script (runs_scripts workers) conn.request) conn.buffered script conn.request conn.phase f blocks.0
+        step) [
           | inl rests ↦ inl (record { answered = rests.0; alone = refl; none = rests.1 })
           | inr held ↦ inr (inl held)
         ]
@@ -110,8 +111,8 @@ module _ (site_contents : SiteContents) (worker_set : WorkerSet) (laws : AllLaws
         process_slots (made_of f.wanted f.script.lines f.shown) f.so_far all.job_queues quiescent f.open_on f.ongoing
         f.has f.job_queue
         (subst (λ (k : Call). WouldWait m server k)
-        (wants-run (runs_scripts workers) fd conn (Some y) script f.script.text y f.wanted refl f.script.asks
-        f.kept) step)))
+        (call-run (runs_scripts workers) fd conn (Some y) script f.script.text y f.wanted refl f.script.asks
+        f.buffered) step)))
   ]
 
   -- the client in a place
@@ -149,14 +150,14 @@ module _ (site_contents : SiteContents) (worker_set : WorkerSet) (laws : AllLaws
   run-asks fd c x y f = elim f.consistency [
     | inl goes ↦ inr (record {
       qs = goes.answers.done;
-      q = serve f.wanted;
-      rest = x.conn.kept ++ bytes_of (conn_at m c).incoming;
+      request = serve f.wanted;
+      rest = x.conn.buffered ++ bytes_of (conn_at m c).incoming;
       reads =
           subst
           (λ (s : List ℕ). Reads s (goes.answers.done ++ serve f.wanted ∷ [])
-          (x.conn.kept ++ bytes_of (conn_at m c).incoming)) (sym f.came_is)
+          (x.conn.buffered ++ bytes_of (conn_at m c).incoming)) (sym f.came_is)
           (reads-append laws.the.windows f.took (bytes_of (conn_at m c).incoming) (goes.answers.done ++ serve f.wanted
-          ∷ []) x.conn.kept goes.answers.reads);
+          ∷ []) x.conn.buffered goes.answers.reads);
       open_yet = goes.answers.open_yet;
       script = f.script.is_for;
       before = goes.answers.before;

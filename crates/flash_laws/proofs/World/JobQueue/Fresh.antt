@@ -212,7 +212,7 @@ module _ (site_contents : SiteContents) (worker_set : WorkerSet) (laws : AllLaws
         process_slots
         → (is_failing (InProgress run (after_give write r)) ≡ true → ⊥) → after ≡ o
         → After (InProgress run (GivingPipe write)) (InProgress run (after_give write r))
-    gives run write r process_slot sits ready has h kept same = by r h kept
+    gives run write r process_slot sits ready has h buffered same = by r h buffered
       where
         again : (r : Reply) (h : OwnCall site_contents worker_set m n (call.GiveFd write (worker_domain run.worker)) r
             process_slots) → IsReadyFor worker_set n process_slot run
@@ -256,23 +256,24 @@ module _ (site_contents : SiteContents) (worker_set : WorkerSet) (laws : AllLaws
         by : (r : Reply) → OwnCall site_contents worker_set m n (call.GiveFd write (worker_domain run.worker)) r
             process_slots → (is_failing (InProgress run (after_give write r)) ≡ true → ⊥)
             → After (InProgress run (GivingPipe write)) (InProgress run (after_give write r))
-        by (reply.Fd f) h kept =
+        by (reply.Fd f) h buffered =
             same_on worker_set m n c process_slots w made o after run (GivingPipe write) (MakingJob f) process_slot sits
             same
             (cut_same m c (InProgress run (GivingPipe write)) (InProgress run (MakingJob f)) refl) (handed f h)
-        by (reply.Refused x) h kept = either (is_again x) kept
+        by (reply.Refused x) h buffered = either (is_again x) buffered
           where
             either : (b : Bool)
                 → (is_failing (InProgress run (if b then GivingPipe write else ClosingPipe write)) ≡ true → ⊥)
                 → After (InProgress run (GivingPipe write))
                 (InProgress run (if b then GivingPipe write else ClosingPipe write))
-            either true kept =
+            either true buffered =
                 same_on worker_set m n c process_slots w made o after run (GivingPipe write) (GivingPipe write)
                 process_slot sits same
                 (cut_same m c (InProgress run (GivingPipe write)) (InProgress run (GivingPipe write)) refl)
                 (again (reply.Refused x) h)
-            either false kept = absurd (kept refl)
-        by r h kept = same_on worker_set m n c process_slots w made o after run (GivingPipe write) (GivingPipe write)
+            either false buffered = absurd (buffered refl)
+        by r h buffered =
+            same_on worker_set m n c process_slots w made o after run (GivingPipe write) (GivingPipe write)
             process_slot
             sits same (cut_same m c (InProgress run (GivingPipe write)) (InProgress run (GivingPipe write)) refl)
             (again r h)
@@ -390,7 +391,7 @@ module _ (site_contents : SiteContents) (worker_set : WorkerSet) (laws : AllLaws
         → (is_failing (InProgress run (after_hand j f r)) ≡ true → ⊥)
         → o ≡ nothing_yet → after ≡ o
         → AfterReply (after_hand j f r)
-    hands r h stays reads kept begins same = by r h kept
+    hands r h stays reads buffered begins same = by r h buffered
       where
         wrote : (r : Reply)
             → OwnCall site_contents worker_set m n (call.IolWrite (job_pipe run.worker) j) r process_slots
@@ -407,18 +408,18 @@ module _ (site_contents : SiteContents) (worker_set : WorkerSet) (laws : AllLaws
 
         by : (r : Reply) → OwnCall site_contents worker_set m n (call.IolWrite (job_pipe run.worker) j) r process_slots
             → (is_failing (InProgress run (after_hand j f r)) ≡ true → ⊥) → AfterReply (after_hand j f r)
-        by (reply.Count k) h kept =
+        by (reply.Count k) h buffered =
             same_on worker_set m n c process_slots w (made_of w s.lines shown) o after run (WritingJob j f)
             (DroppingJob j)
             process_slot sits same
             (cut_same m c (InProgress run (WritingJob j f)) (InProgress run (DroppingJob j)) refl)
             (subst (λ (p : Progress). IsPuttingOut worker_set n process_slot run (made_of w s.lines shown) p)
             (sym (same ∙ begins)) (begun k h stays reads))
-        by (reply.Refused y) h kept = either (is_again y) kept
+        by (reply.Refused y) h buffered = either (is_again y) buffered
           where
             either : (b : Bool) → (is_failing (InProgress run (if b then WritingJob j f else DiscardingJob j)) ≡ true
                 → ⊥)
                 → AfterReply (if b then WritingJob j f else DiscardingJob j)
-            either true kept = again (wrote (reply.Refused y) h)
-            either false kept = absurd (kept refl)
-        by r h kept = absurd (wrote r h)
+            either true buffered = again (wrote (reply.Refused y) h)
+            either false buffered = absurd (buffered refl)
+        by r h buffered = absurd (wrote r h)

@@ -17,7 +17,7 @@ use Rattle.flash_laws.specs.Workers.WorkerSet.{WorkerSet, IsFixedFor}
 use Rattle.flash_laws.specs.Conn.Fits.{Names}
 use Rattle.flash_laws.specs.Run.Fits.{Progress, HasRun}
 use Rattle.flash_laws.specs.Run.OfferedBytes.{Learns, is_failing}
-use Rattle.flash_laws.specs.Run.{job_pipe, step_wants, wants, after_reply, after_step, is_over}
+use Rattle.flash_laws.specs.Run.{job_pipe, step_call, next_call, after_reply, after_step, is_over}
 use Rattle.flash_laws.specs.Site.ClientConsistency.{AreAtJobQueues}
 use Rattle.flash_laws.specs.SiteContents.{SiteContents}
 use Rattle.flash_laws.specs.SiteContents.Expected.{outcomes_by}
@@ -60,18 +60,19 @@ module _ (site_contents : SiteContents) (worker_set : WorkerSet) (laws : AllLaws
     made = made_of w s.lines shown
 
     abbrev Done : Running → Type 0
-    Done y = StepsTo m (event.Call server (wants job fd w y)) r n
+    Done y = StepsTo m (event.Call server (next_call job fd w y)) r n
 
     abbrev After : Running → Type 0
     After y = JobQueueAfter worker_set m n c process_slots w made y (after_reply worker w y r received) o after
 
     own : (y : Running) → is_over y ≡ false → HasRun job m w o y → Done y
-        → OwnCall site_contents worker_set m n (wants job fd w y) r process_slots
-    own y going has step = own_call site_contents worker_set m n fd c y (wants job fd w y) r process_slots order fixed
+        → OwnCall site_contents worker_set m n (next_call job fd w y) r process_slots
+    own y going has step = own_call site_contents worker_set m n fd c y (next_call job fd w y) r process_slots order
+        fixed
         job_queues step ((laws.run_keeps job).alone m fd c w y o open_on going has)
 
-    left : (y : Running) → Done y → Leaves m (event.Call server (wants job fd w y)) n
-    left y step = laws.the.steps.leaves m n (event.Call server (wants job fd w y)) r step
+    left : (y : Running) → Done y → Leaves m (event.Call server (next_call job fd w y)) n
+    left y step = laws.the.steps.leaves m n (event.Call server (next_call job fd w y)) r step
 
     module _ (run : Run) where
       -- it is broken off only where the peer is gone
@@ -83,23 +84,23 @@ module _ (site_contents : SiteContents) (worker_set : WorkerSet) (laws : AllLaws
           ((laws.runs job).breaks m n fd c worker w (InProgress run step) r received o open_on refl has did on gone)
 
       -- the steps that touch no pipe
-      undisturbed : (step : Step) → Quiet fd (step_wants job fd w run step) → Done (InProgress run step) → Still m n
+      undisturbed : (step : Step) → Quiet fd (step_call job fd w run step) → Done (InProgress run step) → Still m n
       undisturbed step quiet did =
-          still m fd c open_on n (step_wants job fd w run step) (left (InProgress run step) did) quiet
+          still m fd c open_on n (step_call job fd w run step) (left (InProgress run step) did) quiet
 
       putting : (step : Step) (process_slot : ProcessSlot worker_set.Worker)
-          → slice_get process_slots run.worker ≡ Some process_slot → Quiet fd (step_wants job fd w run step)
+          → slice_get process_slots run.worker ≡ Some process_slot → Quiet fd (step_call job fd w run step)
           → HasRun job m w o (InProgress run step)
           → Done (InProgress run step) → (was : IsPuttingOut worker_set m process_slot run made o)
           → IsToCome after (text_of made) was.more → IsPuttingOut worker_set n process_slot run made after
       putting step process_slot sits quiet has did was come =
-          putting_on site_contents worker_set laws m n (step_wants job fd w run step) r process_slots
+          putting_on site_contents worker_set laws m n (step_call job fd w run step) r process_slots
           (own (InProgress run step) refl has did) run process_slot sits (undisturbed step quiet did) made o after was
           come
 
       reading_on : (step : Step) (process_slot : ProcessSlot worker_set.Worker)
           → slice_get process_slots run.worker ≡ Some process_slot → ReceivesNothing step
-          → Quiet fd (step_wants job fd w run step)
+          → Quiet fd (step_call job fd w run step)
           → HasRun job m w o (InProgress run step) → Done (InProgress run step)
           → IsPuttingOut worker_set m process_slot run made o
           → after ≡ o → After (InProgress run step)
@@ -116,13 +117,13 @@ module _ (site_contents : SiteContents) (worker_set : WorkerSet) (laws : AllLaws
           → HasPutOut worker_set m process_slot run made o → after ≡ o → After (InProgress run step)
       ending step process_slot sits all has did job_queue was same =
           last_steps site_contents worker_set laws m n c process_slots w o after made run process_slot sits
-          (put_on site_contents worker_set laws m n (step_wants job fd w run step) r process_slots
+          (put_on site_contents worker_set laws m n (step_call job fd w run step) r process_slots
           (own (InProgress run step) refl has did) run process_slot sits job_queue made o after same was) same step r
           received all
 
       ending_undisturbed : (step : Step) (process_slot : ProcessSlot worker_set.Worker)
           → slice_get process_slots run.worker ≡ Some process_slot → HasReceivedAll step
-          → Quiet fd (step_wants job fd w run step)
+          → Quiet fd (step_call job fd w run step)
           → HasRun job m w o (InProgress run step) → Done (InProgress run step)
           → HasPutOut worker_set m process_slot run made o
           → after ≡ o → After (InProgress run step)
@@ -131,12 +132,12 @@ module _ (site_contents : SiteContents) (worker_set : WorkerSet) (laws : AllLaws
           ((undisturbed step quiet did).pipes (worker_set.job_queue run.worker)) was same
 
       -- a script that is not given up
-      kept : (step : Step) (process_slot : ProcessSlot worker_set.Worker)
+      buffered : (step : Step) (process_slot : ProcessSlot worker_set.Worker)
           → slice_get process_slots run.worker ≡ Some process_slot → is_failing (InProgress run step) ≡ false
           → HasRun job m w o (InProgress run step)
           → Done (InProgress run step) → worker_set.Free m (worker_set.job_queue run.worker) process_slot
           → is_failing (after_step w run step r received) ≡ true → ⊥
-      kept step process_slot sits going has did free fails =
+      buffered step process_slot sits going has did free fails =
           not_lost site_contents worker_set laws m n c process_slots w o after order job_queues run step process_slot
           sits free ((laws.runs job).fails m n fd worker w (InProgress run step) r received o fixed.site.lives has did
           going fails)
@@ -149,7 +150,7 @@ module _ (site_contents : SiteContents) (worker_set : WorkerSet) (laws : AllLaws
       running (GivingPipe write) fresh has job_queue did learns =
           gives site_contents worker_set laws m n c process_slots w o after made run write r job_queue.process_slot
           job_queue.sits job_queue.stage has.1.0 (own (InProgress run (GivingPipe write)) refl has did)
-          (kept (GivingPipe write) job_queue.process_slot job_queue.sits refl has did job_queue.stage.free) learns
+          (buffered (GivingPipe write) job_queue.process_slot job_queue.sits refl has did job_queue.stage.free) learns
       running (MakingJob f) fresh has job_queue did learns =
           makes site_contents worker_set laws m n c process_slots w o after made (job f) run f r job_queue.process_slot
           job_queue.sits job_queue.stage (own (InProgress run (MakingJob f)) refl has did)
@@ -159,7 +160,7 @@ module _ (site_contents : SiteContents) (worker_set : WorkerSet) (laws : AllLaws
           hands site_contents worker_set laws m n c process_slots w o after x s shown (fresh refl) run f j
           job_queue.process_slot job_queue.sits job_queue.stage.0 job_queue.stage.1 has.1.1 r
           (own (InProgress run (WritingJob j f)) refl has did) stays from
-          (kept (WritingJob j f) job_queue.process_slot job_queue.sits refl has did job_queue.stage.0.ready.free)
+          (buffered (WritingJob j f) job_queue.process_slot job_queue.sits refl has did job_queue.stage.0.ready.free)
           has.1.2.1
           learns
         where
@@ -268,7 +269,7 @@ module _ (site_contents : SiteContents) (worker_set : WorkerSet) (laws : AllLaws
       → (y ≡ AwaitingWorker → (worker < worker_set.count)
       × ((process_slot : ProcessSlot worker_set.Worker) → slice_get process_slots worker ≡ Some process_slot
       → worker_set.Free m (worker_set.job_queue worker) process_slot))
-      → StepsTo m (event.Call server (wants (job_of w s.text) fd w y)) r n → Names n r received
+      → StepsTo m (event.Call server (next_call (job_of w s.text) fd w y)) r n → Names n r received
       → Learns m y r received o after → HasRun (job_of w s.text) n w after (after_reply worker w y r received)
       → JobQueueAfter worker_set m n c process_slots w (made_of w s.lines shown) y (after_reply worker w y r received) o
       after

@@ -77,7 +77,7 @@ part_to_come m d r o after output more learns come = subst (λ (p : Progress). I
 
 -- what sends it touches no pipe
 pub quiet_part : (m : State) (fd : ℕ) (w : Wanted) (expected : List ℕ) (d : Phase) → IsSending m expected d
-    → Quiet fd (conn.wants fd (in_phase w d))
+    → Quiet fd (conn.next_call fd (in_phase w d))
 quiet_part m fd w expected (phase.MakingHead (Error status)) is = tt
 quiet_part m fd w expected (phase.SendingWhole s) is = refl
 quiet_part m fd w expected (phase.CuttingPiece s) is = tt

@@ -239,10 +239,10 @@ module _ (site_contents : SiteContents) (worker_set : WorkerSet) (laws : AllLaws
         pub may_show : (there : List Outcome) → AllMayShow site_contents there shown
             → AllMayShow site_contents there shown_now
         pub fresh : is_starting (InProgress run s) ≡ true → shown_now ≡ shown
-        pub consistency : (k : Connection) (took sent kept : List ℕ)
-            → ConsistencyRun site_contents (response_to w (made_of w lines shown)) k took sent kept w o
+        pub consistency : (k : Connection) (took sent buffered : List ℕ)
+            → ConsistencyRun site_contents (response_to w (made_of w lines shown)) k took sent buffered w o
             (InProgress run s)
-            → ConsistencyRun site_contents (response_to w (made_of w lines shown_now)) k took sent kept w o
+            → ConsistencyRun site_contents (response_to w (made_of w lines shown_now)) k took sent buffered w o
             (InProgress run s)
         pub stage : Stage worker_set n next run (made_of w lines shown_now) o s
 
@@ -252,7 +252,7 @@ module _ (site_contents : SiteContents) (worker_set : WorkerSet) (laws : AllLaws
         may_show = λ there all. all;
         fresh = λ starts. refl;
         consistency =
-            λ k took sent kept consistency. consistency;
+            λ k took sent buffered consistency. consistency;
         stage = stage;
       }
 
@@ -264,16 +264,16 @@ module _ (site_contents : SiteContents) (worker_set : WorkerSet) (laws : AllLaws
           → HasStep job m w o run s
           → ((front : List ℕ) → text_of made ≡ front ++ more → text_of after ≡ front ++ later)
           → IsToCome o (text_of made) more
-          → (k : Connection) (took sent kept : List ℕ)
-          → ConsistencyRun site_contents (response_to w made) k took sent kept w o (InProgress run s)
-          → ConsistencyRun site_contents (response_to w after) k took sent kept w o (InProgress run s)
-      exchanged s after more later going has begins come k took sent kept (inr left) = inr left
-      exchanged s after more later going has begins come k took sent kept (inl goes) = by o has come goes
+          → (k : Connection) (took sent buffered : List ℕ)
+          → ConsistencyRun site_contents (response_to w made) k took sent buffered w o (InProgress run s)
+          → ConsistencyRun site_contents (response_to w after) k took sent buffered w o (InProgress run s)
+      exchanged s after more later going has begins come k took sent buffered (inr left) = inr left
+      exchanged s after more later going has begins come k took sent buffered (inl goes) = by o has come goes
         where
           by : (o : Progress) → HasStep job m w o run s → IsToCome o (text_of made) more
-              → Proceeds site_contents (response_to w made) took (sent ++ bytes_of k.outgoing) kept w o
+              → Proceeds site_contents (response_to w made) took (sent ++ bytes_of k.outgoing) buffered w o
               (InProgress run s)
-              → ConsistencyRun site_contents (response_to w after) k took sent kept w o (InProgress run s)
+              → ConsistencyRun site_contents (response_to w after) k took sent buffered w o (InProgress run s)
           by (Ran received ended past) has come goes =
               let is : text_of after ≡ received ++ later = begins received come.1 in
               let same = ap (λ (l : List ℕ). take (length past + taken_by (InProgress run s)) (script_response w l))
@@ -282,7 +282,8 @@ module _ (site_contents : SiteContents) (worker_set : WorkerSet) (laws : AllLaws
               ∙ ap (λ (l : List ℕ). take (length past + taken_by (InProgress run s)) (script_response w l)) (sym is)) in
               inl (record {
                 answers =
-                    subst (λ (l : List ℕ). Answers site_contents took (sent ++ bytes_of k.outgoing) kept (serve w ∷ [])
+                    subst (λ (l : List ℕ). Answers site_contents took (sent ++ bytes_of k.outgoing) buffered
+                    (serve w ∷ [])
                     l) same goes.answers;
                 may = (
                   later,
@@ -331,9 +332,9 @@ module _ (site_contents : SiteContents) (worker_set : WorkerSet) (laws : AllLaws
             may_show = shows;
             fresh = λ starts. absurd (clash (is_starting (InProgress run s)) starts started);
             consistency =
-                subst (λ (a : Made). (k : Connection) (took sent kept : List ℕ)
-                → ConsistencyRun site_contents (response_to w made) k took sent kept w o (InProgress run s)
-                → ConsistencyRun site_contents (response_to w a) k took sent kept w o (InProgress run s)) is
+                subst (λ (a : Made). (k : Connection) (took sent buffered : List ℕ)
+                → ConsistencyRun site_contents (response_to w made) k took sent buffered w o (InProgress run s)
+                → ConsistencyRun site_contents (response_to w a) k took sent buffered w o (InProgress run s)) is
                 (exchanged s after h.more later going has x.begins h.to_come);
             stage = subst (λ (a : Made). Stage worker_set n next run a o s) is
                 (stages after (record {
@@ -413,16 +414,17 @@ module _ (site_contents : SiteContents) (worker_set : WorkerSet) (laws : AllLaws
         shown = turned.shown_now;
         may_show = turned.may_show (outcomes_by site_contents.shows f.script.lines) f.may_show;
         fresh = λ starts. turned.fresh starts ∙ f.fresh starts;
-        kept = f.kept;
+        buffered = f.buffered;
         so_far = f.so_far;
         has = has-turn (job_of f.wanted f.script.text) f.wanted f.so_far (InProgress run s) f.has;
         ongoing = f.ongoing;
         consistency =
             subst
             (λ (z : Connection). ConsistencyRun site_contents
-            (response_to f.wanted (made_of f.wanted f.script.lines turned.shown_now)) z f.took (p.sent at.conn) x.kept
+            (response_to f.wanted (made_of f.wanted f.script.lines turned.shown_now)) z f.took (p.sent at.conn)
+            x.buffered
             f.wanted f.so_far (InProgress run s))
-            (sym (left.conns at.conn)) (turned.consistency (conn_at m at.conn) f.took (p.sent at.conn) x.kept
+            (sym (left.conns at.conn)) (turned.consistency (conn_at m at.conn) f.took (p.sent at.conn) x.buffered
             f.consistency);
         job_queue = record {
           process_slot = next;

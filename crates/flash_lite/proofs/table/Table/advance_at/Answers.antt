@@ -4,7 +4,7 @@ use Rattle.flash_laws.specs.Site.Places.{runs_scripts}
 use Rattle.flash_laws.specs.Serves.Wants.{MayWant}
 use Rattle.flash_laws.specs.declared.phase.PendingCall.TheVariants.{At}
 use Rattle.flash_lite.specs.ReceivedBytes.{received}
-use Rattle.flash_lite.specs.Table.{Table, IsKept}
+use Rattle.flash_lite.specs.Table.{Table, IsBetweenTurns}
 use Rattle.flash_lite.specs.ServerTurn.{CourseAt, Turns, first_in, worker_at}
 use Rattle.flash_lite.specs.declared.client.Course.TheVariants.{Asks, Leaves}
 use Rattle.flash_lite.proofs.Responses.RunsOn.{on_err}
@@ -29,7 +29,7 @@ returns-in-Some-Asks-clause-turn c =
     let has : c.worker_at-now.result ≡ worker_at c.advance_at.new.self c.args.fd = search rules in
     subst (λ (u : Table). Turns u c.args.reply.last.now (received c.args.reply.parts) (turn.Make c.in-Some-Asks.call) t)
     c.self.view_is
-    (asks_turns s (subst (λ (u : Table). IsKept u) (sym c.self.view_is) c.requires.kept) c.args.fd flies
+    (asks_turns s (subst (λ (u : Table). IsBetweenTurns u) (sym c.self.view_is) c.requires.between) c.args.fd flies
     c.args.reply.last.now
     (received c.args.reply.parts) t c.worker-worker.result c.in-Some-Asks.call
     c.advance_at.new.self c.worker_at-was.result c.worker_at-now.result worker_is course
@@ -50,7 +50,7 @@ returns-in_ok-turn-in-Some-Leaves-clause-turn c =
     let had : c.worker_at-was.result ≡ worker_at c.self.inside.clients c.args.fd = search rules in
     subst (λ (u : Table). Turns u c.args.reply.last.now (received c.args.reply.parts) c.in_ok-turn-in-Some-Leaves.turn
     c.leave.new.self) c.self.view_is
-    (leaves_turns s (subst (λ (u : Table). IsKept u) (sym c.self.view_is) c.requires.kept) c.args.fd flies
+    (leaves_turns s (subst (λ (u : Table). IsBetweenTurns u) (sym c.self.view_is) c.requires.between) c.args.fd flies
     c.args.reply.last.now (received c.args.reply.parts) c.leave.new.self c.worker-worker.result c.in-Some-Leaves.left
     c.advance_at.new.self c.worker_at-was.result c.worker_left.result c.turned-free.result
     c.in_ok-turn-in-Some-Leaves.turn worker_is course had c.worker_left.ensures.worker c.turned-free.ensures
@@ -74,7 +74,7 @@ returns-in_err-turn-in-Some-Leaves-clause-wants c =
     (subst (λ (u : Table). MayWant u.workers u.clients (At c.args.fd) c.args.reply.last.now
     (received c.args.reply.parts))
     c.self.view_is
-    (left_wants s (subst (λ (u : Table). IsKept u) (sym c.self.view_is) c.requires.kept) c.args.fd flies
+    (left_wants s (subst (λ (u : Table). IsBetweenTurns u) (sym c.self.view_is) c.requires.between) c.args.fd flies
     c.args.reply.last.now
     (received c.args.reply.parts) c.worker-worker.result c.in-Some-Leaves.left
     c.advance_at.new.self c.worker_at-was.result c.worker_left.result c.turned-free.result worker_is course had
