@@ -135,7 +135,7 @@ pub record IsLeft (t x : Client) (r : Reply) (l : Left) (y : Client) : Type 0 wh
   pub after_reply_is : t ≡ left_with x l
   pub remains_is : left_over t ≡ remains l t
   pub can_rest : CanRest x l
-  pub as_it_was : y ≡ x
+  pub unchanged : y ≡ x
 
 -- ---- or it continues at once: the reply is processed, and it becomes ready
 

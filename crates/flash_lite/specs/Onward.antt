@@ -46,7 +46,7 @@ pub record IsLeft (x : Conn) (r : Reply) (received : List ℕ) (d : Phase) (y : 
   pub off : IsTrue (leaves_off (left_over (after_reply x r received)) r)
   pub after_reply_is : after_reply x r received ≡ record x { phase = d }
   pub can_rest : CanRest x d
-  pub as_it_was : y ≡ x
+  pub unchanged : y ≡ x
 
 abbrev pub IsOnward : (fd : ℕ) → Conn → Reply → (received : List ℕ) → Onward → Conn → Type 0
 IsOnward fd x r received (Asks call) y = Proceeds x r received y × (call ≡ next_call fd y)

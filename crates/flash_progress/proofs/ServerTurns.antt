@@ -267,11 +267,11 @@ module _ (site_contents : SiteContents) (worker_set : WorkerSet) (laws : AllLaws
         (after_reply_at worker_set.count readied fd o r received) ≤ all_left longest places conns m clients)
         (sym there-ready)
         (subst (λ (x : Client). all_left longest places conns m (with_at readied fd (left_over x)) ≤ all_left longest
-        places conns m clients) (sym as-it-was) still))))
+        places conns m clients) (sym unchanged) still))))
       where
-        as-it-was : after_reply (runs_scripts worker_set.count) (first_free worker_set.count readied)
+        unchanged : after_reply (runs_scripts worker_set.count) (first_free worker_set.count readied)
             (of ready.0 None script) r received ≡ of ready.0 None script
-        as-it-was =
+        unchanged =
             ap (λ (b : Bool). after_reply b (first_free worker_set.count readied) (of ready.0 None script) r received)
             (sym fixed.scripts)
             ∙ (ap (λ (b : Bool). file_after_reply b (of ready.0 None script) r received)

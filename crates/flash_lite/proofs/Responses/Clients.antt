@@ -136,7 +136,7 @@ leaves_alone x y k r received d none l is = record {
       ap (λ (e : Phase). consistent.left_by e (conn_after_reply x r received))
       (ap (λ (c : Conn). c.phase) l.after_reply_is);
   can_rest = l.can_rest;
-  as_it_was = is ∙ ap (λ (c : Conn). record { conn = c; run = x.run; script = x.script }) l.as_it_was;
+  unchanged = is ∙ ap (λ (c : Conn). record { conn = c; run = x.run; script = x.script }) l.unchanged;
 }
 
 -- ---- a reply after which it may go on
@@ -149,50 +149,13 @@ pub course_reply : (scripts : Bool) (fd : ℕ) (t x : Client) (r : Reply) (o : C
     → IsCourse scripts fd t x reply.Done o y → IsCourse scripts fd t x r o y
 course_reply scripts fd t x r (Asks k) y now c =
     (record { on = leaves-now (left_over t) r now ∙ c.0.on; stays = c.0.stays; readies = c.0.readies }, c.1)
-course_reply scripts fd t x r (Leaves (Goes d)) y now c =
+course_reply scripts fd t x r (Leaves l) y now c =
     record {
       passed = leaves-now (left_over t) r now ∙ c.passed;
       after_reply_is = c.after_reply_is;
-      remains_is =
-          c.remains_is;
+      remains_is = c.remains_is;
       can_rest = c.can_rest;
-      as_it_was = c.as_it_was;
-    }
-course_reply scripts fd t x r (Leaves (Ends d)) y now c =
-    record {
-      passed = leaves-now (left_over t) r now ∙ c.passed;
-      after_reply_is = c.after_reply_is;
-      remains_is =
-          c.remains_is;
-      can_rest = c.can_rest;
-      as_it_was = c.as_it_was;
-    }
-course_reply scripts fd t x r (Leaves Begins) y now c =
-    record {
-      passed = leaves-now (left_over t) r now ∙ c.passed;
-      after_reply_is = c.after_reply_is;
-      remains_is =
-          c.remains_is;
-      can_rest = c.can_rest;
-      as_it_was = c.as_it_was;
-    }
-course_reply scripts fd t x r (Leaves (Continues d)) y now c =
-    record {
-      passed = leaves-now (left_over t) r now ∙ c.passed;
-      after_reply_is = c.after_reply_is;
-      remains_is =
-          c.remains_is;
-      can_rest = c.can_rest;
-      as_it_was = c.as_it_was;
-    }
-course_reply scripts fd t x r (Leaves Stays) y now c =
-    record {
-      passed = leaves-now (left_over t) r now ∙ c.passed;
-      after_reply_is = c.after_reply_is;
-      remains_is =
-          c.remains_is;
-      can_rest = c.can_rest;
-      as_it_was = c.as_it_was;
+      unchanged = c.unchanged;
     }
 
 -- it goes on with this, and no script runs for it
@@ -336,7 +299,7 @@ file_runs scripts x r received is =
       after_reply_is = t.after_reply;
       remains_is = ap (λ (z : Client). left_over z) t.after_reply ∙ ap (λ (z : Client). Some z) (sym t.after_reply);
       can_rest = tt;
-      as_it_was = refl;
+      unchanged = refl;
     }
 
 pub file_alone : (scripts : Bool) (fd : ℕ) (x y : Client) (r : Reply) (received : List ℕ) (o : Course)
@@ -419,7 +382,7 @@ rests_leaves fd x y c d f is =
         small = omega arith;
         awaits = ap (λ (l : List ℕ). window_in l) f.1;
       });
-      as_it_was = is ∙ ap (λ (z : Conn). record { conn = z; run = x.run; script = x.script }) f.2;
+      unchanged = is ∙ ap (λ (z : Conn). record { conn = z; run = x.run; script = x.script }) f.2;
     }
 
 pub rests_wants : (x : Client) → policy.is_bare (record x.conn { phase = Receiving }) ≡ false
@@ -459,7 +422,7 @@ over_leaves x = record {
   remains_is = refl;
   can_rest =
       record { small = omega arith; awaits = tt };
-  as_it_was = refl;
+  unchanged = refl;
 }
 
 -- ---- its next call

@@ -195,7 +195,7 @@ stays-as worker x y r received is going z passes =
       remains_is = ap (λ (t : Client). left_over t) same
           ∙ (runs-on x.conn x.run x.script y is ∙ ap (λ (t : Client). Some t) (sym same));
       can_rest = tt;
-      as_it_was = refl;
+      unchanged = refl;
     }
 
 pub run_stays : (worker : ℕ) (x : Client) (y : Running) (r : Reply) (received : List ℕ) → x.run ≡ Some y
@@ -275,7 +275,7 @@ run_answers worker x y z d r received is going z_is small phase has =
       after_reply_is = same;
       remains_is = ap (λ (t : Client). left_over t) same ∙ ap (λ (t : Client). Some t) (sym same);
       can_rest = (subst (λ (v : Running). IsSmallRunning v) phase small, on);
-      as_it_was = refl;
+      unchanged = refl;
     }
 
 proceeds-on : (x : Client) (y z : Running) (r : Reply) → is_later r ≡ false → waits z ≡ false

@@ -169,7 +169,7 @@ pub left_same : (scripts : Bool) (a : ℕ) (clients now : List (Option Client)) 
     (l : Left)
     → CourseAt scripts a clients fd r received (Leaves l) now → now ≡ clients
 left_same scripts a clients now fd r received l w =
-    w.after_is ∙ (ap (λ (y : Client). slice_set clients fd (Some y)) w.course.as_it_was
+    w.after_is ∙ (ap (λ (y : Client). slice_set clients fd (Some y)) w.course.unchanged
     ∙ set_same clients fd w.was w.there w.within)
 
 pub table_same : (s : Table) (now : List (Option Client)) → now ≡ s.clients
@@ -284,9 +284,9 @@ module _ (s : Table) (between : IsBetweenTurns s) (fd : ℕ) (flies : s.pending_
       let after_reply_is = by_words a w.was is w.there in
       let none : Option Client = None in
       let z : Client = after_reply_by s.workers s.clients w.was r received in
-      let as_was : w.now ≡ w.was = w.course.as_it_was in
+      let unchanged : w.now ≡ w.was = w.course.unchanged in
       let by : IsLeft z w.was r l w.was =
-      subst (λ (y : Client). IsLeft z w.was r l y) as_was
+      subst (λ (y : Client). IsLeft z w.was r l y) unchanged
       (subst (λ (y : Client). IsLeft y w.was r l w.now) after_reply_is w.course) in
       let filed_is = filed_left s.workers s.clients fd w.was z l r received w.there w.within refl by.after_reply_is
       by.remains_is in
