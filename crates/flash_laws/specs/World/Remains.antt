@@ -32,13 +32,13 @@ pub record StaysOpen (s : List ℕ) : Type 0 where
 -- and it up to this part of its response.
 pub record AnswersScript (site_contents : SiteContents) (s bytes part : List ℕ) : Type 0 where
   pub qs : List Answer
-  pub q : Answer
+  pub request : Answer
   pub rest : List ℕ
-  pub reads : Reads s (qs ++ q ∷ []) rest
+  pub reads : Reads s (qs ++ request ∷ []) rest
   pub open_yet : IsTrue (list_all (λ p. keeps p) qs)
-  pub script : IsTrue (is_for_script site_contents.scripts q)
+  pub script : IsTrue (is_for_script site_contents.scripts request)
   pub before : List ℕ
   pub responds : Responds site_contents qs before
   pub so_far : bytes ≡ before ++ part
   pub after : List ℕ
-  pub may : MayBeExpected site_contents q (part ++ after)
+  pub may : MayBeExpected site_contents request (part ++ after)
