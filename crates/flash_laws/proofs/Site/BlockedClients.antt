@@ -39,7 +39,7 @@ use Rattle.flash_laws.specs.declared.script_run.Running.TheVariants.{InProgress,
 use Rattle.flash_laws.proofs.Forms.{at, of}
 use Rattle.flash_laws.proofs.Lists.{never_passed}
 
--- which calls may be told to wait
+-- only calls that may wait are refused WouldBlock
 abbrev pub WaitLaw : Type 0
 WaitLaw = (s t : State) (d : ℕ) (k : Call) → StepsTo s (event.Call d k) (reply.Refused no.WouldBlock) t
     → may_wait k ≡ true
@@ -69,21 +69,21 @@ within clients fd x is =
           (let none = none-in clients fd past in absurd (cc (none, is)))
     ]
 
--- the same client in its place changes nothing
+-- setting a place to the client that it has changes nothing
 pub same-there : (clients : List (Option Client)) (fd : ℕ) (x : Client) → in_place clients fd ≡ Some x
     → with_at clients fd (Some x) ≡ clients
 same-there clients fd x is =
     ap (λ (l : List (Option Client)). slice_set l fd (Some x)) (grown-none clients fd (within clients fd x is))
     ∙ set-there clients fd x is
 
--- A connection that would block is as it was.
+-- A connection whose call would block is unchanged.
 
 conn-blocked : (buffered : List ℕ) (q : Answer) (d : Phase) (received : List ℕ)
     → conn.after_reply (at buffered q d) (reply.Refused no.WouldBlock) received ≡ at buffered q d
 conn-blocked buffered q Receiving received = refl
 conn-blocked buffered q d received = refl
 
--- so is a run
+-- likewise a run
 
 part-blocked : (run : Run) (d : Phase) (frame : Option ℕ)
     → after_sending run d frame (reply.Refused no.WouldBlock) ≡ InProgress run (act.SendingPart d frame)
@@ -103,7 +103,7 @@ run-blocked worker w (Finishing d) received =
     ap (λ (x : Conn). Finishing x.phase) (conn-blocked [] (serve w) d received)
 run-blocked worker w x received = refl
 
--- one that stands still is neither over now, nor is its text kept no more
+-- if its run does not change, a client is unchanged, and so is its text
 same-text : (k : Bool) (text : List ℕ) → text_on k k text ≡ text
 same-text true text = refl
 same-text false text = refl
@@ -124,7 +124,7 @@ stands x y over run_is =
     same true = refl
     same false = refl
 
--- A client that would block is as it was.
+-- A client whose call would block is unchanged.
 
 script-blocked : (buffered : List ℕ) (q : Answer) (d : Phase) (script received : List ℕ)
     → file_after_reply true (of (at buffered q d) None script) (reply.Refused no.WouldBlock) received
@@ -161,7 +161,7 @@ after_reply-blocked scripts worker c (Some y) script received = by c.request
         (run-blocked worker w y received) ∙ stands (of c (Some y) script) y (is_over y) refl
     by (refuse status head_only close) = refl
 
--- and it is not over
+-- and the client is not removed
 phase-blocked : WaitLaw → (m : State) (by fd : ℕ) (b : Bool) (buffered : List ℕ) (q : Answer) (d : Phase) (x : Client)
     → WouldWait m by (conn_call b fd (at buffered q d)) → left_by d x ≡ Some x
 phase-blocked waits m by fd true buffered q Closed x step =
@@ -196,7 +196,7 @@ filed-at waits m by workers fd clients received blocked = at_place (in_place cli
         (left-blocked waits m by workers fd clients x.conn x.run x.script (blocked x is))
         ∙ same-there clients fd x is)
 
--- What is made ready is what stood there, or begins.
+-- A connection that is made ready is unchanged, or begins a request.
 
 abbrev Stands : Conn → Conn → Type 0
 Stands x y = (y ≡ x) × conn.IsAwaiting y
@@ -213,7 +213,7 @@ conn-ready buffered q Receiving y ready = by ready
     by (inr some) = inr (some.0, some.1, some.3)
 conn-ready buffered q d y ready = inl (ready, subst (λ (x : Conn). conn.IsAwaiting x) (sym ready) tt)
 
--- a request that begins does not block
+-- the first call of a request is never refused WouldBlock
 never-waits : WaitLaw → (m : State) (by fd : ℕ) (b : Bool) (rest : List ℕ) (p : Answer)
     → WouldWait m by (conn_call b fd (at rest p (begins p))) → ⊥
 never-waits waits m by fd true rest (serve w) step =
@@ -225,7 +225,7 @@ never-waits waits m by fd true rest (refuse status head_only close) step =
 never-waits waits m by fd false rest (refuse status head_only close) step =
     (let may = waits m m by (call.AggMake (text_of (refuse status head_only close) (Error status))) step in cc (may))
 
--- what stood is what is ready, where its call would block
+-- a client that is made ready and whose call would block is unchanged
 pub ready-blocked : WaitLaw
     → (m : State) (by fd : ℕ) (scripts : Bool) (c : Conn) (run : Option Running) (script : List ℕ) (y : Client)
     → Readies (of c run script) y → WouldWait m by (next_call scripts fd y) → (y ≡ of c run script) × IsAwaiting y

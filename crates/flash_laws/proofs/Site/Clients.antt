@@ -21,7 +21,7 @@ use Rattle.flash_laws.proofs.Forms.{of}
 use Rattle.flash_laws.proofs.Conn.Responses.{some-inj}
 use Rattle.flash_laws.proofs.Site.InPlaces.{at-same, at-other, left-is}
 
--- one with these, for which no script runs
+-- the client of a connection for which no script runs
 abbrev plain : Conn → List ℕ → Client
 plain c script = record { conn = c; run = None; script = script }
 
@@ -48,7 +48,7 @@ readies-alone : (c : Conn) (run : Option Running) (script : List ℕ) (y : Clien
 readies-alone c None script y is ready = ready
 readies-alone c (Some z) script y is ready = absurd (cc (is))
 
--- ---- replies are filed
+-- ---- after a reply
 
 -- one place changes
 pub runs-set : (clients : List (Option Client)) (fd : ℕ) (o : Option Client) → NoneRuns clients
@@ -60,7 +60,7 @@ runs-set clients fd o runs here gd x is = elim (cases_eq fd gd) [
   | inr differ ↦ runs gd x (sym (at-other clients fd gd o differ) ∙ is)
 ]
 
--- what is left of one without a run has none
+-- a client without a run that is not removed still has none
 left-none : (c : Conn) (script : List ℕ) (y : Client) → left_over (plain c script) ≡ Some y → y.run ≡ None
 left-none c script y is = ap (λ (x : Client). x.run) (sym (left-is c.phase (plain c script) y is))
 

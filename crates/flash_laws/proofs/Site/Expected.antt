@@ -29,20 +29,20 @@ file : (scripts : Bool) (site_contents : Files) (seen : Seen) (q : Answer) → i
     → expected scripts site_contents seen q ≡ file_expected site_contents q
 file scripts site_contents seen q is = ap (λ b. expected_if b site_contents seen q) is
 
--- of a script it is by what its name gives
+-- the expected response to a request for a script, by the outcome for its name
 expected_found : (scripts : Bool) (site_contents : Files) (seen : Seen) (w : Wanted) (o : Outcome)
     → is_for_script scripts (serve w) ≡ true → site_contents w.name ≡ o
     → expected scripts site_contents seen (serve w) ≡ expected_of_script seen w o
 expected_found scripts site_contents seen w o is found = ap (λ b. expected_if b site_contents seen (serve w)) is
     ∙ ap (λ x. expected_of_script seen w x) found
 
--- before it runs
+-- the expected response is possible before the script runs
 may_run : (seen : Seen) (w : Wanted) (lines : List Line) (head_only : Bool)
     → MayPutOut head_only w nothing_yet (expected_of_run head_only seen w lines)
 may_run seen w lines true = refl
 may_run seen w lines false = (output w.query lines (outcomes_by seen lines), tt, refl)
 
--- whether a text runs, by its lines
+-- the known part of the response, by the lines of the text: without lines it is the error 500
 abbrev of_option : (text : List ℕ) → Option (List Line) → Known
 of_option text o = if is_some o then OfScript text nothing_yet else OfFile (Failed 500)
 
@@ -101,7 +101,7 @@ outcomes m d seen (line.Wc name ∷ lines) same =
 pub expected_may_come : ExpectedMayCome
 expected_may_come = record { file = file; read = read; unread = unread; received = while_received; outcomes = outcomes }
 
--- ---- the response that is expected may be had; and the error, where a call is refused
+-- ---- the expected response is possible, and so is the error after a refused call
 
 module _ (site_contents : SiteContents) where
   pub all-show : (os : List script.Outcome) → AllMayShow site_contents os os
@@ -135,7 +135,7 @@ module _ (site_contents : SiteContents) where
   pub expected-may : (q : Answer) → MayBeExpected site_contents q (expected_to site_contents q)
   expected-may q = (outcome_of site_contents.finds q, inl refl, give-may (is_for_script site_contents.scripts q) q)
 
-  -- ---- where a call is refused: the error, be the request for a file or for a script
+  -- ---- after a refused call: the error, for a file or a script
 
   give-error : (b : Bool) (w : Wanted) (status : ℕ)
       → MayGive site_contents b (serve w) (Failed status) (text_of (serve w) (Error status))
@@ -151,7 +151,7 @@ module _ (site_contents : SiteContents) where
         (status_of x),
   )
 
-  -- ---- of a script that runs: the response to what it puts out
+  -- ---- the response of a running script, from its output
 
   pub shown-may : (x : Client) (w : Wanted) (s : IsScript site_contents x w) (shown : List script.Outcome)
       → AllMayShow site_contents (outcomes_by site_contents.shows s.lines) shown
@@ -171,7 +171,7 @@ module _ (site_contents : SiteContents) where
           (subst (λ (o : Option (List Line)). MayAnswerText site_contents w o (response_to w (made_of w s.lines shown)))
           (sym s.is_script) runs)
 
-  -- where its files are to give what is there, it is the one that is expected
+  -- if the outcomes of its files are those of the site contents, this response is the expected one
   pub script-expected : (w : Wanted) (text : List ℕ) (lines : List Line)
       → is_for_script site_contents.scripts (serve w) ≡ true → site_contents.finds w.name ≡ Found text
       → script_of text ≡ Some lines → w.head_only ≡ false
@@ -181,7 +181,7 @@ module _ (site_contents : SiteContents) where
       ∙ (ap (λ (o : Option (List Line)). expected_of_text site_contents.shows w o) lines_are
       ∙ ap (λ b. expected_of_run b site_contents.shows w lines) gets)
 
-  -- where one of its files gives a refusal in place of what it was to give
+  -- a refusal that is allowed for workers may replace the outcome of a file
   pub show-refused : (there past rest : List script.Outcome) (o : script.Outcome) (x : Refusal)
       → site_contents.refuses.of_workers x ≡ true
       → AllMayShow site_contents there (past ++ o ∷ rest)

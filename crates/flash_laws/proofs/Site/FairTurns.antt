@@ -1,4 +1,4 @@
--- Fairness of turns: between two responses to one client each other client that may take a turn takes one.
+-- Fairness of turns: between two responses to one client, each other client that may take a turn takes one.
 use Rattle.std.proofs.Common.{inl, inr, ◌≡◌, ◌≢◌, ℕ, ◌+◌, ◌==◌, ◌<◌, ◌≤◌, ◌⊎◌, List, [], ◌∷◌, ◌++◌, length, ap, ◌∙◌}
 use Rattle.std.proofs.Common.{refl, sym, subst, arith, Option, Some, None, true, false, Bool, if◌then◌else◌}
 use Rattle.std.specs.Prelude.{nat_lt, not, ◌||◌}
@@ -34,11 +34,11 @@ use Rattle.flash_laws.proofs.Site.IdleMoments.{found}
 use Rattle.flash_laws.proofs.Site.InPlaces.{at-same}
 use Rattle.flash_laws.proofs.Site.Rounds.{from-there, no-earlier, no-later}
 
--- ---- a place that has a client who may go is not passed
+-- ---- the server does not skip a place whose client may take a turn
 
 module _ (workers : ℕ) (clients : List (Option Client)) (gd : ℕ)
     (goes : goes_in (has_free workers clients) (in_place clients gd) ≡ true) where
-  -- who is picked from there on is no later than it
+  -- the place that is picked, from `from` on, is not after `gd`
   record Reaches (from : ℕ) : Type 0 where
     place : ℕ
     is : pending_call_from workers clients from ≡ At place
@@ -67,7 +67,7 @@ module _ (workers : ℕ) (clients : List (Option Client)) (gd : ℕ)
         high = no-more k is;
       }
 
-  -- it has its turn, or one before it has
+  -- `gd` is picked, or a place before it
   lands : (from : ℕ) (f : PendingCall) → f ≡ pending_call_from workers clients from → from ≤ gd
       → (f ≡ At gd) ⊎ ((k : ℕ) × (f ≡ At k) × (from ≤ k) × (k < gd))
   lands from f is le =
@@ -80,14 +80,14 @@ module _ (workers : ℕ) (clients : List (Option Client)) (gd : ℕ)
         ]
       ]
 
--- ---- a client in place `fd` is away: before it comes again the one in place `gd` has its turn
+-- ---- between two turns of the client in place `fd`, the client in place `gd` has a turn
 
--- where that place comes behind it
+-- if `gd` comes after `fd`: the turn is between them
 abbrev Up : (fd gd : ℕ) → PendingCall → Type 0
 Up fd gd (At k) = (fd < k) × (k < gd)
 Up fd gd w = ⊥
 
--- where it comes before it, in the next round
+-- if `gd` comes before `fd`: the turn is after `fd`, or before `gd` in the next round
 abbrev Down : (fd gd : ℕ) → PendingCall → Type 0
 Down fd gd (At k) = (fd < k) ⊎ (k < gd)
 Down fd gd w = Unit {0}
@@ -102,7 +102,7 @@ not-home fd gd (inr (lt, inr before)) = omega (arith, lt, before)
 
 module _ (workers : ℕ) (clients : List (Option Client)) (fd gd : ℕ)
     (goes : goes_in (has_free workers clients) (in_place clients gd) ≡ true) where
-  -- past its place, and no further than the other, where that comes behind it
+  -- if `gd` comes after `fd`: the search begins after `fd`, and not after `gd`
   climbs : (from : ℕ) (f : PendingCall) → f ≡ pending_call_from workers clients from → fd < gd → fd < from → from ≤ gd
       → (f ≡ At gd) ⊎ Away fd gd f
   climbs from f is before past le = elim (lands workers clients gd goes from f is le) [
@@ -112,7 +112,7 @@ module _ (workers : ℕ) (clients : List (Option Client)) (fd gd : ℕ)
         inl (before, (omega (arith, low, past), r.3))))
   ]
 
-  -- in the next round, before its place
+  -- if `gd` comes before `fd`: the search begins in the next round, and not after `gd`
   returns : (from : ℕ) (f : PendingCall) → f ≡ pending_call_from workers clients from → gd < fd → from ≤ gd
       → (f ≡ At gd) ⊎ Away fd gd f
   returns from f is behind le = elim (lands workers clients gd goes from f is le) [
@@ -127,7 +127,7 @@ module _ (workers : ℕ) (clients : List (Option Client)) (fd gd : ℕ)
       by true = inr (behind, tt)
       by false = inr (behind, tt)
 
-  -- past its place, where the other comes before it
+  -- if `gd` comes before `fd`: the search begins after `fd`
   passes-on : (from : ℕ) (f : PendingCall) → f ≡ pending_call_from workers clients from → gd < fd → fd < from
       → Away fd gd f
   passes-on from f is behind past =
@@ -138,7 +138,7 @@ module _ (workers : ℕ) (clients : List (Option Client)) (fd gd : ℕ)
       by (Some k) later = let low = later k refl in inr (behind, inl (omega (arith, low, past)))
       by None later = at-accept_step behind
 
-  -- its turn has passed
+  -- after the turn of `fd`
   departs : (f : PendingCall) → f ≡ pending_call_from workers clients (fd + 1) → fd ≢ gd → (f ≡ At gd) ⊎ Away fd gd f
   departs f is other = elim (cases_order fd gd) [
     | inl same ↦ absurd (other same)
@@ -148,7 +148,7 @@ module _ (workers : ℕ) (clients : List (Option Client)) (fd gd : ℕ)
     ]
   ]
 
-  -- a turn of another
+  -- after a turn of another place
   walks : (w f : PendingCall) (r : Reply) → in_rounds workers clients w r f → Away fd gd w → (f ≡ At gd) ⊎ Away fd gd f
   walks (At k) f r is (inl (lt, (low, high))) =
       let from = no-earlier k (in_place clients k) r in
@@ -168,7 +168,7 @@ module _ (workers : ℕ) (clients : List (Option Client)) (fd gd : ℕ)
   walks Nothing f r is (inl (lt, up)) = absurd up
   walks Nothing f r is (inr (gt, down)) = returns 0 f is gt (omega arith)
 
--- before it comes again the other has had its turn
+-- before the next turn of `fd`, `gd` has a turn
 comes : (s : Server) (xs : List OneTurn) (y : OneTurn) (fd gd : ℕ) → Follow s (xs ++ y ∷ [])
     → y.after.pending_call ≡ At fd
     → GoesThroughout gd s (xs ++ y ∷ []) → fd ≢ gd → Away fd gd s.pending_call → HasATurn gd xs
@@ -183,9 +183,9 @@ comes s (x ∷ xs) y fd gd turns home goes other away =
       | inr still ↦ inr (comes x.after xs y fd gd turns.1 home goes.1 other still)
     ]
 
--- ---- from the end of a response its turn passes before the next begins
+-- ---- after a response the turn of the client ends before its next request begins
 
--- nothing is in progress of a further request
+-- no further request is in progress
 abbrev Still : List ℕ → Phase → Option Running → Type 0
 Still buffered (DroppingSent a taken None) None = Unit {0}
 Still buffered Disconnecting None = Unit {0}
@@ -198,7 +198,7 @@ abbrev IsStill : Option Client → Type 0
 IsStill None = Unit {0}
 IsStill (Some x) = Still x.conn.buffered x.conn.phase x.run
 
--- its call is out, and it has its turn still
+-- its call is pending, and its turn continues
 abbrev Busy : List ℕ → Phase → Option Running → Type 0
 Busy buffered (DroppingSent a taken None) None = buffered ≡ []
 Busy buffered Disconnecting None = Unit {0}
@@ -221,7 +221,7 @@ none-buffered [] is = refl
 none-buffered (b ∷ buffered) is = let e : length (b ∷ buffered) ≡ 0 = grind (arith, nat_tests, is) in
     absurd (omega (arith, e))
 
--- where nothing is kept its turn does not pass yet
+-- if its turn continues, it has no buffered bytes
 on-sent : (buffered : List ℕ) (later : Bool) → (later || (not (length buffered == 0) || false)) ≡ false → buffered ≡ []
 on-sent buffered later on =
     none-buffered buffered
@@ -244,7 +244,7 @@ on-busy buffered q d (Some (Finishing (DroppingSent a taken (Some x)))) script r
 on-busy buffered q d (Some (Finishing e)) script r on still = absurd still
 on-busy buffered q d (Some y) script r on still = absurd still
 
--- it may have the next turn
+-- a busy client may take the next turn
 or-true : (b : Bool) → (b || true) ≡ true
 or-true true = refl
 or-true false = refl
@@ -255,7 +255,7 @@ busy-goes free buffered q d None script busy = or-true free
 busy-goes free buffered q d (Some (Finishing e)) script busy = or-true free
 busy-goes free buffered q d (Some y) script busy = absurd busy
 
--- and is as it was
+-- a busy client that is made ready is unchanged
 busy-ready : (buffered : List ℕ) (q : Answer) (d : Phase) (run : Option Running) (script : List ℕ) (y : Client)
     → Busy buffered d run → Readies (of (at buffered q d) run script) y
     → y ≡ of (at buffered q d) run script
@@ -266,7 +266,7 @@ busy-ready buffered q Disconnecting None script y busy ready = ready.2 ∙ ap (�
 busy-ready buffered q d None script y busy ready = absurd busy
 busy-ready buffered q d (Some z) script y busy ready = ready
 
--- it begins nothing
+-- a busy client does not begin a request
 busy-begins : (buffered : List ℕ) (q : Answer) (d : Phase) (run : Option Running) → Busy buffered d run → d ≡ begins q
     → run ≡ None → ⊥
 busy-begins buffered (serve w) (DroppingSent a taken None) None busy is none = cc (is)
@@ -277,7 +277,7 @@ busy-begins buffered (refuse status head_only close) Disconnecting None busy is 
 busy-begins buffered q d None busy is none = busy
 busy-begins buffered q d (Some y) busy is none = cc (none)
 
--- a response is over, and the connection rests or closes
+-- after a response the connection waits for input, or is closed
 ends-still : (b : Bool) (buffered : List ℕ) (q : Answer) (script : List ℕ) → buffered ≡ []
     → IsStill
     (left_by (if b then Receiving else Disconnecting)
@@ -343,7 +343,7 @@ busy-after_reply scripts worker buffered q d (Some y) script r received busy = a
 
 -- ---- turns
 
--- the client has its turn still
+-- the turn of the client continues
 record Stays (fd : ℕ) (t : Server) : Type 0 where
   client : Client
   turn : t.pending_call ≡ At fd
@@ -385,7 +385,7 @@ picked-stays workers clients fd made t c there busy turn picks =
       busy = busy;
     }
 
--- The other has its turn; or it is away; or it has its turn still.
+-- The turn is at `gd`, or between `fd` and `gd`, or still at `fd`.
 abbrev Goes : (fd gd : ℕ) → Server → Type 0
 Goes fd gd t = (t.pending_call ≡ At gd) ⊎ (Away fd gd t.pending_call ⊎ Stays fd t)
 
@@ -441,7 +441,7 @@ turns-pass s x fd gd other turn still goes did = by (in_place (clients_in s x) f
     by (Some c) is undisturbed =
         which (leaves_off (Some c) x.last) c refl is (subst (λ (o : Option Client). IsStill o) is undisturbed)
 
--- one that begins a request has not had its turn all the time
+-- a client whose turn continues does not begin a request
 never-begins : (fd : ℕ) (t : Server) → Stays fd t → BeginsAt fd t → ⊥
 never-begins fd t stays begun =
     let same : stays.client ≡ begun.client = some-inj stays.client begun.client (sym stays.there ∙ begun.there) in

@@ -1,4 +1,4 @@
--- The server's account preserves its condition when idle.
+-- The server's transition relation preserves the condition that the server declares for idle moments.
 use Rattle.std.proofs.Common.{inl, inr, ◌≡◌, ℕ, zero, suc, ◌+◌, ◌-◌, ◌<◌, ◌≤◌, ◌⊎◌, List, length, drop, get_or, ap, ◌∙◌}
 use Rattle.std.proofs.Common.{refl, sym, subst, arith, Option, Some, None, true, false, Bool, if◌then◌else◌}
 use Rattle.std.proofs.Common.{length-drop}
@@ -38,14 +38,14 @@ use Rattle.flash_laws.specs.declared.script_run.Running.{Running}
 use Rattle.flash_laws.proofs.Conn.Responses.{some-inj}
 use Rattle.flash_laws.proofs.Site.BlockedClients.{WaitLaw, none-in, same-there, filed-at, ready-blocked}
 
--- what is called in a turn
+-- the call of a turn
 abbrev called_in : Turn → Call → Call
 called_in (turn.Make k) other = k
 called_in turn.Yield other = other
 
--- The next place that has a client whose turn it may be.
+-- The next place whose client may take a turn.
 
--- before the first one, from a place on, there is none
+-- no place from `from` on and before the first one has such a client
 none-before : (free : Bool) (clients : List (Option Client)) (from i : ℕ) → from ≤ i
     → i - from < position_or_len (λ o. goes_in free o) (drop from clients) → goes_in free (in_place clients i) ≡ false
 none-before free clients from i le lt =
@@ -55,7 +55,7 @@ none-before free clients from i le lt =
     ap (λ z. goes_in free (get_or clients z None)) (sym at)
     ∙ (ap (λ (o : Option Client). goes_in free o) (sym (get_or-drop from clients (i - from) None)) ∙ off)
 
--- what is found: no place before it has one; or none at all, from there on
+-- the place that is found: no place before it has such a client; if none is found, no place from `from` on has one
 pub record Found (free : Bool) (clients : List (Option Client)) (from : ℕ) (o : Option ℕ) : Type 0 where
   pub before : (fd : ℕ) → o ≡ Some fd → (i : ℕ) → from ≤ i → i < fd → goes_in free (in_place clients i) ≡ false
   pub none : o ≡ None → (i : ℕ) → from ≤ i → goes_in free (in_place clients i) ≡ false
@@ -92,7 +92,7 @@ found workers clients from = in_free (has_free workers clients)
           ];
         }
 
--- one that waits for a worker has no request that could begin
+-- a client that may not take a turn, as it waits for a worker, has no request that could begin
 passed-awaits : (free : Bool) (c : Conn) (run : Option Running) (script : List ℕ)
     → may_go free (record { conn = c; run = run; script = script }) ≡ false
     → IsAwaiting (record { conn = c; run = run; script = script })
@@ -108,7 +108,7 @@ blocks-none m by workers clients i none x is =
     ap (λ (o : Option Client). goes_in (has_free workers clients) o) (sym is) ∙ none in
     (passed-awaits (has_free workers clients) x.conn x.run x.script passed, inl passed)
 
--- What the server files where it polls changes nothing.
+-- While the server polls, the reply changes no client.
 pub filed-same : (waits : WaitLaw) (m : State) (by : ℕ) (s : Server) (l : Reply) (received : List ℕ)
     → IsPolling m by s l → filed s.workers s.clients s.pending_call l received ≡ s.clients
 filed-same waits m by s l received (inl y) = ap (λ w. filed s.workers s.clients w l received) y.0
@@ -121,7 +121,7 @@ filed-same waits m by s l received (inr b) = ap (λ (r : Reply). filed s.workers
     at Accepting up = refl
     at (At fd) up = filed-at waits m by s.workers fd s.clients received (up fd (omega arith))
 
--- Where it looks next: from place k on, where all before would block, or nowhere, since all would.
+-- The next place to poll: the calls of all places before it would block. Or there is none, since all would block.
 pub record From (m : State) (by workers : ℕ) (clients : List (Option Client)) (next : PendingCall) : Type 0 where
   pub place : ℕ
   pub known : (i : ℕ) → i < place → BlocksAt m by workers clients i
@@ -160,7 +160,7 @@ looks m by s l (inr b) =
         after None = refl
         after (Some x) = refl
 
--- what yields picks nothing
+-- a turn that yields picks no client
 yielded : (workers : ℕ) (clients : List (Option Client)) (t : Server)
     → Picks workers clients t.pending_call turn.Yield t.clients
     → (t.clients ≡ clients) × (t.pending_call ≡ Nothing)
@@ -172,7 +172,7 @@ yielded workers clients t picks = by t.pending_call refl picks
     by Accepting is did = (let bad = did.1 in absurd (cc (bad)))
     by (At fd) is did = (let bad = did.call_is in absurd (cc (bad)))
 
--- A turn where it polls.
+-- A turn while the server polls.
 module _ (waits : WaitLaw) (m : State) (by : ℕ) (s t : Server) (l : Reply) (readable : ℕ → Option (List ℕ))
     (polls : IsPolling m by s l) (next : in_rounds s.workers (filed_in s l readable) s.pending_call l t.pending_call)
   where
@@ -182,7 +182,7 @@ module _ (waits : WaitLaw) (m : State) (by : ℕ) (s t : Server) (l : Reply) (re
     next-is : t.pending_call ≡ next_pending_call s.workers s.clients s.pending_call l
     next-is = next ∙ ap (λ (xs : List (Option Client)). next_pending_call s.workers xs s.pending_call l) conns-are
 
-    -- all places would block, the earlier ones too, and there is no client from then on
+    -- if no client from `k` on may take a turn, and the calls of all places before `k` would block, all would block
     all-of : (k : ℕ) → ((i : ℕ) → i < k → BlocksAt m by s.workers s.clients i) → next_place s.workers s.clients k ≡ None
         → (i : ℕ)
         → BlocksAt m by s.workers s.clients i
@@ -272,7 +272,7 @@ module _ (waits : WaitLaw) (m : State) (by : ℕ) (s t : Server) (l : Reply) (re
                 subst (λ (f : PendingCall). Picks s.workers s.clients f (turn.Make c) t.clients) w here in let bad =
                 did.1 in cc (bad))
 
-    -- a yield: all would block
+    -- a yield: the calls of all places would block
     yields-on : Picks s.workers (filed_in s l readable) t.pending_call turn.Yield t.clients
         → (t.clients ≡ s.clients) × AllBlock m by s.workers s.clients
     yields-on picks = (
@@ -301,7 +301,7 @@ module _ (waits : WaitLaw) (m : State) (by : ℕ) (s t : Server) (l : Reply) (re
             past true full w = absurd (cc (w))
             past false full w = record { places = all-of k known is; accept_step = inl full }
 
--- What the server declares is kept by its account.
+-- The server's transition relation preserves its condition.
 
 stays-two : (n : ℕ) → more_of_two (suc (suc n)) ≡ suc (suc n)
 stays-two n = grind (arith, nat_tests)
@@ -349,7 +349,7 @@ module _ (waits : WaitLaw) where
           let two : server_quiescent (suc (suc n)) by t reply.Done m = (inl new, all-on m by s t did.0 goes.2 did.1) in
           subst (λ k. server_quiescent k by t reply.Done m) (sym (stays-two n)) two
 
-  -- and so is what all processes declare
+  -- likewise for all processes
   pub actor_quiesces : {W : Type 0} (works : TransitionRelation W) (Quiescent : Claim W) → Quiesces Quiescent works
       → Quiesces (actor_quiescent Quiescent) (actor_turns in_rounds works)
   actor_quiesces {W = W} works Quiescent workers = record {

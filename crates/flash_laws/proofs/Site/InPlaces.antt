@@ -30,9 +30,7 @@ pub at-other : {A : Type 0} (xs : List (Option A)) (fd gd : ℕ) (x : Option A) 
 at-other xs fd gd x differ = let e = place-grown xs (fd + 1 - length xs) gd in
     grind (arith, nat_tests, common_steps, differ, e)
 
--- ---- each place mapped
-
--- ---- what is over is forgotten
+-- ---- a client that is over is removed
 
 pub left-is : {A : Type 0} (d : Phase) (x y : A) → left_by d x ≡ Some y → x ≡ y
 left-is Closed x y is = absurd (cc (is))

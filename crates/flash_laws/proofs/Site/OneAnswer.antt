@@ -78,7 +78,7 @@ module _ (site_contents : SiteContents) (none : RefusesNothing site_contents) wh
       (subst (λ (o : Outcome). MayGive site_contents (is_for_script site_contents.scripts q) q o r)
       (find-one (outcome_of site_contents.finds q) may.0 may.1) may.2)
 
-  -- the responses that are expected
+  -- the expected responses, joined
   abbrev all_expected : List Answer → List ℕ
   all_expected qs = concat (map (λ q. expected_to site_contents q) qs)
 
@@ -116,7 +116,7 @@ module _ (one : OneAnswer) where
       by true is bad = absurd (cc (bad))
       by false is bad = absurd (cc (is))
 
-  -- requests that were read, where after none but the last the connection closes, are the first of all that there are
+  -- requests read from a stream are the first of all its requests; only the last of each list may close the connection
   are-first : (s : List ℕ) (qs ps : List Answer) (rest last : List ℕ) → Reads s qs rest → Reads s ps last
       → last_may_close qs ≡ true
       → last_may_close ps ≡ true → (window_in last ≡ Wait) ⊎ (last_closes ps ≡ true)

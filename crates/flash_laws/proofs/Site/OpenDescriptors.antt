@@ -1,5 +1,5 @@
--- The objects of the server's descriptors exist, so they are neither waiting nor closed; and a ready client that reads
--- waits for input.
+-- The connections of the server's descriptors are accepted and not closed; and a ready client that reads waits for
+-- input.
 use Rattle.std.proofs.Common.{inl, inr, ◌≡◌, ◌≢◌, ℕ, List, ap, ◌∙◌, refl, sym, subst, Option, Some, true, false, Bool}
 use Rattle.std.specs.Prelude.{◌&&◌, not}
 use Rattle.iol_core.specs.State.{State, descriptor, conn_at}
@@ -29,7 +29,7 @@ held-open m fd c order is =
     by true true is_a is_b both = absurd (cc)
     by false b is_a is_b both = absurd (cc)
 
--- no connection of the server's is one that waits, or that is closed
+-- a connection that is not accepted, or that is closed, is not that of a descriptor of the server
 pub not-waiting : (m : State) (fd c k : ℕ) → IsOrderly m
     → descriptor m server fd ≡ Some (on.Connection c) → (conn_at m k).accepted ≡ false → c ≢ k
 not-waiting m fd c k order is waits same =
@@ -49,7 +49,7 @@ pub conn-same : (m : State) (fd c k : ℕ) → descriptor m server fd ≡ Some (
     → descriptor m server fd ≡ Some (on.Connection k) → c ≡ k
 conn-same m fd c k is_c is_k = ap number_on (sym is_c ∙ is_k)
 
--- one that is ready has no request that could begin, where it reads
+-- a connection that is made ready, if it reads, has no request that could begin
 pub ready-awaits : (buffered : List ℕ) (q : Answer) (d : Phase) (y : Conn)
     → Readies (record { buffered = buffered; request = q; phase = d }) y → IsAwaiting y
 ready-awaits buffered q Receiving y ready = starts ready

@@ -19,7 +19,7 @@ use Rattle.flash_laws.specs.Conn.{most_read}
 use Rattle.flash_laws.specs.Site.{server, net_pool, found_in, outcome_in, IsFixed, KeepsSite}
 use Rattle.flash_laws.proofs.Conn.ReadableBytes.{file-same, content-same}
 
--- a call of another domain gives up nothing of the server's, and moves none of its descriptors
+-- a call of another domain gives up no aggregate of the server, and touches none of its descriptors
 pub other-gives : (d : ℕ) (k : Call) (a : ℕ) → d ≢ server → gives_up (event.Call d k) server a ≡ false
 other-gives d call.Exit a differ = grind (arith, nat_tests, differ)
 other-gives d (call.AggSplit b at) a differ = grind (arith, nat_tests, differ)
@@ -32,13 +32,13 @@ pub other-ends : (d : ℕ) (k : Call) → d ≢ server → ends (event.Call d k)
 other-ends d call.Exit differ = grind (arith, nat_tests, differ)
 other-ends d k differ = refl
 
--- What is fixed stays so.
+-- The fixed conditions are preserved.
 
 pub none-listed : (m : State) (d p : ℕ) → is_pool m p ≡ false → may_read m d p ≡ true → ⊥
 unfolding pool
 none-listed m d p none may = grind (arith, nat_tests, common_steps, none, may)
 
--- who may read a pool that somebody may read goes on to, and nobody else, if nobody is admitted
+-- if a pool has a reader, and no domain is admitted to it, its readers are unchanged
 may-same : (m n : State) (e : Event) (p d by : ℕ) → Leaves m e n → admits_to e p ≡ false
     → may_read m by p ≡ true → may_read n d p ≡ may_read m d p
 may-same m n e p d by leaves un some = is (is_pool m p) refl
@@ -50,7 +50,7 @@ may-same m n e p d by leaves un some = is (is_pool m p) refl
 pub called-same : (m n : State) (name : List ℕ) → n.files ≡ m.files → file_called n name ≡ file_called m name
 called-same m n name same = grind (arith, same)
 
--- a step that changes no file and admits nobody leaves the site
+-- a step that changes no file and admits no domain leaves the site unchanged
 pub site-stays : (site_contents : SiteContents) (m n : State) (e : Event) → Leaves m e n → IsFixed site_contents m
     → changes_files m e ≡ false → ((p : ℕ) → admits_to e p ≡ false) → KeepsSite m n
 site-stays site_contents m n e leaves fixed undisturbed un = record {

@@ -38,7 +38,7 @@ use Rattle.flash_laws.proofs.Lists.{clash, must, neither, not-true, not-false}
 use Rattle.flash_laws.proofs.Run.OfferedBytes.{keeps}
 use Rattle.flash_laws.proofs.Conn.Uses.{same-number}
 
--- ---- who is free
+-- ---- free workers
 
 none-any : {A : Type 0} (p : Option A → Bool) (xs : List (Option A)) (i : ℕ) → p None ≡ false → list_any p xs ≡ false
     → p (in_place xs i) ≡ false
@@ -46,7 +46,7 @@ none-any p [] i none is = none
 none-any p (x ∷ xs) zero none is = (neither (p x) (list_any p xs) is).0
 none-any p (x ∷ xs) (suc i) none is = none-any p xs i none (neither (p x) (list_any p xs) is).1
 
--- a worker that is free runs no script
+-- a free worker runs no script
 pub free-runs : (clients : List (Option Client)) (k gd : ℕ) (y : Client) → is_free clients k ≡ true
     → in_place clients gd ≡ Some y → is_run_by y k ≡ false
 free-runs clients k gd y free is =
@@ -69,7 +69,7 @@ first-free workers clients free =
           within,
     )
 
--- ---- which worker a client has after a reply: the one that it had, or the one that is free, if it waited
+-- ---- the worker of a client after a reply: the one before, or the free one, if the client waited
 
 abbrev pub Had : (worker : ℕ) → Client → (k : ℕ) → Type 0
 Had worker x k = (is_run_by x k ≡ true) ⊎ ((awaits x ≡ true) × (k ≡ worker))
@@ -98,7 +98,7 @@ on-run worker w c script (InProgress run s) r received k u =
     (keeps worker w run s r received) u)
 on-run worker w c script x r received k u = absurd (cc (u))
 
--- one for which no script runs has none then
+-- a client for which no script runs has no worker after its reply
 on-script : (buffered : List ℕ) (q : Answer) (d : Phase) (script : List ℕ) (r : Reply) (received : List ℕ) (k : ℕ)
     → is_run_by (file_after_reply true (of (record { buffered = buffered; request = q; phase = d }) None script) r
     received) k ≡ true
@@ -140,7 +140,7 @@ left-over-is c (Some z) script y is = some-inj (of c (Some z) script) y is
 
 -- ---- one place changes
 
--- a worker that none of the others has
+-- a worker that runs no other client's script
 abbrev IsOwn : (workers : ℕ) → List (Option Client) → (fd k : ℕ) → Type 0
 IsOwn workers clients fd k = (k < workers) × ((gd : ℕ) (z : Client) → fd ≢ gd → in_place clients gd ≡ Some z
     → is_run_by z k ≡ true → ⊥)
@@ -172,7 +172,7 @@ own-set workers clients fd o own here = record {
     old : (gd : ℕ) (y : Client) → fd ≢ gd → in_place (with_at clients fd o) gd ≡ Some y → in_place clients gd ≡ Some y
     old gd y differ is = sym (at-other clients fd gd o differ) ∙ is
 
--- the worker that it had
+-- a client's worker is its own
 still-own : (workers : ℕ) (clients : List (Option Client)) (fd k : ℕ) (x : Client) → EachHasItsOwn workers clients
     → in_place clients fd ≡ Some x
     → is_run_by x k ≡ true → IsOwn workers clients fd k
@@ -249,7 +249,7 @@ module _ (workers : ℕ) (clients : List (Option Client)) (own : EachHasItsOwn w
       ap (λ (z : Client). may_go (has_free workers after) z) (sym same) ∙ p.goes
   goes-picked x p = tt
 
--- ---- who waits
+-- ---- waiting clients
 
 all-busy : (workers : ℕ) (clients : List (Option Client)) (k : ℕ) → nat_lt (first_free workers clients) workers ≡ false
     → k < workers → is_free clients k ≡ false
@@ -260,7 +260,7 @@ all-busy workers clients k none lt =
     ap (λ j. is_free clients j) (sym at) ∙ fails_before_first (λ j. is_free clients j) (range_with_len 0 workers) k 0
     before
 
--- a place that passes
+-- a place that satisfies the test
 record Passes {A : Type 0} (p : Option A → Bool) (xs : List (Option A)) : Type 0 where
   pub place : ℕ
   pub passes : p (in_place xs place) ≡ true
@@ -276,7 +276,7 @@ some-any {A} p (x ∷ xs) is = by (p x) refl is (λ later. some-any p xs later)
         at-next : (i : ℕ) → p (in_place xs i) ≡ true → p (in_place (x ∷ xs) (i + 1)) ≡ true
         at-next i is = let e : i + 1 ≡ suc i = omega arith in ap (λ z. p (in_place (x ∷ xs) z)) e ∙ is
 
--- one for whose client a worker runs
+-- a place whose client's script the worker runs
 pub record RunsFor (clients : List (Option Client)) (k : ℕ) : Type 0 where
   pub fd : ℕ
   pub client : Client

@@ -39,8 +39,8 @@ pub or-false : (b c : Bool) → c ≡ false → (b || c) ≡ b
 or-false true c is = refl
 or-false false c is = is
 
--- an event that brings nothing in, sends nothing, makes nothing, tells of no peer that left, and gives the server
--- nothing
+-- an event by which no byte arrives or is sent, no connection is made, no peer is reported as gone, and the server is
+-- given no aggregate
 pub past-same : (p : Past) (e : Event) (r : Reply) → ((c : ℕ) → came_by c e r ≡ []) → ((c : ℕ)
     → sent_by c e r ≡ []) → ((c : ℕ) → made_by c e r ≡ false) → ((c : ℕ) → gone_by c e r ≡ false)
     → ((a : ℕ) → given_by a e r ≡ false) → and_then p e r ≡ p
@@ -52,12 +52,12 @@ past-same p e r came sent net gone given =
     (λ c. or-false (p.gone c) (gone_by c e r) (gone c))
     (λ a. or-false (p.given a) (given_by a e r) (given a))
 
--- one that was refused told nothing
+-- a refused event reports no peer as gone
 pub none-after_reply : (c z : ℕ) (w : How) (x : Refusal) → gone_by z (event.PeerClosed c w) (reply.Refused x) ≡ false
 none-after_reply c z how.Done x = refl
 none-after_reply c z how.Gone x = refl
 
--- after a peer closed
+-- the history after a peer closed
 abbrev pub peer_after_reply : Past → (c : ℕ) → How → Past
 peer_after_reply p c w =
     record {
@@ -76,7 +76,7 @@ past-after_reply p c w =
     (λ z. append-nil (p.came z)) (λ z. append-nil (p.sent z)) (λ z. or-false (p.net z) false refl) (λ z. refl)
     (λ a. or-false (p.given a) false refl)
 
--- after a call
+-- the history after a call
 abbrev pub call_after_reply : Past → (d : ℕ) → Call → Reply → Past
 call_after_reply p d k r =
     record {

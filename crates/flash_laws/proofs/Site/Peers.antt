@@ -20,7 +20,7 @@ use Rattle.iol_laws.proofs.ConnChanges.{once_turned}
 use Rattle.iol_laws.proofs.Connections.{conn-unmade, conn-over, conn-there, conns_conn, conns_same, after-with_conn}
 use Rattle.iol_laws.proofs.Connections.{nothing-left}
 
--- if it is open, and its peer is gone, this is so
+-- if the connection is open and its peer is gone, `gone` is true
 abbrev pub IsAfterReply : (gone : Bool) → Connection → Type 0
 IsAfterReply gone k = k.closed ≡ false → is_gone k.peer ≡ true → gone ≡ true
 
@@ -77,7 +77,7 @@ after_reply-call gone m n d k r c order step was =
     after_reply-outcome gone (meaning m (event.Call d k)) m n (outcome r) c
     (after_reply-called gone m d k c order.once was) was step
 
--- A peer that is done: the connection is forgotten where it was over but for that.
+-- After a peer is done, the connection is removed only if it is then over.
 
 pub peer-done : (m n : State) (c : ℕ) → IsOrderly m → StepsTo m (event.PeerClosed c how.Done) reply.Done n
     → (conn_at n c ≡ closed_by (conn_at m c) how.Done)
@@ -97,7 +97,7 @@ peer-done m n c order step = by (is_over (closed_by (conn_at m c) how.Done)) ref
     by false over None is =
         absurd (let e = ap (λ (k : Connection). is_over (closed_by k how.Done)) (conn-unmade m c is) in cc (e, over))
 
--- it had nothing to send, and was closed, or its peer was gone
+-- such a connection has no output, and it was closed or its peer was gone
 pub over-done : (k : Connection) → is_over (closed_by k how.Done) ≡ true
     → (k.outgoing ≡ []) × ((k.closed ≡ true) ⊎ (is_gone k.peer ≡ true))
 over-done k over = (

@@ -28,13 +28,13 @@ not-at-accept_step clients fd is = by (nat_lt (taken clients) most_conns) is
     by true is = cc (is)
     by false is = cc (is)
 
--- who is picked is the next one found
+-- the client that is picked is the next one found
 pub picked-is : (clients : List (Option Client)) (o : Option ℕ) (fd : ℕ) → At fd ≡ pending_call_to clients o
     → o ≡ Some fd
 picked-is clients (Some gd) fd is = ap (λ (w : PendingCall). Some (place_of w)) (sym is)
 picked-is clients None fd is = absurd (not-at-accept_step clients fd is)
 
--- it stands no earlier than where the look for it began
+-- its place is not before the one where the search began
 pub from-there : (free : Bool) (clients : List (Option Client)) (from fd : ℕ)
     → option_map (λ k. from + k) (position (λ o. goes_in free o) (drop from clients)) ≡ Some fd → from ≤ fd
 from-there free clients from fd is = by (position (λ o. goes_in free o) (drop from clients)) is
@@ -62,7 +62,7 @@ no-later fd gd x last lt = by (leaves_off x last)
     by true = omega (arith, lt)
     by false = omega (arith, lt)
 
--- it goes on where it was: it did not leave off
+-- if the search begins at its own place, its turn did not end
 stays-on : (fd : ℕ) (b : Bool) → (if b then fd + 1 else fd) ≤ fd → b ≡ false
 stays-on fd true le = absurd (omega (arith, le))
 stays-on fd false le = refl
@@ -93,7 +93,7 @@ rises workers clients fd gd last is =
     let here = no-earlier fd (in_place clients fd) last in
     omega (arith, from, here)
 
--- from a place on nobody is passed over who may go, up to whoever is found
+-- no client that may take a turn is skipped between `from` and the place that is found
 none-passed : (workers : ℕ) (clients : List (Option Client)) (from : ℕ) (next : PendingCall) (fd : ℕ) (x : Client)
     → next ≡ pending_call_from workers clients from
     → from ≤ fd → IsBefore next fd → in_place clients fd ≡ Some x → may_go (has_free workers clients) x ≡ false

@@ -1,4 +1,4 @@
--- A client becomes ready, or one more is accepted: the invariant is preserved.
+-- Making a client ready, and accepting a connection, preserve the invariant.
 use Rattle.std.proofs.Common.{inl, inr, ◌≡◌, ◌≢◌, ℕ, ◌⊎◌, List, [], ◌++◌, ap, ◌∙◌, refl, sym, subst, arith, Option}
 use Rattle.std.proofs.Common.{Some, None, true, false, Bool, append-nil, slice_get}
 use Rattle.std.proofs.lemmas.Bool.{cases_eq}
@@ -54,7 +54,7 @@ use Rattle.flash_laws.proofs.World.TurnLeaves.{conn-left}
 
 -- ---- a client is made ready
 
--- it is as it was, or its next request begins
+-- a connection that is made ready is unchanged, or its next request begins
 conn-readied : (x y : Conn) → conn.Readies x y
     → (y ≡ x) ⊎ ((q : Answer) × (rest : List ℕ) × (y ≡ record { buffered = rest; request = q; phase = begins q }))
 conn-readied x y ready = by x.phase refl ready
@@ -69,7 +69,7 @@ conn-readied x y ready = by x.phase refl ready
     by phase.Receiving is r = began (subst (λ (d : Phase). conn.Starts (record x { phase = d }) y) (sym is) r)
     by d is r = inl (r ∙ ap (λ (d : Phase). record x { phase = d }) (sym is))
 
--- what is ready uses what it used, or nothing
+-- a client that is made ready uses no object that it did not use before
 ready-uses : (by_conn : Phase → ℕ → Bool) (by_client : Client → ℕ → Bool)
     → ((c : Conn) (script : List ℕ) (a : ℕ) → by_client (of c None script) a ≡ by_conn c.phase a)
     → ((q : Answer) (a : ℕ) → by_conn (begins q) a ≡ false)
@@ -95,14 +95,14 @@ ready-fds : (c : Conn) (run : Option Running) (script : List ℕ) (y : Client) (
     → has_fd y g ≡ true → has_fd (of c run script) g ≡ true
 ready-fds = ready-uses (λ d g. conn.uses_fd d g) (λ x g. has_fd x g) (λ c script g. refl) (λ q g. begins-no_fd q g)
 
--- and it has the worker that it had
+-- and its worker is unchanged
 ready-worker : (c : Conn) (run : Option Running) (script : List ℕ) (y : Client) (k : ℕ) → Readies (of c run script) y
     → is_run_by y k ≡ is_run_by (of c run script) k
 ready-worker c run script y k ready =
     ap (λ (o : Option Running). is_run_by (of y.conn o y.script) k) (ready-runs c run script y ready)
 
--- a worker that is free once one place has changed was free before, if whoever stands there now has the workers of
--- whoever stood there
+-- a worker that is free after a change of one place was free before, if the old and the new client of the place have
+-- the same workers
 free-before : (clients : List (Option Client)) (fd k : ℕ) (x y : Client) → in_place clients fd ≡ Some x
     → (is_run_by y k ≡ is_run_by x k)
     → is_free (with_at clients fd (Some y)) k ≡ true → is_free clients k ≡ true
@@ -115,7 +115,7 @@ free-before clients fd k x y at same free = free-unless clients fd k (Some y) st
         (free-runs (with_at clients fd (Some y)) k fd y free (at-same clients fd (Some y)))
 
 module _ (site_contents : SiteContents) (worker_set : WorkerSet) (laws : AllLaws worker_set) where
-  -- the client that is picked is made ready
+  -- the picked client is made ready
   pub ready_turn : (m : State) (p : Past) (clients : List (Option Client)) (fd : ℕ) (x y : Client)
       (process_slots : List (ProcessSlot worker_set.Worker))
       → AllFit site_contents worker_set m p clients process_slots → in_place clients fd ≡ Some x → Readies x y
@@ -179,7 +179,7 @@ module _ (site_contents : SiteContents) (worker_set : WorkerSet) (laws : AllLaws
         | inr differ ↦ inl (held-on m m clients fd k (Some y) held differ held.open_on)
       ]
 
-  -- ---- one more is accepted
+  -- ---- a connection is accepted
 
   module _ (m n : State) (p : Past) (clients : List (Option Client)) (fd : ℕ)
       (process_slots : List (ProcessSlot worker_set.Worker)) (order : IsOrderly m)
@@ -195,7 +195,7 @@ module _ (site_contents : SiteContents) (worker_set : WorkerSet) (laws : AllLaws
     site : KeepsSite m n
     site = site-stays site_contents.finds m n (event.Call server call.Accept) leaves fixed.site refl (λ q. refl)
 
-    -- nothing stood there
+    -- its place was empty
     none-stood : in_place clients fd ≡ None
     none-stood = by (in_place clients fd) refl
       where

@@ -1,4 +1,4 @@
--- The server's own call for a client touches only what that client has.
+-- The server's own call for a client touches only that client's objects.
 use Rattle.std.proofs.Common.{inl, inr, ◌≡◌, ◌⊎◌, ℕ, ◌==◌, List, [], ◌∷◌, ap, ◌∙◌, refl, sym, subst, Option, Some, None}
 use Rattle.std.proofs.Common.{true, false, Bool}
 use Rattle.std.specs.Prelude.{◌||◌, ◌&&◌}
@@ -39,12 +39,12 @@ use Rattle.flash_laws.proofs.World.OwnRun.{call-run}
 use Rattle.flash_laws.proofs.World.RunUses.{IsEnd, run-there, run-end}
 use Rattle.flash_laws.proofs.Moves.{either-way}
 
--- the pipe that it may touch: with a run one of that, and else none
+-- a pipe that the call for a client may touch: without a run there is none
 abbrev pub MayTouchPipe : State → Option Running → (p : ℕ) → Type 0
 MayTouchPipe m None p = ⊥
 MayTouchPipe m (Some y) p = MayTouch m y p
 
--- which calls are made for clients
+-- whether a call may be made for a client, by its kind
 abbrev pub is_client_call : Call → Bool
 is_client_call call.Exit = false
 is_client_call (call.SetPool p) = false
@@ -56,15 +56,15 @@ is_client_call k = true
 
 pub record CallsAlone (m : State) (fd c : ℕ) (x : Client) (k : Call) : Type 0 where
   pub kind : is_client_call k ≡ true
-  -- it gives up an aggregate only that the client uses
+  -- it gives up only aggregates that the client uses
   pub aggs : (a : ℕ) → gives_up (event.Call server k) server a ≡ true → uses_agg x a ≡ true
-  -- it closes, moves or gives away a descriptor only that it has, or its connection's own
+  -- it closes, moves or gives away only descriptors that the client has, or that of its connection
   pub fds : (g : ℕ) → touches_fd m (event.Call server k) server g ≡ true → (has_fd x g ≡ true) ⊎ (fd ≡ g)
   pub conns : (d : ℕ) → touches_conn m (event.Call server k) d ≡ true → c ≡ d
   pub pipes : (p : ℕ) → touches_pipe m (event.Call server k) p ≡ true → MayTouchPipe m x.run p
   pub files : changes_files m (event.Call server k) ≡ false
 
--- ---- what follows of the kind
+-- ---- properties of these calls
 
 pub kind-ends : (k : Call) → is_client_call k ≡ true → ends (event.Call server k) server ≡ false
 kind-ends call.Exit is = absurd (cc (is))
@@ -79,7 +79,7 @@ pub kind-admits : (k : Call) (p : ℕ) → is_client_call k ≡ true → admits_
 kind-admits (call.PoolAdmit q d) p is = absurd (cc (is))
 kind-admits k p is = refl
 
--- ---- alone
+-- ---- without a run
 
 call-kind : (fd : ℕ) (buffered : List ℕ) (q : Answer) (d : Phase)
     → is_client_call (conn.next_call fd (record { buffered = buffered; request = q; phase = d })) ≡ true
@@ -169,7 +169,7 @@ module _ (site_contents : SiteContents) (worker_set : WorkerSet) (laws : AllLaws
       (of-run m fd c conn script y (running.next_call (job_of f.wanted f.script.text) fd f.wanted y)
       ((laws.run_keeps (job_of f.wanted f.script.text)).alone m fd c f.wanted y f.so_far f.open_on f.ongoing f.has))
 
-  -- what it uses is there
+  -- the aggregates that it uses exist
   pub there-agg : (conn : Conn) (run : Option Running) (script : List ℕ) (a : ℕ)
       → Fits site_contents worker_set m came sent fd c (of conn run script) process_slots
       → uses_agg (of conn run script) a ≡ true → IsReadable m a
@@ -177,7 +177,7 @@ module _ (site_contents : SiteContents) (worker_set : WorkerSet) (laws : AllLaws
       has-agg m conn.request (expected_in f.expected conn.request conn.phase) conn.phase a u f.has
   there-agg conn (Some y) script a f u = run-there m a (job_of f.wanted f.script.text) f.wanted f.so_far y u f.has
 
-  -- and what it has: a file, or an end of a pipe
+  -- its descriptors exist: a file, or an end of a pipe
   pub there-fd : (conn : Conn) (run : Option Running) (script : List ℕ) (g : ℕ)
       → Fits site_contents worker_set m came sent fd c (of conn run script) process_slots
       → has_fd (of conn run script) g ≡ true

@@ -44,8 +44,9 @@ use Rattle.flash_laws.proofs.World.JobQueue.Frame.{LeavesOne, stage-on}
 use Rattle.flash_laws.proofs.Site.Expected.{shown-may}
 use Rattle.flash_laws.proofs.World.ConsistencyGoes.{consistency-stays, consistency-leaves, run-stays, run-leaves}
 
--- A connection and what was sent on it go on: what was sent and is to be sent stays, and the peer is as gone as before,
--- and where it had closed nothing more came in; or the peer is gone, and what was to be sent is dropped.
+-- How a connection and its sent bytes may change. Either the sent bytes with the queued bytes after them are the same,
+-- the peer is gone exactly if it was, and if the peer had closed, no bytes arrived; or the peer is gone, and queued
+-- bytes are dropped.
 pub record Stays (k j : Connection) (sent after : List ℕ) : Type 0 where
   pub total : sent ++ bytes_of k.outgoing ≡ after ++ bytes_of j.outgoing
   pub gone : is_gone j.peer ≡ is_gone k.peer
@@ -59,7 +60,7 @@ pub record Leaves (k j : Connection) (sent after : List ℕ) : Type 0 where
 abbrev pub Changes : (k j : Connection) (sent after : List ℕ) → Type 0
 Changes k j sent after = Stays k j sent after ⊎ Leaves k j sent after
 
--- ---- the invariant, over what becomes of a connection
+-- ---- the invariant after a change of the connection
 
 consistency_goes : (site_contents : SiteContents) (k j : Connection) (took sent after : List ℕ) (x : Client)
     (expected : List ℕ) → MayBeExpected site_contents x.conn.request expected → Changes k j sent after
@@ -84,7 +85,7 @@ came_on : (came took incoming now more : List ℕ) → came ≡ took ++ incoming
 came_on came took incoming now more is grows = ap (λ (l : List ℕ). l ++ more) is
     ∙ (append_assoc took incoming more ∙ ap (λ (l : List ℕ). took ++ l) (sym grows))
 
--- ---- the file that is read is the one that is asked for
+-- ---- the file that is read is the requested one
 
 abbrev OpensOn : State → State → Phase → Type 0
 OpensOn m n d = (g : ℕ) (x : Descriptor) → conn.uses_fd d g ≡ true → descriptor m server g ≡ Some x
@@ -197,7 +198,7 @@ module _ (site_contents : SiteContents) (worker_set : WorkerSet) (laws : AllLaws
   fits_by x (Some y) script left f = run_on x y script left f
 
 module _ (site_contents : SiteContents) (worker_set : WorkerSet) (laws : AllLaws worker_set) where
-  -- an event that leaves what one client has, and its worker, leaves it fitting, as its connection went on
+  -- an event that leaves the objects of a client and its worker unchanged preserves the client's invariant
   pub fits_beside : (m n : State) (e : Event) (r : Reply) (came sent more after : List ℕ) (fd c : ℕ) (x : Client)
       (process_slots : List (ProcessSlot worker_set.Worker)) → IsOrderly m → IsFixedFor site_contents worker_set m
       → AreAtJobQueues worker_set m process_slots

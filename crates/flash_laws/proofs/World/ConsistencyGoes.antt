@@ -1,4 +1,4 @@
--- The invariant of a client remains as its connection continues; or the peer is gone, and the bytes sent begin the
+-- The invariant of a client is preserved if its connection continues; or the peer is gone, and the sent bytes begin the
 -- answer.
 use Rattle.std.proofs.Common.{inl, inr, ◌≡◌, ℕ, ◌+◌, List, [], ◌∷◌, ◌++◌, take, ◌∙◌, subst, true, false}
 use Rattle.std.specs.Prelude.{is_none}
@@ -17,7 +17,7 @@ use Rattle.flash_laws.specs.declared.phase.Phase.{Phase}
 use Rattle.flash_laws.specs.declared.script_run.Running.{Running}
 use Rattle.flash_laws.proofs.World.Responses.{begins-less, begins-consistency, begins-run}
 
--- ---- what was sent and is to be sent stays, and so does the peer, unless it closes
+-- ---- the sent and the queued bytes stay, and so does the peer, unless it closes
 
 module _ (site_contents : SiteContents) (k j : Connection) (took sent after : List ℕ)
     (total : sent ++ bytes_of k.outgoing ≡ after ++ bytes_of j.outgoing)
@@ -69,7 +69,7 @@ module _ (site_contents : SiteContents) (k j : Connection) (took sent after : Li
   })
   run-stays buffered w expected o y (inr l) = inr (left-stays l)
 
--- ---- the peer is gone, and what was to be sent is dropped
+-- ---- the peer is gone, and the queued bytes are dropped
 
 module _ (site_contents : SiteContents) (k j : Connection) (took sent after dropped : List ℕ)
     (gone : is_gone j.peer ≡ true)

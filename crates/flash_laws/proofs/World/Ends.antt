@@ -1,5 +1,5 @@
--- The pipe ends of a client with a run: the read end of its pipe, and the write end until its worker has it; none is
--- that of a job pipe.
+-- The pipe ends of a client with a run: the read end of its pipe, and the write end until its worker has it. They are
+-- not ends of a job pipe.
 use Rattle.std.proofs.Common.{inl, inr, ◌≡◌, ◌<◌, ◌⊎◌, ℕ, ◌==◌, List, ap, ◌∙◌, refl, sym, subst, Option, Some, None}
 use Rattle.std.proofs.Common.{true, false, Bool}
 use Rattle.std.specs.Prelude.{◌||◌, ◌&&◌}
@@ -41,7 +41,7 @@ use Rattle.flash_laws.proofs.Lists.{self}
 use Rattle.flash_laws.proofs.Conn.Uses.{same-number, has-fd, one-of}
 use Rattle.flash_laws.proofs.World.OwnRun.{call-run}
 
--- what a run that reads reads from
+-- a run that reads has the read end of a pipe
 pub reads-from : (job : ℕ → List ℕ) (m : State) (w : Wanted) (o : Progress) (run : Run) (s : Step)
     → HasStep job m w o run s → is_reading s ≡ true
     → (q : ℕ) × (descriptor m server run.from ≡ Some (on.ReadEnd q))
@@ -77,7 +77,7 @@ which-end job m w o run s g has u = elim (one-of (is_reading s && (run.from == g
   | inr write ↦ inr write
 ]
 
--- a call that touches a pipe is one of a run that reads, or the job's, or makes the pipe
+-- if the call of a step touches a pipe, the run reads
 pub touches-reading : (job : ℕ → List ℕ) (m : State) (fd : ℕ) (w : Wanted) (run : Run) (s : Step) (p : ℕ)
     → touches_pipe m (event.Call server (step_call job fd w run s)) p ≡ true → is_reading s ≡ true
 touches-reading job m fd w run (DroppingFrame f held) p u = absurd (cc (u))
@@ -100,7 +100,7 @@ has-from run s is = by (is_reading s) is
 
 module _ (site_contents : SiteContents) (worker_set : WorkerSet) (m : State) (came sent : List ℕ) (fd c : ℕ)
     (process_slots : List (ProcessSlot worker_set.Worker)) where
-  -- a call that touches a pipe is one of a run that reads
+  -- likewise for the call of a client
   pub touches-from : (conn : Conn) (run : Option Running) (script : List ℕ)
       → Fits site_contents worker_set m came sent fd c (of conn run script) process_slots
       → (v : Run) (s : Step) (q : ℕ) → run ≡ Some (InProgress v s)
@@ -114,7 +114,7 @@ module _ (site_contents : SiteContents) (worker_set : WorkerSet) (m : State) (ca
       ∙ ap (λ (z : Running). running.next_call (job_of f.wanted f.script.text) fd f.wanted z)
       (some-inj y (InProgress v s) is)) u)
 
-  -- no run gives its pipe back
+  -- the invariant excludes a client that closes the write end itself
   pub no-returns : (conn : Conn) (run : Option Running) (script : List ℕ)
       → Fits site_contents worker_set m came sent fd c (of conn run script) process_slots
       → (v : Run) (write : ℕ) → run ≡ Some (InProgress v (ClosingPipe write)) → ⊥
@@ -126,7 +126,7 @@ module _ (site_contents : SiteContents) (worker_set : WorkerSet) (m : State) (ca
       z) (some-inj y (InProgress v (ClosingPipe write)) is) f.job_queue in
       at.stage
 
-  -- a write end that a client has is no job queue's
+  -- a write end that a client has is not that of a job queue
   write-apart : (conn : Conn) (y : Running) (script : List ℕ) (g k : ℕ)
       → FitsRun site_contents worker_set m came sent fd c (of conn (Some y) script) y process_slots → has_end y g ≡ true
       → k < worker_set.count
@@ -166,7 +166,7 @@ module _ (site_contents : SiteContents) (worker_set : WorkerSet) (m : State) (ca
       absurd (cc (file, is)))
   no-job_queue conn (Some y) script g k f u lt is = write-apart conn y script g k f u lt is
 
-  -- a descriptor that a client uses it has, or it is that of its worker's job queue
+  -- a client has each descriptor that it uses, or it is that of its worker's job queue
   left-none : (w : Wanted) (o : Progress) (d : Phase) (g : ℕ) → HasLeft m w o d → conn.uses_fd d g ≡ true → ⊥
   left-none w o (phase.Reading f) g has u = has.sends.0
   left-none w o (phase.ClosingFile f k) g has u = has.sends.0

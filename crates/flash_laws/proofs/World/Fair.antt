@@ -17,7 +17,7 @@ use Rattle.flash_laws.specs.World.Fair.{no_refusal, any_refusal, is_same, refuse
 use Rattle.flash_laws.specs.World.Fair.{FailureFreeIsFair, AnyIsFair, OwnIsFair, OwnIsLeast, NoneRefusesNothing}
 use Rattle.flash_laws.proofs.Lists.{clash, not-equal, not-true, self}
 
--- ---- by which refusals the server's turn may be refused, and a worker's
+-- ---- the refusals that a turn of the server, and a turn of a worker, may get
 
 pub server-among : (refuses : Refusals) (by : ℕ) (r : Reply) → by ≡ server → IsAmong (may_refuse refuses by) r
     → IsAmong refuses.of_server r
@@ -67,7 +67,7 @@ any_is_fair (choice.Outside e ∷ xs) (r ∷ rs) = any_is_fair xs rs
 any_is_fair (choice.Turn by ∷ xs) [] = tt
 any_is_fair (choice.Outside e ∷ xs) [] = tt
 
--- ---- with the refusals that it had
+-- ---- any run, if its refusals are allowed
 
 same-self : (x : Refusal) → is_resource_failure (reply.Refused x) ≡ true → is_same x x ≡ true
 same-self refusal.TooMany resource_failure = refl
@@ -76,7 +76,7 @@ same-self (refusal.Fault f) resource_failure = self f
 same-self refusal.Memory resource_failure = refl
 same-self x resource_failure = absurd (cc (resource_failure))
 
--- the refusals of these turns are among those
+-- the refusals of these turns are allowed
 record AreIn (refuses : Refusals) (xs : List Choice) (rs : List Reply) : Type 0 where
   pub of_server : (x : Refusal) → refused_in true xs rs x ≡ true → refuses.of_server x ≡ true
   pub of_workers : (x : Refusal) → refused_in false xs rs x ≡ true → refuses.of_workers x ≡ true
@@ -144,7 +144,7 @@ own_is_fair xs ys rs ss even = fair-parts (refusals_in (xs ++ ys) (rs ++ ss)) xs
     (fair-within (refusals_in (xs ++ ys) (rs ++ ss)) (xs ++ ys) (rs ++ ss)
     (record { of_server = λ x is. is; of_workers = λ x is. is }))
 
--- ---- the least set with which it is fair
+-- ---- the least set of refusals for which a run is fair
 
 equal : (a b : ℕ) → (a == b) ≡ true → a ≡ b
 equal a b is = grind (arith, nat_tests, is)
@@ -156,7 +156,7 @@ same-is (refusal.Fault f) (refusal.Fault g) is = (ap (λ n. refusal.Fault n) (eq
 same-is refusal.Memory refusal.Memory is = (refl, refl)
 same-is y x is = absurd (cc (is))
 
--- a fair reply that is this refusal has it among the allowed ones
+-- if a fair reply is this refusal, the refusal is allowed
 allowed-of : (refuses : Refusal → Bool) (r : Reply) (x : Refusal) → IsAmong refuses r → refuses_by r x ≡ true
     → refuses x ≡ true
 allowed-of refuses (reply.Refused y) x among is =
@@ -169,7 +169,7 @@ first-or-rest true true c is = inl (refl, refl)
 first-or-rest true false c is = inr is
 first-or-rest false b c is = inr is
 
--- a turn that may get these refusals, and got this one, or a later turn did
+-- if this turn or a later one got this refusal, it is allowed
 turn-allowed : (refuses : Refusal → Bool) (a : Bool) (r : Reply) (x : Refusal) (rest : Bool)
     → (a ≡ true → IsAmong refuses r)
     → (rest ≡ true → refuses x ≡ true) → ((a && refuses_by r x) || rest) ≡ true → refuses x ≡ true

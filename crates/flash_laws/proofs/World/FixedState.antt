@@ -28,8 +28,7 @@ use Rattle.flash_laws.proofs.Site.Others.{fixed-stays, none-listed, called-same}
 use Rattle.flash_laws.proofs.World.AllLaws.{AllLaws}
 use Rattle.flash_laws.proofs.World.JobQueue.Frame.{files-left}
 
--- What a step may be, as far as the rest is concerned: nothing, or an event that leaves the site and the server's
--- domain.
+-- A step whose event leaves the site unchanged, does not end the server's domain, and does not set its default pool.
 pub record SitePreserving (m n : State) : Type 0 where
   pub e : Event
   pub r : Reply
@@ -41,13 +40,13 @@ pub record SitePreserving (m n : State) : Type 0 where
 abbrev pub Goes : State → State → Type 0
 Goes m n = (n ≡ m) ⊎ SitePreserving m n
 
--- what another domain calls sets no default of the server's
+-- a call of another domain does not set the server's default pool
 pub other-default : (d : ℕ) (k : Call) → d ≢ server → sets_default (event.Call d k) server ≡ false
 other-default d call.Exit differ = not-equal d server differ
 other-default d (call.SetPool p) differ = not-equal d server differ
 other-default d k differ = refl
 
--- a pool that somebody may read is there
+-- a pool with a reader exists
 there-pool : (m : State) (d p : ℕ) → may_read m d p ≡ true → is_pool m p ≡ true
 there-pool m d p may = by (is_pool m p) refl
   where

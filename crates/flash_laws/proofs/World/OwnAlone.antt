@@ -40,7 +40,7 @@ abbrev with_run : Client → Option Running → Client
 with_run x run = record { conn = x.conn; run = run; script = x.script }
 
 module _ (site_contents : SiteContents) (worker_set : WorkerSet) (laws : AllLaws worker_set) where
-  -- any call of it but the last: it goes on alone, or its script begins to run
+  -- each of its calls except the last: no script runs after it, or its script begins to run
   pub alone_step : (m n : State) (came sent : List ℕ) (fd c worker : ℕ) (x : Client) (r : Reply) (received : List ℕ)
       (process_slots : List (ProcessSlot worker_set.Worker)) → IsOrderly m → IsFixedFor site_contents worker_set m
       → x.run ≡ None
@@ -84,7 +84,7 @@ module _ (site_contents : SiteContents) (worker_set : WorkerSet) (laws : AllLaws
           of_head skip len q fits.2 next.0
       by TooLarge is next = subst (λ (p : Answer). IsProper p) (sym next.0) refl
 
-  -- one that is made ready: with nothing in progress the first request that is kept begins
+  -- a client that is made ready: if no request is in progress, the first buffered request begins
   pub alone_readies : (m : State) (came sent : List ℕ) (fd c : ℕ) (x y : Client) → x.run ≡ None
       → FitsAlone site_contents m came sent fd c x → Readies x y
       → (y.run ≡ None) × FitsAlone site_contents m came sent fd c y
@@ -171,7 +171,7 @@ module _ (site_contents : SiteContents) (worker_set : WorkerSet) (laws : AllLaws
       )
       by (Some z) none f ready = absurd (cc (none))
 
-  -- a connection that is closed keeps what was sent, which begins the answer, and is all of it unless the peer left
+  -- the sent and the queued bytes of a closed connection begin the answer, and are all of it unless the peer left
   -- before
   pub alone_closes : (m n : State) (came sent : List ℕ) (fd c : ℕ) (x : Client) → IsOrderly m
       → x.conn.phase ≡ phase.Disconnecting

@@ -45,7 +45,7 @@ use Rattle.flash_laws.proofs.World.JobQueue.OfRun.{JobQueueAfter, job_queue_step
 use Rattle.flash_laws.proofs.World.RunConsistency.{ConsistencyAfter, consistency_step}
 use Rattle.flash_laws.proofs.World.RunUses.{run-end}
 
--- after a call a client fits, and a worker that ran its script, and does no more, is free
+-- after a call the client's invariant holds, and a worker that ran its script, and no longer does, is free
 pub record Proceeds (site_contents : SiteContents) (worker_set : WorkerSet) (n : State) (came sent : List ℕ) (fd c : ℕ)
     (x z : Client)
     (process_slots : List (ProcessSlot worker_set.Worker)) : Type 0 where
@@ -54,14 +54,14 @@ pub record Proceeds (site_contents : SiteContents) (worker_set : WorkerSet) (n :
       → is_run_by x k ≡ true → is_run_by z k ≡ false
       → worker_set.Free n (worker_set.job_queue k) process_slot
 
--- the worker that a client is given, if it waits for one, is free
+-- the worker that a waiting client gets is free
 abbrev pub IsHired : (worker_set : WorkerSet) → State → Client → (worker : ℕ) → List (ProcessSlot worker_set.Worker)
     → Type 0
 IsHired worker_set m x worker process_slots = awaits x ≡ true → (worker < worker_set.count)
     × ((process_slot : ProcessSlot worker_set.Worker) → slice_get process_slots worker ≡ Some process_slot
     → worker_set.Free m (worker_set.job_queue worker) process_slot)
 
--- ---- a client with a run wants what that does, and is told what that is told
+-- ---- the calls and replies of a client with a run are those of its run
 
 pub call-run : (scripts : Bool) (fd : ℕ) (c : Conn) (run : Option Running) (script text : List ℕ) (y : Running)
     (w : Wanted) → run ≡ Some y
@@ -91,7 +91,7 @@ runs-run : (c : Conn) (run : Option Running) (script : List ℕ) (y : Running) (
     → is_run_by (of c run script) k ≡ true → has_worker y k ≡ true
 runs-run c run script y k has u = ap (λ (o : Option Running). is_run_by (of c o script) k) (sym has) ∙ u
 
--- the text stays kept as long as it is wanted
+-- the script's text is kept as long as it is needed
 text-buffered : (was now : Bool) (script text : List ℕ) → (now ≡ true → was ≡ true) → (was ≡ true → script ≡ text)
     → now ≡ true → text_on was now script ≡ text
 text-buffered true true script text back buffered is = buffered refl

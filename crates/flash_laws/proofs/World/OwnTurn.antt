@@ -118,7 +118,7 @@ module _ (site_contents : SiteContents) (worker_set : WorkerSet) (laws : AllLaws
       t.fit.own.among fd v.worker x t.there (ap (λ (o : Option Running). is_run_by (of conn o script) v.worker) is
       ∙ self v.worker)
 
-  -- what it has is no connection
+  -- a descriptor that the client has is not a connection
   not-conn : (g e : ℕ) → has_fd (of conn run script) g ≡ true → descriptor m server g ≡ Some (on.Connection e) → ⊥
   not-conn g e u is =
       elim (there-fd site_contents worker_set laws m (p.came c) (p.sent c) fd c process_slots conn run script g f u) [
@@ -126,7 +126,7 @@ module _ (site_contents : SiteContents) (worker_set : WorkerSet) (laws : AllLaws
         | inr end ↦ elim end.1 [ inl read ↦ cc (read, is) | inr write ↦ cc (write, is) ]
       ]
 
-  -- a connection elsewhere keeps its descriptor
+  -- the call does not touch the descriptors of other connections
   un-conn : (gd e : ℕ) → fd ≢ gd → descriptor m server gd ≡ Some (on.Connection e)
       → touches_fd m (event.Call server (next_call site_contents.scripts fd (of conn run script))) server gd ≡ false
   un-conn gd e differ is =
@@ -136,7 +136,7 @@ module _ (site_contents : SiteContents) (worker_set : WorkerSet) (laws : AllLaws
             differ same
       ])
 
-  -- and so does a job queue's
+  -- nor those of job queues
   un-job_queue : (k : ℕ) → k < worker_set.count
       → touches_fd m (event.Call server (next_call site_contents.scripts fd (of conn run script))) server (job_pipe k)
       ≡ false
@@ -147,7 +147,7 @@ module _ (site_contents : SiteContents) (worker_set : WorkerSet) (laws : AllLaws
         t.fit.job_queues.job_queues k lt in cc (a, b, d))
   ])
 
-  -- the job queue of a worker that this client has not stays as it is
+  -- the job queue of a worker that does not run this client's script is unchanged
   job_queue-stays : (k : ℕ) → k < worker_set.count → is_run_by (of conn run script) k ≡ false
       → pipe_at n (worker_set.job_queue k) ≡ pipe_at m (worker_set.job_queue k)
   job_queue-stays k lt none =
@@ -158,13 +158,13 @@ module _ (site_contents : SiteContents) (worker_set : WorkerSet) (laws : AllLaws
       ∙ (ap (λ j. own.0.worker == j) (sym own.3) ∙ self own.0.worker) in
       clash (is_run_by (of conn run script) k) runs none))
 
-  -- a worker elsewhere is not this client's
+  -- a worker of another client is not this client's
   other-worker : (gd k : ℕ) (y : Client) → fd ≢ gd → in_place clients gd ≡ Some y → is_run_by y k ≡ true
       → is_run_by (of conn run script) k ≡ false
   other-worker gd k y differ is runs =
       no-true (is_run_by (of conn run script) k) (λ u. differ (t.fit.own.apart fd gd k x y t.there is u runs))
 
-  -- the pipe of another's script stays as it is
+  -- the pipe of another client's script is unchanged
   pipe-stays : (gd : ℕ) (y : Client) (v : Run) (s : Step) (q : ℕ) → fd ≢ gd → in_place clients gd ≡ Some y
       → has_fd y v.from ≡ true
       → descriptor m server v.from ≡ Some (on.ReadEnd q) → ((k : ℕ) → k < worker_set.count → worker_set.job_queue k ≢ q)
@@ -195,7 +195,7 @@ module _ (site_contents : SiteContents) (worker_set : WorkerSet) (laws : AllLaws
           differ (t.fit.fds_apart fd gd v.from x y t.there is mine_has has)
       by o is_run may u = may
 
-  -- so another client goes on as it was
+  -- so the invariant of another client is preserved
   module _ (gd : ℕ) (y : Client) (differ : fd ≢ gd) (is : in_place clients gd ≡ Some y) where
     abbrev e : ℕ
     e = (t.fit.each gd y is).conn
@@ -266,9 +266,9 @@ module _ (site_contents : SiteContents) (worker_set : WorkerSet) (laws : AllLaws
           (conn-left (conn_at m e) (conn_at n e) (p.sent e) same-conn) theirs);
     }
 
-  -- ---- what becomes of the client itself
+  -- ---- the client itself
 
-  -- it goes on, or its connection has ended
+  -- its invariant holds, or its connection has ended
   abbrev Became : Client → Type 0
   Became z = Fits site_contents worker_set n (p.came c) (p.sent c) fd c z process_slots
       ⊎ ((left_over z ≡ None) × Ended site_contents p c (conn_at n c))
@@ -405,9 +405,9 @@ module _ (site_contents : SiteContents) (worker_set : WorkerSet) (laws : AllLaws
           t.among t.step t.names in
           record { became = inl went.fits; freed = went.freed }
 
-  -- ---- all clients after it
+  -- ---- all clients after the turn
 
-  -- one that fits is not over
+  -- a client whose invariant holds is not over
   left-some : (run_z : Option Running) (z : Conn) (text : List ℕ)
       → Fits site_contents worker_set n (p.came c) (p.sent c) fd c (of z run_z text) process_slots
       → left_over (of z run_z text) ≡ None → ⊥
@@ -430,7 +430,7 @@ module _ (site_contents : SiteContents) (worker_set : WorkerSet) (laws : AllLaws
     | inr over ↦ (let none = over.0 in absurd (cc (is, none)))
   ]
 
-  -- a connection that is not this client's stays as it is
+  -- a connection that is not this client's is unchanged
   away : (k : ℕ) → c ≢ k → conn_at n k ≡ conn_at m k
   away k differ = leaves.conns k (no-true (touches_conn m ev k) (λ u. differ (alone.conns k u)))
 
@@ -479,7 +479,7 @@ module _ (site_contents : SiteContents) (worker_set : WorkerSet) (laws : AllLaws
       let same = away k (not-closed m fd c k t.order open_on ended.closed) in
       inr (inr (inl (subst (λ (z : Connection). Ended site_contents p k z) (sym same) ended)))
 
-  -- what it uses now another does not use
+  -- no other client uses an aggregate that it uses now
   mixed_agg : (gd a : ℕ) (y z : Client) → fd ≢ gd → left_over after ≡ Some y → in_place clients gd ≡ Some z
       → uses_agg y a ≡ true → uses_agg z a ≡ true → ⊥
   mixed_agg gd a y z differ is_y is_z uses uses_z =
@@ -536,7 +536,7 @@ module _ (site_contents : SiteContents) (worker_set : WorkerSet) (laws : AllLaws
             | inr end ↦ elim end.1 [ inl read ↦ cc (read, none) | inr write ↦ cc (write, none) ]
           ]
 
-  -- each that runs has its own worker
+  -- each client with a running script has its own worker
   own_after : EachHasItsOwn worker_set.count (with_at clients fd (left_over after))
   own_after =
       subst
@@ -557,7 +557,7 @@ module _ (site_contents : SiteContents) (worker_set : WorkerSet) (laws : AllLaws
       place : (k < worker_set.count) × (process_slot.by ≡ worker_domain k)
       place = t.fit.job_queues.by k process_slot sits
 
-      -- one that ran for nobody, and runs for nobody
+      -- a worker that was free stays free
       stays : is_free clients k ≡ true → worker_set.Free n (worker_set.job_queue k) process_slot
       stays was = laws.workers.free_others m n (worker_set.job_queue k) process_slot ev r t.fixed.placed t.step
           (own-call (next_call site_contents.scripts fd (of conn run script)) process_slot.by k place.1)

@@ -39,9 +39,9 @@ use Rattle.flash_laws.proofs.Site.Pasts.{call_after_reply}
 use Rattle.flash_laws.proofs.World.AllLaws.{AllLaws}
 use Rattle.flash_laws.proofs.World.Calls.{opens-on}
 
--- ---- what others do
+-- ---- events of others
 
--- who fits does not see what the server was given
+-- the invariant does not depend on the aggregates that were given to the server
 pub fit-called : (site_contents : SiteContents) (worker_set : WorkerSet) (m : State) (p : Past)
     (clients : List (Option Client)) (process_slots : List (ProcessSlot worker_set.Worker)) (d : ℕ) (k : Call)
     (r : Reply)
@@ -68,7 +68,7 @@ fit-called site_contents worker_set m p clients process_slots d k r all = record
     by c (inr (inr (inl w))) = inr (inr (inl (record { closed = w.closed; begins = w.begins; whole = w.whole })))
     by c (inr (inr (inr w))) = inr (inr (inr (record { other_pool = w.other_pool; taken = w.taken })))
 
--- a call of another domain brings the server what it gives it, and an act from outside nothing
+-- a call of another domain brings the server only the aggregates that it gives it; an external event brings none
 pub call-brings : (d : ℕ) (k : Call) (r : Reply) (a : ℕ) → d ≢ server
     → brings (event.Call d k) r server a ≡ given_by a (event.Call d k) r
 call-brings d (call.AggGive b to) (reply.Agg n) a differ = refl
@@ -80,7 +80,7 @@ pub act-brings : (e : Event) (r : Reply) (a : ℕ) → IsAct e → brings e r se
 act-brings (event.Call d k) r a act = absurd act
 act-brings e r a act = refl
 
--- what is there after a step was there before, or the step brought it
+-- an aggregate that exists after a step existed before, or the step brought it
 was-there : (come : AggregatesComeAndGo) (m n : State) (e : Event) (r : Reply) (a : ℕ) → StepsTo m e r n
     → IsReadable n a
     → IsReadable m a ⊎ ((readable_at m server a ≡ None) × (brings e r server a ≡ true))
@@ -109,7 +109,7 @@ owned-same m n p clients same owned a readable = owned a (readable.0, sym (same 
 
 -- ---- one place changes
 
--- who uses it elsewhere uses it still, and who stands there now may
+-- a client in another place still uses the aggregate, and the new client of this place may use it
 used-other : (clients : List (Option Client)) (fd a : ℕ) (x : Option Client) (used : IsUsed clients a) → fd ≢ used.fd
     → IsUsed (with_at clients fd x) a
 used-other clients fd a x used differ =
@@ -119,7 +119,7 @@ pub used-here : (clients : List (Option Client)) (fd a : ℕ) (x : Option Client
     → uses_agg y a ≡ true → IsUsed (with_at clients fd x) a
 used-here clients fd a x y is uses = record { fd = fd; client = y; at = at-same clients fd x ∙ is; uses = uses }
 
--- what the client at a place used, that which stands there now uses
+-- if the new client of a place uses the aggregate wherever the old one did, it is still used
 pub used-on : (clients : List (Option Client)) (fd a : ℕ) (x : Client) (y : Option Client)
     → in_place clients fd ≡ Some x → IsUsed clients a
     → (uses_agg x a ≡ true → IsUsed (with_at clients fd y) a) → IsUsed (with_at clients fd y) a
@@ -131,7 +131,7 @@ used-on clients fd a x y there used here = elim (cases_eq fd used.fd) [
   | inr differ ↦ used-other clients fd a y used differ
 ]
 
--- a client that is made ready uses what it used
+-- a connection that is made ready still uses the aggregates that it used
 conn-keeps : (x y : Conn) (a : ℕ) → conn.Readies x y → conn.uses_agg x.phase a ≡ true → conn.uses_agg y.phase a ≡ true
 conn-keeps x y a ready u = by x.phase refl ready u
   where
@@ -157,7 +157,7 @@ owned-ready m p clients fd x y there ready owned a readable = elim (owned a read
 ]
 
 module _ (site_contents : SiteContents) (worker_set : WorkerSet) (laws : AllLaws worker_set) where
-  -- one more is accepted: a new client uses nothing, and none stood at its place
+  -- accepting a connection: the new client uses no aggregate, and its place was empty
   pub owned-accept : (m n : State) (p : Past) (clients : List (Option Client)) (r : Reply)
       (process_slots : List (ProcessSlot worker_set.Worker)) → IsOrderly m
       → AllFit site_contents worker_set m p clients process_slots → StepsTo m (event.Call server call.Accept) r n

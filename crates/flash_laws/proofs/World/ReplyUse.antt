@@ -104,7 +104,7 @@ agg-new laws m n k r a order kind step u = laws.fresh.agg m n server k r a order
 
 -- ---- descriptors
 
--- it had it, or the reply brought it: a file's, or both ends of a pipe
+-- the descriptor was used before, or the reply returned it: for a file, or as an end of a pipe
 abbrev NewFd : Option Running → Reply → (g : ℕ) → (was : Bool) → Type 0
 NewFd run r g was =
     (was ≡ true) ⊎ (((run ≡ None) × (is_fd r g ≡ true)) ⊎ ((run ≡ Some AwaitingWorker) × (is_fds r g ≡ true)))
@@ -130,7 +130,7 @@ script-fds buffered q (DroppingWhole b Script) script r received g u = by (is_he
     by other r u = plain-fds buffered q (DroppingWhole b Script) r received g u
 script-fds buffered q d script r received g u = plain-fds buffered q d r received g u
 
--- what is left of a response uses no descriptor
+-- the rest of a response uses no descriptor
 left-fd : (w : Wanted) (d : Phase) (r : Reply) (received : List ℕ) (g : ℕ) → is_left d ≡ true
     → conn.uses_fd (conn.after_reply (in_phase w d) r received).phase g ≡ true → ⊥
 left-fd w d r received g left u = elim (uses_fd-after_reply [] (serve w) d r received g u) [
@@ -156,7 +156,7 @@ left-fd w d r received g left u = elim (uses_fd-after_reply [] (serve w) d r rec
     made (reply.Fd f) new d left u = cc (left)
     made r new d left u = cc (new)
 
--- a run that is over after its step has none
+-- a run that is over after its step uses no descriptor
 module _ (w : Wanted) (run : Run) (g : ℕ) where
   abbrev NoFd : Running → Type 0
   NoFd z = is_over z ≡ true → conn.uses_fd (after_run z) g ≡ true → ⊥
@@ -210,7 +210,7 @@ run-fds worker w (InProgress run s) r received g u =
     by r u new = inl (step-has w run g s r received u)
 run-fds worker w y r received g u = absurd (cc (u))
 
--- the run of a client that runs is not over
+-- a client's descriptor after a reply was used before, or the reply returned it, if its run was not over
 pub client-fds : (scripts : Bool) (worker : ℕ) (c : Conn) (run : Option Running) (script : List ℕ) (r : Reply)
     (received : List ℕ) (g : ℕ)
     → ((y : Running) → run ≡ Some y → is_over y ≡ false)
@@ -236,7 +236,7 @@ client-fds scripts worker c (Some y) script r received g ongoing u = by c.reques
     by (serve w) u = on w (is_over y) (is_over (running.after_reply worker w y r received)) refl refl u
     by (refuse status head_only close) u = inl u
 
--- ---- and such a descriptor is new
+-- ---- a returned descriptor is new
 
 fds-new : (laws : TheLaws) (m n : State) (r : Reply) (g : ℕ) → StepsTo m (event.Call server call.Pipe) r n
     → is_fds r g ≡ true → descriptor m server g ≡ None

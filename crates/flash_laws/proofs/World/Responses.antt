@@ -32,7 +32,7 @@ concat-more : (rs : List (List ℕ)) (r : List ℕ) → concat (rs ++ r ∷ []) 
 concat-more [] r = append-nil r
 concat-more (s ∷ rs) r = ap (λ (l : List ℕ). s ++ l) (concat-more rs r) ∙ sym (append_assoc s (concat rs) r)
 
--- one request more is answered
+-- one more request is answered
 pub responds-more : (site_contents : SiteContents) (qs : List Answer) (q : Answer) (bytes r : List ℕ)
     → Responds site_contents qs bytes → MayBeExpected site_contents q r
     → Responds site_contents (qs ++ q ∷ []) (bytes ++ r)
@@ -72,7 +72,7 @@ begins-less site_contents s xs ys b = record {
   all = b.all ∙ append_assoc xs ys b.more;
 }
 
--- whatever comes after what was read
+-- the output that begins the answer to a stream begins the answer to each longer stream
 module _ (laws : WindowLaws) where
   pub begins-append : (site_contents : SiteContents) (s t xs : List ℕ) → Begins site_contents s xs
       → Begins site_contents (s ++ t) xs
@@ -89,7 +89,7 @@ module _ (laws : WindowLaws) where
         all = b.all;
       }
 
-  -- what is finished is the answer to all that came
+  -- the output of a finished connection is the answer to all bytes received
   pub finished-whole : (site_contents : SiteContents) (k : Connection) (took out : List ℕ)
       → Finished site_contents k took out
       → IsAnswer site_contents (took ++ bytes_of k.incoming) out
@@ -107,7 +107,7 @@ module _ (laws : WindowLaws) where
     ]);
   }
 
--- what is owed begins the answer to what was read
+-- the output up to a part of a response begins the answer to the bytes read
 module _ (site_contents : SiteContents) (took out buffered : List ℕ) (q : Answer) (expected : List ℕ)
     (may : MayBeExpected site_contents q expected) where
   pub begins-resting : Answers site_contents took out buffered [] [] → Begins site_contents took out
@@ -144,7 +144,7 @@ module _ (site_contents : SiteContents) (took out buffered : List ℕ) (q : Answ
   begins-answers (DroppingInput a) o = begins-resting o
   begins-answers d o = begins-part (taken_of d) o
 
--- of a client for which no script runs
+-- the same for a client for which no script runs
 pub begins-consistency : (site_contents : SiteContents) (k : Connection) (took sent : List ℕ) (x : Client)
     (expected : List ℕ) → MayBeExpected site_contents x.conn.request expected
     → ConsistencyAlone site_contents expected k took sent x
@@ -156,7 +156,7 @@ begins-consistency site_contents k took sent x expected may (inl owes) =
 begins-consistency site_contents k took sent x expected may (inr (inl finished)) = finished.begins
 begins-consistency site_contents k took sent x expected may (inr (inr gone)) = gone.begins
 
--- of one for which a script runs
+-- the same for a client for which a script runs
 pub begins-run : (site_contents : SiteContents) (k : Connection) (took sent buffered : List ℕ) (w : Wanted)
     (expected : List ℕ) → MayBeExpected site_contents (serve w) expected
     → (o : Progress) (y : Running) → ConsistencyRun site_contents expected k took sent buffered w o y

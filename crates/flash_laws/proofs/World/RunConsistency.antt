@@ -39,7 +39,7 @@ use Rattle.flash_laws.proofs.Lists.{bytes-append, clash, next-front, self, take-
 use Rattle.flash_laws.proofs.World.AllLaws.{AllLaws}
 use Rattle.flash_laws.proofs.World.Responses.{responds-more, begins-part}
 
--- a client whose run ended: its connection goes on where that left off
+-- a client whose run ended: its connection continues in the run's last phase
 abbrev pub past_run : (buffered : List ℕ) → Wanted → Running → Client
 past_run buffered w z = record {
   conn = record { buffered = buffered; request = serve w; phase = after_run z };
@@ -48,26 +48,26 @@ past_run buffered w z = record {
   script = [];
 }
 
--- what ties it after the call: as a run that goes on, or, where that is over, as a connection alone, which rests or
--- closes
+-- the invariant after the call: of the run, if it continues; else of a connection without a run, which waits for input
+-- or closes
 pub record ConsistencyAfter (site_contents : SiteContents) (expected : List ℕ) (m n : State) (c : ℕ)
     (took sent buffered : List ℕ) (w : Wanted) (after : Progress)
     (z : Running) : Type 0 where
   pub goes : is_over z ≡ false → ConsistencyRun site_contents expected (conn_at n c) took sent buffered w after z
   pub ends : is_over z ≡ true → ConsistencyAlone site_contents expected (conn_at n c) took sent (past_run buffered w z)
   pub rests : is_over z ≡ true → (after_run z ≡ phase.Receiving) ⊎ (after_run z ≡ phase.Disconnecting)
-  -- nothing of the stream was read
+  -- no byte of the stream was read
   pub unread : bytes_of (conn_at n c).incoming ≡ bytes_of (conn_at m c).incoming
 
--- ---- what the call does to the connection
+-- ---- the effect of the call on the connection
 
--- it puts the next bytes of the response there
+-- it writes the next bytes of the response to the connection
 pub record PutsNext (m n : State) (c : ℕ) (w : Wanted) (o : Progress) (taken new : ℕ) : Type 0 where
   pub agg : ℕ
   pub next : IsNextOf m w o agg taken
   pub puts : Puts m c next.bytes new n
 
--- nothing, or it puts so many there
+-- it leaves the connection unchanged, or writes `new` bytes of the response
 abbrev pub Wrote : State → State → (c : ℕ) → Wanted → Progress → (taken new : ℕ) → Type 0
 Wrote m n c w o taken new = ((conn_at n c ≡ conn_at m c) × (new ≡ 0)) ⊎ PutsNext m n c w o taken new
 
@@ -78,7 +78,7 @@ OnlyWrites m fd c k = (d : ℕ) → touches_conn m (event.Call server k) d ≡ t
 
 module _ (steps : EachStepLeavesTheRest) (own : CallsServeTheirDomain) (m n : State) (order : IsOrderly m) (fd c : ℕ)
     (open_on : descriptor m server fd ≡ Some (on.Connection c)) (w : Wanted) (o : Progress) (taken : ℕ) where
-  -- a write to it
+  -- a write to the connection
   writes : (a : ℕ) (r : Reply) → IsNextOf m w o a taken → StepsTo m (event.Call server (call.IolWrite fd a)) r n
       → Wrote m n c w o taken (newly_taken fd (call.IolWrite fd a) r)
   writes a r next step = by r (own.write_conn m n server fd c a next.bytes r order open_on next.is_readable step)
@@ -93,7 +93,7 @@ module _ (steps : EachStepLeavesTheRest) (own : CallsServeTheirDomain) (m n : St
       by (reply.Refused y) same = inl (ap (λ (s : State). conn_at s c) same, refl)
       by r did = absurd did
 
-  -- any other call leaves it
+  -- any other call leaves the connection unchanged
   untouched : (k : Call) (r : Reply) → StepsTo m (event.Call server k) r n → OnlyWrites m fd c k
       → ((a : ℕ) → k ≡ call.IolWrite fd a → ⊥) → conn_at n c ≡ conn_at m c
   untouched k r step only other = by (touches_conn m (event.Call server k) c) refl
@@ -102,12 +102,12 @@ module _ (steps : EachStepLeavesTheRest) (own : CallsServeTheirDomain) (m n : St
       by true is = (let write = only c is in absurd (other write.1.0 write.1.1))
       by false is = (steps.leaves m n (event.Call server k) r step).conns c is
 
-  -- the number of the descriptor that a call writes to
+  -- the descriptor that a call writes to
   abbrev written : Call → (other : ℕ) → ℕ
   written (call.IolWrite g a) other = g
   written k other = other
 
-  -- each call
+  -- any call
   pub wrote : (k : Call) (r : Reply) → StepsTo m (event.Call server k) r n → OnlyWrites m fd c k
       → ((a : ℕ) → k ≡ call.IolWrite fd a → IsNextOf m w o a taken) → Wrote m n c w o taken (newly_taken fd k r)
   wrote (call.IolWrite g a) r step only offers = by (g == fd) refl
@@ -128,20 +128,20 @@ module _ (steps : EachStepLeavesTheRest) (own : CallsServeTheirDomain) (m n : St
           none r = refl
   wrote k r step only offers = inl (untouched k r step only (λ a e. cc (e)), refl)
 
--- ---- what was written, after it
+-- ---- the written bytes after the call
 
 module _ (m n : State) (c : ℕ) (w : Wanted) (o : Progress) (taken new : ℕ) where
-  -- nothing of the stream is read
+  -- no byte of the stream is read
   unread_still : Wrote m n c w o taken new → bytes_of (conn_at n c).incoming ≡ bytes_of (conn_at m c).incoming
   unread_still (inl same) = ap (λ (x : Connection). bytes_of x.incoming) same.0
   unread_still (inr put) = ap (λ (x : Connection). bytes_of x.incoming) put.puts.conn
 
-  -- where the peer is gone nothing is written
+  -- if the peer is gone, nothing is written
   gone_still : Wrote m n c w o taken new → is_gone (conn_at m c).peer ≡ true → conn_at n c ≡ conn_at m c
   gone_still (inl same) gone = same.0
   gone_still (inr put) gone = absurd (clash (is_gone (conn_at m c).peer) gone put.puts.takes)
 
-  -- else the next bytes of the response, whatever that will be
+  -- else the next bytes of the response are written, for every possible response
   written_more : Wrote m n c w o taken new → (expected : List ℕ) → MayAnswer w o expected
       → bytes_of (conn_at n c).outgoing ≡ bytes_of (conn_at m c).outgoing
       ++ take new (drop (past_of o + taken) expected)
@@ -156,7 +156,7 @@ module _ (m n : State) (c : ℕ) (w : Wanted) (o : Progress) (taken new : ℕ) w
       ∙ (bytes-append (conn_at m c).outgoing put.puts.text
       ∙ ap (λ (l : List ℕ). bytes_of (conn_at m c).outgoing ++ l) (put.puts.text_is ∙ sym front))
 
-  -- so the request in progress is answered up to so many more
+  -- so the first `count` bytes of the response in progress are written
   answered_on : (site_contents : SiteContents) (took sent buffered : List ℕ) (now : List Answer) (expected : List ℕ)
       (count : ℕ) → Wrote m n c w o taken new → MayAnswer w o expected
       → count ≡ past_of o + taken + new
@@ -177,16 +177,16 @@ module _ (m n : State) (c : ℕ) (w : Wanted) (o : Progress) (taken new : ℕ) w
         ∙ ap (λ (k : ℕ). take k expected) (sym count_is)))));
   }
 
--- ---- how a run ends
+-- ---- the end of a run
 
--- no part of the response is being sent, and the connection rests, or is to be closed
+-- no part of the response is being sent, and the connection waits for input, or is to be closed
 abbrev Ending : Wanted → Progress → Running → Type 0
 Ending w o z =
     (taken_by z ≡ 0)
     × (((after_run z ≡ phase.Receiving) × IsLeft w o [] × (w.keep ≡ true))
     ⊎ ((after_run z ≡ phase.Disconnecting) × HasNone w o))
 
--- of the phases in which nothing is left only these two have what a run needs
+-- a finishing run that is over is in one of these two phases
 leaving : (m : State) (w : Wanted) (o : Progress) (d : Phase) → is_over (Finishing d) ≡ true → HasLeft m w o d
     → Ending w o (Finishing d)
 leaving m w o phase.Receiving over has = (refl, inl (refl, has.0, has.1))
@@ -207,17 +207,17 @@ ending job m w o (Finishing d) over has = leaving m w o d over has
 ending job m w o Disconnecting over has = (refl, inr (refl, has))
 ending job m w o x over has = absurd (cc (over))
 
--- once the end of the output was seen nothing follows
+-- after the end of the output no more output follows
 none_follows : (ended : Bool) (more : List ℕ) → ended ≡ true → Follows ended more → more ≡ []
 none_follows true more is follows = follows
 none_follows false more is follows = absurd (cc (is))
 
--- of what is expected all, where it is what was taken
+-- if the expected bytes are those taken, that many bytes are all of them
 all_of : (past expected : List ℕ) → expected ≡ past → take (length past) expected ≡ expected
 all_of past expected is = ap (λ (l : List ℕ). take (length l) expected) (sym is)
     ∙ take_all (length expected) expected (omega arith)
 
--- where nothing is left all of the response is taken
+-- if nothing is left, the whole response is taken
 all_taken : (w : Wanted) (o : Progress) (expected : List ℕ) → MayAnswer w o expected → IsLeft w o []
     → take (past_of o) expected ≡ expected
 all_taken w (Ran received ended past) expected may none =
@@ -226,24 +226,24 @@ all_taken w (Ran received ended past) expected may none =
 all_taken w Broken expected may none = absurd may
 all_taken w (NotRun status past) expected may none = all_of past expected (may ∙ (none ∙ append-nil past))
 
--- where it is known, and ends with the connection, nothing of it is left, and the request does not keep the connection
--- open
+-- if the response is possible, and the connection closes after it, nothing is left, and the request does not keep the
+-- connection open
 closed_whole : (w : Wanted) (o : Progress) (expected : List ℕ) → IsProper (serve w) → MayAnswer w o expected
     → HasNone w o → IsLeft w o [] × (w.keep ≡ false)
 closed_whole w Broken expected proper may none = absurd may
 closed_whole w x expected proper may none = (none.0, (elim none.1 [ inl last ↦ last | inr plain ↦ proper.1 plain ]))
 
--- ---- the invariant after it
+-- ---- the invariant after the call
 
 module _ (site_contents : SiteContents) (m n : State) (c : ℕ) (took sent buffered : List ℕ) (w : Wanted)
     (response : List ℕ)
     (may_be : MayBeExpected site_contents (serve w) response)
     (after : Progress) (z : Running) where
-  -- what was written
+  -- the written bytes, sent or queued
   abbrev out : List ℕ
   out = sent ++ bytes_of (conn_at n c).outgoing
 
-  -- a connection alone that is in this phase
+  -- the invariant of a connection without a run, in this phase
   abbrev Alone : Phase → Type 0
   Alone d =
       ConsistencyAlone site_contents response (conn_at n c) took sent
@@ -252,7 +252,7 @@ module _ (site_contents : SiteContents) (m n : State) (c : ℕ) (took sent buffe
   rests_or_closes : Ending w after z → (after_run z ≡ phase.Receiving) ⊎ (after_run z ≡ phase.Disconnecting)
   rests_or_closes e = (elim e.1 [ inl rest ↦ inl rest.0 | inr close ↦ inr close.0 ])
 
-  -- all of the response is written
+  -- the whole response is written
   answered_whole :
       (a : Answers site_contents took out buffered (serve w ∷ []) (take (past_of after + taken_by z) response))
       → taken_by z ≡ 0
@@ -264,7 +264,7 @@ module _ (site_contents : SiteContents) (m n : State) (c : ℕ) (took sent buffe
       ∙ all_taken w after response may rest)))
       (responds-more site_contents a.done (serve w) a.before response a.responds may_be)
 
-  -- it goes on with the next request
+  -- the connection continues with the next request
   resting : Answers site_contents took out buffered (serve w ∷ []) (take (past_of after + taken_by z) response)
       → taken_by z ≡ 0
       → MayAnswer w after response → IsLeft w after [] → w.keep ≡ true → Alone phase.Receiving
@@ -280,7 +280,7 @@ module _ (site_contents : SiteContents) (m n : State) (c : ℕ) (took sent buffe
     },
   )
 
-  -- or this was the last one
+  -- or this was the last request
   closing : Answers site_contents took out buffered (serve w ∷ []) (take (past_of after + taken_by z) response)
       → taken_by z ≡ 0
       → MayAnswer w after response → IsLeft w after [] → w.keep ≡ false → Alone phase.Disconnecting
@@ -297,7 +297,7 @@ module _ (site_contents : SiteContents) (m n : State) (c : ℕ) (took sent buffe
     begins = begins-part site_contents took out buffered (serve w) response may_be (past_of after + taken_by z) a;
   }))
 
-  -- so it is consistent as a connection alone
+  -- so the invariant of a connection without a run holds
   ended : IsProper (serve w)
       → Answers site_contents took out buffered (serve w ∷ []) (take (past_of after + taken_by z) response)
       → MayAnswer w after response → Ending w after z → Alone (after_run z)
@@ -310,7 +310,7 @@ module _ (site_contents : SiteContents) (m n : State) (c : ℕ) (took sent buffe
           (let whole = closed_whole w after response proper may close.1 in
           subst Alone (sym close.0) (closing a e.0 may whole.0 whole.1))
 
-  -- the response goes on, or is all written
+  -- the response continues, or is written whole
   pub proceeds : IsProper (serve w) → bytes_of (conn_at n c).incoming ≡ bytes_of (conn_at m c).incoming
       → (is_over z ≡ true → Ending w after z)
       → Answers site_contents took out buffered (serve w ∷ []) (take (past_of after + taken_by z) response)
@@ -323,7 +323,7 @@ module _ (site_contents : SiteContents) (m n : State) (c : ℕ) (took sent buffe
     unread = unread;
   }
 
-  -- nobody takes it any more
+  -- the peer takes no more bytes
   pub left_alone : bytes_of (conn_at n c).incoming ≡ bytes_of (conn_at m c).incoming
       → (is_over z ≡ true → Ending w after z)
       → conn_at n c ≡ conn_at m c

@@ -37,7 +37,7 @@ use Rattle.flash_laws.proofs.Lists.{later_of, bare, former_of, swapped}
 use Rattle.flash_laws.proofs.Conn.Uses.{same-number, uses-after_reply, has-agg, one-of}
 use Rattle.flash_laws.proofs.Moves.{either-of}
 
--- it was used, or is new
+-- the aggregate was used before, or the reply returned it
 abbrev New : Reply → (a : ℕ) → (was : Bool) → Type 0
 New r a was = (was ≡ true) ⊎ (is_agg r a ≡ true)
 
@@ -210,7 +210,7 @@ module _ (w : Wanted) (run : Run) (g : ℕ) where
   from-end true x u = bare x u
   from-end false x u = absurd (cc (u))
 
-  -- one that reads goes on to have what it reads from
+  -- a reading run has its read end
   on-reading : (s : Step) → is_reading s ≡ true → (run.from == g) ≡ true → ends_of run s g ≡ true
   on-reading s reads is =
       former_of (is_reading s && (run.from == g)) (step_fd s g) (ap (λ b. b && (run.from == g)) reads ∙ is)
@@ -298,7 +298,7 @@ run-ends worker w AwaitingWorker (reply.Fds from write) received g u = inr u
 run-ends worker w (InProgress run s) r received g u = inl (step-has w run g s r received u)
 run-ends worker w y r received g u = absurd (cc (u))
 
--- ---- what it uses is there
+-- ---- the objects that a run uses exist
 
 module _ (m : State) (a : ℕ) where
   at : (b : ℕ) → (b == a) ≡ true → (bytes : List ℕ) → readable_at m server b ≡ Some bytes → IsReadable m a

@@ -45,7 +45,7 @@ use Rattle.flash_laws.proofs.World.OwnAggs.{owned-own}
 use Rattle.flash_laws.proofs.World.OwnTurn.{IsOwnTurn, own_turn}
 use Rattle.flash_laws.proofs.World.Owners.{owned-ready, owned-accept}
 
--- one that is ready has no request that could begin, where it reads
+-- a client that is made ready, if it reads, has no request that could begin
 pub client-awaits : (c : Conn) (run : Option Running) (script : List ℕ) (y : Client) → Readies (of c run script) y
     → IsAwaiting y
 client-awaits c None script y ready =
@@ -53,7 +53,7 @@ client-awaits c None script y ready =
 client-awaits c (Some z) script y ready = subst (λ (v : Client). IsAwaiting v) (sym ready) tt
 
 module _ (site_contents : SiteContents) (worker_set : WorkerSet) (laws : AllLaws worker_set) where
-  -- the bytes that are received are those that the number names
+  -- the bytes received are those of the aggregate that the reply names
   pub received-is : (m : State) (last : Reply) (received : List ℕ) → is_live m server ≡ true → Names m last received
       → (workers : ℕ) (xs : List (Option Client)) (w : PendingCall)
       → filed workers xs w last (received_of last (λ a. readable_to m server a)) ≡ filed workers xs w last received
@@ -62,7 +62,7 @@ module _ (site_contents : SiteContents) (worker_set : WorkerSet) (laws : AllLaws
       (ap (λ b. if b then readable_at m server a else None) lives ∙ names)
   received-is m last received lives names workers xs w = ap (λ (l : List ℕ). filed workers xs w last l) (sym names)
 
-  -- what a reply names is there to be received
+  -- an aggregate that a reply names can be read
   pub receives : (m n : State) (k : Call) (r : Reply) → IsOrderly m → StepsTo m (event.Call server k) r n
       → is_client_call k ≡ true → (received : List ℕ) × Names n r received
   receives m n (call.GiveFd f to) (reply.Agg a) order step kind = (let e = step.1 in absurd (cc))
@@ -72,7 +72,7 @@ module _ (site_contents : SiteContents) (worker_set : WorkerSet) (laws : AllLaws
   receives m n k r order step kind = ([], refl)
 
   module _ (m n : State) (p : Past) (r : Reply) (process_slots : List (ProcessSlot worker_set.Worker)) where
-    -- a turn, and what is filed of it
+    -- the invariants after a turn and its reply
     pub record Flies (after : List (Option Client)) (next : PendingCall) : Type 0 where
       pub goes : Goes m n
       pub received : List ℕ
@@ -85,7 +85,7 @@ module _ (site_contents : SiteContents) (worker_set : WorkerSet) (laws : AllLaws
       (fixed : IsFixedFor site_contents worker_set m) (fit : AllFit site_contents worker_set m p clients process_slots)
       (owned : AreOwned m p clients) (among : IsAmong site_contents.refuses.of_server r) (did : Made m made r n)
     where
-      -- a call of the server's leaves the site
+      -- a call of the server that leaves the site unchanged is site-preserving
       goes-by : (k : Call) → StepsTo m (event.Call server k) r n → is_client_call k ≡ true → KeepsSite m n → Goes m n
       goes-by k step kind site =
           inr (record {
@@ -212,7 +212,7 @@ module _ (site_contents : SiteContents) (worker_set : WorkerSet) (laws : AllLaws
                     used)));
               }
 
-  -- so between two turns all fit
+  -- so a turn of the server preserves the invariant
   pub server_turn : (m n : State) (p : Past) (s t : Server) (last r : Reply) (made : Turn)
       (process_slots : List (ProcessSlot worker_set.Worker)) → IsOrderly m → IsFixedFor site_contents worker_set m
       → IsServing site_contents worker_set m p s last process_slots

@@ -1,4 +1,4 @@
--- Each undisturbed step of a world with workers preserves its invariant.
+-- Each step that is site-preserving and fair preserves the invariant of a world with workers.
 use Rattle.std.proofs.Common.{inl, inr, ◌≡◌, ◌≢◌, ◌<◌, ℕ, zero, suc, ◌≤◌, List, [], ◌∷◌, ◌++◌, map, ap, ◌∙◌, refl, sym}
 use Rattle.std.proofs.Common.{subst, arith, Option, Some, false, Bool, append-nil, append_assoc, slice_get, slice_set}
 use Rattle.iol_core.specs.Run.{StepsTo}
@@ -46,7 +46,7 @@ use Rattle.flash_laws.proofs.World.WorkerTurn.{IsCopyFree, worker_turn}
 
 -- ---- process slots
 
--- who sits in a place sits there as a process of the world
+-- a process slot of the world is that of the worker in the same place
 map-get : {W : Type 0} (process_slots : List (ProcessSlot W)) (i : ℕ) (s : ProcessSlot (Actor W))
     → slice_get (map (λ w. as_actor w) process_slots) i ≡ Some s
     → (process_slot : ProcessSlot W) × (slice_get process_slots i ≡ Some process_slot) × (s ≡ as_actor process_slot)
@@ -69,9 +69,9 @@ map-set {W = W} (x ∷ xs) zero process_slot = refl
 map-set {W = W} (x ∷ xs) (suc i) process_slot =
     ap (λ (l : List (ProcessSlot (Actor W))). as_actor x ∷ l) (map-set xs i process_slot)
 
--- ---- what comes from outside
+-- ---- external events
 
--- an act from outside gives nothing up, changes no file, admits nobody, ends no domain, and sets no default
+-- an external event gives up no aggregate, changes no file, admits no domain, ends no domain, and sets no default pool
 act-gives : (e : Event) (a : ℕ) → IsAct e → gives_up e server a ≡ false
 act-gives (event.Call d k) a act = absurd act
 act-gives e a act = refl
@@ -104,20 +104,20 @@ fair-parts refuses (choice.Turn by) r xs rs fair = ((fair.0, tt), fair.1)
 fair-parts refuses (choice.Outside e) r xs rs fair = (tt, fair)
 
 module _ (may : Policy) (site_contents : SiteContents) (worker_set : WorkerSet) (laws : AllLaws worker_set) where
-  -- what the server's turn made
+  -- the effect of the server's turn
   made-of : (m n : State) (t : Turn) (yields : Bool) (r : Reply)
       → Comes copying (actor_turns may worker_set.turns) m server t yields r n → Made m t r n
   made-of m n turn.Yield yields r comes = (comes.1, comes.2)
   made-of m n (turn.Make k) yields r comes = comes.1
 
-  -- what comes of a worker's turn in the world is what comes of it alone
+  -- a worker's turn in the world is a turn of the worker set
   comes-alone : (m n : State) (by : ℕ) (t : Turn) (yields : Bool) (r : Reply)
       → Comes copying (actor_turns may worker_set.turns) m by t yields r n
       → Comes copying worker_set.turns m by t yields r n
   comes-alone m n by turn.Yield yields r comes = comes
   comes-alone m n by (turn.Make k) yields r comes = comes
 
-  -- the invariant after a step: order and site by what went on, the process slots as said
+  -- the invariant after a step, by its effect on the machine and on the process slots
   consistent-on : (xs : List Choice) (rs : List Reply) (x : Choice) (r : Reply)
       (w after : Stage State (Actor worker_set.Worker)) (q : Past)
       → Consistent site_contents worker_set xs rs w → Goes w.machine after.machine
@@ -141,7 +141,7 @@ module _ (may : Policy) (site_contents : SiteContents) (worker_set : WorkerSet) 
     abbrev clients : List (Option Client)
     clients = filed s.state.workers s.state.clients s.state.pending_call s.last s.serves.received
 
-    -- what a step leads to
+    -- the result of a step
     abbrev Leads : Past → Type 0
     Leads q = Goes w.machine after.machine × AreInSlots site_contents worker_set after q
 
@@ -309,7 +309,7 @@ module _ (may : Policy) (site_contents : SiteContents) (worker_set : WorkerSet) 
     not-server-by i process_slot sits same =
         (let is = (s.serves.fit.job_queues.by i process_slot sits).1 in omega (arith, same, is))
 
-    -- A turn of whoever sits at a place.
+    -- A turn of the process in a place.
     place_step : (place : ℕ) (yields : Bool) (r : Reply)
         → (t : PlaceTurn copying (actor_turns may worker_set.turns) w place yields r after)
         → IsAmong (may_refuse site_contents.refuses t.process_slot.by) r → Leads p
@@ -338,7 +338,7 @@ module _ (may : Policy) (site_contents : SiteContents) (worker_set : WorkerSet) 
             (actor_turns may worker_set.turns) w.machine z yields r after.machine t.next) one.2 t.turn)
             process_slots
 
-    -- whoever sits stays, with what the server keeps
+    -- the process slots and the clients are unchanged, and their invariants hold
     still : (q : Past) → after.process_slots ≡ w.process_slots → Names after.machine s.last s.serves.received
         → AllFit site_contents worker_set after.machine q clients s.workers
         → AreOwned after.machine q clients → AreInSlots site_contents worker_set after q
@@ -350,7 +350,7 @@ module _ (may : Policy) (site_contents : SiteContents) (worker_set : WorkerSet) 
       serves = record { count = s.serves.count; received = s.serves.received; names = names; fit = fit; owned = owned };
     }
 
-    -- What happens outside.
+    -- An event outside the processes of the world.
     outside_step : (e : Event) (r : Reply) → StepsTo w.machine e r after.machine → after.process_slots ≡ w.process_slots
         → IsSitePreserving w (choice.Outside e) after
         → Leads (and_then p e r)
@@ -417,7 +417,7 @@ module _ (may : Policy) (site_contents : SiteContents) (worker_set : WorkerSet) 
                   s.serves.owned)),
             )
 
-  -- Each step that is site-preserving and fair keeps the invariant.
+  -- Each step that is site-preserving and fair preserves the invariant.
   pub step_keeps : (xs : List Choice) (rs : List Reply) (x : Choice) (r : Reply)
       (w after : Stage State (Actor worker_set.Worker))
       → WorldStep copying (actor_turns may worker_set.turns) w x r after → IsSitePreserving w x after
@@ -442,7 +442,7 @@ module _ (may : Policy) (site_contents : SiteContents) (worker_set : WorkerSet) 
       consistent-on xs rs (choice.Outside e) r w after (and_then (past_of xs rs) e r) consistent did.0
       (past-outside xs rs e r consistent.even) did.1
 
-  -- so does a run of such steps
+  -- and so does a run of such steps
   pub run_keeps : (xs : List Choice) (rs : List Reply) (w after : Stage State (Actor worker_set.Worker))
       (past : List Choice) (ps : List Reply)
       → (run : WorldRun copying (actor_turns may worker_set.turns) w xs rs after)

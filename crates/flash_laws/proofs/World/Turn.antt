@@ -80,7 +80,7 @@ module _ (site_contents : SiteContents) (worker_set : WorkerSet) (m n : State) (
             → in_place clients gd ≡ Some y
         old gd y differ is = sym (at-other clients fd gd o differ) ∙ is
 
-        -- no two use the same
+        -- no two clients use the same object
         apart : (uses : Client → ℕ → Bool)
             → ((gd a : ℕ) (y z : Client) → fd ≢ gd → o ≡ Some y → in_place clients gd ≡ Some z → uses y a ≡ true
             → uses z a ≡ true → ⊥)
@@ -100,7 +100,7 @@ module _ (site_contents : SiteContents) (worker_set : WorkerSet) (m n : State) (
           ]
         ]
 
--- a client that stands elsewhere stands there still
+-- a client in another place stays there
 pub held-on : (m n : State) (clients : List (Option Client)) (fd k : ℕ) (o : Option Client) (held : Held m clients k)
     → fd ≢ held.fd → descriptor n server held.fd ≡ Some (on.Connection k) → Held n (with_at clients fd o) k
 held-on m n clients fd k o held differ open_on =
@@ -112,7 +112,7 @@ held-on m n clients fd k o held differ open_on =
           open_on;
     }
 
--- a worker that is free once one place has changed was free before, unless it was of whoever stood there
+-- a worker that is free after a change of one place was free before, unless the old client of the place had it
 pub free-unless : (clients : List (Option Client)) (fd k : ℕ) (o : Option Client)
     → ((x : Client) → in_place clients fd ≡ Some x → is_run_by x k ≡ true → ⊥)
     → is_free (with_at clients fd o) k ≡ true → is_free clients k ≡ true
@@ -132,13 +132,13 @@ free-unless clients fd k o stood free = by (is_free clients k) refl
               absurd (stood ran.client (subst (λ g. in_place clients g ≡ Some ran.client) (sym here) ran.at) ran.runs)
         ]
 
--- ---- what a worker reads is not the server's
+-- ---- job queues
 
--- the server's own call is none of a worker's
+-- a call of the server is not a call of a worker
 pub own-call : (k : Call) (d : ℕ) (j : ℕ) → d ≡ worker_domain j → is_call_of (event.Call server k) d ≡ false
 own-call k d j is = ap (λ e. server == e) is ∙ grind (arith, nat_tests)
 
--- a place that is free has no pipe
+-- the lowest free place has no pipe
 no-pipe-there : (m : State) → (pipe_at m (lowest m.pipes)).writing ≡ true → ⊥
 unfolding pipe_at
 no-pipe-there m is = (let none = lowest-free m.pipes in grind (arith, none, is))
@@ -165,7 +165,7 @@ module _ (site_contents : SiteContents) (worker_set : WorkerSet) (laws : AllLaws
   job_queue-writing k lt =
       order.all_stand server (job_pipe k) (on.WriteEnd (worker_set.job_queue k)) (all.job_queues.job_queues k lt)
 
-  -- a job queue that the call for a client may touch is that of its own worker
+  -- a job queue that the call for a client may touch is that of the client's worker
   pub own-job_queue : (run : Option Running) (k : ℕ) → k < worker_set.count
       → ((y : Running) (s : Step) (v : Run) → run ≡ Some (InProgress v s) → v.worker < worker_set.count)
       → ((v : Run) (write : ℕ) → run ≡ Some (InProgress v (ClosingPipe write)) → ⊥)

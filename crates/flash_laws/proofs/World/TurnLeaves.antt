@@ -1,4 +1,4 @@
--- A worker's turn leaves the site, and all clients for which it runs nothing, unchanged.
+-- A worker's turn leaves the site, and all clients for which it runs no script, unchanged.
 use Rattle.std.proofs.Common.{inl, inr, ◌≡◌, ◌≢◌, ◌<◌, ◌⊎◌, ℕ, zero, suc, ◌==◌, List, [], ◌∷◌, ◌++◌, ap, ◌∙◌, refl, sym}
 use Rattle.std.proofs.Common.{subst, arith, Option, Some, None, true, false, Bool, append-nil, slice_get, slice_set}
 use Rattle.std.specs.Prelude.{is_none}
@@ -61,7 +61,7 @@ set-other (z ∷ xs) (suc i) (suc j) y apart = set-other xs i j y (λ same. apar
 
 -- ---- a turn
 
--- it is a call, or changes nothing
+-- a turn is a call, or changes nothing
 abbrev pub IsCallOf : State → (d : ℕ) → Reply → State → Type 0
 IsCallOf m d r n = (n ≡ m) ⊎ ((c : Call) × StepsTo m (event.Call d c) r n)
 
@@ -77,7 +77,7 @@ what-came works m n process_slot next yields r (inr moves) = (by moves.turn move
     by turn.Yield comes = inl comes.2
     by (turn.Make c) comes = inr (c, comes.1)
 
--- the turn of the worker that sits in place k
+-- the turn of the worker in place k
 pub record IsTurn (site_contents : SiteContents) (worker_set : WorkerSet) (m n : State) (p : Past)
     (clients : List (Option Client)) (process_slots : List (ProcessSlot worker_set.Worker)) (k : ℕ)
     (process_slot next : ProcessSlot worker_set.Worker) (yields : Bool) (r : Reply) : Type 0 where
@@ -89,9 +89,9 @@ pub record IsTurn (site_contents : SiteContents) (worker_set : WorkerSet) (m n :
   pub did : ProcessSlotTurn copying worker_set.turns m process_slot yields r n next
   pub among : IsAmong site_contents.refuses.of_workers r
 
--- ---- which pipe it touches
+-- ---- the pipe that a turn touches
 
--- none is another's job queue, nor one that the server reads for a client for which it runs nothing
+-- it is not the job queue of another worker, nor a pipe that the server reads for a client of another worker
 pub record IsItsOwn (worker_set : WorkerSet) (m : State) (clients : List (Option Client)) (k q : ℕ) : Type 0 where
   pub job_queues : (l : ℕ) → l < worker_set.count → l ≢ k → worker_set.job_queue l ≢ q
   pub pipes : (fd : ℕ) (y : Client) (run : Run) (step : Step) (p : ℕ) → in_place clients fd ≡ Some y
@@ -104,7 +104,7 @@ pub record Touches (worker_set : WorkerSet) (m n : State) (clients : List (Optio
   pub leaves : LeavesAllBut m d pipe n
   pub own : IsItsOwn worker_set m clients k pipe
 
--- what stays as it is leaves all
+-- an unchanged state meets `LeavesAllBut`
 pub leaves-same : (m : State) (d q : ℕ) → LeavesAllBut m d q m
 leaves-same m d q = record {
   conns = λ c. refl;
@@ -118,7 +118,7 @@ leaves-same m d q = record {
   job_queue = λ j apart is. is;
 }
 
--- ---- the site stays
+-- ---- the site is unchanged
 
 may-left : (m n : State) (d q p e by : ℕ) → LeavesAllBut m d q n → may_read m by p ≡ true
     → may_read n e p ≡ may_read m e p
@@ -137,9 +137,9 @@ keeps-site finds m n d q fixed left = record {
   readers = λ name f e is. let some = fixed.read_by name f is in may-left m n d q (file m f).pool e some.0 left some.1;
 }
 
--- ---- clients for which it runs nothing
+-- ---- clients for which it runs no script
 
--- what becomes of a connection that is left
+-- an unchanged connection meets `Changes`
 pub conn-left : (k j : Connection) (sent : List ℕ) → j ≡ k → Changes k j sent sent
 conn-left k j sent same = inl (record {
   total = ap (λ (z : Connection). sent ++ bytes_of z.outgoing) (sym same);
@@ -147,7 +147,7 @@ conn-left k j sent same = inl (record {
   ended = λ is. (ap (λ (z : Connection). z.incoming) same, ap (λ (z : Connection). is_none z.peer) same ∙ is);
 })
 
--- a client for which another worker runs a script, or none, does not see who sits in place k
+-- a client whose script worker k does not run does not depend on the process slot in place k
 job_queue-in_slots_again : (worker_set : WorkerSet) (n : State) (k : ℕ)
     (process_slots : List (ProcessSlot worker_set.Worker)) (next : ProcessSlot worker_set.Worker) (made : Made)
     (o : Progress) (y : Running)
@@ -189,7 +189,7 @@ module _ (site_contents : SiteContents) (worker_set : WorkerSet) (laws : AllLaws
     (clients : List (Option Client)) (process_slots : List (ProcessSlot worker_set.Worker)) (k : ℕ)
     (process_slot next : ProcessSlot worker_set.Worker) (yields : Bool) (r : Reply)
     (turn : IsTurn site_contents worker_set m n p clients process_slots k process_slot next yields r) where
-  -- it is one of the workers, and sits in a domain of its own
+  -- it is one of the workers, in a domain of its own
   pub sits-in : (k < worker_set.count) × (process_slot.by ≡ worker_domain k)
   sits-in = turn.fit.job_queues.by k process_slot turn.sits
 

@@ -76,7 +76,7 @@ first_consistent site_contents worker_set w new = record {
 module _ (laws : WindowLaws) (site_contents : SiteContents) (worker_set : WorkerSet) (m : State) (p : Past)
     (clients : List (Option Client)) (process_slots : List (ProcessSlot worker_set.Worker))
     (all : AllFit site_contents worker_set m p clients process_slots) where
-  -- what is still to come belongs to what came
+  -- if the output begins the answer to the bytes taken, it begins the answer to the bytes received
   with-more : (k : ℕ) (took : List ℕ) → p.came k ≡ took ++ bytes_of (conn_at m k).incoming
       → Begins site_contents took (p.sent k ++ bytes_of (conn_at m k).outgoing)
       → Begins site_contents (p.came k) (p.sent k ++ bytes_of (conn_at m k).outgoing)
@@ -102,7 +102,7 @@ module _ (laws : WindowLaws) (site_contents : SiteContents) (worker_set : Worker
         (shown-may site_contents x f.wanted f.script f.shown f.may_show) f.so_far y f.consistency),
   )
 
-  -- so the claim holds
+  -- so the output of each connection of the net begins its answer
   pub answered : AreAnswered site_contents worker_set m p
   answered c net = by (all.others c)
     where
@@ -119,7 +119,7 @@ module _ (laws : WindowLaws) (site_contents : SiteContents) (worker_set : Worker
       by (inr (inr (inr foreign))) = (let a = foreign.other_pool in absurd (cc (a, net)))
       by (inr (inr (inl ended))) = ended.begins
 
-  -- and each that is closed is answered whole, unless its peer left
+  -- and a closed connection has its whole answer, unless its peer left
   pub whole : IsOrderly m → (c : ℕ) → p.net c ≡ true → (conn_at m c).closed ≡ true → p.gone c ≡ false
       → IsAnswer site_contents (p.came c) (p.sent c ++ bytes_of (conn_at m c).outgoing)
   whole order c net closed stays = by (all.others c)
@@ -131,7 +131,7 @@ module _ (laws : WindowLaws) (site_contents : SiteContents) (worker_set : Worker
       by (inr (inr (inr foreign))) = (let a = foreign.other_pool in absurd (cc (a, net)))
       by (inr (inr (inl ended))) = elim ended.whole [ inl gone ↦ absurd (clash (p.gone c) gone stays) | inr all ↦ all ]
 
--- Where the invariant holds each connection of the net is answered.
+-- If the invariant holds, the output of each connection of the net begins its answer.
 pub consistent_answered : (laws : WindowLaws) (site_contents : SiteContents) (worker_set : WorkerSet) (xs : List Choice)
     (rs : List Reply) (w : Stage State (Actor worker_set.Worker))
     → Consistent site_contents worker_set xs rs w → AllAnswered site_contents xs rs w.machine
@@ -140,7 +140,7 @@ consistent_answered laws site_contents worker_set xs rs w consistent =
     answered laws site_contents worker_set w.machine (past_of xs rs)
     (filed s.state.workers s.state.clients s.state.pending_call s.last s.serves.received) s.workers s.serves.fit
 
--- And each that is closed is answered whole, unless its peer left.
+-- And a closed connection has its whole answer, unless its peer left.
 pub consistent_whole : (laws : WindowLaws) (site_contents : SiteContents) (worker_set : WorkerSet) (xs : List Choice)
     (rs : List Reply) (w : Stage State (Actor worker_set.Worker))
     → Consistent site_contents worker_set xs rs w → ClosedAreWhole site_contents xs rs w.machine

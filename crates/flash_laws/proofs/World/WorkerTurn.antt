@@ -26,7 +26,7 @@ use Rattle.flash_laws.proofs.World.JobQueue.WorkerTurn.{rests, client-touches, o
 use Rattle.flash_laws.proofs.World.TurnLeaves.{IsCallOf, what-came, IsTurn, IsItsOwn, Touches, set-same, set-other}
 use Rattle.flash_laws.proofs.World.TurnLeaves.{sits-in, not-server, other-worker, beside-fits}
 
--- it changes nothing, or leaves all but its own and one pipe
+-- a turn changes nothing, or only its own domain and one pipe
 abbrev pub IsCopyFree : State → (d : ℕ) → State → Type 0
 IsCopyFree m d n = (n ≡ m) ⊎ ((q : ℕ) × LeavesAllBut m d q n)
 
@@ -40,7 +40,7 @@ module _ (site_contents : SiteContents) (worker_set : WorkerSet) (laws : AllLaws
   came : IsCallOf m process_slot.by r n × (next.by ≡ process_slot.by)
   came = what-came worker_set.turns m n process_slot next yields r turn.did
 
-  -- who sits in place k now
+  -- the process slot in place k after the turn
   here-sits : (l : ℕ) (t : ProcessSlot worker_set.Worker) → k ≡ l
       → slice_get (slice_set process_slots k next) l ≡ Some t → next ≡ t
   here-sits l t here sits =

@@ -1,4 +1,4 @@
--- The invariant of a client without running script, from one phase to the next.
+-- The invariant of a client without a running script, from one phase to the next.
 use Rattle.std.proofs.Common.{inl, inr, ◌≡◌, ℕ, List, [], ◌∷◌, ◌++◌, take, drop, ap, ◌∙◌, refl, sym, subst, None, true}
 use Rattle.std.proofs.Common.{false, append-nil}
 use Rattle.std.proofs.lemmas.List.{take-append-drop}
@@ -25,28 +25,28 @@ alone buffered script q d = record {
       script;
 }
 
--- it fits in a state of the machine
+-- the client's invariant in a state of the machine
 abbrev pub FitsAt : SiteContents → (came sent : List ℕ) (fd c : ℕ) (buffered script : List ℕ) → State → Answer → Phase
     → Type 0
 FitsAt site_contents came sent fd c buffered script s q d =
     FitsAlone site_contents s came sent fd c (alone buffered script q d)
 
--- what is given of the response to the request in progress
+-- the part of the response in progress that is written
 abbrev pub part_of : (expected : List ℕ) → Phase → List ℕ
 part_of expected d = given_of expected (is_at_rest d) (taken_of d)
 
--- it has come so far with the request
+-- the request is in progress, and this part of its response is written
 abbrev pub Stands : (expected : List ℕ) → (q : Answer) → (part : List ℕ) → Phase → Type 0
 Stands expected q part e = (asked q e ≡ q ∷ []) × (part_of expected e ≡ part) × (quits e ≡ false)
 
 module _ (site_contents : SiteContents) (buffered script : List ℕ) where
-  -- what ties it before ties it after, with the one response and the other
+  -- the invariant in phase d with one response implies that in phase e with the other
   abbrev pub ConsistenciesOn : (expected later : List ℕ) → Answer → (d e : Phase) → Type 0
   ConsistenciesOn expected later q d e = (k : Connection) (took sent : List ℕ)
       → ConsistencyAlone site_contents expected k took sent (alone buffered script q d)
       → ConsistencyAlone site_contents later k took sent (alone buffered script q e)
 
-  -- where as much is asked and given
+  -- this holds if the request in progress and the written part are the same
   pub consistency_on : (expected later : List ℕ) (q : Answer) (d e : Phase) → asked q e ≡ asked q d
       → part_of later e ≡ part_of expected d → quits d ≡ false → quits e ≡ false → ConsistenciesOn expected later q d e
   consistency_on expected later q d e same_asked same_given busy busy_e k took sent (inl o) = inl (
@@ -64,7 +64,7 @@ module _ (site_contents : SiteContents) (buffered script : List ℕ) where
       absurd (clash (quits d) h.quits busy)
   consistency_on expected later q d e same_asked same_given busy busy_e k took sent (inr (inr g)) = inr (inr g)
 
-  -- where nothing more is sent
+  -- this holds if neither phase writes more
   pub hush : (expected later : List ℕ) (q : Answer) (d e : Phase) → quits d ≡ true → quits e ≡ true
       → ConsistenciesOn expected later q d e
   hush expected later q d e quit quit_e k took sent (inl o) = absurd (clash (quits d) quit o.0)
@@ -73,7 +73,7 @@ module _ (site_contents : SiteContents) (buffered script : List ℕ) where
   hush expected later q d e quit quit_e k took sent (inr (inr g)) = inr (inr g)
 
   module _ (expected : List ℕ) (q : Answer) (may : MayBeExpected site_contents q expected) where
-    -- an answer that is taken whole
+    -- the responses after one more response is taken whole
     taken-whole : (taken : ℕ) (done : List Answer) (before out : List ℕ) → Responds site_contents done before
         → drop taken expected ≡ [] → out ≡ before ++ take taken expected → Responds site_contents (done ++ q ∷ []) out
     taken-whole taken done before out were none is =
@@ -98,7 +98,7 @@ module _ (site_contents : SiteContents) (buffered script : List ℕ) where
     ends a taken keep none k took sent (inr (inl h)) = absurd (let bad = h.quits in cc (bad))
     ends a taken keep none k took sent (inr (inr g)) = inr (inr g)
 
-    -- and is the last one
+    -- the last response is taken whole: the connection is closed next
     pub ends-last : (a taken : ℕ) → keeps q ≡ false → drop taken expected ≡ []
         → ConsistenciesOn expected expected q (DroppingSent a taken None) Disconnecting
     ends-last a taken last none k took sent (inl o) = inr (inl (record {

@@ -1,4 +1,4 @@
--- A client without running script: lemmas of its phases, and the phases that open its file and read it.
+-- A client without a running script: lemmas of its phases, and the phases that open its file and read it.
 use Rattle.std.proofs.Common.{◌≡◌, ℕ, ◌+◌, ◌==◌, ◌≤◌, List, [], ◌∷◌, ◌++◌, length, take, ap, ◌∙◌, refl, sym, subst}
 use Rattle.std.proofs.Common.{arith, Option, Some, None, true, false, Bool, if◌then◌else◌}
 use Rattle.std.specs.Prelude.{◌||◌, ◌&&◌}
@@ -51,7 +51,7 @@ use Rattle.flash_laws.proofs.Lists.{not-equal}
 use Rattle.flash_laws.proofs.World.AllLaws.{AllLaws}
 use Rattle.flash_laws.proofs.World.Alone.Consistencies.{alone, FitsAt, Stands, ConsistenciesOn, consistency_on}
 
--- of a phase that reads no script the response is expected
+-- in a phase that does not read a script, the expected bytes are those of the response
 pub expected-is : (expected : List ℕ) (q : Answer) (d : Phase) → is_read d ≡ false → expected_in expected q d ≡ expected
 expected-is expected q d is = ap (λ b. if b then text_of q Script else expected) is
 
@@ -61,7 +61,7 @@ module _ (site_contents : SiteContents) (worker_set : WorkerSet) (laws : AllLaws
   abbrev Fitting : State → Answer → Phase → Type 0
   Fitting = FitsAt site_contents came sent fd c buffered script
 
-  -- a call that leaves the connection itself; the text that is kept may be another
+  -- a call that leaves the connection unchanged; the text that is kept may change
   pub moves_to : (text : List ℕ) (q : Answer) (d e : Phase) (k : Call) (r : Reply) (later : List ℕ)
       → MayBeExpected site_contents q later → (f : Fitting m q d)
       → StepsTo m (event.Call server k) r n → touches_conn m (event.Call server k) c ≡ false
@@ -89,7 +89,7 @@ module _ (site_contents : SiteContents) (worker_set : WorkerSet) (laws : AllLaws
   pub same : (q : Answer) (d : Phase) → Fitting m q d → n ≡ m → Fitting n q d
   same q d f is = subst (λ (s : State). Fitting s q d) (sym is) f
 
-  -- one that goes on with the request
+  -- a call after which the same part of the response is written
   pub goes : (q : Answer) (part : List ℕ) (d e : Phase) (k : Call) (r : Reply) (later : List ℕ)
       → MayBeExpected site_contents q later → (f : Fitting m q d)
       → StepsTo m (event.Call server k) r n → touches_conn m (event.Call server k) c ≡ false
@@ -101,7 +101,7 @@ module _ (site_contents : SiteContents) (worker_set : WorkerSet) (laws : AllLaws
       (consistency_on site_contents buffered script f.expected later q d e (stands.0 ∙ sym was.0) (stands.1 ∙ sym was.1)
       was.2 stands.2) has finds
 
-  -- what the machine has, and what is found, after a call that opens and reads nothing
+  -- the client's objects and its file after a call that opens and reads no file
   pub has_after_reply : (q : Answer) (d : Phase) (r : Reply) (received : List ℕ) → (f : Fitting m q d)
       → is_opening d ≡ false → is_closing d ≡ false → is_read d ≡ false
       → StepsTo m (event.Call server (conn.next_call fd (at buffered q d))) r n → Names n r received
@@ -131,7 +131,7 @@ module _ (site_contents : SiteContents) (worker_set : WorkerSet) (laws : AllLaws
       → (list_any (is_conn c) (descriptor m server g ∷ []) || false) ≡ false
   unused g f pos is = ap (λ (d : Option Descriptor). list_any (is_conn c) (d ∷ []) || false) is
 
-  -- of a request for no script the response is expected that its file gives
+  -- the expected response to a request for a file is that of the file's outcome
   expected_of_file : (w : Wanted) (found : Outcome) → is_for_script site_contents.scripts (serve w) ≡ false
       → site_contents.finds w.name ≡ found
       → expected_to site_contents (serve w) ≡ response (serve w) found
@@ -139,7 +139,7 @@ module _ (site_contents : SiteContents) (worker_set : WorkerSet) (laws : AllLaws
       laws.expected.file site_contents.scripts site_contents.finds site_contents.shows (serve w) none
       ∙ ap (λ (y : Outcome). response (serve w) y) is
 
-  -- one that cannot be opened is answered with an error, be it a script or not
+  -- if a file cannot be opened, the expected response is an error, for a script too
   failed : (w : Wanted) (status : ℕ) → site_contents.finds w.name ≡ Failed status
       → expected_to site_contents (serve w) ≡ text_of (serve w) (Error status)
   failed w status is = by (is_for_script site_contents.scripts (serve w)) refl
@@ -205,7 +205,7 @@ module _ (site_contents : SiteContents) (worker_set : WorkerSet) (laws : AllLaws
           (refl, refl, refl) (refl, refl, refl) refl (refusal-status y)
       by r did step undisturbed = absurd did
 
-  -- what a read of a whole file touches is that file alone
+  -- a read of a file touches neither the connection nor its descriptor
   reads_apart : (g i count : ℕ) → descriptor m server g ≡ Some (on.File i 0 modes.Read)
       → descriptor m server fd ≡ Some (on.Connection c)
       → (touches_conn m (event.Call server (call.IolRead g count)) c ≡ false)

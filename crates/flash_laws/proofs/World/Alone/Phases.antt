@@ -1,4 +1,4 @@
--- Each phase of a client without running script, from its next call to its state after the reply.
+-- Each phase of a client without a running script, from its next call to its state after the reply.
 use Rattle.std.proofs.Common.{inl, inr, ◌≡◌, ℕ, ◌+◌, ◌==◌, List, [], ◌∷◌, ◌++◌, take, drop, ap, ◌∙◌, refl, sym, subst}
 use Rattle.std.proofs.Common.{Option, Some, None, true, false, Bool, if◌then◌else◌}
 use Rattle.std.specs.Prelude.{nat_le, ◌||◌, is_some}
@@ -73,7 +73,7 @@ module _ (site_contents : SiteContents) (worker_set : WorkerSet) (laws : AllLaws
   abbrev Fitting : State → Answer → Phase → Type 0
   Fitting = FitsAt site_contents came sent fd c buffered script
 
-  -- ---- what the phases rest on, of these states
+  -- ---- the lemmas of `Files`, for these states
 
   moves_to : (text : List ℕ) (q : Answer) (d e : Phase) (k : Call) (r : Reply) (later : List ℕ)
       → MayBeExpected site_contents q later → (f : Fitting m q d)
@@ -119,7 +119,7 @@ module _ (site_contents : SiteContents) (worker_set : WorkerSet) (laws : AllLaws
 
   -- ---- each phase that opens and reads no file
 
-  -- where its tie stays
+  -- the invariant after the reply, if the invariant of the bytes is preserved
   on-consistency : (q : Answer) (d : Phase) (r : Reply) (received : List ℕ) (f : Fitting m q d) → is_opening d ≡ false
       → is_closing d ≡ false → is_read d ≡ false
       → StepsTo m (event.Call server (conn.next_call fd (at buffered q d))) r n → Names n r received
@@ -134,7 +134,7 @@ module _ (site_contents : SiteContents) (worker_set : WorkerSet) (laws : AllLaws
       f.may f step un_conn un_fd consistencies
       (has_after_reply q d r received f un busy unread step names) (finds_after_reply q d r received un unread f.finds)
 
-  -- where it goes on with the request
+  -- the invariant after the reply, if the same part of the response is written
   on-stands : (part : List ℕ) (q : Answer) (d : Phase) (r : Reply) (received : List ℕ) (f : Fitting m q d)
       → is_opening d ≡ false → is_closing d ≡ false → is_read d ≡ false
       → StepsTo m (event.Call server (conn.next_call fd (at buffered q d))) r n → Names n r received
@@ -190,7 +190,7 @@ module _ (site_contents : SiteContents) (worker_set : WorkerSet) (laws : AllLaws
       still (refuse status head_only close) reply.Done has text = (has, text)
       still q r has text = (has, text)
 
-  -- the text that was read is dropped: but for HEAD the script begins to run
+  -- the text that was read is dropped: except for HEAD, the script begins to run
   runs : (process_slots : List (ProcessSlot worker_set.Worker)) (q : Answer) (a : ℕ) (r : Reply) (received : List ℕ)
       → Fitting m q (DroppingWhole a Script)
       → StepsTo m (event.Call server (call.AggDrop a)) r n
@@ -321,9 +321,9 @@ module _ (site_contents : SiteContents) (worker_set : WorkerSet) (laws : AllLaws
           (SendingWhole (whole x.0 x.1 taken None)) refl refl refl refl
       after None h = ended (keeps q) refl (sym h.next ∙ h.follows)
 
-  -- ---- any call of it but the last
+  -- ---- any call except the last
 
-  -- whether it reads a file, or a script's text was read that is now dropped
+  -- whether the phase reads a file, or drops the text of a script
   abbrev is_of_text : Phase → Bool
   is_of_text (Reading g) = true
   is_of_text (DroppingWhole a Script) = true

@@ -1,4 +1,4 @@
--- Writes and reads of a client without running script.
+-- Writes and reads of a client without a running script.
 use Rattle.std.proofs.Common.{inl, inr, ◌≡◌, ℕ, ◌+◌, ◌-◌, ◌==◌, ◌<◌, List, [], ◌∷◌, ◌++◌, length, take, drop, ap}
 use Rattle.std.proofs.Common.{◌∙◌, refl, sym, subst, arith, Some, None, Bool, append_assoc, append-nil}
 use Rattle.std.specs.Prelude.{min, ◌&&◌, slice_range}
@@ -51,7 +51,7 @@ module _ (site_contents : SiteContents) (the : TheLaws) (m n : State) (came sent
   same : (q : Answer) (d : Phase) → Fitting m q d → n ≡ m → Fitting n q d
   same q d f is = subst (λ (s : State). Fitting s q d) (sym is) f
 
-  -- what it reads or writes is its own connection, which stays open
+  -- the descriptor stays open on the connection that it reads or writes
   open_still : (k : Call) (r : Reply) → StepsTo m (event.Call server k) r n
       → descriptor m server fd ≡ Some (on.Connection c)
       → touches_fd m (event.Call server k) server fd ≡ is_file (descriptor m server fd)
@@ -63,7 +63,7 @@ module _ (site_contents : SiteContents) (the : TheLaws) (m n : State) (came sent
   itself : (a : ℕ) (b : Bool) → ((a == a) && b) ≡ b
   itself a b = grind (arith, nat_tests)
 
-  -- of an aggregate that is offered the first k bytes are taken, which are what of the response is next
+  -- the first k bytes of the offered aggregate are taken, and these are the next bytes of the response
   took_on : (q : Answer) (d e : Phase) (a taken k : ℕ) (bytes : List ℕ) → (f : Fitting m q d)
       → StepsTo m (event.Call server (call.IolWrite fd a)) (reply.Count k) n → o.Puts m c bytes k n
       → take k (drop taken f.expected) ≡ take k bytes
@@ -84,7 +84,7 @@ module _ (site_contents : SiteContents) (the : TheLaws) (m n : State) (came sent
     proper = f.proper;
   }
     where
-      -- what is given now is what was given before, and the bytes that were taken
+      -- the written part is the earlier part and the bytes taken
       more_given : take (taken + k) f.expected ≡ take taken f.expected ++ take k bytes
       more_given = take-plus taken k f.expected ∙ ap (λ (l : List ℕ). take taken f.expected ++ l) front
 
@@ -118,7 +118,7 @@ module _ (site_contents : SiteContents) (the : TheLaws) (m n : State) (came sent
       consistent (inr (inl finished)) = absurd (clash (quits d) finished.quits was.2)
       consistent (inr (inr gone)) = absurd (clash (is_gone (conn_at m c).peer) gone.gone puts.takes)
 
-  -- the peer is gone: what was sent begins the answer, and nothing more is sent
+  -- the peer is gone: the sent bytes begin the answer, and no more are sent
   broken_off : (q : Answer) (d e : Phase) (a : ℕ) → (f : Fitting m q d)
       → StepsTo m (event.Call server (call.IolWrite fd a)) (reply.Refused no.BrokenPipe) n → n ≡ m
       → Has n q (expected_in f.expected q e) e → Finds site_contents n q script e → Fitting n q e
@@ -201,7 +201,7 @@ module _ (site_contents : SiteContents) (the : TheLaws) (m n : State) (came sent
       by (reply.Refused y) did step has finds = same q (SendingPiece s piece) f did
       by r did step has finds = absurd did
 
-  -- what came on the stream is kept, or its end was seen
+  -- the bytes read are buffered, or the end of the stream was read
   pub rests : (q : Answer) (r : Reply) (received : List ℕ) → Fitting m q Receiving → window_in buffered ≡ Wait
       → StepsTo m (event.Call server (call.IolRead fd (most_buffered - length buffered))) r n → Names n r received
       → FitsAlone site_contents n came sent fd c (conn_after_reply (alone buffered script q Receiving) r received)

@@ -1,4 +1,4 @@
--- The state of a client without running script whose call would block.
+-- The state of a client without a running script whose call would block.
 use Rattle.std.proofs.Common.{inl, inr, ◌≡◌, ℕ, ◌-◌, ◌⊎◌, List, [], ◌++◌, length, ap, ◌∙◌, refl, sym, subst, Option}
 use Rattle.std.proofs.Common.{None, true, false, Bool, append-nil}
 use Rattle.iol_core.specs.Text.{Text, bytes_of}
@@ -35,20 +35,20 @@ use Rattle.flash_laws.proofs.World.AllLaws.{AllLaws}
 use Rattle.flash_laws.proofs.World.Alone.Consistencies.{alone}
 use Rattle.flash_laws.proofs.Moves.{either-of}
 
--- all that came on a connection is answered, and its peer may ask for more
+-- all requests on a connection are answered, and its peer may send more
 pub record IsAnsweredSoFar (site_contents : SiteContents) (m : State) (came sent : List ℕ) (c : ℕ) : Type 0 where
   pub whole : IsAnswer site_contents came (sent ++ bytes_of (conn_at m c).outgoing)
   pub peer : (conn_at m c).peer ≡ None
   pub stays : StaysOpen came
 
--- a call that may not be told to wait
+-- a call that may not wait is never refused WouldBlock
 pub goes : (worker_set : WorkerSet) → AllLaws worker_set → (m : State) (k : Call) → may_wait k ≡ false
     → WouldWait m server k → ⊥
 goes worker_set laws m k never step = clash (may_wait k) (laws.left.waits m m server k step) never
 
 module _ (site_contents : SiteContents) (worker_set : WorkerSet) (laws : AllLaws worker_set) (m : State)
     (order : IsOrderly m) (fixed : IsFixedFor site_contents worker_set m) where
-  -- a file is read at once
+  -- a read of a file never waits
   reads-on : (came sent : List ℕ) (fd c g : ℕ) (buffered : List ℕ) (q : Answer) (script : List ℕ)
       → FitsAlone site_contents m came sent fd c (alone buffered script q (Reading g))
       → WouldWait m server (call.IolRead g most_read) → ⊥
@@ -58,7 +58,7 @@ module _ (site_contents : SiteContents) (worker_set : WorkerSet) (laws : AllLaws
       order fixed.site.lives f.finds.may refl f.finds.open_on step).0 in
       cc (bad)
 
-  -- a connection at rest whose bytes are all taken
+  -- a connection that reads, with all its input taken
   rests : (came sent : List ℕ) (fd c : ℕ) (buffered : List ℕ) (q : Answer) (script : List ℕ)
       → FitsAlone site_contents m came sent fd c (alone buffered script q Receiving)
       → IsAwaiting (alone buffered script q Receiving) → ((conn_at m c).incoming ≡ []) × ((conn_at m c).peer ≡ None)
@@ -95,7 +95,7 @@ module _ (site_contents : SiteContents) (worker_set : WorkerSet) (laws : AllLaws
       by (inr (inr left)) =
           absurd (clash (is_gone (conn_at m c).peer) left.gone (ap (λ (w : Option How). is_gone w) empty.1))
 
-  -- a client alone is answered, and uses no aggregate, or is held up
+  -- a client without a run is answered, and uses no aggregate, or is held up
   abbrev pub AloneLeft : (came sent : List ℕ) (c : ℕ) (buffered script : List ℕ) → Answer → Phase → Type 0
   AloneLeft came sent c buffered script q d =
       (IsAnsweredSoFar site_contents m came sent c × ((a : ℕ) → uses_agg (alone buffered script q d) a ≡ false))
@@ -144,7 +144,7 @@ module _ (site_contents : SiteContents) (worker_set : WorkerSet) (laws : AllLaws
       absurd (goes worker_set laws m (call.Close fd) refl step)
   by-phase came sent fd c buffered script q Closed f waits step = absurd f.has
 
-  -- so it is of one whose request is for a script, whose text is read whole
+  -- the same for a request for a script, whose text is read whole
   for-script : (came sent : List ℕ) (fd c : ℕ) (buffered script : List ℕ) (q : Answer) (d : Phase)
       → FitsAlone site_contents m came sent fd c (alone buffered script q d)
       → IsAwaiting (alone buffered script q d) → WouldWait m server (script_call fd (at buffered q d))
@@ -153,7 +153,7 @@ module _ (site_contents : SiteContents) (worker_set : WorkerSet) (laws : AllLaws
       absurd (reads-on came sent fd c g buffered q script f step)
   for-script came sent fd c buffered script q d f waits step = by-phase came sent fd c buffered script q d f waits step
 
-  -- and so it is of each, whichever it is
+  -- the same for every client without a run
   pub alone-left : (came sent : List ℕ) (fd c : ℕ) (scripts : Bool) (buffered script : List ℕ) (q : Answer) (d : Phase)
       → FitsAlone site_contents m came sent fd c (alone buffered script q d) → IsAwaiting (alone buffered script q d)
       → WouldWait m server (conn_call scripts fd (at buffered q d)) → AloneLeft came sent c buffered script q d

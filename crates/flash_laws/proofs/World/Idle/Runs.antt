@@ -44,7 +44,7 @@ use Rattle.flash_laws.proofs.Lists.{clash}
 use Rattle.flash_laws.proofs.World.AllLaws.{AllLaws}
 use Rattle.flash_laws.proofs.World.Idle.Clients.{goes}
 
--- each worker is as it is where all is idle
+-- each worker meets its condition for idle moments
 abbrev pub WorkersAreQuiescent : (worker_set : WorkerSet) → State → List (ProcessSlot worker_set.Worker) → Type 0
 WorkersAreQuiescent worker_set m process_slots = (k : ℕ) (process_slot : ProcessSlot worker_set.Worker)
     → slice_get process_slots k ≡ Some process_slot
@@ -72,7 +72,7 @@ only-left d going = tt
 
 module _ (site_contents : SiteContents) (worker_set : WorkerSet) (laws : AllLaws worker_set) (m : State)
     (order : IsOrderly m) (fixed : IsFixedFor site_contents worker_set m) where
-  -- a part of the response is offered
+  -- if a write of a part of the response would block, the client is held up
   sending : (fd c : ℕ) (w : Wanted) (d : Phase) → descriptor m server fd ≡ Some (on.Connection c) → OnlySends d
       → WouldWait m server (conn.next_call fd (in_phase w d)) → IsHeldUp m c
   sending fd c w (phase.SendingWhole s) open_on may step =
@@ -106,7 +106,7 @@ module _ (site_contents : SiteContents) (worker_set : WorkerSet) (laws : AllLaws
   module _ (process_slots : List (ProcessSlot worker_set.Worker))
       (job_queues : AreAtJobQueues worker_set m process_slots)
       (quiescent : WorkersAreQuiescent worker_set m process_slots) (made : Made) (o : Progress) (run : Run) where
-    -- the pipe of a job is empty while its worker is free
+    -- a write of a job never waits, since the job queue of a free worker is empty
     hands : (j f : ℕ) → AtJobQueue worker_set m process_slots run made o (WritingJob j f)
         → WouldWait m server (call.IolWrite (job_pipe run.worker) j) → ⊥
     hands j f job_queue step =
@@ -117,7 +117,8 @@ module _ (site_contents : SiteContents) (worker_set : WorkerSet) (laws : AllLaws
         laws.workers.none m (worker_set.job_queue run.worker) job_queue.process_slot job_queue.stage.0.ready.free in
         not-full (pipe_at m (worker_set.job_queue run.worker)).queue none.empty full
 
-    -- while a worker puts out its pipe is full where all is idle, and once all is there its end is there, too
+    -- a read of output never waits: in idle moments the pipe of a worker with more output is full, and else its write
+    -- end is closed
     receives : (held : conn.Following) (frame : Option ℕ) (n : ℕ)
         → AtJobQueue worker_set m process_slots run made o (ReadingOutput held frame)
         → WouldWait m server (call.IolRead run.from n) → ⊥
@@ -182,7 +183,7 @@ module _ (site_contents : SiteContents) (worker_set : WorkerSet) (laws : AllLaws
         absurd (goes worker_set laws m (call.AggDrop j) refl step)
     by-step job fd c w x open_on has job_queue step = absurd (goes worker_set laws m (call.Close run.from) refl step)
 
-  -- so is each client for which a script runs, or that waits for a worker
+  -- a client with a run whose call would block is held up
   pub run-left : (fd c : ℕ) (w : Wanted) (job : ℕ → List ℕ) (y : Running)
       (process_slots : List (ProcessSlot worker_set.Worker)) (made : Made) (o : Progress)
       → AreAtJobQueues worker_set m process_slots → WorkersAreQuiescent worker_set m process_slots

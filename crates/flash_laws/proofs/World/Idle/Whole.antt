@@ -56,7 +56,7 @@ fits-open : (site_contents : SiteContents) (worker_set : WorkerSet) (m : State) 
 fits-open site_contents worker_set m came sent fd c conn None script process_slots f = f.open_on
 fits-open site_contents worker_set m came sent fd c conn (Some y) script process_slots f = f.open_on
 
--- where scripts are run there are workers
+-- if scripts are run, there are workers
 some-workers : (scripts named : Bool) (count : ℕ) → (scripts && named) ≡ true → scripts ≡ runs_scripts count → 0 < count
 some-workers true named count asks runs = grind (arith, nat_tests, runs)
 some-workers false named count asks runs = absurd (cc (asks))
@@ -67,12 +67,12 @@ module _ (site_contents : SiteContents) (worker_set : WorkerSet) (laws : AllLaws
     (all : AllFit site_contents worker_set m p clients process_slots) (all_owned : AreOwned m p clients)
     (workers : ℕ) (count : workers ≡ worker_set.count) (quiescent : WorkersAreQuiescent worker_set m process_slots)
     (blocked : AllBlock m server workers clients) where
-  -- a client that waits for a worker, where none is free
+  -- a client that waits for a worker, while none is free
   record IsPassedOver (x : Client) : Type 0 where
     pub passed : may_go (has_free workers clients) x ≡ false
     pub some : 0 < worker_set.count
 
-  -- a client for which no script runs: all that came is answered, and it uses no aggregate
+  -- a client for which no script runs: all its requests are answered, and it uses no aggregate
   record Rests (c : ℕ) (x : Client) : Type 0 where
     pub answered : IsAnsweredSoFar site_contents m (p.came c) (p.sent c) c
     pub alone : x.run ≡ None
@@ -115,7 +115,7 @@ module _ (site_contents : SiteContents) (worker_set : WorkerSet) (laws : AllLaws
         f.buffered) step)))
   ]
 
-  -- the client in a place
+  -- the descriptor of a client in a place
   place-open : (fd : ℕ) (x : Client) (is : in_place clients fd ≡ Some x)
       → descriptor m server fd ≡ Some (on.Connection (all.each fd x is).conn)
   place-open fd x is =
@@ -123,12 +123,12 @@ module _ (site_contents : SiteContents) (worker_set : WorkerSet) (laws : AllLaws
       fits-open site_contents worker_set m (p.came there.conn) (p.sent there.conn) fd there.conn x.conn x.run x.script
       process_slots there.fits
 
-  -- what is left to do for it
+  -- the client in a place rests, or is held up, or is passed over
   place-left : (fd : ℕ) (x : Client) (is : in_place clients fd ≡ Some x) → Left (all.each fd x is).conn x
   place-left fd x is =
       client-left fd (all.each fd x is).conn x.conn x.run x.script (all.each fd x is).fits (blocked.places fd x is)
 
-  -- one whose script runs is held up
+  -- a client whose script runs is held up
   runner-held : (fd k : ℕ) (x : Client) (is : in_place clients fd ≡ Some x) → is_run_by x k ≡ true
       → IsHeldUp m (all.each fd x is).conn
   runner-held fd k x is runs = by (place-left fd x is)
@@ -142,7 +142,7 @@ module _ (site_contents : SiteContents) (worker_set : WorkerSet) (laws : AllLaws
           absurd (clash (may_go (has_free workers clients) x) (workers_shared.going (has_free workers clients) k x runs)
           over.passed)
 
-  -- a script is asked for, and so much of its response is taken, or the peer left
+  -- the client asks for a script, and this part of its response is taken, or the peer left
   run-asks : (fd c : ℕ) (x : Client) (y : Running)
       (f : FitsRun site_contents worker_set m (p.came c) (p.sent c) fd c x y process_slots)
       → AsksForScript site_contents m p c
@@ -183,7 +183,7 @@ module _ (site_contents : SiteContents) (worker_set : WorkerSet) (laws : AllLaws
     run-asks fd c (of conn (Some y) script) y f,
   )
 
-  -- nothing is of one that waits for a worker
+  -- for a client that waits for a worker this part is empty
   waiter-asks : (fd c : ℕ) (conn : Conn) (run : Option Running) (script : List ℕ)
       → Fits site_contents worker_set m (p.came c) (p.sent c) fd c (of conn run script) process_slots
       → awaits (of conn run script) ≡ true → AsksForScript site_contents m p c []
@@ -194,7 +194,7 @@ module _ (site_contents : SiteContents) (worker_set : WorkerSet) (laws : AllLaws
       f.has) (run-asks fd c (of conn (Some AwaitingWorker) script) AwaitingWorker f)
   waiter-asks fd c conn o script f waits = absurd (cc (waits))
 
-  -- one that is passed over waits for a worker, while each runs the script of one that is held up
+  -- a client that is passed over waits for a worker, while each worker runs the script of a client that is held up
   awaits-left : (fd : ℕ) (x : Client) (is : in_place clients fd ≡ Some x) → IsPassedOver x
       → AwaitsWorker site_contents worker_set.count m p clients (all.each fd x is).conn
   awaits-left fd x is over =
@@ -227,7 +227,7 @@ module _ (site_contents : SiteContents) (worker_set : WorkerSet) (laws : AllLaws
             asks = asks.1;
           }
 
-  -- what is left to do for a connection that the server has
+  -- a connection of the server is answered, or held up, or waits for a worker
   abbrev IsLeft : (c : ℕ) → Type 0
   IsLeft c = IsAnsweredSoFar site_contents m (p.came c) (p.sent c) c ⊎ IsHeldUp m c
       ⊎ AwaitsWorker site_contents worker_set.count m p clients c
@@ -263,7 +263,7 @@ module _ (site_contents : SiteContents) (worker_set : WorkerSet) (laws : AllLaws
         absurd (cc (never, may)))
   ]
 
-  -- it is answered whole, but where its peer takes nothing, or no worker is free
+  -- it has its whole answer, unless it is held up, or waits for a worker
   abbrev IsWhole : (c : ℕ) → Type 0
   IsWhole c = IsAnswer site_contents (p.came c) (p.sent c ++ bytes_of (conn_at m c).outgoing) ⊎ IsHeldUp m c
       ⊎ AwaitsWorker site_contents worker_set.count m p clients c
@@ -280,7 +280,7 @@ module _ (site_contents : SiteContents) (worker_set : WorkerSet) (laws : AllLaws
   answered c net was live (inr (inr (inl ended))) =
       elim ended.whole [ inl gone ↦ absurd (clash (p.gone c) gone live) | inr done ↦ inl done ]
 
-  -- it is closed, or its peer may still ask for more, or take
+  -- it is closed, or held up, or waits for a worker, or its peer may send more requests
   abbrev IsClosing : (c : ℕ) → Type 0
   IsClosing c = ((conn_at m c).closed ≡ true) ⊎ IsHeldUp m c ⊎ AwaitsWorker site_contents worker_set.count m p clients c
       ⊎ (((conn_at m c).peer ≡ None) × StaysOpen (p.came c))
@@ -297,7 +297,7 @@ module _ (site_contents : SiteContents) (worker_set : WorkerSet) (laws : AllLaws
   closes c net was (inr (inr (inr foreign))) = (let a = foreign.other_pool in absurd (cc (a, net)))
   closes c net was (inr (inr (inl ended))) = inl ended.closed
 
-  -- who uses an aggregate is held up
+  -- a client that uses an aggregate is held up
   is_readable : (fd a : ℕ) (x : Client) → in_place clients fd ≡ Some x → uses_agg x a ≡ true → IsHeldUpAt m fd
   is_readable fd a x is uses = by (place-left fd x is)
     where
@@ -309,7 +309,7 @@ module _ (site_contents : SiteContents) (worker_set : WorkerSet) (laws : AllLaws
           (clash (uses_agg x a) uses
           ((workers_shared.waiting x (workers_shared.waits workers clients fd x is over.passed).0).0 a))
 
-  -- and the server has no aggregate but what such a client uses, or was given to it
+  -- and the server has only aggregates that such a client uses, or that were given to it
   owned : (a : ℕ) → IsReadable m a → ((used : IsUsed clients a) × IsHeldUpAt m used.fd) ⊎ (p.given a ≡ true)
   owned a readable =
       elim (all_owned a readable) [
@@ -327,7 +327,7 @@ module _ (site_contents : SiteContents) (worker_set : WorkerSet) (laws : AllLaws
     owned = owned;
   }
 
--- a worker's process slot is the next after the server's
+-- the process slot of a worker, in the world
 process_slot-of : {W : Type 0} (workers : List (ProcessSlot W)) (k : ℕ) (process_slot : ProcessSlot W)
     → slice_get workers k ≡ Some process_slot → slice_get (map (λ (v : ProcessSlot W). as_actor v) workers) k
     ≡ Some (as_actor process_slot)

@@ -17,23 +17,23 @@ use Rattle.flash_laws.specs.declared.script_run.Running.{Running}
 use Rattle.flash_laws.specs.declared.script_run.Running.TheVariants.{InProgress}
 use Rattle.flash_laws.proofs.Lists.{clash}
 
--- after the call
+-- the worker of a run after the call
 pub record JobQueueAfter (worker_set : WorkerSet) (m n : State) (c : ℕ)
     (process_slots : List (ProcessSlot worker_set.Worker)) (w : Wanted)
     (made : Made) (y z : Running) (o after : Progress) : Type 0 where
-  -- the worker of the run has what it is to have
+  -- the invariant of the run's worker
   pub job_queue : HasWorkerAt worker_set n process_slots made after z
-  -- one that ran it, and runs it no more, is free
+  -- a worker that ran it, and no longer does, is free
   pub freed : (k : ℕ) (process_slot : ProcessSlot worker_set.Worker) → slice_get process_slots k ≡ Some process_slot
       → has_worker y k ≡ true → has_worker z k ≡ false
       → worker_set.Free n (worker_set.job_queue k) process_slot
-  -- the response that is expected may still come, unless it was broken off, or is now, and that is only where the peer
-  -- is gone
+  -- the expected response stays possible, unless the run was broken off before or is broken off now; the latter happens
+  -- only if the peer is gone
   pub may : breaks_off y ≡ false → breaks_off z ≡ false → MayAnswer w o (response_to w made)
       → MayAnswer w after (response_to w made)
   pub cut : breaks_off y ≡ false → breaks_off z ≡ true → is_gone (conn_at m c).peer ≡ true
 
--- what may come, and why it does not, over a call
+-- over a call the expected response stays possible, and the run is broken off only if the peer is gone
 abbrev pub MayOn : (expected : List ℕ) → Wanted → (y z : Running) → (o after : Progress) → Type 0
 MayOn expected w y z o after = breaks_off y ≡ false → breaks_off z ≡ false → MayAnswer w o expected
     → MayAnswer w after expected
@@ -56,7 +56,7 @@ module _ (worker_set : WorkerSet) (m n : State) (c : ℕ) (process_slots : List 
   abbrev After : Running → Running → Type 0
   After y z = JobQueueAfter worker_set m n c process_slots w made y z o after
 
-  -- it goes on with its worker
+  -- the run continues with its worker
   pub proceeds : (run next : Run) (step later : Step) (process_slot : ProcessSlot worker_set.Worker)
       → next.worker ≡ run.worker → slice_get process_slots next.worker ≡ Some process_slot
       → Stage worker_set n process_slot next made after later
@@ -70,7 +70,7 @@ module _ (worker_set : WorkerSet) (m n : State) (c : ℕ) (process_slots : List 
     cut = cut;
   }
 
-  -- with what its calls gave before
+  -- the run continues, and its output so far is unchanged
   pub same_on : (run : Run) (step later : Step) (process_slot : ProcessSlot worker_set.Worker)
       → slice_get process_slots run.worker ≡ Some process_slot → after ≡ o
       → CutBy m c (InProgress run step) (InProgress run later)

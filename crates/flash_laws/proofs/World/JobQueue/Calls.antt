@@ -1,4 +1,4 @@
--- The parts of a worker that the server's own call leaves unchanged: its pipes, its files, and what it has.
+-- The parts of a worker that the server's own call leaves unchanged: its pipes, its files, and its other objects.
 use Rattle.std.proofs.Common.{◌≡◌, ℕ, List, [], ◌∷◌, ap, ◌∙◌, refl, sym, subst, arith, Some, true, false, slice_get}
 use Rattle.std.specs.Prelude.{◌==◌, ◌||◌}
 use Rattle.std.specs.List.{list_any}
@@ -31,7 +31,7 @@ use Rattle.flash_laws.proofs.World.AllLaws.{AllLaws}
 
 -- ---- calls that touch no pipe, and move no descriptor
 
--- those on aggregates, and a write to the client's connection
+-- calls on aggregates, and a write to the client's connection
 abbrev pub Quiet : (fd : ℕ) → Call → Type 0
 Quiet fd (call.AggMake bytes) = Unit {0}
 Quiet fd (call.AggCut a from to) = Unit {0}
@@ -41,7 +41,7 @@ Quiet fd (call.AggDrop a) = Unit {0}
 Quiet fd (call.IolWrite g a) = g ≡ fd
 Quiet fd k = ⊥
 
--- all pipes stay, and what the server has open
+-- all pipes and the server's descriptors are unchanged
 pub record Still (m n : State) : Type 0 where
   pub pipes : (p : ℕ) → pipe_at n p ≡ pipe_at m p
   pub fds : (g : ℕ) (x : Descriptor) → descriptor m server g ≡ Some x → descriptor n server g ≡ Some x
@@ -80,7 +80,7 @@ no_admit : (k : Call) (q : ℕ) → may_make k ≡ true → admits_to (event.Cal
 no_admit (call.PoolAdmit p d) q may = absurd (cc (may))
 no_admit k q may = refl
 
--- a call of the server that makes and writes no file, and admits nobody
+-- a call of the server that makes and writes no file, and admits no domain
 pub record OwnCall (site_contents : SiteContents) (worker_set : WorkerSet) (m n : State) (k : Call) (r : Reply)
     (process_slots : List (ProcessSlot worker_set.Worker)) : Type 0 where
   pub order : IsOrderly m
@@ -124,14 +124,14 @@ module _ (site_contents : SiteContents) (worker_set : WorkerSet) (laws : AllLaws
     pub own_files : LeavesFiles m process_slot.by n
     own_files = laws.receive.files m n process_slot.by (event.Call server k) r h.fixed.files h.step h.files h.admits
 
-    -- a worker that is free stays so, where its job queue's pipe does
+    -- a free worker stays free if its job queue is unchanged
     pub free_on : pipe_at n (worker_set.job_queue worker) ≡ pipe_at m (worker_set.job_queue worker)
         → worker_set.Free m (worker_set.job_queue worker) process_slot
         → worker_set.Free n (worker_set.job_queue worker) process_slot
     free_on same free = laws.workers.free_others m n (worker_set.job_queue worker) process_slot (event.Call server k) r
         h.fixed.placed h.step other same free
 
-  -- so does all that the worker of a run has
+  -- likewise the objects of the worker of a run
   module _ (run : Run) (process_slot : ProcessSlot worker_set.Worker)
       (sits : slice_get process_slots run.worker ≡ Some process_slot) where
     pub ready_on : ((p : ℕ) → pipe_at n p ≡ pipe_at m p) → (ready : IsReadyFor worker_set m process_slot run)

@@ -62,7 +62,7 @@ outcome-same m n d name site (Some f) is =
     (content-same m n f site.slots)
     ∙ ap (λ (x : FileEntry). if may_read m d (file m f).pool then Found (content m f) else Failed (Denied x.pool)) same)
 
--- a site that stays leaves the outcomes of files for each domain
+-- a step that leaves the site unchanged leaves the outcomes of files for each domain unchanged
 pub files-left : (m n : State) (d : ℕ) → KeepsSite m n → LeavesFiles m d n
 files-left m n d site = record {
   outcomes = λ name. ap (λ (o : Option ℕ). outcome_of n d o) (called-same m n name site.files)
@@ -72,7 +72,7 @@ files-left m n d site = record {
 
 -- ---- descriptors and aggregates
 
--- what is no call of a domain touches none of its descriptors
+-- an event that is not a call of a domain touches none of its descriptors
 pub none-touched : (m : State) (e : Event) (d fd : ℕ) → is_call_of e d ≡ false → touches_fd m e d fd ≡ false
 none-touched m (event.Call by call.Exit) d fd is = is
 none-touched m (event.Call by (call.Close f)) d fd is = ap (λ b. b && (f == fd)) is
@@ -84,7 +84,7 @@ none-touched m (event.Call by (call.Read f n)) d fd is = ap (λ b. b && (f == fd
 none-touched m (event.Call by (call.Write f bytes)) d fd is = ap (λ b. b && (f == fd) && is_file (descriptor m by f)) is
 none-touched m e d fd is = refl
 
--- nor gives up an aggregate of it
+-- and gives up none of its aggregates
 pub none-given : (e : Event) (d a : ℕ) → is_call_of e d ≡ false → gives_up e d a ≡ false
 none-given (event.Call by call.Exit) d a is = is
 none-given (event.Call by (call.AggSplit b at)) d a is = ap (λ t. t && (b == a)) is
@@ -93,7 +93,7 @@ none-given (event.Call by (call.AggDrop b)) d a is = ap (λ t. t && (b == a)) is
 none-given (event.Call by (call.AggGive b to)) d a is = ap (λ t. t && (b == a)) is
 none-given e d a is = refl
 
--- what is lent under a number that is not given up lies where it lay
+-- an aggregate of the server that is not given up keeps its bytes and their places
 pub text-stays : (steps : EachStepLeavesTheRest) (m n : State) (e : Event) (r : Reply) → StepsTo m e r n
     → (a : ℕ) (bytes : List ℕ)
     → readable_at m server a ≡ Some bytes → gives_up e server a ≡ false → text n server a ≡ text m server a
@@ -104,9 +104,9 @@ text-stays steps m n e r step a bytes is un = by (aggregate m server a) refl
     by (Some t) some = ap (λ (y : Option Text). unwrap_or y []) ((steps.values m n e r step).each server a t some un
         ∙ sym some)
 
--- ---- what one client has
+-- ---- the objects of one client
 
--- An event leaves what one client has, and the worker that runs its script.
+-- An event leaves the objects of one client, and the worker that runs its script, unchanged.
 pub record LeavesOne (worker_set : WorkerSet) (m n : State) (e : Event) (fd : ℕ) (x : Client) : Type 0 where
   pub own : touches_fd m e server fd ≡ false
   pub aggs : (a : ℕ) → uses_agg x a ≡ true → gives_up e server a ≡ false
@@ -121,14 +121,14 @@ pub record LeavesOne (worker_set : WorkerSet) (m n : State) (e : Event) (fd : �
       → is_stopping (InProgress run step) ≡ false
       → pipe_at n p ≡ pipe_at m p
 
--- ---- what its worker has
+-- ---- the objects of its worker
 
 module _ (worker_set : WorkerSet) (laws : AllLaws worker_set) (m n : State) (e : Event) (r : Reply)
     (order : IsOrderly m) (placed : ArePlaced m) (step : StepsTo m e r n) (site : KeepsSite m n) where
   leaves : Leaving m e n
   leaves = laws.the.steps.leaves m n e r step
 
-  -- the pipe of a run stays as it is
+  -- the pipe of a run is unchanged
   abbrev SamePipe : Run → Type 0
   SamePipe run = (p : ℕ) → descriptor m server run.from ≡ Some (on.ReadEnd p)
       → ((k : ℕ) → k < worker_set.count → worker_set.job_queue k ≢ p) → pipe_at n p ≡ pipe_at m p

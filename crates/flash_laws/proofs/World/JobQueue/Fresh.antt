@@ -58,7 +58,7 @@ use Rattle.flash_laws.proofs.World.JobQueue.After.{JobQueueAfter, may_same, cut_
 use Rattle.flash_laws.proofs.World.JobQueue.Calls.{OwnCall, Still, leaves, own_things, own_files, other, free_on}
 use Rattle.flash_laws.proofs.World.JobQueue.Calls.{ready_on, given_on}
 
--- ---- a pipe that is open is not the next new one
+-- ---- an open pipe is not the next new one
 
 not_there : (m : State) (p : ℕ) → lowest m.pipes ≡ p → (pipe_at m p).writing ≡ true → ⊥
 unfolding pipe_at
@@ -94,7 +94,7 @@ short_job f query script few short_query short_script =
     length-decimal-le 9 (length script) (omega arith) (omega (arith, short_script)) (omega (arith, short_script)) in
     omega (arith, whole, a, b, d, short_query, short_script)
 
--- ---- what is written to an empty pipe is all that it has
+-- ---- after a write to an empty pipe, the pipe has only the bytes written
 
 both_true : (a b : Bool) → (a && b) ≡ true → (a ≡ true) × (b ≡ true)
 both_true true b is = (refl, is)
@@ -124,7 +124,7 @@ lies_whole m n p k bytes puts empty short =
 
 module _ (site_contents : SiteContents) (worker_set : WorkerSet) (laws : AllLaws worker_set) (m n : State) (c : ℕ)
     (process_slots : List (ProcessSlot worker_set.Worker)) (w : Wanted) (o after : Progress) where
-  -- a worker that is free lives, and reads its jobs
+  -- a free worker lives, and reads its jobs
   pub not_lost : IsOrderly m → AreAtJobQueues worker_set m process_slots
       → (run : Run) (step : Step) (process_slot : ProcessSlot worker_set.Worker)
       → slice_get process_slots run.worker ≡ Some process_slot
@@ -153,7 +153,7 @@ module _ (site_contents : SiteContents) (worker_set : WorkerSet) (laws : AllLaws
     abbrev After : Running → Running → Type 0
     After y z = JobQueueAfter worker_set m n c process_slots w made y z o after
 
-    -- ---- a worker is hired
+    -- ---- a worker is assigned
 
     pub awaits : (worker : ℕ) (r : Reply) → OwnCall site_contents worker_set m n call.Pipe r process_slots → IsOrderly n
         → (worker < worker_set.count) × ((process_slot : ProcessSlot worker_set.Worker)
@@ -203,7 +203,7 @@ module _ (site_contents : SiteContents) (worker_set : WorkerSet) (laws : AllLaws
       cut = cut_whole m c AwaitingWorker AwaitingWorker refl;
     }
 
-    -- ---- it is given the pipe
+    -- ---- the worker gets the pipe
 
     pub gives : (run : Run) (write : ℕ) (r : Reply) (process_slot : ProcessSlot worker_set.Worker)
         (sits : slice_get process_slots run.worker ≡ Some process_slot)
@@ -314,7 +314,7 @@ module _ (site_contents : SiteContents) (worker_set : WorkerSet) (laws : AllLaws
     abbrev pipe : ℕ
     pipe = given.ready.has.pipe
 
-    -- all of it lies in the pipe of its job queue
+    -- the whole job is in the job queue
     begun : (k : ℕ) (h : OwnCall site_contents worker_set m n (call.IolWrite (job_pipe run.worker) j) (reply.Count k)
         process_slots)
         → ((p : ℕ) → p ≢ job_queue → pipe_at n p ≡ pipe_at m p) → descriptor n server run.from ≡ Some (on.ReadEnd pipe)

@@ -1,4 +1,4 @@
--- The worker of a running script, over the server's own call for it: its objects, and the time when it is free again.
+-- The worker of a running script, over the server's own call for it: its objects, and when it is free again.
 use Rattle.std.proofs.Common.{◌≡◌, ◌≢◌, ◌<◌, ℕ, List, refl, sym, subst, Some, true, false, slice_get}
 use Rattle.iol_core.specs.State.{State, descriptor, pipe_at}
 use Rattle.iol_core.specs.Run.{StepsTo}
@@ -75,7 +75,7 @@ module _ (site_contents : SiteContents) (worker_set : WorkerSet) (laws : AllLaws
     left y step = laws.the.steps.leaves m n (event.Call server (next_call job fd w y)) r step
 
     module _ (run : Run) where
-      -- it is broken off only where the peer is gone
+      -- it is broken off only if the peer is gone
       cut_off : (step : Step) (process_slot : ProcessSlot worker_set.Worker) → HasRun job m w o (InProgress run step)
           → Done (InProgress run step) → IsPuttingOut worker_set m process_slot run made o
           → CutBy m c (InProgress run step) (after_step w run step r received)
@@ -131,7 +131,7 @@ module _ (site_contents : SiteContents) (worker_set : WorkerSet) (laws : AllLaws
           ending step process_slot sits all has did
           ((undisturbed step quiet did).pipes (worker_set.job_queue run.worker)) was same
 
-      -- a script that is not given up
+      -- a run with a free worker does not begin to fail
       buffered : (step : Step) (process_slot : ProcessSlot worker_set.Worker)
           → slice_get process_slots run.worker ≡ Some process_slot → is_failing (InProgress run step) ≡ false
           → HasRun job m w o (InProgress run step)

@@ -48,7 +48,7 @@ use Rattle.flash_laws.proofs.World.AllLaws.{AllLaws}
 use Rattle.flash_laws.proofs.World.JobQueue.After.{JobQueueAfter, MayOn, CutBy, may_same, cut_same, proceeds, same_on}
 use Rattle.flash_laws.proofs.World.JobQueue.Calls.{Quiet, OwnCall, own_files, other}
 
--- ---- a part of the response is taken: what is to come, and may come, stays
+-- ---- a part of the response is taken: the unseen output and the possible responses are unchanged
 
 taken_may : (w : Wanted) (o : Progress) (part expected : List ℕ) → MayAnswer w o expected
     → MayAnswer w (takes_on o part) expected
@@ -75,7 +75,7 @@ part_to_come m (phase.Aborting a None) reply.Done o after output more learns com
     subst (λ (p : Progress). IsToCome p output more) (sym learns) tt
 part_to_come m d r o after output more learns come = subst (λ (p : Progress). IsToCome p output more) (sym learns) come
 
--- what sends it touches no pipe
+-- the calls that send it touch no pipe
 pub quiet_part : (m : State) (fd : ℕ) (w : Wanted) (expected : List ℕ) (d : Phase) → IsSending m expected d
     → Quiet fd (conn.next_call fd (in_phase w d))
 quiet_part m fd w expected (phase.MakingHead (Error status)) is = tt
@@ -99,7 +99,7 @@ ReceivesNothing (FillingFrame held frame) = Unit {0}
 ReceivesNothing (DroppingHeld held chunk len frame) = Unit {0}
 ReceivesNothing step = ⊥
 
--- ---- what is received is the front of what is to come
+-- ---- the bytes received are the front of the unseen output
 
 received_more : (o after : Progress) (output more rest bytes : List ℕ) (b : ℕ) → after ≡ receives_on o (b ∷ bytes)
     → IsToCome o output more → more ≡ (b ∷ bytes) ++ rest
@@ -123,7 +123,7 @@ received_whole Broken after output more learns come none =
     subst (λ (p : Progress). IsReceivedWhole p output) (sym learns) tt
 received_whole (NotRun status past) after output more learns come none = absurd come
 
--- ---- and so the response to it may come
+-- ---- so the response to the output is possible
 
 run_may : (w : Wanted) (made : Made) (received past more : List ℕ) (ended : Bool) → text_of made ≡ received ++ more
     → Follows ended more
@@ -150,7 +150,7 @@ end_may w made (Ran received ended past) after more learns come none may =
 end_may w made Broken after more learns come none may = absurd may
 end_may w made (NotRun status past) after more learns come none may = absurd come
 
--- ---- nothing is hidden from the server that a worker puts out
+-- ---- the server may read all output of a worker
 
 not_hidden : (pools : ℕ → Bool) (m : State) (q : ℕ) (t : Text) → MayReadAll m server pools → lie_in pools t ≡ true
     → IsHidden m server q t → ⊥
@@ -193,7 +193,7 @@ module _ (site_contents : SiteContents) (worker_set : WorkerSet) (laws : AllLaws
     module _ (run : Run) (process_slot : ProcessSlot worker_set.Worker)
         (sits : slice_get process_slots run.worker ≡ Some process_slot)
         (now : IsPuttingOut worker_set n process_slot run made after) where
-      -- ---- what is held
+      -- ---- held output
 
       held_on : (step : Step) (a size : ℕ) (frame : Option ℕ)
           → ((z : Running) → MayOn (response_to w made) w (InProgress run step) z o after)
@@ -235,7 +235,7 @@ module _ (site_contents : SiteContents) (worker_set : WorkerSet) (laws : AllLaws
           process_slot
           refl sits now (may (InProgress run (JoiningOutput y.0 y.1 a len frame))) cut
 
-      -- ---- steps that hear nothing
+      -- ---- steps that receive nothing
 
       module _ (same : after ≡ o) where
         to : (step later : Step) → CutBy m c (InProgress run step) (InProgress run later)
@@ -300,7 +300,7 @@ module _ (site_contents : SiteContents) (worker_set : WorkerSet) (laws : AllLaws
           (SendingPart (after_part d r) frame) process_slot refl sits now
           (λ was gone may. part_may m w d r o after (response_to w made) learns was may) cut
 
-  -- ---- made is read, or its end
+  -- ---- output is read, or its end
 
   module _ (made : Made) (run : Run) (held : Following) (frame : Option ℕ)
       (process_slot : ProcessSlot worker_set.Worker) (sits : slice_get process_slots run.worker ≡ Some process_slot)

@@ -51,7 +51,7 @@ pub apart_write : (o : Option Descriptor) (p q : ℕ) → o ≡ Some (on.WriteEn
 apart_write o p q is differ = ap (λ u. list_any (is_end q) (u ∷ []) || false) is
     ∙ ap (λ b. (b || false) || false) (not-equal p q differ)
 
--- the steps once no more made is read
+-- the steps after all output was read
 abbrev pub HasReceivedAll : Step → Type 0
 HasReceivedAll (DroppingEnd a held frame) = Unit {0}
 HasReceivedAll (DiscardingHeld held frame) = Unit {0}
@@ -68,7 +68,7 @@ some_one a b e = cc (e)
 
 module _ (site_contents : SiteContents) (worker_set : WorkerSet) (laws : AllLaws worker_set) (m n : State) (c : ℕ)
     (process_slots : List (ProcessSlot worker_set.Worker)) (w : Wanted) (o after : Progress) where
-  -- the pipe that is closed is not the one by which a free worker's jobs come
+  -- a close of the run's pipe leaves the job queue of its free worker unchanged
   pub shut_stays : (run : Run) (p : ℕ) (r : Reply) (process_slot : ProcessSlot worker_set.Worker)
       → slice_get process_slots run.worker ≡ Some process_slot
       → OwnCall site_contents worker_set m n (call.Close run.from) r process_slots
@@ -180,7 +180,7 @@ module _ (site_contents : SiteContents) (worker_set : WorkerSet) (laws : AllLaws
           on_to (DroppingLastFrame frame chunk len) (DroppingLastFrame frame chunk len) refl now
       last_steps step r received is = absurd is
 
-    -- a run that left its worker
+    -- a run that no longer has a worker
     pub leaving : (d : Phase) (r : Reply) (received : List ℕ) → PartLearns m d r o after
         → CutBy m c (Finishing d) (Finishing (conn.after_reply (in_phase w d) r received).phase)
         → After (Finishing d) (Finishing (conn.after_reply (in_phase w d) r received).phase)

@@ -1,4 +1,4 @@
--- The worker's side: the text of a script on its way to its reader, over one step.
+-- The worker's side: the unseen text of a script, over one step.
 use Rattle.std.proofs.Common.{inl, inr, ◌≡◌, ◌⊎◌, ◌<◌, ℕ, List, [], ◌∷◌, ◌++◌, length, ap, ◌∙◌, refl, sym, subst, arith}
 use Rattle.std.proofs.Common.{Some, true, false, Bool, length-append}
 use Rattle.iol_core.specs.Text.{Text, bytes_of}
@@ -27,7 +27,7 @@ use Rattle.flash_cgi.proofs.OutputByCall.{bytes-append}
 use Rattle.flash_laws.specs.Workers.PutsOut.{HasRead, IsAllThere, PutsOut, PutsOutStill, TextsArePutOut}
 use Rattle.flash_laws.specs.Workers.{TakesTurn, WorkersRun, Wrote}
 
--- nothing went from a pipe that was left
+-- no byte was taken from an unchanged queue
 no_front : (gone queue : Text) → queue ≡ gone ++ queue → gone ≡ []
 no_front [] queue e = refl
 no_front (b ∷ gone) queue e = (let l = ap (λ (t : Text). length t) e ∙ length-append (b ∷ gone) queue in
@@ -91,7 +91,7 @@ module _ {W : Type 0} (works : TransitionRelation W) (quiescent : Claim W) (pool
         });
       }
 
-  -- ---- others that leave both pipes
+  -- ---- events of others that leave both pipes unchanged
 
   left : (m n : State) (j p : ℕ) (process_slot : ProcessSlot W) (e : Event) (r : Reply) (made : Made) (text : List ℕ)
       → IsOrderly m → ArePlaced m → StepsTo m e r n → is_call_of e process_slot.by ≡ false

@@ -63,9 +63,9 @@ module _ (site_contents : SiteContents) (worker_set : WorkerSet) (laws : AllLaws
     (clients : List (Option Client)) (process_slots : List (ProcessSlot worker_set.Worker)) (k : ℕ)
     (process_slot next : ProcessSlot worker_set.Worker) (yields : Bool) (r : Reply)
     (turn : IsTurn site_contents worker_set m n p clients process_slots k process_slot next yields r) where
-  -- ---- which pipe it touches
+  -- ---- the pipe that a turn touches
 
-  -- one that is free touches nothing
+  -- a turn of a free worker changes nothing
   waits : (j : ℕ) → worker_set.Free m j process_slot → (n ≡ m) × worker_set.Free n j next
   waits j free = laws.workers.waits m n j process_slot next yields r turn.order free turn.did
 
@@ -86,7 +86,7 @@ module _ (site_contents : SiteContents) (worker_set : WorkerSet) (laws : AllLaws
     own = own-job_queue;
   }
 
-  -- what the server reads for its client no other reads
+  -- the server reads this pipe only for the client of this worker
   own-pipe : (fd : ℕ) (x : Client) (run : Run) (q : ℕ) → in_place clients fd ≡ Some x → is_run_by x k ≡ true
       → descriptor m server run.from ≡ Some (on.ReadEnd q)
       → has_fd x run.from ≡ true → ((l : ℕ) → l < worker_set.count → worker_set.job_queue l ≢ q)
@@ -173,7 +173,7 @@ module _ (site_contents : SiteContents) (worker_set : WorkerSet) (laws : AllLaws
     stage-touches Failing at runs h = absurd h
     stage-touches s at runs h = rests (worker_set.job_queue run.worker) h.free
 
-  -- who sits at the job queue of a run of worker k
+  -- the process slot of the worker of a run, if this is worker k
   at-job_queue : (run : Run) (there : ProcessSlot worker_set.Worker) → (run.worker == k) ≡ true
       → slice_get process_slots run.worker ≡ Some there → there ≡ process_slot
   at-job_queue run there runs sits =
@@ -192,7 +192,7 @@ module _ (site_contents : SiteContents) (worker_set : WorkerSet) (laws : AllLaws
       (at-job_queue run f.fits.job_queue.process_slot runs f.fits.job_queue.sits) f.fits.job_queue.stage)
   client-touches fd x run script at runs f = absurd (cc (runs))
 
-  -- ---- what it has then
+  -- ---- its objects after the turn
 
   module _ (q : ℕ) (left : LeavesAllBut m process_slot.by q n) where
     came : IsCallOf m process_slot.by r n × (next.by ≡ process_slot.by)
@@ -227,13 +227,13 @@ module _ (site_contents : SiteContents) (worker_set : WorkerSet) (laws : AllLaws
             ∙ (ap (λ d. descriptor m d fd) came.1 ∙ h.writes);
       }
 
-    -- ---- of a script: where a call for a file is refused, another response is expected, of which as much is given
+    -- ---- if a call for a file is refused, another response is expected, and the same part of it is written
 
     module _ (run : Run) (w : Wanted) (lines : List Line) (shown : List Outcome) (o : Progress) (job : ℕ → List ℕ) where
       abbrev made : Made
       made = made_of w lines shown
 
-      -- what it is after the turn
+      -- the invariant of the run after the turn
       record Turned (s : Step) : Type 0 where
         pub shown_now : List Outcome
         pub may_show : (there : List Outcome) → AllMayShow site_contents there shown
@@ -259,7 +259,7 @@ module _ (site_contents : SiteContents) (worker_set : WorkerSet) (laws : AllLaws
       put-turn : HasPutOut worker_set m process_slot run made o → HasPutOut worker_set n next run made o
       put-turn h = record { free = (waits (worker_set.job_queue run.worker) h.free).1; whole = h.whole }
 
-      -- as much of the other response is given
+      -- the same part of the other response is written
       exchanged : (s : Step) (after : Made) (more later : List ℕ) → is_stopping (InProgress run s) ≡ false
           → HasStep job m w o run s
           → ((front : List ℕ) → text_of made ≡ front ++ more → text_of after ≡ front ++ later)
@@ -386,7 +386,7 @@ module _ (site_contents : SiteContents) (worker_set : WorkerSet) (laws : AllLaws
       stage-turn Failing has h = absurd h
       stage-turn s has h = putting-turn s refl refl has (λ after puts. puts) h
 
-    -- what the run has stays
+    -- the run still has its objects
     has-turn : (job : ℕ → List ℕ) (w : Wanted) (o : Progress) (y : Running) → HasRun job m w o y → HasRun job n w o y
     has-turn job w o y has = by came.0
       where

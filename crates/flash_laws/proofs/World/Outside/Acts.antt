@@ -27,7 +27,7 @@ use Rattle.flash_laws.proofs.Site.Peers.{IsAfterReply}
 use Rattle.flash_laws.proofs.World.AllLaws.{AllLaws}
 use Rattle.flash_laws.proofs.World.Outside.Conns.{Goes, outside}
 
--- a number that is still to come names nothing
+-- a number that is not yet used names no connection
 none-there : (m : State) (c : ℕ) → IsOrderly m → m.next_conn ≤ c → conn_at m c ≡ no_conn
 unfolding conn_at
 none-there m c order more = let none = order.conns c more in grind (arith, none)
@@ -154,7 +154,7 @@ module _ (site_contents : SiteContents) (worker_set : WorkerSet) (laws : AllLaws
       mine : p.sent c ++ (if c == c then bytes else []) ≡ p.sent c ++ bytes
       mine = ap (λ b. p.sent c ++ (if b then bytes else [])) (self c)
 
-      -- what was sent and is to be sent stays
+      -- the sent bytes with the queued bytes after them are the same
       total : p.sent c ++ bytes_of (conn_at m c).outgoing ≡ (p.sent c ++ (if c == c then bytes else []))
           ++ bytes_of (conn_at n c).outgoing
       total = ap (λ (l : List ℕ). p.sent c ++ l) did.bytes_were
@@ -221,7 +221,7 @@ module _ (site_contents : SiteContents) (worker_set : WorkerSet) (laws : AllLaws
         | inr over ↦ (let closed = over.1 in absurd (cc (closed, still)))
       ]
 
-  -- ---- a connection comes
+  -- ---- a connection is made
 
   made-next : (m n : State) (pool c : ℕ) → StepsTo m (event.ConnNew pool) (reply.Conn c) n
       → (c ≡ m.next_conn) × (n.next_conn ≡ m.next_conn + 1)

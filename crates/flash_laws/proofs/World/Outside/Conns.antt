@@ -1,5 +1,5 @@
--- Events other than calls of the server or a worker preserve the invariants of all clients and workers, as their
--- connections continue.
+-- Events other than calls of the server or a worker preserve the invariants of all clients and workers, if their
+-- connections change as `Goes` states.
 use Rattle.std.proofs.Common.{inl, inr, ◌≡◌, ◌≢◌, ◌≤◌, ◌<◌, ◌⊎◌, ℕ, List, [], ◌++◌, ap, ◌∙◌, refl, sym, subst, arith}
 use Rattle.std.proofs.Common.{Option, Some, None, true, false, append-nil}
 use Rattle.std.proofs.lemmas.Bool.{cases_eq}
@@ -28,14 +28,14 @@ use Rattle.flash_laws.proofs.World.ClientFrame.{Changes, fits_beside}
 use Rattle.flash_laws.proofs.World.Outside.JobQueues.{one-left, free-left, job_queues-left}
 use Rattle.flash_laws.proofs.Site.OpenDescriptors.{held-open}
 
--- how the connection of a client goes on
+-- the change of a client's connection
 pub record Goes (m n : State) (p q : Past) (c : ℕ) : Type 0 where
   pub more : List ℕ
   pub came : q.came c ≡ p.came c ++ more
   pub grows : bytes_of (conn_at n c).incoming ≡ bytes_of (conn_at m c).incoming ++ more
   pub changes : Changes (conn_at m c) (conn_at n c) (p.sent c) (q.sent c)
 
--- it stays as it is, and so does its history
+-- the connection and its history are unchanged
 pub goes-same : (m n : State) (p q : Past) (c : ℕ) → conn_at n c ≡ conn_at m c → q.came c ≡ p.came c
     → q.sent c ≡ p.sent c → Goes m n p q c
 goes-same m n p q c same came sent = record {
@@ -65,7 +65,7 @@ module _ (site_contents : SiteContents) (worker_set : WorkerSet) (laws : AllLaws
     (step : StepsTo m e r n)
     (not_server : is_call_of e server ≡ false) (not_worker : (k : ℕ) → k < worker_set.count
     → is_call_of e (worker_domain k) ≡ false) where
-  -- what is to be shown is of connections alone
+  -- only statements about connections remain to be proved
   pub all_on : AllFit site_contents worker_set m p clients process_slots
       → ((fd c : ℕ) → descriptor m server fd ≡ Some (on.Connection c) → Goes m n p q c)
       → ((c : ℕ) → Aside site_contents p c (conn_at m c) → Aside site_contents q c (conn_at n c))
@@ -112,14 +112,14 @@ module _ (site_contents : SiteContents) (worker_set : WorkerSet) (laws : AllLaws
       })
       somewhere c (inr aside) = inr (asides c aside)
 
--- the same history, but of one connection
+-- histories that differ only in one connection
 pub record SameBut (p q : Past) (c : ℕ) : Type 0 where
   pub came : (k : ℕ) → c ≢ k → q.came k ≡ p.came k
   pub sent : (k : ℕ) → c ≢ k → q.sent k ≡ p.sent k
   pub net : (k : ℕ) → c ≢ k → q.net k ≡ p.net k
   pub gone : (k : ℕ) → c ≢ k → q.gone k ≡ p.gone k
 
--- one aside stays so, with its history
+-- a connection aside stays aside if its history is unchanged
 aside-same : (site_contents : SiteContents) (p q : Past) (c k : ℕ) (j : Connection) → SameBut p q c → c ≢ k
     → Aside site_contents p k j → Aside site_contents q k j
 aside-same site_contents p q c k j past differ (inl w) = inl (record {
@@ -146,7 +146,7 @@ aside-same site_contents p q c k j past differ (inr (inr w)) =
     inr (inr (record { other_pool = past.net k differ ∙ w.other_pool; taken = w.taken }))
 
 module _ (site_contents : SiteContents) (worker_set : WorkerSet) (laws : AllLaws worker_set) where
-  -- an event that touches one connection: what is to be shown is of that one alone
+  -- an event that touches one connection: only statements about that one remain to be proved
   pub outside : (m n : State) (p q : Past) (clients : List (Option Client))
       (process_slots : List (ProcessSlot worker_set.Worker)) (e : Event) (r : Reply) (c : ℕ)
       → IsOrderly m → IsFixedFor site_contents worker_set m → KeepsSite m n → StepsTo m e r n

@@ -47,7 +47,7 @@ read-one : (p q : ℕ) → Some (on.ReadEnd p) ≡ Some (on.ReadEnd q) → p ≡
 read-one p q e = cc
 
 module _ (worker_set : WorkerSet) (laws : AllLaws worker_set) where
-  -- a pipe of which whoever calls has no end is left
+  -- a call of a domain that has no end of a pipe leaves the pipe unchanged
   pub pipe-left : (m n : State) (e : Event) (r : Reply) (p : ℕ) → StepsTo m e r n
       → ((d : ℕ) → is_call_of e d ≡ true → HasNotEnd m d (on.ReadEnd p))
       → ((d : ℕ) → is_call_of e d ≡ true → HasNotEnd m d (on.WriteEnd p))
@@ -56,7 +56,7 @@ module _ (worker_set : WorkerSet) (laws : AllLaws worker_set) where
       laws.pipes.pipe m n d k r p step (reads d (self d)) (writes d (self d)) there
   pipe-left m n e r p step reads writes there = (laws.the.steps.leaves m n e r step).pipes p refl
 
-  -- ---- nobody but the server and its worker writes to the pipe of a run, while its made is received
+  -- ---- only the server and its worker have a write end of a run's pipe, while its output is received
 
   module _ (m : State) (order : IsOrderly m) (process_slot : ProcessSlot worker_set.Worker) (run : Run) (p : ℕ)
       (opens : descriptor m server run.from ≡ Some (on.ReadEnd p))
@@ -123,11 +123,11 @@ module _ (site_contents : SiteContents) (worker_set : WorkerSet) (laws : AllLaws
       (not_server : is_call_of e server ≡ false)
       (not_worker : (k : ℕ) → k < worker_set.count → is_call_of e (worker_domain k) ≡ false)
       (all : AllFit site_contents worker_set m p clients process_slots) where
-    -- whoever calls is neither
+    -- a domain that calls differs from a domain that does not call
     other-than : (d q : ℕ) → is_call_of e d ≡ true → is_call_of e q ≡ false → d ≢ q
     other-than d q is none same = clash (is_call_of e q) (subst (λ z. is_call_of e z ≡ true) same is) none
 
-    -- so whoever calls has no end of a job queue's pipe, and leaves it
+    -- so the caller has no end of a job queue, and leaves it unchanged
     pub job_queue-left : (k : ℕ) → k < worker_set.count
         → pipe_at n (worker_set.job_queue k) ≡ pipe_at m (worker_set.job_queue k)
     job_queue-left k lt =
@@ -148,7 +148,7 @@ module _ (site_contents : SiteContents) (worker_set : WorkerSet) (laws : AllLaws
             other-than d server is not_server (order.one d server g (job_pipe k) (on.WriteEnd (worker_set.job_queue k))
             refl there (all.job_queues.job_queues k lt)).0
 
-    -- nor has it an end of the pipe of a run, while its made is received
+    -- nor has the caller an end of a run's pipe, while its output is received: it leaves the pipe unchanged
     run-left : (fd c : ℕ) (x : Client) (run : Run) (s : Step) (q : ℕ)
         → Fits site_contents worker_set m (p.came c) (p.sent c) fd c x process_slots → x.run ≡ Some (InProgress run s)
         → descriptor m server run.from ≡ Some (on.ReadEnd q) → is_stopping (InProgress run s) ≡ false
@@ -177,7 +177,7 @@ module _ (site_contents : SiteContents) (worker_set : WorkerSet) (laws : AllLaws
             ∙ in_domain.1))
             _ f.wanted _ f.so_far s f.has.1 f.job_queue.stage going
 
-    -- a client has what it had
+    -- the objects of a client are unchanged
     pub one-left : (fd : ℕ) (x : Client) → FitsAt site_contents worker_set m p fd x process_slots
         → LeavesOne worker_set m n e fd x
     one-left fd x at = record {
@@ -190,7 +190,7 @@ module _ (site_contents : SiteContents) (worker_set : WorkerSet) (laws : AllLaws
       pipe = λ run s q runs opens has apart going. run-left fd at.conn x run s q at.fits runs opens going;
     }
 
-    -- a worker that is free stays so
+    -- a free worker stays free
     pub free-left : (k : ℕ) (process_slot : ProcessSlot worker_set.Worker)
         → slice_get process_slots k ≡ Some process_slot → is_free clients k ≡ true
         → worker_set.Free n (worker_set.job_queue k) process_slot
@@ -200,7 +200,7 @@ module _ (site_contents : SiteContents) (worker_set : WorkerSet) (laws : AllLaws
         (subst (λ d. is_call_of e d ≡ false) (sym in_domain.1) (not_worker k in_domain.0))
         (job_queue-left k in_domain.0) (all.free k process_slot sits free)
 
-    -- and all sit where they sat
+    -- and all workers stay at their job queues
     pub job_queues-left : AreAtJobQueues worker_set n process_slots
     job_queues-left = record {
       in_slots = all.job_queues.in_slots;

@@ -32,14 +32,14 @@ use Rattle.flash_laws.proofs.World.Responses.{begins-less, begins-none}
 use Rattle.flash_laws.proofs.World.Outside.Acts.{was-accepted}
 use Rattle.flash_laws.proofs.World.Outside.Conns.{Goes, outside}
 
--- ---- what stays of a connection
+-- ---- the unchanged parts of a connection
 
 same-beside : (k : Connection) (w : How) → ((closed_by k w).incoming ≡ k.incoming)
     × ((closed_by k w).accepted ≡ k.accepted) × ((closed_by k w).closed ≡ k.closed) × ((closed_by k w).pool ≡ k.pool)
 same-beside k how.Done = (refl, refl, refl, refl)
 same-beside k how.Gone = (refl, refl, refl, refl)
 
--- a peer that was gone is, and no other
+-- a peer that is done counts as gone exactly if it was gone before
 gone-same : (b : Bool) → is_gone (if b then Some how.Gone else Some how.Done) ≡ b
 gone-same true = refl
 gone-same false = refl
@@ -48,7 +48,7 @@ one-closed : (b : Bool) → is_none (if b then Some how.Gone else Some how.Done)
 one-closed true = refl
 one-closed false = refl
 
--- one that is done sends no more, and one that is gone takes no more
+-- a peer that is done sends no more, and one that is gone takes no more
 changes-closed : (k : Connection) (w : How) (sent : List ℕ) → Changes k (closed_by k w) sent sent
 changes-closed k how.Done sent =
     inl (record {
@@ -106,7 +106,7 @@ module _ (site_contents : SiteContents) (worker_set : WorkerSet) (laws : AllLaws
       leaves : Leaving m (event.PeerClosed c w) n
       leaves = laws.the.steps.leaves m n (event.PeerClosed c w) reply.Done step
 
-      -- it was made
+      -- the connection was made
       unmade : m.next_conn ≤ c → ⊥
       unmade more = clash (lacks_conn m c) (ap (λ (o : Option Connection). is_none o) (order.conns c more))
           (when-none no.BadFd (lacks_conn m c) (passed (meaning m (event.PeerClosed c w)).refusals 0 step.0))
@@ -128,7 +128,7 @@ module _ (site_contents : SiteContents) (worker_set : WorkerSet) (laws : AllLaws
       goes taken open_yet (inr (inl a)) = (let waits = a.0 in absurd (cc (taken, waits)))
       goes taken open_yet (inr (inr b)) = (let closed = b.0 in absurd (cc (open_yet, closed)))
 
-      -- of others nothing is told
+      -- the event reports no other peer as gone
       elsewhere : (w : How) (z : ℕ) → c ≢ z → gone_by z (event.PeerClosed c w) reply.Done ≡ false
       elsewhere how.Done z differ = refl
       elsewhere how.Gone z differ = not-equal c z differ
@@ -145,7 +145,7 @@ module _ (site_contents : SiteContents) (worker_set : WorkerSet) (laws : AllLaws
         | inr over ↦ (let closed = ap (λ (z : Connection). z.closed) over.0 in absurd (cc (closed, still)))
       ]
 
-      -- one that nobody had accepted is forgotten where its peer left
+      -- a connection that was not accepted is closed only if its peer left
       unaccepted : (w : How) → StepsTo m (event.PeerClosed c w) reply.Done n → (conn_at m c).accepted ≡ false
           → (conn_at n c).closed ≡ true → (p.gone c || gone_by c (event.PeerClosed c w) reply.Done) ≡ true
       unaccepted how.Gone step waits closed = later_of (p.gone c) (c == c) (self c)
@@ -158,7 +158,7 @@ module _ (site_contents : SiteContents) (worker_set : WorkerSet) (laws : AllLaws
         ]
       ]
 
-      -- one that was closed is forgotten where its peer left, or where nothing was to be sent
+      -- if no output is left on a closed connection, its peer left, or it has its whole answer
       forgotten : (w : How) → StepsTo m (event.PeerClosed c w) reply.Done n → (conn_at n c).outgoing ≡ []
           → (p.gone c ≡ true) ⊎ IsAnswer site_contents (p.came c) (p.sent c ++ bytes_of (conn_at m c).outgoing)
           → ((p.gone c || gone_by c (event.PeerClosed c w) reply.Done) ≡ true)

@@ -32,7 +32,7 @@ use Rattle.flash_laws.proofs.World.Outside.Conns.{Goes, goes-same, all_on}
 use Rattle.flash_laws.proofs.World.Outside.Peers.{peer_closes}
 use Rattle.flash_laws.proofs.Site.OpenDescriptors.{held-open}
 
--- what changes nothing, and is told nowhere
+-- an event that changes neither the state nor the history
 nothing : (site_contents : SiteContents) (worker_set : WorkerSet) (m n : State) (p : Past)
     (clients : List (Option Client)) (process_slots : List (ProcessSlot worker_set.Worker)) (e : Event) (r : Reply)
     → n ≡ m
@@ -61,7 +61,7 @@ module _ (site_contents : SiteContents) (worker_set : WorkerSet) (laws : AllLaws
       laws.the.rises m n (event.Call d k) r step in all.fresh c (omega (arith, up, more)))
       (λ c more. let up = laws.the.rises m n (event.Call d k) r step in all.unreported c (omega (arith, up, more)))
     where
-      -- nobody has it
+      -- the caller has no such connection
       unheld : (c : ℕ) → (((conn_at m c).accepted ≡ false) ⊎ ((conn_at m c).closed ≡ true)) → (f : ℕ)
           → descriptor m d f ≡ Some (on.Connection c) → ⊥
       unheld c why f is = by (conn_at m c).accepted (conn_at m c).closed (order.all_stand d f (on.Connection c) is) why
@@ -72,7 +72,7 @@ module _ (site_contents : SiteContents) (worker_set : WorkerSet) (laws : AllLaws
           by true true both why = cc
           by false b both why = cc
 
-      -- what a client has only the server has
+      -- only the server has the connection of a client
       goes : (fd c : ℕ) → descriptor m server fd ≡ Some (on.Connection c) → Goes m n p p c
       goes fd c opens =
           let same =
@@ -109,7 +109,7 @@ module _ (site_contents : SiteContents) (worker_set : WorkerSet) (laws : AllLaws
                 laws.the.other.accepted m n d k r c order step foreign.taken;
           }))
 
-  -- what happens outside
+  -- external events
   pub acts : (m n : State) (p : Past) (clients : List (Option Client))
       (process_slots : List (ProcessSlot worker_set.Worker)) (e : Event) (r : Reply)
       → IsOrderly m → IsOrderly n → IsFixedFor site_contents worker_set m → IsAct e → KeepsSite m n → StepsTo m e r n
