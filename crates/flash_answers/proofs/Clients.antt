@@ -29,7 +29,7 @@ joined : {X : Type 0} (f : X → List ℕ) (xs : List X) (x : X) → concat (map
 joined f [] x = append-nil (f x)
 joined f (y ∷ ys) x = ap (λ (l : List ℕ). f y ++ l) (joined f ys x) ∙ sym (append_assoc (f y) (concat (map f ys)) (f x))
 
--- ---- connections as the law of clients has them
+-- ---- connections in the form of the law of clients
 
 -- a connection with its answer, by the contents of a site
 pub record IsGood (v : client.Visit) : Type 0 where
@@ -93,7 +93,7 @@ pub record ClientVisits (vs : List (Visit (Actor Worker))) : Type 0 where
   pub comes : concat (map (λ v. v.came) them) ≡ concat (map (λ v. v.came) vs)
   pub goes : concat (map (λ v. v.sent) them) ≡ concat (map (λ v. v.sent) vs)
 
--- the bytes of connections that were left, and of one more
+-- the bytes of the connections that were left, followed by those of one more
 abbrev served_last : (pc ps waiting unsent supplied accepted : List ℕ)
     (were : WereLeft (actor_turns in_rounds worker_turns) BeginsSite Framed net_pool pc ps)
     (t : ClientVisits were.visits) (last : client.Visit)

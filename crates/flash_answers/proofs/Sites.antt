@@ -26,7 +26,7 @@ use Rattle.flash_lite.specs.declared.site.Site.{Site}
 use Rattle.flash_site.specs.World.{BeginsSite, IsSiteWorld}
 use Rattle.flash_answers.specs.Sites.{IsAnsweredBySite, SitesAnswer, site_of}
 
--- ---- what happens in a world that serves is site-preserving
+-- ---- the choices of a serving world are site-preserving
 
 site_preserving_one : (pool : ℕ) (x : Choice) (w after : Stage State (Actor Worker)) → IsServing pool x
     → IsSitePreserving w x after

@@ -28,7 +28,7 @@ pub record HasAnswers {S : Type 0} (supplied accepted : S → Option (List ℕ))
   pub whole : (from to : List ℕ) → supplied c.socket ≡ Some from → accepted c.socket ≡ Some to → c.phase ≡ Closing
       → IsTrue c.is_whole → ∥ IsAnswered from to ∥₁
 
--- The same for the sockets of a type whose bytes are known, where those that arrive are placed in the pool of the net.
+-- The same for sockets of a type whose bytes are known, if the bytes that arrive are placed in the pool of the net.
 abbrev pub IsAnsweredClient : {S : Type 0} → (supplied accepted : S → Option (List ℕ)) (pool : ℕ) → Client S → Type 0
 IsAnsweredClient supplied accepted pool c = AreKnown supplied accepted → pool ≡ net_pool
     → HasAnswers supplied accepted c

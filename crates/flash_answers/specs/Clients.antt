@@ -44,7 +44,7 @@ pub record LeftSites (came sent : List ℕ) : Type 0 where
   pub were : WereLeft (actor_turns in_rounds worker_turns) BeginsSite Framed net_pool came sent
   pub honest : AllByRecursion IsHonest were.visits
 
--- The answer to a client, by the history of its connections and by what its socket supplied and accepted.
+-- The answer to a client, by the history of its connections and the bytes that its socket supplied and accepted.
 pub record ClientsAreAnswered : Type 0 where
   -- it has a connection, or had a last one
   pub begins : (pc ps : List ℕ) (v : Visit (Actor Worker)) (gone : Bool) (waiting unsent supplied accepted : List ℕ)

@@ -80,7 +80,7 @@ module _ (m n : State) (d : ℕ) (left : LeavesWorker m d n) where
   needs_stay (phase.DroppingTaken a b) h = (bytes_stay b h.0, h.1)
   needs_stay x h = h
 
-  -- what is collected is lent as it was
+  -- the buffered output is readable, with the same bytes
   readable_still : (x : Collected) → IsStillReadable (readable_at m d) (readable_at n d) x
   readable_still x a bytes one is = left.bytes a bytes is
 
@@ -166,7 +166,7 @@ module _ (m n : State) (d : ℕ) (left : LeavesWorker m d n) where
   holds_stay x (phase.CuttingRest a from to) h = (rest_stays x h.0, h.1)
   holds_stay x (phase.DroppingTaken a b) h = (rest_stays x h.0, h.1, h.2)
 
-  -- so it is the same text
+  -- so its text is the same
   all_stays : (len : ℕ) (text : List ℕ) (x : Collected) → HasPiece (readable_at m d) len x
       → collected_in (readable_at n d) text x ≡ collected_in (readable_at m d) text x
   all_stays len text x h = text_kept (readable_at m d) (readable_at n d) len text x (readable_still x) h
@@ -230,13 +230,13 @@ module _ (m n : State) (d : ℕ) (left : LeavesWorker m d n) where
       ap (λ (l : List ℕ). l ++ then_rest job begun (readable_at n d) x os) (same_at b h.0.0 h.0.1)
       ∙ ap (λ (l : List ℕ). bytes_at (readable_at m d) b ++ l) (then_stays job begun x os k.0.piece)
 
-  -- the step that a reply leads to stays the same: it depends on bytes that the worker has
+  -- the step after a reply is unchanged: it depends only on bytes that the worker has
   has_written : (a k len : ℕ) (t : Bool) → Needs m d (if t then phase.DroppingWritten a else phase.CuttingRest a k len)
       → HasBytes m d a
   has_written a k len true h = h
   has_written a k len false h = (h.0, h.1)
 
-  -- what was read is there once its file is closed, and so is what is held
+  -- the bytes of a closed file are still readable, and so is the buffered output
   abbrev At : Option Step → Type 0
   At None = Unit {0}
   At (Some v) = Needs m d v.phase × HoldsAt (readable_at m d) v.piece v.phase
@@ -330,7 +330,7 @@ module _ (m n : State) (d : ℕ) (left : LeavesWorker m d n) where
         fds = has.fds;
       }
 
-  -- where files are left, so is what is still to come of them
+  -- if files are unchanged, so are the outcomes to come
   come_still : LeavesFiles m d n → (job : Task) (begun : ℕ) (x : Phase)
       → to_come_phase n d job begun x ≡ to_come_phase m d job begun x
   come_still files job begun phase.Waiting = refl
@@ -350,9 +350,9 @@ module _ (m n : State) (d : ℕ) (left : LeavesWorker m d n) where
   }
   named_still files job begun x g = tt
 
--- ---- a worker that is free stays so
+-- ---- a free worker stays free
 
--- what is written or counted depends on bytes that it is lent; a step at which it waits does not
+-- whether the next phase is Waiting does not depend on the readable bytes
 waits_still : (lm ln : ℕ → Option (List ℕ)) (job : Task) (step : Step) (x : Phase) (last : Reply)
     → (or_again (after_phase lm job step.piece step.begun x last) step).phase ≡ phase.Waiting
     → (or_again (after_phase ln job step.piece step.begun x last) step).phase ≡ phase.Waiting
@@ -395,7 +395,7 @@ free_still m n process_slot h =
         process_slot.process.step process_slot.process.step.phase process_slot.last is
     by x is = is
 
--- ---- what went from the front of the pipe of its output stood in front of what is unseen
+-- ---- bytes removed from the front of its output pipe were the front of the pending output
 
 module _ (m n : State) (p : ℕ) (process_slot : ProcessSlot Worker) (left : LeavesWorker m process_slot.by n)
     (jobs : LeavesJobs m process_slot n) (goes : GoesFromFront m p n) where
@@ -476,7 +476,7 @@ module _ (m n : State) (p : ℕ) (process_slot : ProcessSlot Worker) (left : Lea
             (named_still m n process_slot.by left files process_slot.process.job step.begun step.phase right);
       }
 
--- what a read of it gives is what went
+-- a read of the pipe returns the bytes removed
 pub received : (m n : State) (p by count a : ℕ) (bytes : List ℕ) → TakesFromPipe m by p count a n
     → readable_at n by a ≡ Some bytes → (goes : GoesFromFront m p n) → bytes_of goes.gone ≡ bytes
 received m n p by count a bytes takes names goes =
@@ -486,7 +486,7 @@ received m n p by count a bytes takes names goes =
     ∙ (sym goes.queue ∙ takes.was)) in
     ap (λ (t : Text). bytes_of t) same ∙ some-inj (bytes_of takes.text) bytes (sym takes.is_readable ∙ names)
 
--- ---- a call of another domain, and what happens outside
+-- ---- calls of other domains, and external events
 
 no_exit : (e : Event) (d : ℕ) → is_call_of e d ≡ false → ends e d ≡ false
 no_exit (event.Call by call.Exit) d other = other
@@ -549,7 +549,7 @@ files_left steps m n d e r good step undisturbed shut = record {
     leaves : Leaves m e n
     leaves = steps.leaves m n e r step
 
--- ---- the pipe to which a worker writes: it alone has the write end
+-- ---- the pipe to which a worker writes: only the worker has its write end
 
 module _ (steps : EachStepLeavesTheRest) (others : OthersLeavePipes) (m n : State) (d p fd : ℕ) (order : IsOrderly m)
     (opened : descriptor m d fd ≡ Some (on.WriteEnd p)) where

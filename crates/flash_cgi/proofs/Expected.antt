@@ -72,7 +72,7 @@ begins m j p fd process_slot query script lines free has writing = record {
   rest = tt;
 }
 
--- ---- its job pipe, over a turn of its own
+-- ---- the job pipe over a turn of its worker
 
 same_pipe : (m : State) (d j k : ℕ) → descriptor m d 0 ≡ Some (on.ReadEnd j) → descriptor m d 0 ≡ Some (on.ReadEnd k)
     → k ≡ j
@@ -81,7 +81,7 @@ same_pipe m d j k one two = pipe_of j k (sym one ∙ two)
     pipe_of : (j k : ℕ) → Some (on.ReadEnd j) ≡ Some (on.ReadEnd k) → k ≡ j
     pipe_of j k e = cc
 
--- a worker that is free does not run
+-- a free worker runs no script
 free_waits : (m : State) (process_slot : ProcessSlot Worker) → IsFree m process_slot
     → Needs m process_slot.by (step_of m process_slot).phase → ⊥
 free_waits m process_slot free needs = subst (λ (x : Phase). Needs m process_slot.by x) free.waits needs
@@ -102,7 +102,7 @@ free_has_rest m j p process_slot unseen (inr (inl h)) free =
     absurd (free_was_after_reply process_slot m h.agg free h.waits h.asked h.last)
 free_has_rest m j p process_slot unseen (inr (inr i)) free = absurd (free_waits m process_slot free i.feeds.needs)
 
--- where nothing lies there, that is what is left
+-- if the job pipe is empty, HasRest holds
 nothing_left : (m : State) (j p : ℕ) (process_slot : ProcessSlot Worker) (unseen : List Outcome
     → List ℕ) (runs : RunsJob m p process_slot unseen) → (pipe_at m j).queue ≡ []
     → HasRest m j p process_slot unseen runs
@@ -112,7 +112,7 @@ nothing_left m j p process_slot unseen (inr h) empty = empty
 module _ (own : CallsServeTheirDomain) (quiet : WorkersAreQuiet) (m n : State) (j p : ℕ)
     (process_slot next : ProcessSlot Worker) (yields : Bool) (r : Reply)
     (order : IsOrderly m) (did : ProcessSlotTurn copying worker_turns m process_slot yields r n next) where
-  -- it is in its domain still
+  -- the worker stays in its domain
   stays_in : next.by ≡ process_slot.by
   stays_in = by did
     where
@@ -120,15 +120,15 @@ module _ (own : CallsServeTheirDomain) (quiet : WorkersAreQuiet) (m n : State) (
       by (inl starved) = ap (λ (s : ProcessSlot Worker). s.by) starved.process_slot_stays
       by (inr moves) = moves.domain_stays
 
-  -- what it leaves of the pipe, and what lies there
+  -- the job pipe after the turn
   record Leaves (job_queue : HasJobQueue m process_slot.by j p) : Type 0 where
     jobs : descriptor n process_slot.by 0 ≡ Some (on.ReadEnd j)
     writing : (pipe_at n j).writing ≡ true
     lives : is_live n process_slot.by ≡ true
-    -- nothing, or what was there is there, and it is free
+    -- the pipe is empty; or the turn changed nothing, and the worker is free
     empty : ((pipe_at n j).queue ≡ []) ⊎ ((n ≡ m) × IsFree n next)
 
-  -- one that touches the pipe of its output alone
+  -- after a turn that changes only the output pipe
   untouched : (job_queue : HasJobQueue m process_slot.by j p) → is_live m process_slot.by ≡ true
       → (pipe_at m j).queue ≡ [] → LeavesAllBut m process_slot.by p n → Leaves job_queue
   untouched job_queue live empty leaves =
@@ -140,7 +140,7 @@ module _ (own : CallsServeTheirDomain) (quiet : WorkersAreQuiet) (m n : State) (
         empty = inl (ap (λ (x : Pipe). x.queue) pipe ∙ empty);
       }
 
-  -- one whose job waits
+  -- after a turn of a worker whose job waits
   awaited : (job_queue : HasJobQueue m process_slot.by j p) (unseen : List Outcome → List ℕ)
       → Awaits m p process_slot unseen → Leaves job_queue
   awaited job_queue unseen h = by (free_turn m n process_slot next yields r h.has.live h.free did)
@@ -187,7 +187,7 @@ module _ (own : CallsServeTheirDomain) (quiet : WorkersAreQuiet) (m n : State) (
       by (inl empty) = nothing_left n j p next unseen runs empty
       by (inr free) = free_has_rest n j p next unseen runs free.1
 
-  -- once the pipe of its output is closed nothing lies there
+  -- once the output pipe's write end is closed, the job pipe is empty
   none_after : (job_queue : HasJobQueue m process_slot.by j p) → Leaves job_queue → (pipe_at m p).writing ≡ true
       → (pipe_at n p).writing ≡ false → HasNoJob n next.by j
   none_after job_queue l was now = record {
@@ -201,7 +201,7 @@ module _ (own : CallsServeTheirDomain) (quiet : WorkersAreQuiet) (m n : State) (
       by (inl empty) = empty
       by (inr free) = (let e = sym was ∙ (sym (ap (λ u. (pipe_at u p).writing) free.0) ∙ now) in absurd (cc (e)))
 
--- the descriptor that takes the output, however far it has come
+-- the worker has the write end of the output pipe
 abbrev pub Writing : (m : State) → (p : ℕ) → ProcessSlot Worker → Type 0
 Writing m p process_slot = (fd : ℕ) × (descriptor m process_slot.by fd ≡ Some (on.WriteEnd p))
 
@@ -211,7 +211,7 @@ writing m p process_slot unseen (inl h) = (h.fd, h.has.open_on)
 writing m p process_slot unseen (inr (inl h)) = (h.job.fd, h.begins.feeds.open_on)
 writing m p process_slot unseen (inr (inr i)) = (process_slot.process.job.fd, i.feeds.open_on)
 
--- a pipe that was closed is closed
+-- after a close of the write end, the pipe has no writer
 closed_now : (m n : State) (p : ℕ) (r : Reply) → r ≡ reply.Done → ClosesWriteEnd m p r n → (pipe_at n p).writing ≡ false
 closed_now m n p r done closes = (subst (λ (l : Reply). ClosesWriteEnd m p l n) done closes).0
 
@@ -232,7 +232,7 @@ turns feeds own quiet m n j p process_slot next yields r made text order placed 
         (let w = writing m p process_slot expected.unseen expected.runs in
         order.all_stand process_slot.by w.0 (on.WriteEnd p) w.1)
 
-    -- it goes on, with what is put out as it was
+    -- it continues with the same output
     same : IsExpected n j p next made text ⊎ IsWritten m n j p next text r ⊎ ((pipe_at n p).reading ≡ false)
         → Goes m n j p next made text r
     same goes = record { after = made; later = text; instead = inl (refl, refl); goes = goes }
@@ -329,7 +329,7 @@ turns feeds own quiet m n j p process_slot next yields r made text order placed 
     })))
     by (inr (inr gone)) = same (inr (inr gone))
 
--- ---- others leave the job pipe
+-- ---- others leave the job pipe unchanged
 
 left_jobs : (m n : State) (j p : ℕ) (process_slot : ProcessSlot Worker) → HasJobQueue m process_slot.by j p
     → pipe_at n j ≡ pipe_at m j → LeavesJobs m process_slot n
@@ -350,7 +350,7 @@ job_queue_stays m n j p process_slot left job_queue same =
       apart = job_queue.apart;
     }
 
--- a job that waits waits, and one that was read is read
+-- if the job pipe is unchanged, a waiting job still waits, and after a job that was read the pipe is still empty
 rest_stays : (m n : State) (j p : ℕ) (process_slot : ProcessSlot Worker) (unseen after : List Outcome
     → List ℕ) (was : RunsJob m p process_slot unseen) (now : RunsJob n p process_slot after)
     → HasRest m j p process_slot unseen was → pipe_at n j ≡ pipe_at m j → HasRest n j p process_slot after now

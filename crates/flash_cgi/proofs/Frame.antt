@@ -45,7 +45,7 @@ use Rattle.flash_cgi.specs.declared.worker.Worker.{Worker}
 use Rattle.flash_cgi.proofs.Beside.{no_gift, no_touch, values_stay}
 use Rattle.flash_cgi.proofs.OutputByTurn.{readable-live}
 
--- ---- calls that keep to a file, or to one pipe
+-- ---- calls that use only a file, or one pipe
 
 is_but : (p : ℕ) → Option Descriptor → Bool
 is_but p (Some (on.ReadEnd q)) = q == p
@@ -171,7 +171,7 @@ module _ (m : State) (d p : ℕ) where
   agg_free k (reply.Aggs b c) e a is other = ap (λ t. t && ((b == a) || (c == a))) other
   agg_free k r e a is other = refl
 
-  -- its job pipe is not closed by it
+  -- it does not close its job pipe
   at_job_queue : (fd j : ℕ) → j ≢ p → descriptor m d 0 ≡ Some (on.ReadEnd j) → is_but p (descriptor m d fd) ≡ true
       → (fd == 0) ≡ false
   at_job_queue fd j differ opened is = by (fd == 0) refl
@@ -274,7 +274,7 @@ module _ (steps : EachStepLeavesTheRest) (come : AggregatesComeAndGo) (by_reply 
 made_is : (k c : Call) → turn.Make k ≡ turn.Make c → k ≡ c
 made_is k c e = cc
 
--- It makes the call of its step, its last reply taken as filed, and is at that step then.
+-- It makes the call of its step after the last reply is processed, and is at that step afterwards.
 pub record MakesCall (w v : Worker) (k : Call) (step : Step) : Type 0 where
   pub call_is : k ≡ call_at w.job step
   pub job_is : v.job ≡ w.job
@@ -308,7 +308,7 @@ makes_call w v k l readable standing.Asked is goes un did = filed w.step.phase l
     filed phase.Waiting (reply.Agg a) given did = absurd (cc (given))
     filed x y given did = on (after_reply w.job w.step readable y) did
 
--- a step that it is at keeps to files, and to the pipe of its output
+-- the call of a step uses only files and the output pipe
 line_keeps : (m : State) (d p : ℕ) (job : Task) (l : Option Line) → is_but p (descriptor m d job.fd) ≡ true
     → keeps_to m d p (next_call job l) ≡ true
 line_keeps m d p job None is = is
@@ -350,7 +350,7 @@ step_keeps m d p job x begun (phase.ClosingCounted file s) opened h = file_is m 
 step_keeps m d p job x begun (phase.Writing a) opened h = (let o = output_is m d p job.fd opened in both _ _ o.0 o.1)
 step_keeps m d p job x begun y opened h = refl
 
--- one that runs was given no text, or it would wait
+-- a worker that runs a script was not given a text: it would be waiting
 given_waits : (m : State) (d : ℕ) (x : Phase) (y : Reply) (w : Worker) (readable : ℕ → Option (List ℕ))
     → w.step.phase ≡ x → Needs m d (or_again (after_phase readable w.job w.step.piece w.step.begun x y) w.step).phase
     → is_given x y ≡ false
@@ -364,7 +364,7 @@ run_is_not_given m d w l readable s asked h =
     (subst (λ (z : Standing). Needs m d (filed_step z w readable l).phase) asked h)
 
 module _ (steps : EachStepLeavesTheRest) (come : AggregatesComeAndGo) (by_reply : DescriptorsComeByReplies) where
-  -- of a worker that lives: whichever call it makes keeps to the pipe
+  -- a live worker whose calls use only files and the pipe changes nothing outside its domain and the pipe
   quiet : (m n : State) (p : ℕ) (process_slot next : ProcessSlot Worker) (yields : Bool) (r : Reply)
       → is_live m process_slot.by ≡ true
       → ((k : Call) (v : Worker)

@@ -43,7 +43,7 @@ no_front : (s t : Text) → s ++ t ≡ [] → s ≡ []
 no_front [] t e = refl
 no_front (b ∷ s) t e = absurd (cc (e))
 
--- a worker that was refused a job is free
+-- a worker whose read of a job was refused is free
 pub refused_is_free : (n : State) (d : ℕ) (x : Worker) (r y : Reply) → x.standing ≡ standing.Asked
     → x.step.phase ≡ phase.Waiting → is_given phase.Waiting y ≡ false → r ≡ y → IsFree n (process_slot_at d x r)
 refused_is_free n d x r y asked at un is = record {
@@ -54,7 +54,7 @@ refused_is_free n d x r y asked at un is = record {
   not_given = λ e. ap (λ (z : Phase). is_given z r) at ∙ (ap (λ (l : Reply). is_given phase.Waiting l) is ∙ un);
 }
 
--- its turn changes nothing, and leaves it free; or it is given what lies in its job pipe
+-- its turn changes nothing, and it stays free; or its read returns bytes of its job pipe
 abbrev pub FreeTurn : (m n : State) → (d : ℕ) → (next : ProcessSlot Worker) → Reply → Type 0
 FreeTurn m n d next r =
     ((n ≡ m) × IsFree n next) ⊎ ((a : ℕ) × StepsTo m (event.Call d (call.IolRead 0 65536)) (reply.Agg a) n
@@ -65,7 +65,7 @@ module _ (m n : State) (d : ℕ) (v : Worker) (r : Reply) (t : Turn) (yields : B
   abbrev Stays : Worker → Type 0
   Stays x = FreeTurn m n d (process_slot_at d x r) r
 
-  -- it asks for a job, and is refused, or is given a text
+  -- it reads its job pipe: the read is refused, or returns a text
   read : (x : Worker) → x.standing ≡ standing.Asked → x.step.phase ≡ phase.Waiting → (l : Reply) → r ≡ l
       → StepsTo m (event.Call d (call.IolRead 0 65536)) l n → Stays x
   read x asked at (reply.Agg a) is step = inr (a, step, is)
@@ -102,7 +102,7 @@ module _ (m n : State) (d : ℕ) (v : Worker) (r : Reply) (t : Turn) (yields : B
   moves w last standing.Asks is goes waits un did = asks (record w { standing = standing.Asked }) did.0 did.1 refl waits
   moves w last standing.Asked is goes waits un did = filed w w.step.phase last is waits (un refl) did
 
--- a turn by what the process does, its process slot taken apart
+-- its turn, by the cases of the action of the process
 pub free_turn : (m n : State) (process_slot next : ProcessSlot Worker) (yields : Bool) (r : Reply)
     → is_live m process_slot.by ≡ true → IsFree m process_slot
     → ProcessSlotTurn copying worker_turns m process_slot yields r n next → FreeTurn m n process_slot.by next r
@@ -121,7 +121,7 @@ free_turn m n process_slot next yields r live free (inr did) =
     process_slot.process.standing refl free.not_over free.waits free.not_given goes in
     subst (λ (x : ProcessSlot Worker). FreeTurn m n process_slot.by x r) same went
 
--- where nothing lies there it is given nothing
+-- if the job pipe is empty, its read returns no text
 turns : CallsServeTheirDomain
     → (m n : State) (j : ℕ) (process_slot next : ProcessSlot Worker) (yields : Bool) (r : Reply) → IsOrderly m
     → HasNoJob m process_slot.by j → IsFree m process_slot
@@ -137,7 +137,7 @@ turns own m n j process_slot next yields r order none free did =
         let ended = (takes.ended (omega arith) nothing).1 in
         absurd (let e = sym none.writing ∙ ended in cc (e))
 
--- ---- what is no job
+-- ---- a text that is no job
 
 skipped : (n : State) (d a : ℕ) (w : Worker) (r : Reply) → w.standing ≡ standing.Asked
     → IsFree n (process_slot_at d (with_job w None a) r)

@@ -46,7 +46,7 @@ line_goes job (Some (line.Wc name)) is = cc (is)
 line_goes job (Some l) is = cc (is)
 line_goes job None is = cc (is)
 
--- nor does the one that makes what is collected
+-- nor does the call that makes an aggregate of the buffered text
 begin_goes : (job : Task) (x : Collected) (l : Option Line) (t : Bool)
     → may_wait (if t then call.AggMake x.text else next_call job l) ≡ true → ⊥
 begin_goes job x l true is = cc (is)
@@ -67,7 +67,7 @@ module _ (why : RefusalsTellWhy) (left : RefusalsThatAreLeft) (files : FileCalls
       (files.reads_file m m d f h.0 h.1 16777216 Read (reply.Refused WouldBlock) order live
       (access.fds d f h.0 h.1 Read h.2) refl h.2 step).0 in cc (e))
 
-  -- what it needs of the machine for a call, that it does not wait for a job, and that the file that it reads is open
+  -- it does not wait for a job, and the file that it reads is open
   abbrev Ready : Phase → Type 0
   Ready phase.Waiting = ⊥
   Ready (phase.Reading file u) = IsFileOpen m d file
@@ -83,7 +83,7 @@ module _ (why : RefusalsTellWhy) (left : RefusalsThatAreLeft) (files : FileCalls
   full_at job x begun (phase.Writing a) opened h step = why.pipe_is_full m m d job.fd p a opened step
   full_at job x begun y opened h step = absurd (let e = left.waits m m d (phase_call job x begun y) step in cc (e))
 
-  -- one that is at its call, and one that was told to wait
+  -- a step whose requirements are met is ready, also after a refusal WouldBlock
   ready_at : (x : Phase) → Needs m d x → Ready x
   ready_at phase.Waiting h = h
   ready_at (phase.Reading file u) h = (h.number, h.place, h.open_on)
@@ -111,7 +111,7 @@ module _ (why : RefusalsTellWhy) (left : RefusalsThatAreLeft) (files : FileCalls
       stuck.1 h in
       blocked_full w opened (ready_after_reply (readable_at m d) w.job w.step w.step.phase refl after_reply_so) stuck.0
 
-  -- ---- a job that waits would be read
+  -- ---- a waiting job would be read
 
   waits_after_reply : (readable : ℕ → Option (List ℕ)) (job : Task) (step : Step) (x : Phase) → step.phase ≡ x
       → (or_again (after_phase readable job step.piece step.begun x (reply.Refused WouldBlock)) step).phase
@@ -139,7 +139,7 @@ module _ (why : RefusalsTellWhy) (left : RefusalsThatAreLeft) (files : FileCalls
       subst (λ (x : Phase). Blocks (phase_call w.job w.step.piece w.step.begun x))
       (waits_after_reply (readable_at m d) w.job w.step w.step.phase refl after_reply_so stuck.0) stuck.0
 
--- what it was given it was not refused
+-- a worker whose last reply is an aggregate was not refused
 given_is_after_reply : (m : State) (d a : ℕ) (w : Worker) (last : Reply) (s : Standing) → s ≡ standing.Asked
     → last ≡ reply.Agg a → IsStuck m d w last s → ⊥
 given_is_after_reply m d a w last standing.Asked asked is stuck = (let e = sym is ∙ stuck.1 in cc (e))

@@ -22,7 +22,7 @@ take_whole : (xs : List ℕ) → take (length xs) xs ≡ xs
 take_whole [] = refl
 take_whole (x ∷ xs) = ap (λ (l : List ℕ). x ∷ l) (take_whole xs)
 
--- more text stands behind all of it
+-- text that is appended follows all of it
 pub behind : (text said files : List ℕ) (ps : List Place) → AreWithin (length text) ps
     → interleaved (text ++ said) ps files ≡ interleaved text ps files ++ said
 behind text said files [] h = refl
@@ -66,14 +66,14 @@ pub wider : (a b : ℕ) (ps : List Place) → a ≤ b → AreWithin a ps → Are
 wider a b [] le h = h
 wider a b (p ∷ ps) le h = (omega (arith, le, h.0), h.1)
 
--- the last place may be set first
+-- the last file's bytes may be inserted first
 pub set_last : (text files : List ℕ) (p : Place) (ps : List Place) → p.at ≤ length text → AreWithin p.at ps
     → interleaved text (p ∷ ps) files ≡ interleaved (set_in text p.at (drop p.from files)) ps (take p.from files)
 set_last text files p ps at within =
     sym (behind (take p.at text) (drop p.from files ++ drop p.at text) (take p.from files) ps
     (subst (λ (k : ℕ). AreWithin k ps) (sym (at_front text p.at at)) within))
 
--- and the other places stand within the text then
+-- and the other places are within the text after that
 pub within_set : (text bytes : List ℕ) (at : ℕ) (ps : List Place) → at ≤ length text → AreWithin at ps
     → AreWithin (length (set_in text at bytes)) ps
 within_set text bytes at ps le within =
@@ -88,9 +88,9 @@ place_is len short = by (nat_lt len 4096) refl
     by true is = refl
     by false is = grind (arith, nat_tests, is, short)
 
--- ---- what is lent
+-- ---- readable bytes
 
--- what is collected is lent as it was
+-- the buffered output is readable, with the same bytes
 abbrev pub IsStillReadable : (lm ln : ℕ → Option (List ℕ)) → Collected → Type 0
 IsStillReadable lm ln x = (a : ℕ) (bytes : List ℕ) → (x.held ≡ Some a) ⊎ (x.next ≡ Some a) → lm a ≡ Some bytes
     → ln a ≡ Some bytes
@@ -137,7 +137,7 @@ module _ (lm ln : ℕ → Option (List ℕ)) where
   gathers_still x stays g =
       record { piece = piece_kept (length x.text) x stays g.piece; none_next = g.none_next; short = g.short }
 
--- ---- a number that is new is none of those
+-- ---- a number without an aggregate is no part of the buffered output
 
 held_is_readable : (readable : ℕ → Option (List ℕ)) (held : Option ℕ) (ps : List Place) (a : ℕ)
     → FilesAreReadable readable held ps → readable a ≡ None → held ≢ Some a
@@ -156,9 +156,9 @@ pub new_apart : (readable : ℕ → Option (List ℕ)) (len : ℕ) (x : Collecte
 new_apart readable len x a h none =
     (held_is_readable readable x.held x.places a h.files none, next_is_readable readable x.held x.next a h.next none)
 
--- ---- what is collected, one more
+-- ---- one more file is buffered
 
--- where nothing but a file that is too long is left, that is all of it
+-- if only the file that is too long is left, its bytes are all of the output
 pub rest_text : (readable : ℕ → Option (List ℕ)) (x : Collected) → x.text ≡ [] → x.places ≡ []
     → collected readable x ≡ bytes_of_one readable x.next
 rest_text readable x no_text no_places =
@@ -193,7 +193,7 @@ said_behind readable x said rest g =
     none : bytes_of_one readable x.next ≡ []
     none = ap (λ (o : Option ℕ). bytes_of_one readable o) g.none_next
 
--- a file more is collected: `a` lends the bytes of those before, and its own
+-- one more file is buffered: aggregate `a` has the bytes of the earlier files and its own
 pub file_added : (ln : ℕ → Option (List ℕ)) (x : Collected) (a from len : ℕ) → AreWithin (length x.text) x.places
     → x.next ≡ None → length x.text ≤ 4096 → IsReadable ln a
     → HasPiece ln (length x.text) (with_file x a from len)
@@ -226,7 +226,7 @@ file_in lm ln x a from len files bytes rest none short held_is from_is is =
     place : Place
     place = record { at = place_behind (length x.text); from = from }
 
--- ---- nothing is collected
+-- ---- nothing is buffered
 
 empty_is : {A : Type 0} (xs : List A) → (length xs == 0) ≡ true → xs ≡ []
 empty_is [] e = refl

@@ -40,7 +40,7 @@ last_false : (b c : Bool) → c ≡ false → (b && c) ≡ false
 last_false true c e = e
 last_false false c e = refl
 
--- it awaits the same job, whatever became of the machine
+-- it awaits the same job in another state of the machine
 abbrev pub awaits_still : (m n : State) (p : ℕ) (process_slot next : ProcessSlot Worker) (was is : List Outcome
     → List ℕ) → (h : Awaits m p process_slot was) → IsFree n next
     → HasJob n next.by h.jobs p h.fd h.query h.script h.lines
@@ -58,7 +58,7 @@ awaits_still m n p process_slot next was is h free has unseen =
           unseen;
     }
 
--- what waits for it is its job
+-- the bytes of its job pipe parse as its job
 pub waits_as_job : (m : State) (d j p fd : ℕ) (query script : List ℕ) (lines : List Line)
     → HasJob m d j p fd query script lines
     → job_of (bytes_of (pipe_at m j).queue) ≡ Some (record { fd = fd; query = query; lines = lines })
@@ -71,7 +71,7 @@ waits_as_job m d j p fd query script lines has =
     ∙ (job_is_read fd query script has.fds short.0 short.1
     ∙ ap (λ (o : Option (List Line)). task_of fd query o) has.is_script)
 
--- the read of it leaves nothing behind
+-- a read of the job leaves the job pipe empty
 pub all_taken : (m n : State) (d j p fd a : ℕ) (query script : List ℕ) (lines : List Line)
     → HasJob m d j p fd query script lines
     → TakesFromPipe m d j 65536 a n → (pipe_at n j).queue ≡ []
@@ -90,7 +90,7 @@ all_taken m n d j p fd a query script lines has takes =
         tail_is : (x y : ℕ × ℕ) (s u : Text) → x ∷ s ≡ y ∷ u → s ≡ u
         tail_is x y s u e = cc
 
--- nothing is collected yet
+-- nothing is buffered yet
 nothing_left : (readable : ℕ → Option (List ℕ)) → IsRest readable nothing
 nothing_left readable = record {
   piece = record { files = refl; within = tt; next = tt };

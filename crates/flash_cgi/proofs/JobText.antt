@@ -19,7 +19,7 @@ number-decimal n small =
     (length-decimal-le 9 n (omega arith) small (omega arith))
     ∙ ap (λ k. Some k) (digits_value-decimal own n (omega arith))
 
--- before a byte that passes stand digits, none of which does
+-- the first byte that passes is the one after the digits, since no digit passes
 runs_to : (p : ℕ → Bool) (ds rest : List ℕ) (y : ℕ) → AreDigits ds → ((d : ℕ) → is_ascii_digit d ≡ true → p d ≡ false)
     → p y ≡ true → position_or_len p (ds ++ y ∷ rest) ≡ length ds
 runs_to p [] rest y digits none yes_y = ap (λ t. cond (not t) (1 + position_or_len p rest) 0) yes_y
@@ -87,7 +87,7 @@ job_is_read fd q s f g h =
     ∙ (ap (λ l. task_of fd l (script_of (drop (length q) body))) (front q s)
     ∙ ap (λ l. task_of fd q (script_of l)) (back q s))))))
 
--- the numbers, what stands behind each, and the two texts
+-- its length: the three numbers, one byte after each, and the two texts
 pub length-job_text : (fd : ℕ) (q s : List ℕ)
     → length (job_text fd q s) ≡ length (decimal fd) + length (decimal (length q)) + length (decimal (length s))
     + length q + length s + 3

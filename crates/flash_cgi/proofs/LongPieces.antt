@@ -9,7 +9,7 @@ use Rattle.flash_cgi.specs.LongPieces.{HavePlaces, IsCounted, PiecesAreLong}
 use Rattle.flash_cgi.specs.declared.line.Line.{Line}
 use Rattle.flash_cgi.specs.declared.piece.Place.{Place}
 
--- all bytes stand in it
+-- the interleaved text has all bytes of the text and of the files
 length-interleaved : (text files : List ℕ) (ps : List Place) → HavePlaces ps (length files)
     → length (interleaved text ps files) ≡ length text + length files
 length-interleaved text files [] h = omega (arith, h)

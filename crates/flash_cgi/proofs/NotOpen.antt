@@ -23,7 +23,7 @@ use Rattle.iol_core.proofs.Places.{place-set_other}
 use Rattle.iol_laws.proofs.Domains.{domains-closed_on, domains-with_conn, domains-with_pipe}
 use Rattle.iol_laws.proofs.Places.{place-set_free, place-placed_other}
 
--- a refused call changes nothing, and any other leads to the state that it means
+-- a refused call changes nothing, and any other call leads to the state of its meaning
 after_of : (m n : State) (d : ℕ) (k : Call) (r : Reply) → StepsTo m (event.Call d k) r n
     → (n ≡ m) ⊎ (n ≡ (called m d k).after)
 after_of m n d k (reply.Refused x) step = inl step.1
@@ -39,7 +39,7 @@ either m n t d f (inr same) was now = ap (λ (u : State). descriptor u d f) same
 same_domains : (s t : State) (d f : ℕ) → t.domains ≡ s.domains → IsFree s d f → IsFree t d f
 same_domains s t d f same is = ap (λ (z : Domain Text). in_place z.fds f) (domain-same s t d same) ∙ is
 
--- its domain changes
+-- after a change of its domain's record
 changed : (s : State) (d f : ℕ) (y : Domain Text) → in_place y.fds f ≡ None → IsFree s d f
     → IsFree (with_domain s d y) d f
 changed s d f y now is = elim (domain-with_domain s d d y) [
@@ -47,7 +47,7 @@ changed s d f y now is = elim (domain-with_domain s d d y) [
   | inr kept ↦ ap (λ (z : Domain Text). in_place z.fds f) kept ∙ is
 ]
 
--- another number of it is set
+-- after another descriptor of the domain is set
 set : (s : State) (d fd f : ℕ) (x : Descriptor) (o : Option Descriptor) → descriptor s d fd ≡ Some x → IsFree s d f
     → IsFree (fds.with_descriptor s d fd o) d f
 set s d fd f x o opened is = changed s d f _ (place-set_other (domain s d).fds fd f o differ ∙ is) is

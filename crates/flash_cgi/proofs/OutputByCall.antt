@@ -167,7 +167,7 @@ module _ (steps : EachStepLeavesTheRest) (own : CallsServeTheirDomain) (files : 
       all : collected (readable_at n d) x ≡ collected (readable_at m d) x
       all = all_same m n d x stays f.holds.0.piece
 
-      -- what was collected and the file's bytes, as they are after the call
+      -- the buffered output and the file's bytes, in the state after the call
       was : (os : List Outcome)
           → collected (readable_at n d) x ++ (bytes_at (readable_at n d) a ++ rest_of job begun os)
           ≡ still job (readable_at m d) s os
@@ -478,9 +478,9 @@ module _ (steps : EachStepLeavesTheRest) (own : CallsServeTheirDomain) (files : 
           ∙ ap (λ (l : List ℕ). collected (readable_at m d) x ++ l) (failed_text u y (rest_of job begun) os)))
       by u r g step did = absurd did
 
-  -- ---- a line is begun
+  -- ---- a line begins
 
-  -- where it is not written now, more may be collected
+  -- if the buffered output is not written now, more may be buffered
   or_parts : (b c : Bool) → (b || c) ≡ false → (b ≡ false) × (c ≡ false)
   or_parts false false e = (refl, refl)
   or_parts true c e = absurd (cc (e))
@@ -564,7 +564,7 @@ module _ (steps : EachStepLeavesTheRest) (own : CallsServeTheirDomain) (files : 
           ∙ sym (same (Failed y ∷ os)))))))
       by r step used did = absurd did
 
-  -- a text is collected: no call is needed, and none that is made matters
+  -- a text is buffered: the call made then has no effect on the output
   collects : (m n : State) (d p : ℕ) (job : Task) (begun : ℕ) (said : List ℕ) (x : Collected) (r : Reply)
       (unseen : List Outcome → List ℕ) → Feeds m d p job (at_step phase.Interpreting begun x) unseen
       → Gathers (readable_at m d) x → StepsTo m (event.Call d (call.SetPool 3)) r n
@@ -639,7 +639,7 @@ module _ (steps : EachStepLeavesTheRest) (own : CallsServeTheirDomain) (files : 
       ∙ ap (λ (ls : List Line). collected (readable_at m d) x ++ output job.query ls os)
       (sym (rest-cons job.lines begun line.Pause is)))))
 
-  -- what is collected is made, where that is expected, or the next line begun
+  -- the call makes the buffered output, if it is to be written now, or begins the next line
   runs : (m n : State) (d p : ℕ) (job : Task) (begun : ℕ) (x : Collected) (r : Reply) (unseen : List Outcome
       → List ℕ) (t : Bool) → IsOrderly m → Feeds m d p job (at_step phase.Interpreting begun x) unseen
       → expected_now job x begun ≡ t

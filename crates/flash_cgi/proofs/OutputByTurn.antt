@@ -49,13 +49,13 @@ has_life m p process_slot unseen (inl h) = h.has.live
 has_life m p process_slot unseen (inr (inl h)) = h.begins.feeds.live
 has_life m p process_slot unseen (inr (inr i)) = i.feeds.live
 
--- a text that is a job is taken as one
+-- a text that represents a job is taken as that job
 pub text_taken : (w : Worker) (text : List ℕ) (agg : ℕ) (job : Task) → job_of text ≡ Some job
     → with_text w text agg ≡ with_job w (Some job) agg
 text_taken w [] agg job is = absurd (cc)
 text_taken w (b ∷ bs) agg job is = ap (λ (o : Option Task). with_job w o agg) is
 
--- one that runs a script is given no other job
+-- a worker that runs a script is not given another job
 given_none : (m : State) (d : ℕ) (x : Phase) (r : Reply) → Needs m d x → is_given x r ≡ false
 given_none m d phase.Waiting r h = absurd h
 given_none m d x r h = refl
@@ -69,12 +69,12 @@ module _ (feeds_on : FeedsOn) (taken : JobsAreTaken) (true_to : OutcomesAreTrue)
   Went m n d p v r unseen expected Reads = Proceeds m n p (process_slot_at d v r) r unseen expected Reads
       ⊎ IsOver m n d p (process_slot_at d v r) unseen r ⊎ ((pipe_at n p).reading ≡ false)
 
-  -- of a step that it is at
+  -- the result, from this step
   abbrev WentFrom : (m n : State) → (d p : ℕ) → Worker → Reply → (List Outcome → List ℕ) → Task → Step → Type 0
   WentFrom m n d p v r unseen job step =
       Went m n d p v r unseen (to_come m d job step) (ReadsNamed m d job step.begun step.phase)
 
-  -- it goes on at a step, its reply taken as filed
+  -- it continues at this step, after the reply is processed
   abbrev goes_at : (m n : State) (d p : ℕ) (v : Worker) (r : Reply) (unseen : List Outcome
       → List ℕ) (expected : List Outcome) (Reads : Type 0) (resolves : List Outcome) (step : Step)
       → is_over v.standing ≡ false → filed_step v.standing v (readable_at n d) r ≡ step
@@ -99,7 +99,7 @@ module _ (feeds_on : FeedsOn) (taken : JobsAreTaken) (true_to : OutcomesAreTrue)
         );
   }
 
-  -- the call of a step is made
+  -- the worker makes the call of its step
   called : (m n : State) (d p : ℕ) (v : Worker) (r : Reply) (unseen : List Outcome → List ℕ) → IsOrderly m
       → v.standing ≡ standing.Asked → Feeds m d p v.job v.step unseen
       → StepsTo m (event.Call d (call_at v.job v.step)) r n → WentFrom m n d p v r unseen v.job v.step
@@ -159,7 +159,7 @@ module _ (feeds_on : FeedsOn) (taken : JobsAreTaken) (true_to : OutcomesAreTrue)
 
   module _ (m n : State) (p d : ℕ) (v : Worker) (r : Reply) (t : Turn) (yields : Bool) (order : IsOrderly m)
       (comes : ComesOf copying worker_turns m d t yields r n) where
-    -- it is another worker now, and its call is made
+    -- the worker becomes x, and makes the call of x
     makes : (x : Worker) (unseen : List Outcome → List ℕ) → x.standing ≡ standing.Asked
         → t ≡ turn.Make (call_at x.job x.step) → v ≡ x
         → Feeds m d p x.job x.step unseen → WentFrom m n d p v r unseen x.job x.step
@@ -238,7 +238,7 @@ module _ (feeds_on : FeedsOn) (taken : JobsAreTaken) (true_to : OutcomesAreTrue)
         job : Task
         job = record { fd = h.fd; query = h.query; lines = h.lines }
 
-        -- it awaits it still, where nothing happened
+        -- if nothing changed, it still awaits its job
         still : (x : Worker) → v ≡ x → IsFree n (process_slot_at d x r) → n ≡ m
             → Went m n d p v r unseen (outcomes_in m d h.lines) (Unit {0})
         still x v_is free same = subst (λ (y : Worker). Went m n d p y r unseen (outcomes_in m d h.lines) (Unit {0}))
@@ -266,7 +266,7 @@ module _ (feeds_on : FeedsOn) (taken : JobsAreTaken) (true_to : OutcomesAreTrue)
           };
         }
 
-        -- a worker that was refused a job is free
+        -- a worker whose read of a job was refused is free
         free_of : (x : Worker) (y : Reply) → x.standing ≡ standing.Asked → x.step.phase ≡ phase.Waiting
             → is_given phase.Waiting y ≡ false → r ≡ y → IsFree n (process_slot_at d x r)
         free_of x y asked at un is = record {

@@ -78,16 +78,16 @@ module _ (labels : LabelsFollow) (steps : EachStepLeavesTheRest) (files : FileCa
   abbrev Lie : Text → Type 0
   Lie t = lie_in pools t ≡ true
 
-  -- what its call takes bytes from lies in the pools
+  -- the bytes that its call takes are in the pools
   abbrev FromThere : Call → Type 0
   FromThere k = Lie (taken_from m (event.Call d k))
 
-  -- one that was there
+  -- an aggregate that existed before the call
   kept : (k : Call) (r : Reply) (a : ℕ) → FromThere k → StepsTo m (event.Call d k) r n → Lie (text m d a)
       → Lie (text n d a)
   kept k r a from step lies = labels.aggs pools m n (event.Call d k) r d a order step (λ is. from) (λ un. lies)
 
-  -- a new one
+  -- a new aggregate
   new : (k : Call) (r : Reply) (a : ℕ) → FromThere k → StepsTo m (event.Call d k) r n
       → brings (event.Call d k) r d a ≡ true → Lie (text n d a)
   new k r a from step is =
@@ -100,7 +100,7 @@ module _ (labels : LabelsFollow) (steps : EachStepLeavesTheRest) (files : FileCa
   made_here : (bytes : List ℕ) → FromThere (call.AggMake bytes)
   made_here bytes = labels.fresh pools (default_pool m d) bytes default
 
-  -- so does what is collected
+  -- the same for the buffered output
   one_kept : (k : Call) (r : Reply) (o : Option ℕ) → FromThere k → StepsTo m (event.Call d k) r n → OneLies pools m d o
       → OneLies pools n d o
   one_kept k r None from step lies = tt
@@ -121,7 +121,7 @@ module _ (labels : LabelsFollow) (steps : EachStepLeavesTheRest) (files : FileCa
   abbrev LiesAfter : Option Step → Collected → (y : Phase) → Type 0
   LiesAfter o x y = LiesIn pools n d (or_again o (at_step y 0 x)).piece (or_again o (at_step y 0 x)).phase
 
-  -- a text is made of what is collected
+  -- the aggregate of the buffered text is made
   interleaved_lies : (x : Collected) (begun a : ℕ) → PieceLies pools n d x → Lie (text n d a)
       → LiesIn pools n d (interleave_on begun x a).piece (interleave_on begun x a).phase
   interleaved_lies x begun a lies made = by x.held refl (last_place x.places)
@@ -313,7 +313,7 @@ module _ (labels : LabelsFollow) (steps : EachStepLeavesTheRest) (files : FileCa
   FileOpen (phase.Reading fd u) = IsFileOpen m d fd
   FileOpen x = Unit {0}
 
-  -- what lies there of a step lies there after its call, the reply taken as filed
+  -- if a step's bytes are in the pools, so are those of the step after the reply
   after : (job : Task) (x : Collected) (begun : ℕ) (y : Phase) (r : Reply) → FileOpen y → LiesIn pools m d x y
       → StepsTo m (event.Call d (phase_call job x begun y)) r n
       → LiesAfter (after_phase (readable_at n d) job x begun y r) x y
@@ -384,7 +384,7 @@ module _ (labels : LabelsFollow) (steps : EachStepLeavesTheRest) (files : FileCa
       default_begun job x (slice_get job.lines begun) r (expected_now job x begun) step
   default_after job x begun y r step = default_kept (phase_call job x begun y) r refl step
 
-  -- ---- what it wrote
+  -- ---- the bytes that it wrote
 
   line_written : (p : ℕ) (job : Task) (x : Collected) (l : Option Line) (t : Bool)
       → writes_pipe m (event.Call d (if t then call.AggMake x.text else next_call job l)) p ≡ false
@@ -451,7 +451,7 @@ file_open labels steps files pools_come pools m n d order live holds default (ph
     (h.number, h.place, h.open_on)
 file_open labels steps files pools_come pools m n d order live holds default x h = tt
 
--- a yield leaves it at its step
+-- a yield leaves it at the same step
 yields_at : (w v : Worker) (l : Reply) (readable : ℕ → Option (List ℕ)) (s : Standing) → is_over s ≡ false
     → (s ≡ standing.Asked → is_given w.step.phase l ≡ false)
     → works_as s w l readable turn.Yield v → (v.step ≡ filed_step s w readable l) × (v.standing ≡ standing.Asks)
@@ -479,7 +479,7 @@ module _ (labels : LabelsFollow) (steps : EachStepLeavesTheRest) (files : FileCa
   abbrev now : Step
   now = filed_step w.standing w (readable_at m d) last
 
-  -- one that goes on at its step
+  -- a worker that continues at its step
   moves : (t : Turn) → is_over w.standing ≡ false → (w.standing ≡ standing.Asked → is_given w.step.phase last ≡ false)
       → Open now.phase
       → works_as w.standing w last (readable_at m d) t v → ComesOf copying worker_turns m d t yields r n
@@ -500,7 +500,7 @@ module _ (labels : LabelsFollow) (steps : EachStepLeavesTheRest) (files : FileCa
       shown_after labels steps files pools_come pools m n d order live holds shown.default p v r w.job now k made.job_is
       made.step_is made.asked made.call_is opened shown.lies shown.output comes.1
 
-  -- one that takes its job
+  -- a worker that takes its job
   takes_job : (t : Turn) (job : Task) (a : ℕ) → w.standing ≡ standing.Asked → t ≡ turn.Make (call.AggDrop a)
       → v ≡ with_job w (Some job) a
       → ComesOf copying worker_turns m d t yields r n → IsShown pools n p (process_slot_at d v r)
@@ -566,7 +566,7 @@ turns labels steps files pools_come pools m n p process_slot next yields r unsee
         (file_open labels steps files pools_come pools m n process_slot.by order live holds shown.default
         (step_of m process_slot).phase i.feeds.needs) goes did.comes
 
--- ---- what others do
+-- ---- events of others
 
 module _ (labels : LabelsFollow) (steps : EachStepLeavesTheRest) (pools : ℕ → Bool) (m n : State) (d : ℕ) (e : Event)
     (r : Reply)
@@ -650,7 +650,7 @@ module _ (labels : LabelsFollow) (steps : EachStepLeavesTheRest) (pools : ℕ �
   lies_stay x (phase.DroppingTaken a rest) h k lies =
       (piece_still (length x.text) x k.0.piece lies.0, lies_still rest h.0 lies.1)
 
--- a worker without a step of its own has nothing there
+-- a waiting worker has no buffered bytes
 nothing_lies : (pools : ℕ → Bool) (n : State) (d : ℕ) (x : Collected) (y : Phase) → y ≡ phase.Waiting
     → LiesIn pools n d x y
 nothing_lies pools n d x y is = subst (λ (z : Phase). LiesIn pools n d x z) (sym is) tt
@@ -668,7 +668,7 @@ no_exit (event.Call by call.Exit) d other = other
 no_exit (event.Call by (call.SetPool q)) d other = other
 no_exit e d other = refl
 
--- it alone has the write end of the pipe
+-- no other domain has the write end of the pipe
 end_of : (m : State) (d p fd by f : ℕ) → IsOrderly m → descriptor m d fd ≡ Some (on.WriteEnd p) → (by == d) ≡ false
     → is_write_end p (descriptor m by f) ≡ true → ⊥
 end_of m d p fd by f order opened other is = at_end (descriptor m by f) refl is

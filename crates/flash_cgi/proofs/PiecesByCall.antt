@@ -35,9 +35,9 @@ use Rattle.flash_cgi.proofs.StaysByCall.{and_false, not-equal, at_step, two_numb
 use Rattle.flash_cgi.proofs.StaysByCall.{readable-stays, still_readable, after_drop, beside_drop, goes}
 
 module _ (steps : EachStepLeavesTheRest) (own : CallsServeTheirDomain) where
-  -- ---- what is collected is made
+  -- ---- the aggregate of the buffered text is made
 
-  -- at this step this text is made of it, and the rest is still to be set into it
+  -- at this step the aggregate of this text is made, and the bytes of files are still to be inserted
   abbrev Ready : (n : State) → (d : ℕ) → Task → (begun : ℕ) → (text : List ℕ) → Collected → Step → Type 0
   Ready n d job begun text x v = Needs n d v.phase × HoldsAt (readable_at n d) v.piece v.phase
       × ((os : List Outcome) → still job (readable_at n d) v os ≡ collected_in (readable_at n d) text x
@@ -51,7 +51,7 @@ module _ (steps : EachStepLeavesTheRest) (own : CallsServeTheirDomain) where
       text : List ℕ
       text = bytes_at (readable_at n d) a
 
-      -- where no file is left, the text is all of it
+      -- if no file is left, the text is all of the buffered output
       all : x.places ≡ [] → (os : List Outcome)
           → text ++ (bytes_of_one (readable_at n d) x.next ++ rest_of job begun os) ≡ collected_in (readable_at n d)
           text x ++ rest_of job begun os
@@ -169,7 +169,7 @@ module _ (steps : EachStepLeavesTheRest) (own : CallsServeTheirDomain) where
       by (reply.Refused y) none step did = did
       by r none step did = absurd did
 
-  -- ---- the bytes of the last file are cut off, and set into the text
+  -- ---- the bytes of the last file are cut off, and inserted into the text
 
   pub parts : (m n : State) (d p : ℕ) (job : Task) (begun held a from : ℕ) (x : Collected) (r : Reply)
       (unseen : List Outcome → List ℕ) → IsOrderly m
@@ -202,7 +202,7 @@ module _ (steps : EachStepLeavesTheRest) (own : CallsServeTheirDomain) where
       place_now : place_at (last_place x.places) ≡ h.place.at
       place_now = ap (λ (l : List Place). place_at (last_place l)) h.places_are
 
-      -- what is lent under another number is lent still
+      -- an aggregate with another number is still readable
       left : (b : ℕ) (bytes : List ℕ) (r : Reply) → StepsTo m (event.Call d (call.AggSplit held from)) r n → held ≢ b
           → readable_at m d b ≡ Some bytes → readable_at n d b ≡ Some bytes
       left b bytes r step differ is =
@@ -378,9 +378,9 @@ module _ (steps : EachStepLeavesTheRest) (own : CallsServeTheirDomain) where
       by (reply.Refused y) step did = did
       by r step did = absurd did
 
-  -- ---- the text without them, and what was cut off, is given up
+  -- ---- the text without them, and the bytes cut off, are dropped
 
-  -- what is made is lent as it was
+  -- the aggregate that was made is still readable, with the same bytes
   made_still : (m n : State) (d : ℕ) (job : Task) (begun a part b : ℕ) (x : Collected) (r : Reply)
       → StepsTo m (event.Call d (call.AggDrop a)) r n → DropsPart (readable_at m d) x part b → IsApart x a → a ≢ b
       → IsReadable (readable_at n d) b × HasPiece (readable_at n d) (length (bytes_at (readable_at n d) b)) x

@@ -53,7 +53,7 @@ ends w v last readable t is did = (took.0, ap (λ (x : Worker). x.standing) took
     took : takes w [] is.agg t v
     took = subst (λ (l : List ℕ). takes w l is.agg t v) is.nothing after_reply_agg
 
--- what a worker is that is not over stays so in all other turns
+-- a worker becomes over only if it read no bytes
 only : (w v : Worker) (last : Reply) (readable : ℕ → Option (List ℕ)) (t : Turn) → is_over w.standing ≡ false
     → works w last readable t v → is_over v.standing ≡ true → ReadNothing w last readable
 only w v last readable t goes did over = by w.standing refl goes did

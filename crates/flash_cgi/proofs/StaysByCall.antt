@@ -97,7 +97,7 @@ two_numbers m n d a at b c step same =
     second_of (reply.Aggs b c) = c
     second_of r = 0
 
--- what is written goes from what is to be written into the pipe
+-- written bytes move from the bytes to be written to the pipe
 pub moved : (queue bytes rest : List ℕ) (k : ℕ) → queue ++ (bytes ++ rest) ≡ (queue ++ take k bytes)
     ++ (drop k bytes ++ rest)
 moved queue bytes rest k =
@@ -138,7 +138,7 @@ pub not_output : (m : State) (d file fd p : ℕ) → IsFileOpen m d file → des
     → file ≢ fd
 not_output m d file fd p is out same = (let e = ap (λ k. descriptor m d k) same in absurd (cc (e, is.2, out)))
 
--- the drop of another leaves it
+-- a drop of another aggregate leaves it
 pub apart_test : (d a b : ℕ) (x : Collected) → IsApart x a → (x.held ≡ Some b) ⊎ (x.next ≡ Some b)
     → ((d == d) && (a == b)) ≡ false
 apart_test d a b x apart one = and_false (d == d) (a == b) (not-equal a b (λ same. by same one))
@@ -182,7 +182,7 @@ module _ (steps : EachStepLeavesTheRest) where
   after_drop m n d a r x step apart =
       still_readable m n d (call.AggDrop a) r x step (λ b one. apart_test d a b x apart one)
 
-  -- one that is not dropped
+  -- an aggregate that is not dropped is still readable
   abbrev pub beside_drop : (m n : State) (d a b : ℕ) (r : Reply) → StepsTo m (event.Call d (call.AggDrop a)) r n → a ≢ b
       → IsReadable (readable_at m d) b → IsReadable (readable_at n d) b
   beside_drop m n d a b r step differ h = (
@@ -191,7 +191,7 @@ module _ (steps : EachStepLeavesTheRest) where
         (and_false (d == d) (a == b) (not-equal a b differ)),
   )
 
-  -- ---- a call that leaves the pipe, after which as much is still to be written
+  -- ---- a call that leaves the output pipe and the bytes to be written unchanged
   pub goes : (m n : State) (d p : ℕ) (job : Task) (s v : Step) (unseen : List Outcome → List ℕ) (used : List Outcome)
       (c : Call) (r : Reply) → Feeds m d p job s unseen → StepsTo m (event.Call d c) r n
       → ends (event.Call d c) d ≡ false → touches_fd m (event.Call d c) d job.fd ≡ false

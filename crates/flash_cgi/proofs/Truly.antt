@@ -49,7 +49,7 @@ pub content-same : (m n : State) (k : ℕ) → n.slots ≡ m.slots → content n
 unfolding content
 content-same m n k e = ap (λ (ss : List (List ℕ)). numbered_or ss k []) e
 
--- a step that changes no file leaves all outcomes
+-- a step that changes no file, and admits no domain to a pool, leaves all outcomes unchanged
 pub same_outcome : (m n : State) (d : ℕ) (e : Event) → Leaves m e n → AreFiles m → changes_files m e ≡ false
     → ((q : ℕ) → admits_to e q ≡ false) → (name : List ℕ) → outcome_in n d name ≡ outcome_in m d name
 same_outcome m n d e leaves good undisturbed shut name =
@@ -93,7 +93,7 @@ module _ (steps : EachStepLeavesTheRest) (files : FileCallsServeTheirDomain) whe
   TrulyTo m d job step r n None = Unit {0}
   TrulyTo m d job step r n (Some next) = SettlesTruly m d job step r n next ⊎ SettlesByRefusal m d job step r n next
 
-  -- what is collected is made: no file is opened
+  -- the aggregate of the buffered text is made: no file is opened
   interleaved_truly : (m n : State) (d : ℕ) (job : Task) (begun a : ℕ) (s : Step) (r : Reply) (x : Collected)
       → to_come m d job s ≡ outcomes_in n d (drop begun job.lines) → resolved job s (readable_at n d) r ≡ []
       → TrulyTo m d job s r n (Some (interleave_on begun x a))
@@ -178,7 +178,7 @@ module _ (steps : EachStepLeavesTheRest) (files : FileCallsServeTheirDomain) whe
   written m n d job begun a x (reply.Refused y) same = tt
   written m n d job begun a x r same = tt
 
-  -- a file is opened for the line that is begun
+  -- a file is opened for the line that begins
   opens : (m n : State) (d : ℕ) (job : Task) (begun : ℕ) (u : Purpose) (name : List ℕ) (x : Collected) (r : Reply)
       → outcomes_in m d (drop begun job.lines) ≡ outcome_in m d name ∷ outcomes_in m d (drop (begun + 1) job.lines)
       → ((k : ℕ) → outcomes_in m d (drop k job.lines) ≡ outcomes_in n d (drop k job.lines))

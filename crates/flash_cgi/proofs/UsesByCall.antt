@@ -64,7 +64,7 @@ none_next x expected = by x.next (right_of (is_full x) (is_some x.next) expected
     by None e = refl
     by (Some a) e = absurd (cc (e))
 
--- an event of a domain's own
+-- an event of the domain itself
 here : (d : ℕ) (b : Bool) → b ≡ true → ((d == d) && b) ≡ true
 here d b is = ap (λ t. (d == d) && t) is ∙ grind (arith, nat_tests)
 
@@ -89,12 +89,12 @@ module _ (own : CallsServeTheirDomain) (why : RefusalsTellWhy) (come : Aggregate
 
   -- ---- aggregates
 
-  -- one that is not there does not come by a reply that does not give it
+  -- an aggregate that does not exist is not made by a call whose reply does not return it
   pub absent : (k : Call) (r : Reply) (a : ℕ) → StepsTo m (event.Call d k) r n → brings (event.Call d k) r d a ≡ false
       → readable_at m d a ≡ None → readable_at n d a ≡ None
   absent k r a step un is = come.none m n (event.Call d k) r d a step is un
 
-  -- of what a refusal leaves there is none where it would not have been refused
+  -- if a call changed nothing, and there was no such object before it, there is none after it
   was_none : {A : Type 0} (found : State → Option A) → n ≡ m → ((x : A) → found m ≡ Some x → ⊥) → found n ≡ None
   was_none {A = A} found same never = by (found m) refl
     where
@@ -102,7 +102,7 @@ module _ (own : CallsServeTheirDomain) (why : RefusalsTellWhy) (come : Aggregate
       by None none = ap found same ∙ none
       by (Some x) some = absurd (never x some)
 
-  -- one that is dropped is gone
+  -- a dropped aggregate does not exist
   dropped : (a : ℕ) (r : Reply) → StepsTo m (event.Call d (call.AggDrop a)) r n → readable_at n d a ≡ None
   dropped a r step = by r step (own.drops m n d a r order step)
     where
@@ -144,7 +144,7 @@ module _ (own : CallsServeTheirDomain) (why : RefusalsTellWhy) (come : Aggregate
 
   -- ---- descriptors
 
-  -- one that is closed is not open
+  -- a closed descriptor is not open
   shut : (fd : ℕ) (r : Reply) → StepsTo m (event.Call d (call.Close fd)) r n → descriptor n d fd ≡ None
   shut fd r step = by r step (own.closes m n d fd r step)
     where
@@ -163,7 +163,7 @@ module _ (own : CallsServeTheirDomain) (why : RefusalsTellWhy) (come : Aggregate
       by true test = subst (λ k. descriptor n d k ≡ None) (same_number fd f test) (shut fd r step)
       by false test = free_close m n d fd f r step (was test)
 
-  -- two aggregates that are joined, or one that is parted, are gone
+  -- two joined aggregates, or a split one, do not exist afterwards
   after_join : (a c e b : ℕ) → StepsTo m (event.Call d (call.AggJoin a c)) (reply.Agg e) n → (e == b) ≡ false
       → ((a == b) ≡ false → (c == b) ≡ false → readable_at m d b ≡ None) → readable_at n d b ≡ None
   after_join a c e b step new was = by (a == b) refl (c == b) refl
@@ -218,7 +218,7 @@ module _ (own : CallsServeTheirDomain) (why : RefusalsTellWhy) (come : Aggregate
     no_agg = λ b given un. after_close fd b r step (h.no_agg b given (fewer_aggs b un));
   }
 
-  -- a text is made of what is collected: whichever phase is next uses it, and what was collected
+  -- the aggregate of the buffered text is made: the next phase uses it and the buffered output
   interleaves : (y : Phase) (begun : ℕ) (x : Collected) (a : ℕ)
       → ((f : ℕ) → fds f ≡ false → (job.fd == f) ≡ false → descriptor n d f ≡ None)
       → ((b : ℕ) → aggs b ≡ false → (a == b) ≡ false → is_one x.held b ≡ false → is_one x.next b ≡ false
@@ -346,7 +346,7 @@ module _ (own : CallsServeTheirDomain) (why : RefusalsTellWhy) (come : Aggregate
       unchanged x x (phase.Reading file u) _ (λ f un. un) (λ b un. un) step.1 h
   reads x file u begun r h step = tt
 
-  -- a line is begun: no file waits behind what is collected
+  -- a line begins: no long file follows the buffered output
   abbrev NoNext : Collected → Type 0
   NoNext x = x.next ≡ None
 
@@ -421,7 +421,7 @@ module _ (own : CallsServeTheirDomain) (why : RefusalsTellWhy) (come : Aggregate
       by o is false false = to (with_next x a) phase.Interpreting (λ f un. un)
           (λ b un. (let k = or_parts (is_one x.held b) (a == b) un in either_false (a == b) (is_one x.held b) k.1 k.0))
 
-  -- of what waits behind it
+  -- an aggregate that is neither of the two is no part of the buffered output
   next_used : (x : Collected) (o : Option ℕ) (a b : ℕ) → x.next ≡ o → is_one x.held b ≡ false → is_one o b ≡ false
       → (is_one x.held b || is_one x.next b) ≡ false
   next_used x o a b is held next =

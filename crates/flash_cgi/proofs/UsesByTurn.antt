@@ -40,7 +40,7 @@ use Rattle.flash_cgi.proofs.UsesByCall.{both_false, same_number, call_keeps, abs
 use Rattle.flash_cgi.proofs.OutputByTurn.{process_slot_at, readable-live}
 use Rattle.flash_cgi.proofs.NotOpen.{free_read}
 
--- ---- a reply after which the call is to be made again changed nothing
+-- ---- a call that is to be retried changed nothing
 
 module _ (m n : State) (d : ℕ) where
   made_again : (x : Collected) (bytes : List ℕ) (begun : ℕ) (r : Reply)
@@ -110,7 +110,7 @@ module _ (m n : State) (d : ℕ) where
   runs_again job x begun l r true step none = made_again x x.text begun r step none
   runs_again job x begun l r false step none = begun_again job x begun l r step none
 
-  -- a file that is closed is none of these
+  -- the close of a file always has a next step
   shut_again : (x : Collected) (from a len begun : ℕ) → shut_by x from a len begun ≡ None → ⊥
   shut_again x from a len begun none = by x.held (nat_le len 4096) (is_nothing x) none
     where
@@ -154,14 +154,14 @@ module _ (m n : State) (d : ℕ) where
 
 module _ (own : CallsServeTheirDomain) (why : RefusalsTellWhy) (come : AggregatesComeAndGo)
     (m n : State) (d : ℕ) (fds aggs : ℕ → Bool) (order : IsOrderly m) (live : is_live m d ≡ true) where
-  -- ---- its call is made
+  -- ---- the worker makes its call
 
   abbrev Held : (job : Task) → Collected → (begun : ℕ) → Phase → Reply → Type 0
   Held job x begun y r =
       HasJust n d fds aggs job (or_again (after_phase (readable_at n d) job x begun y r) (at_step y begun x)).piece
       (held_phase standing.Asked y r (or_again (after_phase (readable_at n d) job x begun y r) (at_step y begun x)))
 
-  -- of a call that is no read of a job, or gives none
+  -- for a call whose reply gives no text from the job pipe
   went : (job : Task) (x : Collected) (begun : ℕ) (y : Phase) (r : Reply) → is_given y r ≡ false
       → HasJust m d fds aggs job x y → StepsTo m (event.Call d (phase_call job x begun y)) r n
       → HasJust n d fds aggs job (or_again (after_phase (readable_at n d) job x begun y r) (at_step y begun x)).piece
@@ -194,7 +194,7 @@ module _ (own : CallsServeTheirDomain) (why : RefusalsTellWhy) (come : Aggregate
   called x r asked h step =
       subst (λ (s : Standing). KeepsAs x r s) (sym asked) (after x.job x.step.piece x.step.begun x.step.phase r h step)
 
-  -- one that has not asked has what it uses for the call that it is at
+  -- a worker that has not made its call has what this call uses
   rests : (x : Worker) (r : Reply) → x.standing ≡ standing.Asks → HasJust n d fds aggs x.job x.step.piece x.step.phase
       → KeepsJust n fds aggs (process_slot_at d x r)
   rests x r is h = subst (λ (s : Standing). KeepsAs x r s) (sym is) h
@@ -220,7 +220,7 @@ module _ (own : CallsServeTheirDomain) (why : RefusalsTellWhy) (come : Aggregate
           → HasJust n d fds aggs job x y
       still job x y is h = subst (λ (s : State). HasJust s d fds aggs job x y) (sym (yielded is)) h
 
-      -- it goes on, or yields
+      -- it continues, or yields
       on : (w : Worker) (o : Option Step) → w.standing ≡ standing.Asked
           → HasJust m d fds aggs w.job (or_again o w.step).piece (or_again o w.step).phase → proceeds w o t v → Keeps v
       on w (Some next) asked h did = makes (record w { step = next }) did.1 did.0 asked h
@@ -228,7 +228,7 @@ module _ (own : CallsServeTheirDomain) (why : RefusalsTellWhy) (come : Aggregate
           subst (λ (y : Worker). Keeps y) (sym did.1)
           (rests (record w { standing = standing.Asks }) r refl (still w.job w.step.piece w.step.phase did.0 h))
 
-      -- it was given a text: what it had collected is nothing
+      -- its read returned a text: it has no buffered output
       text : (w : Worker) (x : Collected) (bytes : List ℕ) (a : ℕ) → w.standing ≡ standing.Asked
           → w.step.phase ≡ phase.Waiting → HasJust m d fds aggs w.job x (phase.DroppingOther a) → takes w bytes a t v
           → Keeps v
@@ -294,7 +294,7 @@ turn_keeps own why come m n fds aggs process_slot next yields r order live h (in
     (moves own why come m n process_slot.by fds aggs order live next.process r did.turn yields did.comes
     process_slot.process process_slot.last process_slot.process.standing refl h goes)
 
--- what takes the output is the job's own
+-- the output descriptor is the job's own
 output_own : (m : State) (d : ℕ) (fds aggs : ℕ → Bool) (job : Task) (p : Collected) (x : Phase)
     → uses_fd job x job.fd ≡ true → HasJust m d fds aggs job p x
     → HasJust m d (λ fd. fds fd && not (job.fd == fd)) aggs job p x

@@ -26,7 +26,7 @@ use Rattle.flash_cgi.specs.declared.phase.Standing.TheVariants as standing
 use Rattle.flash_cgi.specs.declared.phase.Step.{Step}
 use Rattle.flash_cgi.specs.declared.worker.Worker.{Worker}
 
--- a call that it makes is the one that it is at, unless its job pipe has ended
+-- the call that it makes is the call of its step, unless its job pipe has ended
 abbrev IsCallOf : Call → Worker → Standing → Type 0
 IsCallOf c v standing.Over = Unit {0}
 IsCallOf c v s = c ≡ call_at v.job v.step
@@ -66,7 +66,7 @@ call_is w v c l readable did = by w.standing did
     by standing.Asked did = filed w.step.phase l did
     by standing.Over did = (let e = did.0 in absurd (cc))
 
--- a yield leaves what it is at: it is to make its call again, or its job pipe has ended
+-- a yield leaves its step: it will make its call again, or its job pipe has ended
 abbrev Yields : Worker → Worker → Standing → Type 0
 Yields w v standing.Asks = ⊥
 Yields w v standing.Asked = v ≡ record w { standing = standing.Asks }
@@ -89,7 +89,7 @@ yield_is w v l readable did = by w.standing did
     by standing.Asked did = filed w.step.phase l did
     by standing.Over did = did.1
 
--- what is claimed after one yield and after two, by where it stands
+-- the condition after one yield and after two, by its standing
 module _ (m : State) (by : ℕ) where
   stuck_called : (w : Worker) (c : Call) (s : Standing) → IsCallOf c w s
       → StepsTo m (event.Call by c) (reply.Refused WouldBlock) m → IsStuck m by w (reply.Refused WouldBlock) s
@@ -103,7 +103,7 @@ module _ (m : State) (by : ℕ) where
   refused_stuck w l standing.Asked h = h
   refused_stuck w l x h = tt
 
-  -- a yield makes of what was refused what is stuck, and leaves what is stuck
+  -- IsRefused holds after one yield, and IsStuck after two
   yields_once : (w v : Worker) (s : Standing) → w.standing ≡ s → Yields w v s → IsRefused m by v reply.Done v.standing
   yields_once w v standing.Asks is y = absurd y
   yields_once w v standing.Asked is y =

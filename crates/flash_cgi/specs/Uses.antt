@@ -67,8 +67,8 @@ pub record HasJust (m : State) (d : ℕ) (fds aggs : ℕ → Bool) (job : Task) 
 
 -- ---- between two turns
 
--- its phase after its last reply is processed, for the question of what it has: a text just read does not yet count as
--- a job
+-- its phase after its last reply is processed, by which its aggregates are determined: a text just read does not yet
+-- count as a job
 abbrev pub held_phase : Standing → Phase → Reply → Step → Phase
 held_phase standing.Asked phase.Waiting (reply.Agg agg) step = phase.DroppingOther agg
 held_phase s x r step = step.phase
@@ -79,8 +79,8 @@ KeepsJust m fds aggs process_slot =
     (held_phase process_slot.process.standing process_slot.process.step.phase process_slot.last
     (step_of m process_slot))
 
--- A worker has what it uses, and nothing else. So after the end of its script, while it waits, it has what it had
--- before its job: only its job pipe.
+-- A worker has only the descriptors and aggregates that it uses. So after the end of its script, while it waits, it has
+-- only its job pipe, as before its job.
 pub record WorkersKeepNothing : Type 0 where
   -- after its call it has what it then uses
   pub calls : (m n : State) (d : ℕ) (fds aggs : ℕ → Bool) (job : Task) (step next : Step) (r : Reply) → IsOrderly m

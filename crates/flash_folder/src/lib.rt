@@ -1,7 +1,7 @@
 //! The files of a folder, served by the file server.
 //!
 //! [`serve`](serve::serve) and [`loop_on`](loopback::loop_on) are programs, except for their words:
-//! each returns its exit status, and reports on standard error what ended it early
+//! each returns its exit status, and reports on standard error the fault that ended it early
 //! ([`Fault`](fault::Fault)). `serve` serves many clients at once, on the event loop of
 //! `iol_reactor`. [`Server`](serve::Server) is the same in three steps: it reads and listens, gives
 //! its port, serves.

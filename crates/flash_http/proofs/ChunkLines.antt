@@ -17,7 +17,7 @@ some m e = grind (arith, nat_tests)
 sixteen_times : (k : ℕ) → 16 ^ (suc k + 1) ≡ 16 * 16 ^ (k + 1)
 sixteen_times k = let e : suc k + 1 ≡ suc (k + 1) = omega arith in ap (λ m. 16 ^ m) e ∙ pow-succ' 16 (k + 1)
 
--- one digit more for each division by 16
+-- one more digit for each division by 16
 length_onto : (fuel k n : ℕ) (acc : List ℕ) → n < 16 ^ (k + 1)
     → length (digits_onto fuel 16 false n acc) ≤ k + 1 + length acc
 length_onto zero k n acc h = omega arith

@@ -37,7 +37,7 @@ number_read [] (Err e) digits short h = refl
 number_read (d ∷ ds) (Err e) digits short h =
     absurd (h (omega arith, omega (arith, digits_value_short own (d ∷ ds) 15 digits short)))
 
--- what `parse` reads of at most 15 digits
+-- `parse` of at most 15 digits gives their number
 pub number_parsed : {E : Type 0} (ds : List ℕ) (r : Result ℕ E) → AreDigits ds → length ds ≤ 15
     → ParsesUnsigned 64 10 ds r → result_ok r ≡ number ds
 number_parsed ds r digits short h = number_read ds r digits short (parse_digits own 64 ds r h digits)

@@ -16,7 +16,7 @@ use Rattle.flash_http.proofs.ServedRequests.{from_reading}
 taken-less : (n : ℕ) (xs : List ℕ) → length (take n xs) ≤ length xs
 taken-less n xs = let e = length-take n xs in grind (arith, nat_tests, e)
 
--- ---- the query is part of what a target keeps
+-- ---- the query is part of the text that is kept of a target
 
 back-less : (text : List ℕ) → length (unwrap_or (split_once_back question_mark text) []) ≤ length text
 back-less text = by (nat_lt (index_of question_mark text) (length text))
@@ -28,7 +28,7 @@ back-less text = by (nat_lt (index_of question_mark text) (length text))
     by true = (let e = length-drop (index_of question_mark text + 1) text in omega (arith, e))
     by false = omega arith
 
--- ---- and that is part of the target
+-- ---- this text is part of the target
 
 tail-kept : (tail kept : List ℕ) → IsTail tail kept → length kept ≤ length tail + 1
 tail-kept tail kept (inl none) = (let e = ap (λ (l : List ℕ). length l) none.1 in omega (arith, e))
@@ -63,7 +63,7 @@ query-less target name query h =
     let k = form-kept target (uri_scheme h.uri) (uri_authority h.uri) (uri_data h.uri) h.is_uri.spells.1 in
     omega (arith, e, b, k)
 
--- ---- which is part of the head
+-- ---- the target is part of the head
 
 target-less : (h : RequestHead) → length h.target ≤ length (print_request h)
 unfolding print_request
@@ -85,7 +85,7 @@ head-target bytes h is =
     let t = target-less h in
     omega (arith, e, a, t)
 
--- ---- what is served
+-- ---- served requests
 
 query_of : Answer → List ℕ
 query_of (serve w) = w.query

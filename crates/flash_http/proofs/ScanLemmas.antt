@@ -20,7 +20,7 @@ pub beyond : (r : Option (ℕ × ℕ)) (a b : ℕ) → a ≤ b → IfSome r (λ 
 beyond None a b h p = p
 beyond (Some x) a b h p = omega (arith, p)
 
--- what is found ends after the place of the search
+-- a head that is found ends after the bytes already searched
 pub found_beyond : (bytes : List ℕ) (begun : Bool) (skip len : ℕ) (line : Line)
     → IfSome (found_from begun skip len line bytes) (λ p. skip + len < p.0 + p.1)
 found_beyond [] begun skip len line = tt
@@ -40,13 +40,13 @@ at_full : (r : Option (ℕ × ℕ)) (n : ℕ) → 8192 ≤ n → IfSome r (λ p.
 at_full None n h p = grind (arith, nat_tests)
 at_full (Some x) n h p = grind (arith, nat_tests)
 
--- nothing is found past the limit
+-- if the limit is reached, the window is `TooLarge`
 pub window_full : (s : Scan) (rest : List ℕ) → s.skip + s.len ≡ 8192 → window_from s rest ≡ TooLarge
 window_full s rest h =
     let after = found_beyond rest s.begun s.skip s.len s.line in
     at_full (found_from s.begun s.skip s.len s.line rest) (s.skip + s.len + length rest) (omega arith) (rw h at after)
 
--- the state after what has come of a line
+-- the state after the received bytes of a line
 abbrev line_of : List ℕ → Line
 line_of [] = Fresh
 line_of (b ∷ []) = next_line Fresh b
@@ -67,7 +67,7 @@ empty_line_of (a ∷ c ∷ line) = refl
 length_more : (line : List ℕ) (b : ℕ) → length (line ++ b ∷ []) ≡ length line + 1
 length_more line b = length-append line (b ∷ [])
 
--- counts that add up
+-- the counts add up
 regroup_in : (r : Option ℕ) (skip front n : ℕ)
     → option_map {U = ℕ × ℕ} (λ k. (skip, front + n + 1 + k)) r ≡ option_map {U = ℕ × ℕ} (λ k. (skip, front + k))
     (option_map (λ k. n + 1 + k) r)
@@ -88,7 +88,7 @@ regroup_begin : (r : Option ℕ) (skip n : ℕ)
 regroup_begin None skip n = refl
 regroup_begin (Some k) skip n = let e : skip ≡ skip + 0 = omega arith in ap (λ v. Some (v, n + 1 + k)) e
 
--- in a head, whose lines so far take so many bytes
+-- in a head, of which the complete lines so far have `front` bytes
 found_in_head : (bytes line : List ℕ) (skip front : ℕ) → found_from true skip (front + length line) (line_of line) bytes
     ≡ option_map {U = ℕ × ℕ} (λ n. (skip, front + n)) (head_len (lines_from line bytes))
 found_in_head [] line skip front = refl
@@ -135,7 +135,7 @@ ends_before_head line others bytes skip false h rest =
     ∙ found_in_head bytes [] skip (length line + 1)
     ∙ regroup_begin (head_len (lines_from [] bytes)) skip (length line))
 
--- among the empty lines before a head, which take so many bytes
+-- among the empty lines before a head, which have `skip` bytes so far
 found_before_head : (bytes line : List ℕ) (skip : ℕ)
     → found_from false skip (length line) (line_of line) bytes ≡ option_map {U = ℕ × ℕ} (λ p. (skip + p.0, p.1))
     (head_in (lines_from line bytes))
@@ -159,7 +159,7 @@ same_pair : (r : Option (ℕ × ℕ)) → option_map {U = ℕ × ℕ} (λ p. (0 
 same_pair None = refl
 same_pair (Some p) = let e : 0 + p.0 ≡ p.0 = omega arith in ap (λ v. Some (v, p.1)) e
 
--- where the search starts
+-- the start of the search
 abbrev pub start : Scan
 start = record { skip = 0; len = 0; begun = false; line = Fresh }
 

@@ -48,7 +48,7 @@ plain_name target name query h =
     plain _ (rest_lacks (λ b. b == 0) text h.is_path.no_nul) (rest_parts text h.is_path.no_dots) in
     subst (λ n. IsPlainName n) (sym h.is_name) is_plain
 
--- ---- what is served names a file
+-- ---- a served request names a file
 
 name_of : Answer → List ℕ
 name_of (serve w) = w.name
@@ -66,7 +66,7 @@ unfolding name_of
 served_file r w None h e = cc
 served_file r w (Some file) h e = subst (λ n. IsPlainName n) (sym (ap name_of e)) (plain_name r.target file.0 file.1 h)
 
--- what is served was read in the head, with a target that names a file or not
+-- a served request is that of the parsed head, with a target that names a file or not
 served_from : (r : Reading) (w : Wanted) (o : Option Answer) → (o ≡ Some (serve w) → ⊥)
     → MatchOption o ((file : Option (List ℕ × List ℕ)) × TargetIs r.target file × (serve w ≡ served r file))
     (λ refused. serve w ≡ refused)
@@ -87,7 +87,7 @@ by_reading (Some r) w h = let f = from_reading r w h in served_file r w f.0 f.1 
 pub names_are_plain : NamesArePlain
 names_are_plain head w h = by_reading h.0 w h.2
 
--- ---- HEAD asks for no range
+-- ---- a HEAD request has no range
 
 abbrev head_of : Answer → Bool
 head_of (serve w) = w.head_only

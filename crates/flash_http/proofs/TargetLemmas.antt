@@ -27,7 +27,7 @@ path_by u v scheme data' =
     let f : Option (List ℕ) → List ℕ → List ℕ = λ s d. cond (not (length d == 0) || is_some s) (path_of d) [] in
     ap (λ s. f s (uri_data u)) scheme ∙ ap (f (uri_scheme v)) data'
 
--- the URIs that a target spells are alike
+-- all URIs that a target represents have the same path
 pub same_path : (target : List ℕ) (u v : Uri) → Spells target u → Spells target v → uri_path u ≡ uri_path v
 same_path target u v a b = let same = Spells_unique target u v a b in path_by u v same.0 same.2
 

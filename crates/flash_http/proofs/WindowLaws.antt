@@ -11,7 +11,7 @@ use Rattle.flash_http.specs.Window.{window_at, no_head, window_in, FitsIn, Windo
 use Rattle.flash_http.specs.Scan.{next_line, is_text, found_from}
 use Rattle.flash_http.proofs.ScanLemmas.{window_start, found_beyond}
 
--- how what is found in the first bytes and in all of them agree
+-- the results of a search in the first bytes and in all bytes agree
 abbrev Agree : ℕ → Option (ℕ × ℕ) → Option (ℕ × ℕ) → Type 0
 Agree total None r = IfSome r (λ p. total < p.0 + p.1)
 Agree total (Some p) r = (r ≡ Some p) × (p.0 + p.1 ≤ total) × (0 < p.1)
@@ -102,7 +102,7 @@ settled : {A : Type 0} (w : Window) → w ≢ Wait → (w ≡ Wait) ⊎ A → A
 settled w other (inl waits) = absurd (other waits)
 settled w other (inr a) = a
 
--- what has come settles the window, unless it is to wait
+-- the received bytes determine the window, unless it is `Wait`
 pub window_stays : WindowsStay
 window_stays stream more other =
     let q = found_from false 0 0 Fresh stream in

@@ -40,7 +40,7 @@ none_more (Some z ∷ l) zero = omega arith
 none_more (None ∷ l) (suc i) = none_more l i
 none_more (Some z ∷ l) (suc i) = let h = none_more l i in omega (arith, h)
 
--- another client in its place, or none
+-- the client at an index is replaced or removed
 no_more_set : (l : List (Option Client)) (fd : ℕ) (x : Client) (o : Option Client) → in_place l fd ≡ Some x
     → taken (slice_set l fd o) ≤ taken l
 no_more_set l fd x None there = none_more l fd
@@ -52,7 +52,7 @@ no_more_at l fd x o there =
     subst (λ (m : List (Option Client)). taken m ≤ taken l) (sym (at_within l fd o (within l fd x there)))
     (no_more_set l fd x o there)
 
--- a client more, where one was being accepted
+-- one more client, if one was being accepted
 pub few_admitted : (clients : List (Option Client)) (fd : ℕ) (x : Client) → IsFew clients Accepting
     → taken (with_at clients fd (Some x)) ≤ 256
 few_admitted clients fd x few =
@@ -62,7 +62,7 @@ few_admitted clients fd x few =
     one_more (clients ++ replicate (fd + 1 - length clients) None) fd x in
     omega (arith, grown, more, few)
 
--- ---- what is picked
+-- ---- the pick
 
 few_accept_step : (clients : List (Option Client)) → taken clients ≤ 256 → IsFew clients (accept_step clients)
 few_accept_step clients few = by (nat_lt (taken clients) most_conns) refl
@@ -109,7 +109,7 @@ few_picks workers l (At fd) made after few p =
     subst (λ (m : List (Option Client)). taken m ≤ 256) (sym p.after_is)
     (let small : taken (with_at l fd (Some p.ready)) ≤ 256 = omega (arith, less, few) in small)
 
--- it leaves few where there were few
+-- a turn preserves the bound
 pub few_turn : (workers : ℕ) (clients : List (Option Client)) (was : PendingCall) (r : Reply) (received : List ℕ)
     (pending_call : PendingCall) (made : Turn) (after : List (Option Client)) → IsFew clients was
     → Picks workers (filed workers clients was r received) pending_call made after

@@ -11,7 +11,7 @@ use Rattle.std.proofs.lemmas.List.Edits.{length-insert}
 use Rattle.std.proofs.lemmas.List.Kept.{AllPairs-from_increasing}
 use Rattle.flash_lite.specs.Order.{marked}
 
--- ---- a list that is parted by a test
+-- ---- a list partitioned by a test
 
 pub all_fail : {X : Type 0} (p : X → Bool) (xs : List X) → ((k : ℕ) (d : X) → k < length xs → p (get_or xs k d) ≡ false)
     → filter p xs ≡ []
@@ -64,7 +64,7 @@ parted xs place up i j d le lt below =
 pub not_below : (place k : ℕ) → nat_le place k ≡ not (nat_lt k place)
 not_below place k = grind (arith, nat_tests)
 
--- ---- a place is put in, or taken out
+-- ---- an index is inserted or removed
 
 abbrev first : List ℕ → Option ℕ
 first [] = None
@@ -107,7 +107,7 @@ found_at p xs at d rest lt = find_first p xs ∙ (ap (λ l. first l) (sym rest) 
 pub found_none : (p : ℕ → Bool) (xs : List ℕ) (at : ℕ) → drop at xs ≡ filter p xs → length xs ≤ at → find p xs ≡ None
 found_none p xs at rest le = find_first p xs ∙ (ap (λ l. first l) (sym rest) ∙ no_drop at xs le)
 
--- so many of them are below a place that stands among them, or does not
+-- `at` is the number of indices below a place; `was` says whether the place is among them
 pub record Sought (xs : List ℕ) (place at : ℕ) (was : Bool) : Type 0 where
   pub below : take at xs ≡ filter (λ k. nat_lt k place) xs
   pub rest : drop at xs ≡ (if was then place ∷ [] else []) ++ filter (λ k. nat_lt place k) xs
@@ -119,7 +119,7 @@ other true false apart = refl
 other false true apart = refl
 other false false apart = absurd (cc)
 
--- as it was counted in a slice of them, before it changes
+-- the same, counted in a slice that has the same elements
 pub sought : (xs ys : List ℕ) (place at : ℕ) (was there : Bool) → ys ≡ xs → beq was there ≡ false
     → marked xs place was ≡ xs → take at ys ≡ filter (λ k. nat_lt k place) ys → at ≤ length ys
     → Sought xs place at (not there)

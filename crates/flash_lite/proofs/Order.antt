@@ -18,7 +18,7 @@ use Rattle.flash_lite.proofs.Fewer.{taken_few}
 use Rattle.flash_lite.proofs.Calls.FileCalls.{position-here, position-past}
 use Rattle.flash_lite.proofs.Places.{found_in, within}
 
--- ---- the places of those that pass a test
+-- ---- the indices of the elements that pass a test
 
 module _ {A : Type 0} (p : A → Bool) where
   is_past : (at : ℕ) (xs : List A) (g : ℕ) → g < at → (k d : ℕ) → k < length (places_from p at xs)
@@ -48,7 +48,7 @@ module _ {A : Type 0} (p : A → Bool) where
   pub places_ascend : (at : ℕ) (xs : List A) → IsStrictlyIncreasing (places_from p at xs)
   places_ascend at xs k within = up at xs k (k + 1) 0 (omega arith) within
 
-  -- one that is set
+  -- the index before all others is inserted at the front
   all_above : (at : ℕ) (xs : List A) → marked (places_from p (at + 1) xs) at true ≡ at ∷ places_from p (at + 1) xs
   all_above at xs =
       let l : List ℕ = places_from p (at + 1) xs in
@@ -71,7 +71,7 @@ module _ {A : Type 0} (p : A → Bool) where
       is_past (at + 1) xs at (omega arith) k d lt in grind (arith, nat_tests, a)) in
       ap (λ m. m ++ filter (λ k. nat_lt at k) l) low ∙ high
 
-  -- that one itself does not count
+  -- the result does not depend on whether the list begins with the marked index
   unmarked : (at : ℕ) (ks : List ℕ) (there : Bool) → marked (at ∷ ks) at there ≡ marked ks at there
   unmarked at ks there =
       let low : nat_lt at at ≡ false = grind (arith, nat_tests) in
@@ -79,7 +79,7 @@ module _ {A : Type 0} (p : A → Bool) where
       ++ ((if there then at ∷ [] else []) ++ cond b (at ∷ filter (λ k. nat_lt at k) ks)
       (filter (λ k. nat_lt at k) ks))) low
 
-  -- one that is below stays
+  -- an index below stays
   marked_past : (k : ℕ) (ks : List ℕ) (place : ℕ) (there : Bool) → k < place
       → marked (k ∷ ks) place there ≡ k ∷ marked ks place there
   marked_past k ks place there lt =
@@ -93,7 +93,7 @@ module _ {A : Type 0} (p : A → Bool) where
       ++ ((if there then place ∷ [] else []) ++ cond b (k ∷ filter (λ j. nat_lt place j) ks)
       (filter (λ j. nat_lt place j) ks)))) high
 
-  -- the first place, and one past it, whether or not the first passes
+  -- the first index is inserted if marked
   marked_above : (at : ℕ) (xs : List A) (b : Bool)
       → marked (places_from p (at + 1) xs) at b ≡ cond b (at ∷ places_from p (at + 1) xs) (places_from p (at + 1) xs)
   marked_above at xs true = all_above at xs
@@ -124,7 +124,7 @@ module _ {A : Type 0} (p : A → Bool) where
       ap (λ n. marked (places_from p at (x ∷ xs)) n (p y)) next
       ∙ marked_later at i xs (slice_set xs i y) (p y) (marked_set (at + 1) i xs y (omega (arith, lt))) (p x)
 
-  -- to mark what stands so already changes nothing; past all stands one that fails
+  -- marking an index as it is already marked changes nothing; indices after the end fail
   pub marked_same : (at i : ℕ) (xs : List A) (z : A) → p z ≡ false
       → marked (places_from p at xs) (at + i) (p (get_or xs i z)) ≡ places_from p at xs
   marked_same at i [] z fails = ap (λ b. marked [] (at + i) b) fails
@@ -136,7 +136,7 @@ module _ {A : Type 0} (p : A → Bool) where
       ap (λ n. marked (places_from p at (x ∷ xs)) n (p (get_or xs i z))) next
       ∙ marked_later at i xs xs (p (get_or xs i z)) (marked_same (at + 1) i xs z fails) (p x)
 
-  -- the first from a place on
+  -- the first index that is at least g
   first_found : (at g : ℕ) (xs : List A) → g ≤ at
       → find (λ k. nat_le g k) (places_from p at xs) ≡ option_map (λ k. at + k) (position p xs)
   first_found at g [] le = refl
@@ -185,7 +185,7 @@ module _ {A : Type 0} (p : A → Bool) where
           (let t : nat_le (at + suc f) at ≡ false = grind (arith, nat_tests) in t) ∙ rest
       by rest false = rest
 
-  -- where none is added that passes
+  -- appended elements that fail add no index
   pub places_more : (at : ℕ) (xs : List A) (n : ℕ) (z : A) → p z ≡ false
       → places_from p at (xs ++ replicate n z) ≡ places_from p at xs
   places_more at [] zero z fails = refl
@@ -194,7 +194,7 @@ module _ {A : Type 0} (p : A → Bool) where
       ∙ places_more (at + 1) [] n z fails
   places_more at (x ∷ xs) n z fails = ap (λ l. cond (p x) (at ∷ l) l) (places_more (at + 1) xs n z fails)
 
--- no more pass than pass another test that is passed by all of them
+-- if all elements that pass one test pass another, at most as many pass the first
 pub fewer_places : {A : Type 0} (p q : A → Bool) (at bt : ℕ) (xs : List A) → ((x : A) → p x ≡ true → q x ≡ true)
     → length (places_from p at xs) ≤ length (places_from q bt xs)
 fewer_places p q at bt [] all = omega arith
@@ -263,7 +263,7 @@ next_within free clients from place is =
 
 -- ---- one of them changes
 
--- the clients before, where a client is in a place now, or none, and what is noted of it
+-- the clients `now` are those before with one place set, to a client or to none; added places have no client
 pub record Changes (was now : List (Option Client)) (place : ℕ) : Type 0 where
   pub from : List (Option Client)
   pub same : (free : Bool) → goers free from ≡ goers free was
@@ -309,7 +309,7 @@ module _ {was now : List (Option Client)} {place : ℕ} where
       ∙ (ap (λ (o : Option Client). marked (goers free w.from) place (goes_in free o)) at
       ∙ (set ∙ ap (λ (m : List (Option Client)). goers free m) (sym w.now_is)))
 
-  -- what was seen there may be noted as it is now
+  -- the value seen at a place may be noted
   pub can_note : Changes was now place → (free : Bool) (l : List ℕ) (room : ℕ) (seen : List (Option Client)) (b : Bool)
       → l ≡ goers free was → length now ≤ room → seen ≡ was
       → b ≡ goes_in free (in_place seen place) → CanNote free now l place b room

@@ -70,9 +70,9 @@ set_twice clients fd x y lt =
     let longer : fd < length (slice_set clients fd x) = omega (arith, lt, length-set clients fd x) in
     sym (at_within (slice_set clients fd x) fd y longer ∙ set-set clients fd x y)
 
--- ---- filing, where the place has a client
+-- ---- processing a reply, if the place has a client
 
--- what it is by the words
+-- the client after the reply, by the specification
 abbrev pub after_reply_by : (workers : ℕ) → List (Option Client) → Client → Reply → (received : List ℕ) → Client
 after_reply_by workers clients x r received =
     after_reply (runs_scripts workers) (first_free workers clients) x r received
@@ -102,7 +102,7 @@ filed_left workers clients fd x t l r received there lt after_reply_is with_is o
     ∙ (ap (λ (z : Client). slice_set clients fd (remains l z)) with_is
     ∙ ap (λ (o : Option Client). slice_set clients fd (left_as o l)) (sym there))))
 
--- ---- what is found is there
+-- ---- the index that was found has a client
 
 test_some : (i n k : ℕ) → (if nat_lt i n then Some i else None) ≡ Some k → (i < n) × (i ≡ k)
 test_some i n k e = by (nat_lt i n) refl e
@@ -149,9 +149,9 @@ accept_step_makes scripts clients from Nothing made at = at
 accept_step_makes scripts clients from Accepting made at = at
 accept_step_makes scripts clients from (At place) made at = absurd at
 
--- ---- what is picked
+-- ---- the pick
 
--- a list that has the same from a place on
+-- two lists that are equal from an index on
 pub record SameFrom (from : ℕ) (xs ys : List (Option Client)) : Type 0 where
   pub rest : drop from xs ≡ drop from ys
   pub each : (g : ℕ) → from ≤ g → in_place xs g ≡ in_place ys g
@@ -191,7 +191,7 @@ pending_call-at clients most place None is = absurd (never (nat_lt (taken client
     never true is = cc (is)
     never false is = cc (is)
 
--- the pick from the clients that were is the one from those that are filed, where they are the same from there on
+-- a pick from the clients before the reply is a pick from those after it, if these are equal from the index on
 pub picks_filed : (workers : ℕ) (from most : ℕ) (clients l : List (Option Client)) (pending_call : PendingCall)
     (made : Turn) (after : List (Option Client)) → SameFrom from l clients
     → PicksFrom (runs_scripts workers) (has_free workers l) clients from most pending_call made → after ≡ l
@@ -228,7 +228,7 @@ pending_call_filed workers from most clients l pending_call made same e p =
     ∙ (pending_call-same clients l most (next_in (has_free workers l) clients from) e
     ∙ ap (λ (o : Option ℕ). pending_call_to l o) (sym (next-same (has_free workers l) from l clients same)))
 
--- ---- how many there are
+-- ---- the number of clients
 
 pub taken_kept : (clients : List (Option Client)) (i : ℕ) (x y : Client) → in_place clients i ≡ Some x
     → taken (slice_set clients i (Some y)) ≡ taken clients
@@ -249,7 +249,7 @@ taken_gone (Some z ∷ l) (suc i) x there = ap suc (taken_gone l i x there)
 lt_more : (a b n : ℕ) → suc a ≡ b → nat_lt b (n + 1) ≡ nat_lt a n
 lt_more a b n e = grind (arith, nat_tests, e)
 
--- one that is over makes room for one more
+-- a client that is over leaves room for one more
 pub accept_step_left : (clients : List (Option Client)) (fd : ℕ) (x : Client) (l : Left) → in_place clients fd ≡ Some x
     → accept_step_to clients (most_with l) ≡ accept_step (left_at clients fd l)
 accept_step_left clients fd x l there =
@@ -298,7 +298,7 @@ accept_step_left clients fd x l there =
 
 -- ---- the policy
 
--- the place after one that leaves off
+-- if a client's turn passes to the next, the next place follows
 pub place_off : (fd : ℕ) (o : Option Client) (r : Reply) → leaves_off o r ≡ true → place_after fd o r ≡ fd + 1
 place_off fd o r e = ap (λ b. if b then fd + 1 else fd) e
 
@@ -311,7 +311,7 @@ drop-there [] fd x there = absurd (cc)
 drop-there (o ∷ l) zero x there = ap (λ (z : Option Client). z ∷ l) there
 drop-there (o ∷ l) (suc i) x there = drop-there l i x there
 
--- where the client that is there may go, it is the first from its place on
+-- if the client at an index may take its turn, it is the first from its index on
 pub next_there : (workers : ℕ) (clients : List (Option Client)) (fd : ℕ) (x : Client) → in_place clients fd ≡ Some x
     → may_go (has_free workers clients) x ≡ true
     → pending_call_from workers clients fd ≡ At fd

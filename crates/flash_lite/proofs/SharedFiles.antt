@@ -7,7 +7,7 @@ use Rattle.std.specs.List.{list_any, slice_get}
 use Rattle.flash_lite.specs.SharedFiles.{AreFilesOf}
 use Rattle.flash_lite.specs.declared.site.SiteFile.{SiteFile}
 
--- one file more
+-- one more file
 pub filed_more : (names : List (List ℕ)) (k : ℕ) (files : List SiteFile) (f : SiteFile)
     → AreFilesOf (take k names) files
     → slice_get names k ≡ Some f.name.items → f.private ≡ false → AreFilesOf (take (k + 1) names) (files ++ f ∷ [])

@@ -24,7 +24,7 @@ new_table workers = record { clients = []; pending_call = Nothing; workers = wor
 abbrev pub serving : Table → Server
 serving t = record { clients = t.clients; pending_call = t.pending_call; workers = t.workers }
 
--- the list has the workers that run none of these clients' scripts
+-- the list has the workers that run no script of these clients
 pub record ReportsFree (free : List Bool) (clients : List (Option Client)) : Type 0 where
   pub long : length free ≡ MAX_WORKERS
   pub each : (worker : ℕ) → worker < MAX_WORKERS → get_or free worker false ≡ is_free clients worker

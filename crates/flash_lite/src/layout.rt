@@ -13,10 +13,10 @@ pub const FIRST_WORKER: u32 = SERVER + 1;
 /// The pool of the files that all domains may read.
 pub const SITE_POOL: u32 = 1;
 
-/// The pool of the bytes that arrive on connections. The server alone may read it.
+/// The pool of the bytes that arrive on connections. Only the server may read it.
 pub const NET_POOL: u32 = 2;
 
-/// The pool of the private files. The first guest alone may read it.
+/// The pool of the private files. Only the first guest may read it.
 pub const VAULT_POOL: u32 = 4;
 
 /// The chunks of [`SITE_POOL`] in [`Site::of_shared`](crate::site::Site::of_shared).

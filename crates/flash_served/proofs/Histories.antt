@@ -34,7 +34,7 @@ sent-both c (x ∷ xs) ys (r ∷ rs) qs even =
 sent-both c [] ys (r ∷ rs) qs even = absurd (omega (arith, even))
 sent-both c (x ∷ xs) ys [] qs even = absurd (omega (arith, even))
 
--- what was told before is told
+-- a report in a run is also one in each longer run
 or-none : (b c : Bool) → b ≡ false → c ≡ false → (b || c) ≡ false
 or-none false c one two = two
 or-none true c one two = absurd (cc (one))
@@ -69,7 +69,7 @@ unreported-then p (x ∷ xs) ys (r ∷ rs) qs even none more =
 unreported-then p [] ys (r ∷ rs) qs even none more = absurd (omega (arith, even))
 unreported-then p (x ∷ xs) ys [] qs even none more = absurd (omega (arith, even))
 
--- a peer that was told to be gone would have been told so by a choice
+-- if a choice does not drop unsent output, it does not report the peer gone
 after_reply-drops : (c : ℕ) (x : Choice) (r : Reply) → drops_with x c ≡ false
     → reports_with (λ e s. gone_by c e s) x r ≡ false
 after_reply-drops c (choice.Turn by) r none = refl

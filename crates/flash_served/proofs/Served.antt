@@ -25,7 +25,7 @@ use Rattle.flash_laws.proofs.World.Responses.{begins-less}
 use Rattle.flash_served.specs.Served.{IsFresh, IsAnswered}
 use Rattle.flash_served.proofs.Histories.{stream-both, sent-both, after_reply-then, unreported-then, none-after_reply}
 
--- ---- what happens is site-preserving: no call comes from outside
+-- ---- external events are site-preserving: no call comes from outside
 
 module _ (worker_set : WorkerSet) where
   site_preserving-one : (c : ℕ) (x : Choice) (w after : Stage State (Actor worker_set.Worker)) → IsOn c x
@@ -45,7 +45,7 @@ module _ (worker_set : WorkerSet) where
   all-site_preserving c (x ∷ xs) (r ∷ rs) w after run on =
       (site_preserving-one c x w run.0 on.0, all-site_preserving c xs rs run.0 after run.2 on.1)
 
--- ---- a connection that is not there any more
+-- ---- a connection that does not exist any more
 
 none-found : (found : Option Connection) → is_none found ≡ true → found ≡ None
 none-found None lacks = refl

@@ -33,7 +33,7 @@ use Rattle.flash_served.specs.Served.{AreFairSessions, AreRight, AreSessions, Ho
 use Rattle.flash_served.specs.Served.{IsSession, ServesNone, ServesRight, Session, SessionsAreRight}
 use Rattle.flash_served.proofs.Served.{served_right}
 
--- what a past has of a connection
+-- a past without bytes of a connection of the net
 record HasNone (p : Past) (c : ℕ) : Type 0 where
   pub net : p.net c ≡ true
   pub unread : p.came c ≡ []
@@ -92,7 +92,7 @@ module _ (s : Site) (slots : List (List ℕ)) (keeps : RunKeepsConsistency in_ro
         after begun
         (made-fresh past ps it.conn w is.begun consistent is.made) is.proceeds is.over fair
 
-    -- one more before the others
+    -- one more session before the others
     right-more : (past : List Choice) (ps : List Reply) (xs : List Choice) (rs : List Reply) (it : Session)
         (its : List Session)
         (after : Stage State (Actor Worker)) → IsAnswered site_contents it.ending it.came it.sent
@@ -145,7 +145,7 @@ module _ (s : Site) (slots : List (List ℕ)) (keeps : RunKeepsConsistency in_ro
         one-more past ps it its w sessions.0 after sessions.1 did.1
         (fair-sessions _ _ its sessions.0 after sessions.2 did.0 fair.1)
 
-  -- the turns of each are fair where any refusal is allowed
+  -- the turns of each session are fair, if any refusal is allowed
   any-fair : AnyIsFair → (its : List Session) (w after : Stage State (Actor Worker))
       → (sessions : AreSessions its w after)
       → AreFairSessions any_refusal its w after sessions
@@ -159,7 +159,7 @@ module _ (s : Site) (slots : List (List ℕ)) (keeps : RunKeepsConsistency in_ro
   any-sessions fair past ps its w after sessions consistent =
       fair-sessions any_refusal past ps its w after sessions consistent (any-fair fair its w after sessions)
 
--- one client, that is made and served
+-- a connection that is created and served
 pub serves_right : SessionsAreRight
     → (n : ℕ) (ending : Ending) (left rest held now : Option (List ℕ)) (w begun after : Stage State (Actor Worker))
     → OutsideStep copying (actor_turns in_rounds worker_turns) w (event.ConnNew net_pool) (reply.Conn n) begun
@@ -182,7 +182,7 @@ serves_right law n ending left rest held now w begun after made served over = re
     is : IsSession it w after
     is = record { begun = begun; made = made; proceeds = served.proceeds; over = over }
 
--- where none is made the invariant holds
+-- if no connection is created, the invariant is preserved
 pub serves_none : ((s : Site) → StepKeepsConsistency in_rounds (worker_set_of s))
     → (r : Reply) (w after : Stage State (Actor Worker))
     → OutsideStep copying (actor_turns in_rounds worker_turns) w (event.ConnNew net_pool) r after → IsNoConn r

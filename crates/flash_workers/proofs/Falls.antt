@@ -45,7 +45,7 @@ has-one : (ps : List Place) (p : Place) → last_place ps ≡ Some p → 0 < len
 has-one [] p is = absurd (cc (is))
 has-one (q ∷ ps) p is = omega arith
 
--- no line is expected after all is made
+-- if nothing is buffered, no write is expected before a line
 no-text : (t : List ℕ) (f : ℕ) (n : Option ℕ) → t ≡ [] → f ≡ 0 → n ≡ None
     → (nat_le MIN_PIECE_BYTES (length t + f) || is_some n) ≡ false
 no-text t f n a b c =
@@ -65,7 +65,7 @@ not-expected : (x : Collected) → IsMade x → x.next ≡ None → (o : Option 
 not-expected x made none (Some l) = no-text x.text x.files x.next made.0 made.2 none
 not-expected x made none None = no-rest x.text x.places x.held x.next made.0 made.3 made.1 none
 
--- with nothing buffered all is made, since bytes of files are counted only while they are held
+-- if nothing is buffered, there is no text and no held aggregate
 nothing-of : (t : List ℕ) (ps : List Place) (h n : Option ℕ)
     → ((length t == 0) && (length ps == 0) && is_none h && is_none n) ≡ true
     → (t ≡ []) × (h ≡ None)
@@ -86,7 +86,7 @@ below-one a b le = by (nat_lt a b) refl
     by true is = inl (grind (arith, nat_tests, is))
     by false is = inr (grind (arith, nat_tests, is, le), omega arith)
 
--- ---- what a reply says of the aggregates that are written
+-- ---- the information in a reply on the aggregates that are written
 
 abbrev pub Facts : (readable now : ℕ → Option (List ℕ)) → Phase → Reply → Type 0
 Facts readable now (phase.Writing agg) (reply.Count k) = (length (bytes_at now agg) ≡ length (bytes_at readable agg))
@@ -98,7 +98,7 @@ Facts readable now d r = Unit {0}
 -- ---- the steps
 
 module _ (job : Task) (readable now : ℕ → Option (List ℕ)) (begun : ℕ) where
-  -- it is tidy, and at the end or below a rank
+  -- the step is tidy, and is the end or has a lower rank
   abbrev Good : Rank → Step → Type 0
   Good was next = IsTidy next × ((next.phase ≡ phase.Waiting) ⊎ IsBelow (rank job now next) was)
 
@@ -253,7 +253,7 @@ module _ (job : Task) (readable now : ℕ → Option (List ℕ)) (begun : ℕ) w
       reached _ _ next e ((tidy.0, fewer-whole x.held x.files x.places tidy.1), inr (inr (refl, omega arith)))
   replaced x agg part place r next tidy e = absurd (cc (e))
 
-  -- ---- it is written
+  -- ---- the buffered output is written
 
   taken : (x : Collected) (agg k len : ℕ) (b : Bool) → (k == len) ≡ b → IsMade x → len ≡ length (bytes_at readable agg)
       → (0 < length (bytes_at readable agg) → 0 < k) → k ≤ length (bytes_at readable agg)
@@ -287,12 +287,12 @@ module _ (job : Task) (readable now : ℕ → Option (List ℕ)) (begun : ℕ) w
       reached _ _ next e (tidy, inr (inr (refl, omega (arith, facts))))
   cut x agg from to r next tidy facts e = absurd (cc (e))
 
-  -- the stage while a file of its own follows, and while none does
+  -- the stage depends on whether a long file follows
   stage-is : (x : Collected) (o : Option ℕ) → x.next ≡ o
       → ◌≡◌ {A = ℕ} (if is_some x.next then 1 else 0) (if is_some o then 1 else 0)
   stage-is x o is = ap (λ (p : Option ℕ). if is_some p then 1 else 0) is
 
-  -- nothing is expected after all is made
+  -- if all is made and no file follows, no write is expected
   at-rest : (x : Collected) (b : ℕ) → IsMade x → x.next ≡ None → ◌≡◌ {A = ℕ} (if expected_now job x b then 3 else 0) 0
   at-rest x b tidy none = ap (λ (t : Bool). if t then 3 else 0) (not-expected x tidy none (slice_get job.lines b))
 

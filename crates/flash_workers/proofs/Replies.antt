@@ -1,4 +1,4 @@
--- What a reply says of the aggregates that a worker writes, and when its call is retried.
+-- The information that a reply gives on the aggregates that a worker writes, and when its call is retried.
 use Rattle.std.proofs.Common.{◌≡◌, ◌≢◌, ℕ, ◌+◌, ◌-◌, ◌*◌, ◌==◌, ◌<◌, ◌≤◌, List, [], length, take, drop, ap, ◌∙◌, refl}
 use Rattle.std.proofs.Common.{sym, subst, arith, Option, Some, None, true, false, Bool, if◌then◌else◌}
 use Rattle.std.specs.Prelude.{unwrap_or, option_map, ◌&&◌, not, nat_le, nat_lt, slice_get, slice_range}
@@ -39,7 +39,7 @@ use Rattle.flash_cgi.specs.declared.piece.TheConstants.{MAX_COLLECTED_BYTES}
 use Rattle.flash_workers.specs.Advance.{IsReady, calls_left, rank, stage}
 use Rattle.flash_workers.proofs.Falls.{Facts}
 
--- ---- some bytes are taken of an aggregate that has some
+-- ---- a write of a non-empty aggregate takes some bytes
 
 text-long : (m : State) (d a : ℕ) (bytes : List ℕ) → readable_at m d a ≡ Some bytes → length (text m d a) ≡ length bytes
 text-long m d a bytes readable = by (aggregate m d a) readable
@@ -71,7 +71,7 @@ some-taken m n d fd a k bytes readable some step =
 part-short : (bytes : List ℕ) (from to : ℕ) → length (slice_range bytes from to) ≤ to - from
 part-short bytes from to = let size = length-take (to - from) (drop from bytes) in omega (arith, size)
 
--- ---- what a reply says
+-- ---- the information in a reply
 
 module _ (steps : EachStepLeavesTheRest) (own : CallsServeTheirDomain) (m n : State) (d p : ℕ) (job : Task)
     (order : IsOrderly m) where

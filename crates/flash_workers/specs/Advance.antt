@@ -91,7 +91,7 @@ IsTidy step = IsTidyIn step.piece step.phase
 
 -- ---- the law
 
--- the aggregate that it writes is there, and it writes to pipe p; nothing else is required, also once the pipe has no
+-- the aggregate that it writes exists, and it writes to pipe p; nothing else is required, also once the pipe has no
 -- reader
 abbrev pub IsReady : State → (d p : ℕ) → Task → Phase → Type 0
 IsReady m d p job (phase.Writing agg) = (descriptor m d job.fd ≡ Some (on.WriteEnd p)) × HasBytes m d agg
@@ -110,7 +110,7 @@ pub record WorkersAdvance : Type 0 where
   pub ready : (m : State) (d p : ℕ) (job : Task) (step : Step) (unseen : List Outcome → List ℕ)
       → Feeds m d p job step unseen
       → IsReady m d p job step.phase
-  -- each step leads to one that is tidy and nearer to the end
+  -- each step leads to a step that is tidy and nearer to the end
   pub nears : (m n : State) (d p : ℕ) (job : Task) (step next : Step) (r : Reply) → IsOrderly m
       → IsReady m d p job step.phase
       → IsTidy step → StepsTo m (event.Call d (call_at job step)) r n
@@ -120,6 +120,6 @@ pub record WorkersAdvance : Type 0 where
   pub stays : (m n : State) (d : ℕ) (job : Task) (step : Step) (r : Reply) → step.phase ≢ phase.Waiting
       → StepsTo m (event.Call d (call_at job step)) r n → after_reply job step (readable_at n d) r ≡ None
       → (x : Refusal) × (r ≡ reply.Refused x) × (n ≡ m)
-  -- events of others leave the rank
+  -- events of others leave the rank unchanged
   pub others : (m n : State) (d p : ℕ) (job : Task) (step : Step) (e : Event) (r : Reply) → IsReady m d p job step.phase
       → StepsTo m e r n → IsFalse (is_call_of e d) → rank job (readable_at n d) step ≡ rank job (readable_at m d) step

@@ -13,7 +13,7 @@ pub fn tell_site<R: Eprint>(rt: &R, root: &str, summary: &Summary) {
     }
 }
 
-/// Reports that a site is not served, since it is to be served from memory and is not there.
+/// Reports that a site is not served, since it is to be served from memory and is not in memory.
 pub fn tell_not_in_memory<R: Eprint>(rt: &R, root: &str) {
     let _ = tell_too_large(rt, root);
 }

@@ -41,7 +41,7 @@ fn open_log(rt: &HostRuntime, path: &str) -> io::Result<File> {
     OpenOptions::new().append(true).create(true).open(rt, path)
 }
 
-// Reads the site, and serves it: with `--memory-only` from memory alone.
+// Reads the site, and serves it: with `--memory-only` only from memory.
 fn serve_site<W: Write + Drop>(
     rt: &HostRuntime,
     options: &Options<'_>,

@@ -1,4 +1,4 @@
-//! Where the files of a site are while it is served.
+//! The storage of a site's files while it is served.
 ghost use Rattle.std.specs.Prelude.{Bool, true, false};
 
 /// Whether a service gives the event loop only worlds of files in memory.

@@ -27,7 +27,7 @@ within_next (Some n) (Some m) (Some l) None r counts falls = absurd falls
 within_next (Some n) (Some m) (Some l) (Some k) (Ok x) counts falls = omega (arith, counts, falls)
 within_next (Some n) (Some m) (Some l) (Some k) (Err e) counts falls = omega (arith, counts, falls)
 
--- none
+-- no client
 pub within_refused : (A : Type 0) {E : Type 0} (given now left : Option ℕ) (e : E) → Counts {A = A} given now (Err e)
     → StaysWithin given left now left
 within_refused A given now None e counts = tt

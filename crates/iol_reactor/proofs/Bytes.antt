@@ -75,7 +75,7 @@ pub rest_then : (bytes more rest : List ℕ) → IsRestOf bytes more → IsRestO
 rest_then bytes more rest a b =
     (a.0 ++ b.0, a.1 ∙ (ap (λ (l : List ℕ). a.0 ++ l) b.1 ∙ sym (append_assoc a.0 b.0 rest)))
 
--- the bytes from a place on were passed to the socket, which accepted the first of them
+-- the bytes from an index on were passed to the socket, which accepted the first of them
 pub passes_from : (held now : Option (List ℕ)) (left rest : List ℕ) (at start accepted new most : ℕ)
     → Passes held now (take (length left - start) (drop start left)) rest
     → start ≡ min at (length left) → accepted ≡ length left - start - length rest → new ≡ min (at + accepted) most

@@ -75,7 +75,7 @@ take_grown : (n m : ℕ) (xs ys more : List ℕ) → m ≡ n → ys ≡ xs ++ mo
 take_grown n m xs ys more same grown within = ap (λ k. take k ys) same
     ∙ (ap (λ (l : List ℕ). take n l) grown ∙ take-append-le n xs more within)
 
--- the first bytes of a list, and of the first ones
+-- the first n of the first m bytes are the first n bytes
 take_front : (n m : ℕ) (xs : List ℕ) → n ≤ m → m ≤ length xs → take n (take m xs) ≡ take n xs
 take_front n m xs less within =
     sym (take-append-le n (take m xs) (drop m xs) (omega (arith, less, within, length-take m xs)))
@@ -87,7 +87,7 @@ take_part n xs first rest split count = ap (λ k. take k xs) count
     ∙ (ap (λ (l : List ℕ). take (length first) l) split
     ∙ (take-append-le (length first) first rest (omega arith) ∙ take-length first))
 
--- of the first `asked` bytes, after the first `given` some more are followed by a rest
+-- of the first `asked` bytes, those after the first `given` are `more` and a rest
 pub given_more : (asked given now : ℕ) (bytes more rest : List ℕ) → asked ≤ length bytes → given ≤ asked
     → drop given (take asked bytes) ≡ more ++ rest → now ≡ asked - length rest
     → take now bytes ≡ take given bytes ++ more

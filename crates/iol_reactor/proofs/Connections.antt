@@ -11,12 +11,12 @@ link_of : Link → Option Link → Link
 link_of l None = l
 link_of l (Some k) = k
 
--- what is in two options at once
+-- two options with a value are equal only if their values are
 same_link : (a b : Link) → Some a ≡ Some b → a ≡ b
 unfolding link_of
 same_link a b e = ap (λ o. link_of a o) e
 
--- one place more, without a connection
+-- one more place, without a connection
 link_at-pushed : (table : List (Option Link)) (i : ℕ) → link_at (table ++ None ∷ []) i ≡ link_at table i
 link_at-pushed [] zero = refl
 link_at-pushed [] (suc i) = refl
@@ -40,7 +40,7 @@ apart_none = λ i j l at other. absurd (none_some l None refl at)
 pub come_none : (generation last : ℕ) → HaveCome generation last []
 come_none generation last = λ i l at. absurd (none_some l None refl at)
 
--- a connection that has not come is no client's
+-- no client has a connection that is later than the last one
 not_there : (generation last : ℕ) (table : List (Option Link)) (l : Link) → HaveCome generation last table
     → has_come generation last l ≡ false → (i : ℕ) → link_at table i ≡ Some l → ⊥
 not_there generation last table l come new i at = let is = come i l at in cc (is, new)
@@ -71,7 +71,7 @@ apart_within generation last table k l within come new apart = λ i j m at other
   ]
 ]
 
--- a place that is not there
+-- a place after the end
 set_past : (table : List (Option Link)) (k : ℕ) (x : Option Link) → length table ≤ k → set table k x ≡ table
 set_past [] k x h = refl
 set_past (y ∷ table) zero x h = absurd (omega (arith, h))
@@ -85,7 +85,7 @@ apart_given generation last table k l come new apart = elim (cases_lt k (length 
   | inr past ↦ subst (λ (t : List (Option Link)). AreApart t) (sym (set_past table k (Some l) past)) apart
 ]
 
--- what had come has come later
+-- `has_come` is preserved as the last number grows
 later : (generation last : ℕ) (l : Link) (now : ℕ) → last < now → has_come generation last l ≡ true
     → has_come generation now l ≡ true
 later generation last l now more is = grind (arith, nat_tests, more, is)

@@ -10,7 +10,7 @@ use Rattle.iol_reactor.specs.Visits.{VisitsAdvance, VisitsStay}
 use Rattle.iol_reactor.specs.LinkVisits.{HasLinkVisited, IsVisitOf, LinkProceeds, LinksStay, Serving, SlotProceeds}
 use Rattle.iol_reactor.specs.declared.links.Link.{Link}
 
--- the world that two tests find, of the current one and the one before
+-- the world chosen by two tests: the current one, or the one before
 abbrev which : {P : Type 0}
     → (is_current is_before : Bool) (w : Stage SystemState P) (before : Option (Stage SystemState P))
     → Option (Stage SystemState P)
@@ -43,7 +43,7 @@ module _ {P : Type 0} (turns : TransitionRelation P) (starts : Stage SystemState
   stays_current true e w after before c came sent gone stay v = stay c came sent gone v
   stays_current false e w after before c came sent gone stay v = v
 
-  -- one of the world before
+  -- a step of the world before
   stays_before : (b e : Bool) (w u after : Stage SystemState P) (c : ℕ) (came sent : List ℕ) (gone : Bool)
       → VisitsStay turns starts pool u after
       → IsVisitOf turns starts pool (which b e w (Some u)) c came sent gone
@@ -191,7 +191,7 @@ module _ {P : Type 0} (turns : TransitionRelation P) (starts : Stage SystemState
         l.conn came sent more next gone last (λ of. conns_before d l n apart is of) goes v;
   }
 
-  -- nothing happened to a connection
+  -- the history of a connection, with no bytes appended
   keeps_visit : (s : Serving P) (l : Link) (came sent : List ℕ) (gone : Bool)
       → HasLinkVisited turns starts pool s l came sent gone
       → HasLinkVisited turns starts pool s l (came ++ []) (sent ++ []) (gone || false)

@@ -47,7 +47,7 @@ module _ {S : Type 0} (supplied : S → Option (List ℕ)) where
 
 module _ {P : Type 0} (turns : TransitionRelation P) (starts : Stage SystemState P → Type 0) (frames : List ℕ → Frame
     → Type 0) (pool : ℕ) {S : Type 0} (gives takes : S → Option (List ℕ)) where
-  -- the socket of a client took bytes of the world's output that it was offered, and nothing is left of them
+  -- the socket of a client accepted all of the world's output that it was offered
   pub passed_at : (s after : Serving P) (o p : Option Link) (sent : List ℕ) (c m d n : Client S)
       → (c.phase ≡ phase.Answering) ⊎ (c.phase ≡ phase.Leaving) → is_some o ≡ true → unsent_of c.output ≡ []
       → unsent_of m.output ≡ unsent_of c.output → m.socket ≡ c.socket → m.phase ≡ c.phase → m.input ≡ c.input

@@ -90,7 +90,7 @@ nothing_left : (xs ys : List ℕ) → xs ++ ys ≡ [] → ys ≡ []
 nothing_left [] ys e = e
 nothing_left (x ∷ xs) ys e = absurd (cc e)
 
--- ---- the bytes that wait
+-- ---- the waiting bytes
 
 waiting_read : (input after : Input) (more : List ℕ) → after.bytes.items ≡ input.bytes.items ++ more
     → after.given ≡ input.given → input.given ≤ length input.bytes.items
@@ -138,7 +138,7 @@ none_past [] i h = refl
 none_past (x ∷ xs) zero h = absurd (omega (arith, h))
 none_past (x ∷ xs) (suc i) h = none_past xs i (omega (arith, h))
 
--- a place that is emptied, and what was in it
+-- a place that is emptied, and its previous contents
 pub taken_from : {X : Type 0} (xs : List (Option X)) (i : ℕ) (place taken : Option X) → i < length xs
     → place ≡ get_or xs i place → taken ≡ place → taken ≡ get_or xs i None
 taken_from xs i place taken within is same = same ∙ (is ∙ get_or_any xs i place None within)
@@ -178,7 +178,7 @@ pub place_rest : {T E : Type 0} (r : Result T E) (table next : List (Option Link
 place_rest (Ok x) table next more same j = ap (λ (k : List (Option Link)). link_at k j) more ∙ none_pushed table j
 place_rest (Err e) table next more same j = ap (λ (k : List (Option Link)). link_at k j) same
 
--- the generation of a connection that has come
+-- the generation of a connection that has come is at most the current one
 up_to : (generation last : ℕ) (l : Link) → has_come generation last l ≡ true → l.generation ≤ generation
 up_to generation last l is = grind (arith, nat_tests, is)
 
@@ -377,7 +377,7 @@ module _ {P : Type 0} (turns : TransitionRelation P) (starts : Stage SystemState
   whole_read is_ended now unsent supplied accepted more still (inl c) = inl (close_read unsent supplied accepted more c)
   whole_read is_ended now unsent supplied accepted more still (inr e) = absurd (cc (e.ended, still))
 
-  -- ---- a phase, by what a client in it has
+  -- ---- a phase, by the state of a client in it
 
   pub in_free : (s : Serving P) (o : Option Link) (at : Phase) (is_last is_whole : Bool) (input : Input)
       (unsent supplied accepted : List ℕ) → is_free at ≡ true
@@ -761,7 +761,7 @@ module _ {P : Type 0} (turns : TransitionRelation P) (starts : Stage SystemState
     holds = b.holds;
   }
 
-  -- the connection was left
+  -- the client has no connection any more
   between_left : (s after : Serving P) (o : Option Link) (input : Input) (unsent supplied accepted : List ℕ)
       → IsOver o s → IsBetween turns starts frames pool s o input unsent supplied accepted
       → IsBetween turns starts frames pool after None input unsent supplied accepted
@@ -1026,7 +1026,7 @@ module _ {P : Type 0} (turns : TransitionRelation P) (starts : Stage SystemState
         passes.accepted is some none
         (subst (λ (k : List ℕ). SlotProceeds turns starts pool o [] k false s after) passes.left goes) h.is)
 
-    -- the same where the socket failed
+    -- the same if the socket failed
     pub lost_followed : (s after : Serving P) (o : Option Link) (sent : List ℕ) (c n : Client S)
         → (c.phase ≡ phase.Answering) ⊎ (c.phase ≡ phase.Leaving) → is_some o ≡ true → unsent_of c.output ≡ []
         → SlotProceeds turns starts pool o [] sent false s after → PassesSome (takes c.socket) (takes n.socket) sent
@@ -1061,7 +1061,7 @@ module _ {P : Type 0} (turns : TransitionRelation P) (starts : Stage SystemState
     completed_followed s o true c n waits is h =
         (let d = is refl in answered_followed s o c n d.asking d.all d.keeps d.finished d.socket d.quiet d.output h)
 
-    -- the same, where the table of connections stays
+    -- the same, if the table of connections is unchanged
     pub leaves_at : (s after : Serving P) (o p : Option Link) (c n : Client S) → is_free c.phase ≡ true
         → SlotProceeds turns starts pool o [] [] false s after → p ≡ o → n.phase ≡ phase.Leaving → n.socket ≡ c.socket
         → n.input ≡ c.input → n.output ≡ c.output → Followed s o c → Followed after p n
@@ -1132,7 +1132,7 @@ module _ {P : Type 0} (turns : TransitionRelation P) (starts : Stage SystemState
         h.to) (sym none)
         (between_left s after o c.input (unsent_of c.output) h.from h.to over (h.is.between free))))
 
-    -- they closed that of a client with a request in progress
+    -- the processes closed the connection of a client with a request in progress
     pub closed_followed : (s after : Serving P) (o p : Option Link) (c n : Client S) → c.phase ≡ phase.Answering
         → IsOver o s → (n.is_whole ≡ true → c.is_last ≡ true) → (n.is_whole ≡ true → c.input.asked ≤ c.input.given)
         → n.phase ≡ phase.Flushing → n.socket ≡ c.socket → unsent_of n.output ≡ unsent_of c.output → Followed s o c
@@ -1160,7 +1160,7 @@ module _ {P : Type 0} (turns : TransitionRelation P) (starts : Stage SystemState
         (in_ending s o phase.Closing n.is_last c.is_whole c.input (unsent_of c.output) h.from h.to refl
         (h.is.served ending) (h.is.whole ending) (λ e. none))
 
-    -- input behind it is dropped
+    -- input after it is dropped
     pub drained_followed : (s : Serving P) (o : Option Link) (c n : Client S) → c.phase ≡ phase.Closing
         → c.input.ended ≡ false → Grows (gives c.socket) (gives n.socket) → Keeps (takes c.socket) (takes n.socket)
         → n.phase ≡ c.phase → n.output ≡ c.output → n.is_whole ≡ c.is_whole → Followed s o c → Followed s o n
@@ -1245,7 +1245,7 @@ module _ {P : Type 0} (turns : TransitionRelation P) (starts : Stage SystemState
         subst (λ k. AreFollowed turns starts frames pool gives takes s table k)
         (sym (set_same clients slot place within is)) all
 
-    -- a client moves, and so does its connection; those of others stay
+    -- a client and its connection advance; the other clients stay
     pub all_move : (q : ℕ) (s after : Serving P) (table next : List (Option Link)) (last : ℕ)
         (clients : List (Option (Client S))) (slot : ℕ) (place : Option (Client S)) (c n : Client S) → q ≡ pool
         → AreApart table → HaveCome s.number last table
@@ -1267,7 +1267,7 @@ module _ {P : Type 0} (turns : TransitionRelation P) (starts : Stage SystemState
               (λ h. others_kept s after table next last slot j m apart come others other (rest j other) h)
         ])
 
-    -- a client moves alone
+    -- only a client advances
     pub one_moves : (s : Serving P) (table : List (Option Link)) (clients : List (Option (Client S))) (slot : ℕ)
         (place : Option (Client S)) (c n : Client S) → slot < length clients → place ≡ get_or clients slot place
         → place ≡ Some c
@@ -1356,7 +1356,7 @@ module _ {P : Type 0} (turns : TransitionRelation P) (starts : Stage SystemState
       | inr other ↦ all known j m (sym (get_or-set_other clients slot j None None other) ∙ at)
     ]
 
-    -- a place more
+    -- one more place
     pub all_pushed : (s : Serving P) (table : List (Option Link)) (clients : List (Option (Client S)))
         → AreFollowed turns starts frames pool gives takes s table clients
         → AreFollowed turns starts frames pool gives takes s table (clients ++ None ∷ [])
@@ -1379,7 +1379,7 @@ module _ {P : Type 0} (turns : TransitionRelation P) (starts : Stage SystemState
         subst (λ (k : List (Option (Client S))). AreFollowed turns starts frames pool gives takes s table k) (sym same)
         all
 
-    -- the connection that a client got, if it did
+    -- a client gets a connection, or none
     pub all_connected : (r : Bool) (q : ℕ) (s after : Serving P) (table next : List (Option Link)) (last : ℕ)
         (clients : List (Option (Client S))) (slot n : ℕ) → q ≡ pool → AreApart table → HaveCome s.number last table
         → LinksStay turns starts pool s after → is_some (link_at table slot) ≡ false → n ≡ after.number
@@ -1428,7 +1428,7 @@ module _ {P : Type 0} (turns : TransitionRelation P) (starts : Stage SystemState
               (rest j other) h)
         ])
 
-    -- the client that was in a place
+    -- the client that was at a place
     pub known_taken : (s : Serving P) (table : List (Option Link)) (clients : List (Option (Client S))) (slot : ℕ)
         (place taken : Option (Client S)) → slot < length clients → place ≡ get_or clients slot place → taken ≡ place
         → AreFollowed turns starts frames pool gives takes s table clients

@@ -137,7 +137,7 @@ module _ {P : Type 0} (turns : TransitionRelation P) where
         (next (h.honest.same ∙ honest));
   }
 
-  -- the same, of a fact that only holds
+  -- the same, without the witness
   pub began : (starts : Stage SystemState P → Type 0) (pool : ℕ) (w : Stage SystemState P) → starts w
       → ∥ HasServed turns starts pool w ∥₁
   began starts pool w started = ∣ served_first starts pool w started ∣₁

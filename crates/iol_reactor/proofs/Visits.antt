@@ -29,9 +29,9 @@ use Rattle.iol_reactor.specs.Visits.{Carries, HasVisited, Visits, VisitsArrive, 
 use Rattle.iol_reactor.specs.Visits.{VisitsStay}
 use Rattle.iol_reactor.proofs.Serving.{serving-append, serving_all}
 
--- ---- events of other connections bring nothing to this one
+-- ---- events of other connections add no bytes to this one
 
--- e is d, and so not c
+-- e equals d, so it is not c
 differs : (d c e : ℕ) → d ≢ c → e ≡ d → (e == c) ≡ false
 differs d c e apart same = grind (arith, nat_tests, apart, same)
 
@@ -187,7 +187,7 @@ module _ {P : Type 0} (turns : TransitionRelation P) where
     since = carries_then pool c came sent more next gone last v.first w after v.since more_of;
   }
 
-  -- nothing of it
+  -- a step without bytes on it
   visits_still : (pool c : ℕ) (came sent : List ℕ) (gone : Bool) (begun w after : Stage State P)
       → Visits turns pool c came sent gone begun w
       → Carries turns pool c [] [] false w after → Visits turns pool c came sent gone begun after
@@ -243,7 +243,7 @@ module _ {P : Type 0} (turns : TransitionRelation P) (starts : Stage SystemState
       (λ begun honest past. visits_still turns pool c came sent gone begun (copied w) (copied after) past
       (carries c honest)) v
 
-  -- the same world, as the copying machine has it
+  -- the same world, in terms of the copying machine
   pub visits_same : (w after : Stage SystemState P) → KeepsHonesty w.machine after.machine → copied after ≡ copied w
       → VisitsStay turns starts pool w after
   visits_same w after kept same =

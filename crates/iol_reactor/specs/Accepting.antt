@@ -1,4 +1,4 @@
--- How many clients are accepted.
+-- The number of clients that are accepted.
 use Rattle.std.specs.Prelude.{◌≡◌, ◌≤◌, ◌+◌, ℕ, ⊤, Option, None, Some, MatchResult, Result}
 
 -- A listener gives one more client with `Ok`, and none with `Err`, if the number that it gave is known.

@@ -22,7 +22,7 @@ pub record Holds (past_came past_sent came sent waiting unsent supplied accepted
   pub received : supplied ≡ past_came ++ (came ++ waiting)
   pub produced : past_sent ++ sent ≡ accepted ++ unsent
 
--- What happens to them.
+-- The changes of these bytes.
 pub record BytesMove : Type 0 where
   -- a new client
   pub none : Holds [] [] [] [] [] [] [] []
@@ -101,7 +101,7 @@ module _ {P : Type 0} (turns : TransitionRelation P) (starts : Stage SystemState
     pub visited : HasLinkVisited turns starts pool s l came sent false
     pub whole : AreWhole came
 
-  -- It has one, of which the first bytes were handed in.
+  -- It has a request in progress, of which the first bytes were handed in.
   pub record IsAsking (s : Serving P) (l : Link) (is_last : Bool) (input : Input) (came sent : List ℕ) : Type 0 where
     pub visited : HasLinkVisited turns starts pool s l came sent false
     pub before : List ℕ
@@ -129,7 +129,7 @@ module _ {P : Type 0} (turns : TransitionRelation P) (starts : Stage SystemState
         → WereLeft (came ++ v.came) (sent ++ v.sent)
     -- a new connection
     pub first : (s : Serving P) (l : Link) → HasLinkVisited turns starts pool s l [] [] false → IsOpen s l [] []
-    -- what happens to others
+    -- events of other connections
     pub open_stays : (s after : Serving P) (l : Link) (came sent : List ℕ) → l.generation ≤ s.number
         → LinksStay turns starts pool s after → IsOpen s l came sent → IsOpen after l came sent
     pub asking_stays : (s after : Serving P) (l : Link) (is_last : Bool) (input : Input) (came sent : List ℕ)
@@ -139,7 +139,7 @@ module _ {P : Type 0} (turns : TransitionRelation P) (starts : Stage SystemState
     pub begun : (s : Serving P) (l : Link) (is_last : Bool) (input after : Input) (came sent : List ℕ) (size : ℕ)
         → frames input.bytes.items (frame_as is_last size) → IsBegun size input after
         → IsOpen s l came sent → IsAsking s l is_last after came sent
-    -- bytes are read behind it
+    -- bytes are read after it
     pub read : (s : Serving P) (l : Link) (is_last : Bool) (input after : Input) (came sent more : List ℕ)
         → after.bytes.items ≡ input.bytes.items ++ more → after.asked ≡ input.asked → after.given ≡ input.given
         → IsAsking s l is_last input came sent → IsAsking s l is_last after came sent

@@ -19,7 +19,7 @@ abbrev pub world_of : {P : Type 0} → Serving P → Link → Option (Stage Syst
 world_of s l =
     if l.generation == s.number then Some s.current else (if l.generation + 1 == s.number then s.before else None)
 
--- the same, where the world before is part of this value
+-- the same, if the world before is part of this value
 abbrev pub serving : {P H : Type 0} → (number : ℕ) → (current : Stage SystemState P) → (world : H → Stage SystemState P)
     → Option H
     → Serving P

@@ -58,7 +58,7 @@ module _ {P : Type 0} (turns : TransitionRelation P) (starts : Stage SystemState
       × HasVisited turns starts pool v.conn v.came v.sent false v.world
 
   -- A socket supplied the bytes received on connections that were left and on a last one, and others after them. It
-  -- accepted bytes sent on them, from the first on, except for what is unsent.
+  -- accepted the bytes sent on them, from the first on, except for the unsent bytes.
   pub record IsServed (unsent supplied accepted : List ℕ) : Type 0 where
     pub past_came : List ℕ
     pub past_sent : List ℕ
@@ -70,8 +70,8 @@ module _ {P : Type 0} (turns : TransitionRelation P) (starts : Stage SystemState
     pub waiting : List ℕ
     pub holds : Holds past_came past_sent came sent waiting unsent supplied accepted
 
-  -- A request closed the last connection, and all that was sent on the connections was accepted, except for what is
-  -- unsent.
+  -- A request closed the last connection, and all bytes sent on the connections were accepted, except for the unsent
+  -- bytes.
   pub record IsServedToClose (unsent supplied accepted : List ℕ) : Type 0 where
     pub past_came : List ℕ
     pub past_sent : List ℕ
@@ -91,7 +91,7 @@ module _ {P : Type 0} (turns : TransitionRelation P) (starts : Stage SystemState
     pub ended : IsTrue is_ended
     pub holds : Holds past_came past_sent [] [] waiting unsent supplied accepted
 
-  -- The requests were answered to the end, except for what is unsent.
+  -- The requests were answered to the end, except for the unsent bytes.
   abbrev pub IsServedWhole : (is_ended : Bool) (unsent supplied accepted : List ℕ) → Type 0
   IsServedWhole is_ended unsent supplied accepted =
       IsServedToClose unsent supplied accepted ⊎ IsServedToEnd is_ended unsent supplied accepted
@@ -150,8 +150,8 @@ module _ {P : Type 0} (turns : TransitionRelation P) (starts : Stage SystemState
     pub accepts : accepted c.socket ≡ Some to
     pub is : IsInPhase s o c.phase c.is_last c.is_whole c.input (unsent_of c.output) from to
 
-  -- What is known of a client in each phase, and of one whose output was ended after its requests were answered to the
-  -- end.
+  -- The invariant of a client in each phase, and of a client whose output was ended after its requests were answered to
+  -- the end.
   pub record HasHistory {S : Type 0} (supplied accepted : S → Option (List ℕ)) (c : Client S) : Type 0 where
     pub from : List ℕ
     pub to : List ℕ

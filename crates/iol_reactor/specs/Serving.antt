@@ -54,7 +54,7 @@ module _ {P : Type 0} (turns : TransitionRelation P) where
     pub reply : Reply
     pub step : OutsideStep copying turns w (event.PeerClosed c how) reply after
 
--- Both, where the store is honest, as the copying machine has it.
+-- Both, if the store is honest, in terms of the copying machine.
 module _ {P : Type 0} (turns : TransitionRelation P) where
   abbrev pub ArrivesIn : (c : ℕ) (bytes rest : List ℕ) (w after : Stage SystemState P) → Type 0
   ArrivesIn c bytes rest w after = IfHonest w.machine.disk (Arrives turns c bytes rest (copied w) (copied after))

@@ -56,13 +56,13 @@ module _ {P : Type 0} (turns : TransitionRelation P) where
     pub others : (c : ℕ) (came sent : List ℕ) (gone : Bool) → d ≢ c → HasVisited starts pool c came sent gone w
         → HasVisited starts pool c came sent gone after
 
-  -- The same, where the first bytes arrive on d, and the rest remains.
+  -- The same, if the first bytes arrive on d, and the rest remains.
   abbrev pub VisitsArrive : (starts : Stage SystemState P → Type 0) (pool d : ℕ) (bytes rest : List ℕ)
       (w after : Stage SystemState P) → Type 0
   VisitsArrive starts pool d bytes rest w after = (came : List ℕ) × (bytes ≡ came ++ rest)
       × VisitsAdvance starts pool d came [] false w after
 
-  -- The same, where a writer with known bytes took bytes that d sent.
+  -- The same, if a writer with known bytes took bytes that d sent.
   abbrev pub VisitsSend : (starts : Stage SystemState P → Type 0) (pool d : ℕ) (held now : Option (List ℕ))
       (w after : Stage SystemState P) → Type 0
   VisitsSend starts pool d held now w after = (sent : List ℕ) × Appends held now sent

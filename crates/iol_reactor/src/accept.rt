@@ -29,7 +29,7 @@ impl Listener<TcpStream> for TcpListener {
 pub struct Acceptor<L> {
     pub listener: L,
 
-    /// Any number, if it is none.
+    /// None: any number.
     pub left: Option<u32>,
 
     // Whether a client may wait to be accepted, when one is accepted again after a failure, and the
@@ -95,8 +95,7 @@ impl<L> Acceptor<L> {
         self.is_open = true;
     }
 
-    /// A new attempt to accept clients begins. A listener that had failed is tried again once that
-    /// is expected.
+    /// A new attempt to accept clients begins. A listener that failed is retried after a delay.
     pub fn reopen(&mut self, now: u64)
         ensures listener { self.new.listener ≡ self.old.listener }
         ensures left { self.new.left ≡ self.old.left }
@@ -143,7 +142,7 @@ impl<L> Acceptor<L> {
         }
     }
 
-    // No client was accepted. One that broke before is no failure of the listener.
+    // No client was accepted. A connection that broke before is no failure of the listener.
     fn refuse(&mut self, kind: ErrorKind, now: u64)
         ensures listener { self.new.listener ≡ self.old.listener }
         ensures left { self.new.left ≡ self.old.left }

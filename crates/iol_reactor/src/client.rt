@@ -156,12 +156,12 @@ impl<S: Socket> Client<S> {
         self.output.is_blocked()
     }
 
-    /// For how long nothing has moved.
+    /// The time since bytes last arrived or were accepted.
     pub fn silence(&self, now: u64) -> u64 {
         now.saturating_sub(self.last)
     }
 
-    /// Its socket was reported ready. Whether it is to be looked at.
+    /// Its socket was reported ready. Returns whether the client is to be visited.
     pub fn note(&mut self, reads: bool, ends: bool, writes: bool) -> bool
         ensures input { IsSameInput self.old.input self.new.input }
         ensures unsent { unsent_of self.new.output ≡ unsent_of self.old.output }
@@ -176,7 +176,7 @@ impl<S: Socket> Client<S> {
         reads || ends || was_awaited
     }
 
-    /// Whether a read may bring something that there is room for.
+    /// Whether a read may return bytes or the peer's end, and there is room for more bytes.
     pub fn may_read(&self) -> bool {
         self.input.may_read()
     }
@@ -381,7 +381,7 @@ impl<S: Socket> Client<S> {
         self.socket.end_output().is_ok()
     }
 
-    /// Whether a read may bring something.
+    /// Whether a read may return bytes, or the peer's end.
     pub fn is_readable(&self) -> bool {
         self.input.is_readable()
     }

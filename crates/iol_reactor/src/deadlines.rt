@@ -26,7 +26,7 @@ impl<K: Copy> Deadlines<K> {
         })
     }
 
-    /// Sees that there is memory for one deadline more.
+    /// Reserves memory for one more deadline.
     pub fn reserve(&mut self) -> Result<(), AllocError> {
         self.entries.reserve(1)
     }

@@ -41,7 +41,7 @@ pub struct Engine<S: Socket, B: Backing, P: Process, V: Service<B, P>> {
     pub(crate) ready_before: Vec<usize>,
     pub(crate) pending_before: Vec<usize>,
 
-    // Those that wait for a connection, in the order in which they came.
+    // The clients that wait for a connection, in the order in which they began to wait.
     pub(crate) waiting: VecDeque<Key>,
 
     // The buffer for reads and collected bytes.
@@ -57,7 +57,7 @@ pub struct Engine<S: Socket, B: Backing, P: Process, V: Service<B, P>> {
     pub(crate) is_idle: bool,
     pub(crate) is_moved: bool,
 
-    // The process with which rounds of turns go on.
+    // The process with which rounds of turns continue.
     pub(crate) next_process: usize,
     now: u64,
 }
@@ -125,7 +125,7 @@ impl<S: Socket + Drop, B: Backing + Drop, P: Process, V: Service<B, P>> Engine<S
         self.now
     }
 
-    /// The time is now this.
+    /// Sets the time; it never goes back.
     pub fn set_now(&mut self, now: u64) {
         self.now = now.max(self.now);
     }
@@ -181,7 +181,7 @@ impl<S: Socket + Drop, B: Backing + Drop, P: Process, V: Service<B, P>> Engine<S
         }
     }
 
-    // Adds a place, if there may be one more: which it is.
+    // Adds a place, if one more is allowed, and returns it.
     fn add_place(&mut self) -> Option<usize> {
         let slot = self.places.len();
         if slot >= self.limits.max_clients
@@ -251,14 +251,14 @@ impl<S: Socket + Drop, B: Backing + Drop, P: Process, V: Service<B, P>> Engine<S
         }
     }
 
-    /// Whether a round has something to do at once.
+    /// Whether a round has work at once.
     pub fn is_busy(&self) -> bool {
         !self.ready.is_empty()
             || !self.is_idle
             || (!self.waiting.is_empty() && self.worlds().links() < self.limits.live)
     }
 
-    /// The first time at which something is expected that no socket reports.
+    /// The first time of a deadline or a retry, which no socket reports.
     pub fn first_deadline(&self) -> Option<u64> {
         match (self.timers.first(), self.retry_at) {
             (Some(first), Some(at)) => Some(first.min(at)),

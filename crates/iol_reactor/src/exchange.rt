@@ -182,7 +182,7 @@ impl<S: Socket + Drop, B: Backing + Drop, P: Process, V: Service<B, P>> Places<S
         }
     }
 
-    // The processes are told that the client in this place, which is over, is gone.
+    // Reports to the processes that the client in this place, which is over, is gone.
     fn hang_up(&mut self, slot: usize) {
         match self.phase(slot) {
             Phase::Over => self.worlds.hang_up(slot),

@@ -15,14 +15,14 @@ pub fn visits_continue<P: Process>()
     ensures { VisitsContinue P.turns }
 {}
 
-/// What the steps of a client do to the bytes that its socket supplied and accepted. The function
+/// The effect of a client's steps on the bytes that its socket supplied and accepted. The function
 /// has no effect; its contract is the law.
 pub fn bytes_move()
     ensures { BytesMove }
 {}
 
-/// What the steps of a client, of its world, and of other clients do to its connections, which
-/// follow one another. The function has no effect; its contract is the law.
+/// The effect of the steps of a client, of its world, and of other clients on its connections,
+/// which follow one another. The function has no effect; its contract is the law.
 pub fn connections_follow<B: Backing, P: Process, V: Service<B, P>>()
     ensures { (pool : ℕ) → ConnectionsFollow P.turns V.starts V.frames pool }
 {}

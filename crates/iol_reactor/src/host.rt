@@ -73,7 +73,7 @@ impl<B: Backing + Drop, P: Process, V: Service<B, P>> Host<B, P, V> {
         self.world.processes()
     }
 
-    /// Gives a turn to the process at an index, and returns what it did. None: there is no process
+    /// Gives a turn to the process at an index, and returns its activity. None: there is no process
     /// at this index.
     pub fn turn_at(&mut self, place: usize) -> Option<Activity>
         ensures alone { (c : ℕ) → ProceedsIn P.turns c [] [] false self.old.world self.new.world }

@@ -9,16 +9,16 @@ use crate::socket::Socket;
 use std::alloc::{AllocError, Global};
 use std::io::ErrorKind;
 
-/// A buffer that is empty and larger than this is given back.
+/// A buffer that is empty and larger than this is freed.
 const MAX_KEPT: usize = 4_096;
 
 /// How a read went.
 #[derive(Clone, Copy, Debug, PartialEq, Eq)]
 pub enum Reading {
-    /// This number of bytes came.
+    /// This number of bytes was read.
     Bytes(usize),
 
-    /// The socket has nothing now.
+    /// The socket has no bytes now.
     Empty,
 
     /// The peer sends no more.
@@ -38,11 +38,11 @@ pub struct Input {
     bytes: Vec<u8>,
 
     // The length of the request in progress, which is at the front of `bytes`; 0 if there is none.
-    // And how much of it was handed in.
+    // The number of its bytes that were handed in.
     asked: usize,
     given: usize,
 
-    // Whether the socket may have bytes, and whether the peer's end is behind them.
+    // Whether the socket may have bytes, and whether the peer's end follows them.
     readable: bool,
     ending: bool,
 
@@ -83,12 +83,12 @@ impl Input {
         self.ended
     }
 
-    /// Whether a read may bring something.
+    /// Whether a read may return bytes, or the peer's end.
     pub fn is_readable(&self) -> bool {
         (self.readable || self.ending) && !self.ended
     }
 
-    /// Whether a read may bring something, and there is room for it.
+    /// The same, if there is room for more bytes.
     pub fn may_read(&self) -> bool {
         self.is_readable() && self.bytes.len() < MAX_BUFFERED
     }
@@ -166,7 +166,7 @@ impl Input {
     }
 
     // Keeps the bytes of a read of at most `room` bytes. A short read has emptied the socket,
-    // unless the peer's end is behind it.
+    // unless the peer's end follows.
     fn append(&mut self, bytes: &[u8], room: usize) -> Reading
         ensures bytes { result ≢ Reading.Failed →
             self.new.bytes.items ≡ self.old.bytes.items ++ bytes.now }

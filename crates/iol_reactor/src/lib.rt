@@ -1,8 +1,8 @@
 //! An event loop that serves many clients at once from the processes of a world, in one thread.
 //!
 //! [`Reactor`](reactor::Reactor) listens on an address and polls its sockets, edge-triggered. Each
-//! round it hands complete requests to the world, gives the processes their turns and sends what
-//! they wrote. What a request is, a [`Service`](service::Service) says. [`Engine`](engine::Engine)
+//! round it hands complete requests to the world, gives the processes their turns and sends their
+//! output. A [`Service`](service::Service) defines the requests. [`Engine`](engine::Engine)
 //! is the same without the poll, over any [`Socket`](socket::Socket).
 //!
 //! A client has a connection of the world only while it has a request in progress and for a few

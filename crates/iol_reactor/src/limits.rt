@@ -28,7 +28,7 @@ pub struct Limits {
     /// A client that is quiet for this time gives back its connection of the world.
     pub park_millis: u64,
 
-    /// The service ends when this number of clients has come and gone; never, if it is none.
+    /// The service ends when this number of clients has come and gone. None: it never ends.
     pub stop_after: Option<u32>,
 
     /// Whether the service ends with an error if accepting fails while it has no client whose end
@@ -94,7 +94,7 @@ pub const ROOM_MILLIS: u64 = 5;
 /// After this time a listener that failed, as for lack of descriptors, accepts again.
 pub const ACCEPT_MILLIS: u64 = 100;
 
-/// The time between two questions for a new world.
+/// The time between two requests to the service for a new world.
 pub const RENEW_MILLIS: u64 = 1_000;
 
 /// A world whose connections have reached this number is replaced: numbers have 32 bits and are

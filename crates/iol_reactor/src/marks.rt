@@ -25,7 +25,7 @@ pub struct Marks {
     /// Since when a request is incomplete, if one is.
     pub head_since: Option<u64>,
 
-    /// How many bytes the socket had accepted when its rate was measured last.
+    /// The number of bytes that the socket had accepted when its rate was measured last.
     pub rate_mark: u64,
 }
 

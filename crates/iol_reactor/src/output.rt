@@ -237,7 +237,7 @@ impl Output {
         accepted.saturating_sub(count)
     }
 
-    // Takes memory for the first bytes of the response.
+    // Reserves memory for the first bytes of the response.
     fn reserve(&mut self) -> Result<(), AllocError>
         ensures left { self.new.left.items ≡ self.old.left.items }
         ensures at { self.new.at ≡ self.old.at }

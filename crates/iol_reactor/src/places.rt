@@ -119,7 +119,7 @@ impl<S: Socket + Drop, B: Backing + Drop, P: Process, V: Service<B, P>> Places<S
         self.worlds.renew(world);
     }
 
-    /// Gives a turn to the process at an index, and returns what it did, as with
+    /// Gives a turn to the process at an index, and returns its activity, as with
     /// [`Worlds::turn_at`].
     pub fn turn_at(&mut self, place: usize) -> Option<Activity> {
         self.worlds.turn_at(place)

@@ -285,7 +285,7 @@ where
         }
     }
 
-    // Asks for a new world, once that is expected.
+    // Asks the service for a new world, if the time for that has come.
     fn renew(&mut self, service: &mut V)
         ensures { self.new.acceptor ≡ self.old.acceptor }
     {

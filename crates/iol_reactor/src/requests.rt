@@ -91,8 +91,8 @@ impl<S: Socket + Drop, B: Backing + Drop, P: Process, V: Service<B, P>> Engine<S
         self.give(slot);
     }
 
-    // A client has no complete request. One that sends no more ends; else the rest of its request
-    // is awaited for a limited time.
+    // A client has no complete request. If it sends no more, it ends; otherwise the rest of its
+    // request is awaited for a limited time.
     fn lacks_request(&mut self, slot: usize, frame: &Frame)
         requires { IsFrameAt V.frames slot self.old.places.clients.items frame.now }
     {

@@ -64,7 +64,7 @@ impl<S: Socket + Drop, B: Backing + Drop, P: Process, V: Service<B, P>> Engine<S
         self.send_pending(service)
     }
 
-    // Receives from those that are ready. One without a connection changes no world.
+    // Receives from the clients that are ready. A client without a connection changes no world.
     fn receive_ready(&mut self, service: &mut V) -> Result<(), AllocError> {
         for place in 0..self.ready.len() {
             if let Some(slot) = self.ready.get(place) {
@@ -88,7 +88,7 @@ impl<S: Socket + Drop, B: Backing + Drop, P: Process, V: Service<B, P>> Engine<S
         }
     }
 
-    // Sends to those that were ready.
+    // Sends to the clients that were ready.
     fn send_ready(&mut self, service: &mut V) -> Result<(), AllocError> {
         for place in 0..self.ready_before.len() {
             if let Some(slot) = self.ready_before.get(place) {
@@ -104,7 +104,7 @@ impl<S: Socket + Drop, B: Backing + Drop, P: Process, V: Service<B, P>> Engine<S
         Ok(())
     }
 
-    // Sends to those whose response was pending before the round, and that were not sent to in it.
+    // Sends to the clients whose response was pending before the round, unless it has sent to them.
     fn send_pending(&mut self, service: &mut V) -> Result<(), AllocError> {
         for place in 0..self.pending_before.len() {
             if let Some(slot) = self.pending_before.get(place) {
@@ -127,7 +127,7 @@ impl<S: Socket + Drop, B: Backing + Drop, P: Process, V: Service<B, P>> Engine<S
         }
     }
 
-    // Visits all clients once the retry for lack of room is expected.
+    // Visits all clients if the time of the retry for lack of room has come.
     fn retry_all(&mut self) -> Result<(), AllocError> {
         let Some(at) = self.retry_at else {
             return Ok(());
@@ -142,7 +142,7 @@ impl<S: Socket + Drop, B: Backing + Drop, P: Process, V: Service<B, P>> Engine<S
         Ok(())
     }
 
-    // Visits those that waited for a connection, as many as may have one.
+    // Visits the clients that waited for a connection, as many as may have one.
     fn call_waiting(&mut self) -> Result<(), AllocError> {
         let vacant = self.limits.live.saturating_sub(self.worlds().links());
         for _ in 0..vacant {

@@ -19,7 +19,7 @@ use iol_proc::process::Process;
 /// How output of the world was sent.
 #[derive(Clone, Copy, Debug, PartialEq, Eq)]
 pub enum Passed {
-    /// The socket accepted all that there was.
+    /// The socket accepted all of the output.
     All,
 
     /// It accepted all, and there may be more.
@@ -39,7 +39,7 @@ pub enum Passed {
 }
 
 impl<S: Socket + Drop, B: Backing + Drop, P: Process, V: Service<B, P>> Places<S, B, P, V> {
-    /// Writes what the socket of the client in this place has not accepted yet.
+    /// Writes the bytes that the socket of the client in this place has not accepted yet.
     pub fn flush(&mut self, slot: usize, now: u64) -> Sending {
         if slot >= self.clients.len() {
             return Sending::Failed;

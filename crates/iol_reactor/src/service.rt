@@ -44,7 +44,7 @@ pub enum Progress {
 pub struct Exchange<'a> {
     pub peer: SocketAddr,
 
-    /// The bytes of the request, with what precedes it.
+    /// The bytes of the request, with those that precede it.
     pub request: &'a [u8],
 
     /// The first bytes of the response, at most `HEAD_BYTES`.

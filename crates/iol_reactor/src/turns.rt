@@ -1,4 +1,4 @@
-//! Whose turn is next, and until when.
+//! The order of process turns, and the end of a run of turns.
 use crate::limits::{RUN_MICROS, SLICE_MICROS, UNTIMED_TURNS};
 use iol_proc::activity::Activity;
 
@@ -20,7 +20,8 @@ impl Stopwatch for Stopped {
 
 /// The order of the turns of a run. Each process has a time slice: turns until it is quiet, that is
 /// has yielded twice and not acted between, or for `SLICE_MICROS`. The first process has the first
-/// one; then rounds of time slices go on with the process at which those of the run before ended.
+/// one; then rounds of time slices continue with the process at which those of the run before
+/// ended.
 #[derive(Debug, Drop)]
 pub struct Order {
     count: usize,
@@ -45,7 +46,7 @@ pub struct Order {
 }
 
 impl Order {
-    /// A run of this number of processes, whose rounds go on with the process at this index.
+    /// A run of this number of processes, whose rounds continue with the process at this index.
     pub fn new(count: usize, next: usize) -> Order {
         Order {
             count,
@@ -69,7 +70,7 @@ impl Order {
         self.place
     }
 
-    /// The process with which the rounds go on.
+    /// The process with which the rounds continue.
     pub fn next(&self) -> usize {
         self.resumes.unwrap_or(self.place)
     }

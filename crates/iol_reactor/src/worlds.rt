@@ -228,8 +228,8 @@ impl<B: Backing + Drop, P: Process, V: Service<B, P>> Worlds<B, P, V> {
         self.current.processes().saturating_add(earlier)
     }
 
-    /// Gives a turn to the process at an index, and returns what it did. Those of the current world
-    /// come first. None: there is no process at this index.
+    /// Gives a turn to the process at an index, and returns its activity. The processes of the
+    /// current world come first. None: there is no process at this index.
     pub fn turn_at(&mut self, place: usize) -> Option<Activity>
         ensures links { self.new.links ≡ self.old.links }
         ensures pool { self.new.pool ≡ self.old.pool }

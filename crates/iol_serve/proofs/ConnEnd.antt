@@ -21,7 +21,7 @@ use Rattle.iol_system.specs.Machine.{tables_of}
 use Rattle.iol_system.specs.Prelude.{IsSound, KernelState, Rises, StepsBeside, read_of, state_view, with_slots}
 use Rattle.iol_serve.specs.Service.{HasEnded}
 
--- nothing below the first of rising numbers
+-- no entry below the first of ascending numbers
 lookup_low : {A : Type 0} (es : List (ℕ × A)) (from to n : ℕ) → Rises from es to → n < from → lookup es n ≡ None
 lookup_low [] from to n rises low = refl
 lookup_low (e ∷ es) from to n rises low =
@@ -55,7 +55,7 @@ ended_gone s c once there = by (is_over x) (lookup s.conns c) refl there
         inr (ap (λ (z : Option Connection). is_gone (unwrap_or z no_conn).peer) (lookup-changed_same s.conns c x y is))
     by false None is some = absurd (cc some)
 
--- where there is such a connection the call is not refused
+-- if the connection exists, the call is not refused
 not_refused : (b : Bool) (x : Refusal) → b ≡ false → MatchOption (first ((BadFd when b) ∷ [])) ⊥ (λ y. x ≡ y) → ⊥
 not_refused true x there refused = absurd (cc there)
 not_refused false x there refused = refused

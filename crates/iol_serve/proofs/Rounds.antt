@@ -29,7 +29,7 @@ ended_last s c was Silent last gone over = gone refl
 ended_last s c was Stalled last gone over = gone refl
 ended_last s c was Over last gone over = inl (over refl)
 
--- where the last round leaves a connection over, the round told so
+-- if a connection is over after the last round, the round reported it
 pub over_last : {A : Type 0} (before : Ending) (step : Step) → is_last (hung_up before) step ≡ true
     → after before step ≡ ending.Over → (step ≡ Over → A) → A
 over_last before Moved last is over = absurd (cc last)

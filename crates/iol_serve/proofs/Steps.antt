@@ -141,7 +141,7 @@ module _ {P : Type 0} (turns : TransitionRelation P) where
     reports = drops_turns c ds i n;
   }
 
-  -- one thing that happens
+  -- one external event
   goes_outside : (c : ℕ) (e : Event) (r : Reply) (came sent : List ℕ) (gone : Bool) (w after : Stage State P)
       → OutsideStep copying turns w e r after → IsOn c (choice.Outside e) → came_by c e r ≡ came → sent_by c e r ≡ sent
       → drops_unsent e c ≡ gone → Proceeds turns c came sent gone w after
@@ -180,7 +180,7 @@ module _ {P : Type 0} (turns : TransitionRelation P) where
       goes_outside c (event.Transmit c (suc n)) (reply.Segment sent.0 sent.1) [] bytes false w after step refl refl
       (own c sent.0 ∙ is) refl
 
-  -- what is sent, and what is served
+  -- ---- bytes sent, and bytes served
 
   pub sends_none : (c : ℕ) (held now : Option (List ℕ)) (w after : Stage State P) → Appends held now [] → after ≡ w
       → Sends turns c held now w after
@@ -247,12 +247,12 @@ module _ {P : Type 0} (turns : TransitionRelation P) where
       → Proceeds turns c [] [] is w after
   goes_as c gone is w after same g = subst (λ (b : Bool). Proceeds turns c [] [] b w after) same g
 
-  -- told in other words whether the peer was told to be gone
+  -- with another expression for whether the peer was reported gone
   pub serves_as : (c : ℕ) (gone is : Bool) (l r h k : Option (List ℕ)) (w after : Stage State P) → gone ≡ is
       → Serves turns c gone l r h k w after → Serves turns c is l r h k w after
   serves_as c gone is l r h k w after same s = subst (λ (b : Bool). Serves turns c b l r h k w after) same s
 
-  -- and then the writer takes nothing more
+  -- the same, if the writer then takes no more bytes
   pub serves_kept : (c : ℕ) (gone : Bool) (l r h i k : Option (List ℕ)) (w after : Stage State P) → Appends i k []
       → Serves turns c gone l r h i w after → Serves turns c gone l r h k w after
   serves_kept c gone l r h i k w after kept s = record {

@@ -13,7 +13,7 @@ none_lacking : (found : Option Connection) → is_none found ≡ true → found 
 none_lacking None lacks = refl
 none_lacking (Some x) lacks = absurd (cc lacks)
 
--- one that is not there has nothing to be sent
+-- a connection that does not exist has no queued output
 lacking_sends_none : (s : State) (c : ℕ) → lacks_conn s c ≡ true → bytes_of (conn_at s c).outgoing ≡ []
 unfolding conn_at
 lacking_sends_none s c lacks =

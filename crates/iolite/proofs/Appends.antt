@@ -1,4 +1,4 @@
--- Output continues.
+-- Lemmas on output that is written in parts.
 use Rattle.std.proofs.Common.{◌∙◌, ◌≤◌, ◌+◌, ℕ, List, [], ◌++◌, Option, length, take, drop, sym, ap, subst}
 use Rattle.std.proofs.Common.{append_assoc, arith, length-drop}
 use Rattle.std.specs.declared.option.Option.TheVariants.{Some, None}
@@ -20,7 +20,7 @@ Appends-more (Some xs) (Some ys) None front more wrote writes = absurd writes
 Appends-more (Some xs) (Some ys) (Some zs) front more wrote writes =
     writes ∙ (ap (λ ws. ws ++ more) wrote ∙ append_assoc xs front more)
 
--- nothing more is
+-- no more is written
 pub Appends-kept : (old mid new : Option (List ℕ)) (front : List ℕ) → Appends old mid front → Keeps mid new
     → Appends old new front
 Appends-kept None mid new front wrote keeps = tt
@@ -28,7 +28,7 @@ Appends-kept (Some xs) None new front wrote keeps = absurd wrote
 Appends-kept (Some xs) (Some ys) None front wrote keeps = absurd keeps
 Appends-kept (Some xs) (Some ys) (Some zs) front wrote keeps = keeps ∙ wrote
 
--- n of those left are written
+-- the first n remaining bytes are written
 pub WritesTo-more : (old mid new : Option (List ℕ)) (bytes rest : List ℕ) (n : ℕ) → WritesTo old mid bytes rest
     → Appends mid new (take n rest) → WritesTo old new bytes (drop n rest)
 WritesTo-more old mid new bytes rest n so writes = record {
@@ -40,14 +40,14 @@ WritesTo-more old mid new bytes rest n so writes = record {
   written = Appends-more old mid new so.front (take n rest) so.written writes;
 }
 
--- the same, where those that are left are a slice
+-- the same, if the remaining bytes are given as a slice
 pub WritesTo-sliced : (old mid new : Option (List ℕ)) (bytes rest : List ℕ) (n k : ℕ) → length rest ≤ n + k
     → WritesTo old mid bytes rest → Appends mid new (take n rest) → WritesTo old new bytes (take k (drop n rest))
 WritesTo-sliced old mid new bytes rest n k fits so writes =
     subst (WritesTo old new bytes) (sym (take_all k (drop n rest) (omega (arith, fits, length-drop n rest))))
     (WritesTo-more old mid new bytes rest n so writes)
 
--- none of them is
+-- no more of them are written
 pub WritesTo-kept : (old mid new : Option (List ℕ)) (bytes rest : List ℕ) → WritesTo old mid bytes rest → Keeps mid new
     → WritesTo old new bytes rest
 WritesTo-kept old mid new bytes rest so keeps =
@@ -57,7 +57,7 @@ WritesTo-kept old mid new bytes rest so keeps =
 pub WritesTo-all : (old new : Option (List ℕ)) (bytes : List ℕ) → Appends old new bytes → WritesTo old new bytes []
 WritesTo-all old new bytes written = record { front = bytes; all = sym (append-nil bytes); written = written }
 
--- of bytes with more behind them the same are written
+-- if more bytes follow, the written bytes are the same
 pub WritesTo-before : (old new : Option (List ℕ)) (bytes more left : List ℕ) → WritesTo old new bytes left
     → WritesTo old new (bytes ++ more) (left ++ more)
 WritesTo-before old new bytes more left so =
@@ -68,7 +68,7 @@ WritesTo-before old new bytes more left so =
           so.written;
     }
 
--- all are written, and then some of those behind them
+-- all bytes are written, and some of those that follow
 pub WritesTo-behind : (old mid new : Option (List ℕ)) (bytes more left : List ℕ) → Appends old mid bytes
     → WritesTo mid new more left → WritesTo old new (bytes ++ more) left
 WritesTo-behind old mid new bytes more left wrote so = record {

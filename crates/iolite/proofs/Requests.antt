@@ -15,7 +15,7 @@ pub asks_if_read : (r : Option Asked) (l : List ℕ) → IfSome r (λ a. Asks l 
 asks_if_read (Some a) l asks none = (λ e. (line_of a, asks), λ so. refl)
 asks_if_read None l asks none = (λ e. cc, λ so. absurd (none refl so.0 so.1))
 
--- an event of the words that a line was cut into is one of the line
+-- an event of the words into which a line was split is one of the line
 pub event_here : (first rest a b : List ℕ) (e : Event) → first ≡ a → rest ≡ b → IsEvent first rest e → IsEvent a b e
 event_here first rest a b e p q is = subst (λ x. IsEvent x b e) p (subst (λ y. IsEvent first y e) q is)
 

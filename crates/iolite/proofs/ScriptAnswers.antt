@@ -37,7 +37,7 @@ lines_of-push answers a =
     flat_map-append (λ x. answer_text x ++ newline) answers (a ∷ [])
     ∙ ap (λ ys. lines_of answers ++ ys) (append-nil (answer_text a ++ newline))
 
--- no line has come
+-- before the first line
 pub Answering-none : (s : SystemState) (known : Option (List ℕ)) (pending : List ℕ) → pending ≡ []
     → Answering [] s s known known pending
 Answering-none s known pending none = record {
@@ -52,7 +52,7 @@ Answering-none s known pending none = record {
 
 module _ (ls : List (List ℕ)) (start mid end : SystemState) (old known : Option (List ℕ)) (pending : List ℕ)
     (l : List ℕ) where
-  -- a line that is answered
+  -- one more line with its answer
   pub Answering-line : (text : List ℕ) → Answering ls start mid old known pending → is_asking l ≡ true
       → AnswersLine l mid end text → Answering (ls ++ l ∷ []) start end old known (pending ++ text)
   Answering-line text so asks next =
@@ -73,7 +73,7 @@ module _ (ls : List (List ℕ)) (start mid end : SystemState) (old known : Optio
       }
 
 module _ (ls : List (List ℕ)) (start end : SystemState) (old known new : Option (List ℕ)) (pending : List ℕ) where
-  -- what was pending is written, or a beginning of it
+  -- the pending output is written, or a beginning of it
   pub Answering-written : (left : List ℕ) → Answering ls start end old known pending → WritesTo known new pending left
       → Answering ls start end old new left
   Answering-written left so writes = record {
@@ -86,20 +86,20 @@ module _ (ls : List (List ℕ)) (start end : SystemState) (old known new : Optio
     appended = Appends-more old known new so.printed writes.front so.appended writes.written;
   }
 
--- lines that came are a beginning
+-- the lines answered so far are a beginning of all lines
 pub EndsWithin-here : (all front rest : List (List ℕ)) (start end : SystemState) (old new : Option (List ℕ))
     (left : List ℕ) → all ≡ front ++ rest → Answering front start end old new left → EndsWithin all start old new
 EndsWithin-here all front rest start end old new left begins so =
     record { front = front; rest = rest; begins = begins; end = end; left = left; answering = so }
 
--- lines that came, each answer printed, are a beginning where the next found no memory
+-- if memory ran out for the next line, the lines with printed answers are a beginning of all lines
 pub EndsWanting-here : (all front rest : List (List ℕ)) (start before end : SystemState) (old new : Option (List ℕ))
     → all ≡ front ++ rest → Answering front start before old new [] → LosesFirst rest before end
     → EndsWanting all start end old new
 EndsWanting-here all front rest start before end old new begins so lost =
     record { front = front; rest = rest; begins = begins; before = before; answering = so; lost = lost }
 
--- no line found memory, and nothing came of any
+-- no line had an effect
 pub LosesFirst-none : (ls : List (List ℕ)) (s : SystemState) → LosesFirst ls s s
 LosesFirst-none [] s = refl
 LosesFirst-none (l ∷ ls) s = inl refl
@@ -108,7 +108,7 @@ All-middle : (P : List ℕ → Type 0) (xs ys : List (List ℕ)) (y : List ℕ) 
 All-middle P [] ys y each = All-head P y ys each
 All-middle P (x ∷ xs) ys y each = All-middle P xs ys y (All-tail P x (xs ++ y ∷ ys) each)
 
--- a line whose turn it is, and which asks, asks for something
+-- the next line of a script, if it is a request, has an action
 pub asks_at : (all front rest : List (List ℕ)) (l : List ℕ) → all ≡ front ++ l ∷ rest → is_asking l ≡ true
     → All AsksSomething (asking (without_blank all)) → AsksSomething l
 asks_at all front rest l e asks each =
@@ -120,7 +120,7 @@ asks_at all front rest l e asks each =
     All-middle AsksSomething (asking (without_blank front)) (asking (without_blank rest)) l
     (subst (All AsksSomething) here each)
 
--- ---- What was printed for a script
+-- ---- The output printed for a script
 
 pub begun_by : (text : List ℕ) (setup : Setup) (start : SystemState) (old new : Option (List ℕ))
     → IsJudged (commands text) setup → IsNew setup start → EndsWithin (lines text) start old new → Begun text old new
@@ -141,7 +141,7 @@ begun_by text setup start old new judged is_new ends =
       appended = so.appended;
     }
 
--- where a line found no memory, each answer was printed
+-- if memory ran out at a line, each earlier answer was printed
 pub whole_by : (text : List ℕ) (setup : Setup) (start end : SystemState) (old new : Option (List ℕ))
     → IsJudged (commands text) setup → IsNew setup start → EndsWanting (lines text) start end old new
     → BegunWhole text old new
@@ -178,7 +178,7 @@ replayed_by (Ok u) text setup start end old new judged is_new so =
     Replayed-from text setup start end old new judged is_new so
 replayed_by (Err x) text setup start end old new judged is_new so = so
 
--- what holds of the text holds of what was given
+-- a property of the text is one of the given bytes
 pub of_given : (P : List ℕ → Type 0) (known : Option (List ℕ)) (text : List ℕ) → IfSome known (λ given. text ≡ given)
     → P text → IfSome known P
 of_given P known text whole holds = IfSome_then known whole (λ given e. subst P e holds)
@@ -188,7 +188,7 @@ pub on_given : {A E : Type 0} (r : Result A E) (P : List ℕ → Type 0) (known 
 on_given (Ok u) P known text whole holds = of_given P known text whole holds
 on_given (Err x) P known text whole holds = holds
 
--- the same of what was given
+-- the same for the given bytes
 abbrev pub bad_text : {A : Type 0} → Result A Failure → List ℕ → Type 0
 bad_text r text = IfErr r (λ failure. status_of failure ≡ 2 → HasBadLine (commands text))
 
@@ -207,7 +207,7 @@ bad_input A known Input of bad status = absurd (omega (arith, status))
 bad_input A known Output of bad status = absurd of
 bad_input A known Memory of bad status = absurd (omega (arith, status))
 
--- what ends the answering is never status 2
+-- an error while lines are answered never has status 2
 not_bad : (P : Type 0) (failure : Failure) → IsOfAnswers failure → status_of failure ≡ 2 → P
 not_bad P BadScript of status = absurd of
 not_bad P (BadLine number) of status = absurd of

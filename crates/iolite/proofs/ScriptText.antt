@@ -10,7 +10,7 @@ use Rattle.std.specs.declared.option.Option.TheVariants.{Some, None}
 use Rattle.iolite.specs.declared.replay.TheConstants.{MAX_SCRIPT_BYTES}
 use Rattle.iolite.specs.Script.{IsScriptText, IsWholeOrTooLong}
 
--- what is read up to a limit past the most
+-- the bytes read up to a limit above the maximum are all bytes, or too long
 IsWholeOrTooLong-cases : (limit : ℕ) (given read : List ℕ) → MAX_SCRIPT_BYTES < limit → read ≡ take limit given
     → (limit < length given) ⊎ (length given ≤ limit) → IsWholeOrTooLong read given
 IsWholeOrTooLong-cases limit given read past e (inl longer) =
@@ -26,17 +26,17 @@ IsWholeOrTooLong-take (Some given) limit read start e past h =
     IsWholeOrTooLong-cases limit given read past (subst (λ s. read ≡ s ++ take limit given) e h)
     (cases_lt limit (length given))
 
--- bytes that are a script were read whole
+-- if the bytes read are a script, they are all bytes
 script-whole : (read given : List ℕ) → IsWholeOrTooLong read given → IsScriptText read → read ≡ given
 script-whole read given (inl e) script = e
 script-whole read given (inr long) script = absurd (omega (arith, long.0, script.0))
 
--- a script is read whole
+-- if all bytes are a script, so are the bytes read
 script-given : (read given : List ℕ) → IsWholeOrTooLong read given → IsScriptText given → IsScriptText read
 script-given read given (inl e) script = subst IsScriptText (sym e) script
 script-given read given (inr long) script = absurd (omega (arith, long.1, script.0))
 
--- what is read as a script is all that was given
+-- a text that was read as a script is all of the given bytes
 pub script-is_given : {X E : Type 0} (bytes_of : X → List ℕ) (known : Option (List ℕ)) (read : List ℕ) (r : Result X E)
     → IfSome known (IsWholeOrTooLong read) → IfOk r (λ text. bytes_of text ≡ read)
     → IfOk r (λ text. IsScriptText (bytes_of text)) → IfOk r (λ text. IfSome known (λ given. bytes_of text ≡ given))
@@ -44,7 +44,7 @@ script-is_given bytes_of known read (Ok text) found same script =
     IfSome_then known found (λ given whole. same ∙ script-whole read given whole (subst IsScriptText same script))
 script-is_given bytes_of known read (Err e) found same script = same
 
--- what is refused was no script
+-- if the bytes are refused, they are no script
 pub refused-is_no_script : {X E : Type 0} (known : Option (List ℕ)) (read : List ℕ) (r : Result X E) (e : E)
     → IfSome known (IsWholeOrTooLong read) → OnErr r (¬ (IsScriptText read)) → r ≡ Err e
     → IfSome known (λ given. ¬ (IsScriptText given))

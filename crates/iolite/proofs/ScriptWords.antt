@@ -25,7 +25,7 @@ SetUp-push : (hs : List (List ℕ)) (old mid new : Setup) (l : List ℕ) → Set
 SetUp-push [] old mid new l set more = (new, subst (λ (x : Setup). SetsUp (word l) (rest_of l) x new) set more, refl)
 SetUp-push (h ∷ hs) old mid new l set more = (set.0, set.1, SetUp-push hs set.0 mid new l set.2 more)
 
--- ---- Which lines say something, and which of them ask
+-- ---- The lines that are not blank, and the requests among them
 
 pub without_blank-append : (xs ys : List (List ℕ)) → without_blank (xs ++ ys) ≡ without_blank xs ++ without_blank ys
 without_blank-append xs ys = filter-append (λ l. not (is_blank l)) xs ys
@@ -83,14 +83,14 @@ is_asking-cases l e (inr says) = ap asking (without_blank-no l says)
 pub is_asking-no : (l : List ℕ) → is_asking l ≡ false → asking (without_blank (l ∷ [])) ≡ []
 is_asking-no l e = is_asking-cases l e (bool_cases (is_blank l))
 
--- ---- How far a script was judged
+-- ---- A script judged up to a line
 
--- whether a line that asked for something was among them
+-- whether a request was among the lines
 abbrev Knows : Bool → List (List ℕ) → Type 0
 Knows true ls = asking ls ≢ []
 Knows false ls = asking ls ≡ []
 
--- of lines as they stand, those that say something are commands
+-- the lines that are not blank are valid commands
 pub record Judging (ls : List (List ℕ)) (setup : Setup) (has_asked : Bool) : Type 0 where
   pub judged : IsJudged (without_blank ls) setup
   pub knows : Knows has_asked (without_blank ls)
@@ -151,7 +151,7 @@ module _ (ls : List (List ℕ)) (old new : Setup) (late more : Bool) (l : List �
       let none : asking ls ≡ [] = subst (λ b. Knows b ls) x.2 knows in
       (sets-more x.1 x.0 none j, subst (λ b. Knows b (ls ++ l ∷ [])) (sym x.3) (sets-knows x.0 none))
 
--- a line that is judged
+-- one more line that is judged
 pub Judging-read : (ls : List (List ℕ)) (old new : Setup) (late more : Bool) (l : List ℕ) → Judging ls old late
     → is_blank l ≡ false → Judges old late l new more → Judging (ls ++ l ∷ []) new more
 Judging-read ls old new late more l j blank judges =
@@ -186,7 +186,7 @@ Judging-bad all ls rest setup late l e j blank bad = record {
 
 -- ---- The lines of an iteration
 
--- an item that is next in a list
+-- a list, split at its next item
 pub split_at_turn : {A : Type 0} (all ys : List A) (x : A) (n : ℕ) → ys ≡ take n all → n < length all
     → x ≡ get_or all n x → all ≡ ys ++ x ∷ drop (n + 1) all
 split_at_turn all ys x n e lt is =
@@ -212,7 +212,7 @@ pub map-enumerate : (xs : List (ℕ × Bor (List ℕ))) (parts : List (List ℕ)
     → map (λ (p : ℕ × Bor (List ℕ)). p.1.now) xs ≡ parts
 map-enumerate xs parts all = sym (map-pairs xs) ∙ ap (map (λ (p : ℕ × List ℕ). p.1)) all ∙ map-enumerate_from 0 parts
 
--- the line that is next in an enumeration
+-- the next line of an enumeration
 pub turn_of_enumeration : (parts : List (List ℕ)) (xs : List (ℕ × Bor (List ℕ))) (place : ℕ) (line : List ℕ)
     → map (λ (p : ℕ × Bor (List ℕ)). (p.0, p.1.now)) xs ≡ take (length xs) (enumerate_from 0 parts)
     → length xs < length (enumerate_from 0 parts)

@@ -74,7 +74,7 @@ SetsUp name rest old new =
     ⊎ (((name ≡ codes "store") × StoresBytes (word rest) (decoded (rest_of rest)) old new)
     ⊎ ((name ≡ codes "storen") × StoresRepeated (word rest) (word (rest_of rest)) (rest_of (rest_of rest)) old new)))
 
--- A header is applied, and then P holds of the new setup; or it is no command here, exactly if P holds of none.
+-- A header is applied, and then P holds of the new setup; or it is no command here, exactly if P holds of no setup.
 pub record Takes {A : Type 0} (P : Setup → Type 0) (now : Setup) (r : Result A HeaderError) : Type 0 where
   pub sets : OnOk r (P now)
   pub none : r ≡ Err NotACommand → (x : Setup) → ¬ (P x)

@@ -18,7 +18,7 @@ dot_segments = refl
 dots_in_a_name : list_any is_dot_segment (segments (codes "/a/..b/c.")) ≡ false
 dots_in_a_name = refl
 
--- The name under the root; an escaped percent sign is not decoded a second time, and one slash is taken away, no more.
+-- The name under the root. An escaped percent sign is not decoded twice, and only one slash is removed.
 names : (file_name (codes "/") ≡ codes "index.html")
     × (file_name (codes "/a%20b/c.txt") ≡ codes "a b/c.txt")
     × (file_name (codes "/%252e") ≡ codes "%2e")

@@ -7,15 +7,15 @@ use Rattle.flash_http.specs.declared.windows.Window.TheVariants.{Wait, Head}
 whole_lines : lines (codes "a\r\nbc\nd") ≡ codes "a\r" ∷ codes "bc" ∷ []
 whole_lines = refl
 
--- a head, and the next one behind it
+-- a head, followed by the next one
 first_of_two : window_in (codes "GET / HTTP/1.1\r\nHost: a\r\n\r\nGET /") ≡ Head 0 27
 first_of_two = refl
 
--- empty lines before a head, whose lines end with a line feed alone
+-- empty lines before a head; lines may end with a line feed only
 after_empty_lines : window_in (codes "\r\n\nGET / HTTP/1.0\n\n") ≡ Head 3 16
 after_empty_lines = refl
 
--- the empty line at the end is not whole
+-- the empty line at the end is incomplete
 not_yet : window_in (codes "GET / HTTP/1.1\r\n\r") ≡ Wait
 not_yet = refl
 

@@ -44,7 +44,7 @@ with_own : (s : SystemState) → with_slots (machine_of s).slots s.kernel ≡ ma
 unfolding with_slots read_of state_view
 with_own s = refl
 
--- with none in its slots, and with those that it has
+-- the state without its slots is the machine with empty slots
 bare : (s : SystemState) → with_slots [] s.kernel ≡ over [] (machine_of s)
 unfolding with_slots
 bare s = ap (λ (m : State). over [] m) (with_own s)

@@ -25,7 +25,7 @@ later : (acc : List ℕ) (a e : ℕ) → a < e → list_any (λ x. x == e) acc �
 later acc a e lt none = let h = list_any-append (λ x. x == e) acc (a ∷ []) in
     grind (arith, nat_tests, common_steps, h, lt, none)
 
--- rising names are each new
+-- each of ascending names is new
 names_rise : (n : ℕ) (acc : List ℕ) (a : ℕ) → ((e : ℕ) → a ≤ e → list_any (λ x. x == e) acc ≡ false)
     → fold (λ found d. with_name found d) acc (range_with_len a n) ≡ acc ++ range_with_len a n
 names_rise zero acc a new = sym (append-nil acc)
@@ -40,7 +40,7 @@ names_rise (suc n) acc a new =
 distinct-range : (a n : ℕ) → distinct (range_with_len a n) ≡ range_with_len a n
 distinct-range a n = names_rise n [] a (λ e le. refl)
 
--- ---- where bytes are placed
+-- ---- default pools
 
 pub numbered-there : {A : Type 0} (xs ys : List A) (x z : A) → numbered_or (xs ++ x ∷ ys) (1 + length xs) z ≡ x
 numbered-there xs ys x z = grind (arith, nat_tests, common_steps)

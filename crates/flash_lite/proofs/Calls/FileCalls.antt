@@ -51,7 +51,7 @@ none-before {A = A} p z l none = by (p z) refl
     by true is = let here : position p (z ∷ l) ≡ Some 0 = position-here p z l is in absurd (cc)
     by false is = is
 
--- the first that passes comes after those that do not
+-- the first element that passes is after those that fail
 pub position-fresh : {A : Type 0} (p : A → Bool) (xs ys : List A) (x : A) → position p xs ≡ None → p x ≡ true
     → position p (xs ++ x ∷ ys) ≡ Some (length xs)
 position-fresh p [] ys x none here = position-here p x ys here
@@ -81,7 +81,7 @@ pub slice_get-first : {A : Type 0} (x y : A) (xs : List A) → slice_get (x ∷ 
 slice_get-first x y xs is = get_or_from_slice_get (x ∷ xs) 0 y y is
 
 module _ (Of : List (List ℕ) → Type 0) where
-  -- the file in a slot is short, by some of these bytes
+  -- for some possible contents of the slots, the file's slot is within the limit
   pub record IsShort (file : ℕ) : Type 0 where
     pub slots : List (List ℕ)
     pub theirs : Of slots

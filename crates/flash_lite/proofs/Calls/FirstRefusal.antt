@@ -7,13 +7,13 @@ use Rattle.iol_core.specs.declared.events.Reply.TheVariants as reply
 use Rattle.iol_core.specs.declared.refusals.Refusal.{Refusal}
 use Rattle.flash_lite.specs.Setup.{first_refusal}
 
--- it is that of the rest, where the first replies do not refuse
+-- it is that of the rest, if the first replies are no refusals
 pub refusal-append : (rs qs : List Reply) → first_refusal rs ≡ None → first_refusal (rs ++ qs) ≡ first_refusal qs
 refusal-append [] qs none = refl
 refusal-append (reply.Refused x ∷ rs) qs none = absurd (cc)
 refusal-append (r ∷ rs) qs none = refusal-append rs qs none
 
--- the one in this place is the first
+-- the reply at this index is the first refusal
 pub refused_at : (rs : List Reply) (i : ℕ) (x : Refusal) (d : Reply) → i < length rs → first_refusal (take i rs) ≡ None
     → get_or rs i d ≡ reply.Refused x → first_refusal rs ≡ Some x
 refused_at rs i x d within none is =
@@ -21,7 +21,7 @@ refused_at rs i x d within none is =
     ∙ (refusal-append (take i rs) (drop i rs) none
     ∙ (ap first_refusal (drop-cons rs i d within) ∙ ap (λ (r : Reply). first_refusal (r ∷ drop (suc i) rs)) is))
 
--- one more that does not refuse
+-- one more reply that is no refusal
 pub none_more : (rs : List Reply) (i : ℕ) (d : Reply) → i < length rs → first_refusal (take i rs) ≡ None
     → first_refusal (get_or rs i d ∷ []) ≡ None → first_refusal (take (i + 1) rs) ≡ None
 none_more rs i d within none one = ap first_refusal (take_more rs i d within)

@@ -29,7 +29,7 @@ writes a n = map (λ p. Some (on.WriteEnd p)) (range_with_len a n)
 lowest-taken : {A : Type 0} (x : A) (l : List (Option A)) → lowest (Some x ∷ l) ≡ lowest l + 1
 lowest-taken x l = grind (arith, nat_tests, common_steps)
 
--- where all are taken the lowest free place is past them
+-- if all indices are used, the lowest free one is after them
 lowest-writes : (n a : ℕ) → lowest (writes a n) ≡ n
 lowest-writes zero a = refl
 lowest-writes (suc n) a = let r = lowest-writes n (a + 1) in lowest-taken (on.WriteEnd a) (writes (a + 1) n)
@@ -50,12 +50,12 @@ placed-first o l x = let there : nat_lt 0 (length (o ∷ l)) ≡ true = grind (a
 
 -- ---- a pipe
 
--- the server's descriptors once so many pipes are made, and their read ends given
+-- the server's descriptors after that many pipes are made and their read ends are given to workers
 abbrev pub fds_at : ℕ → List (Option Descriptor)
 fds_at zero = []
 fds_at (suc k) = None ∷ writes 0 (suc k)
 
--- with both ends of one more
+-- with both ends of one more pipe
 abbrev with_ends : List (Option Descriptor) → (p : ℕ) → List (Option Descriptor)
 with_ends fds p = placed (with_read_end fds p) (lowest (with_read_end fds p)) (on.WriteEnd p)
 
@@ -122,7 +122,7 @@ module _ (Of : List (List ℕ) → Type 0) where
       Passes Of (at s (placing_in_work (Some (on.ReadEnd k) ∷ writes 0 (k + 1))) others l) es t) (pipe_behind k)
       ends
 
-  -- the read end goes to the next of the domains
+  -- the read end is given to the next domain
   given : (k : ℕ) (s t : State) (rest : List (Domain Text)) (pipes : List (Option Pipe))
       (ends : List (Option Descriptor)) (es : List Event)
       → Passes Of (at s (placing_in_work (Some (on.ReadEnd k) ∷ ends)) (workers_for k ++ guest ∷ rest) pipes)
@@ -163,7 +163,7 @@ module _ (Of : List (List ℕ) → Type 0) where
       (λ (ds : List (Domain Text)).
       Passes Of (over s.slots (with_fds (record start { domains = ds }) 1 (None ∷ ends))) es t) set open_there
 
-  -- one worker more has a pipe
+  -- one more worker has a pipe
   pub pipe_made : (k : ℕ) (s t : State) (rest : List (Domain Text)) (es : List Event)
       → Passes Of (at s (placing_in_work (fds_at k)) (workers_for k ++ guest ∷ rest) (pipes_for k)) (pipe_given k ++ es)
       t → Passes Of (at s (placing_in_work (fds_at (k + 1))) (workers_for (k + 1) ++ rest) (pipes_for (k + 1))) es t

@@ -25,7 +25,7 @@ map-replicate : {A B : Type 0} (f : A → B) (n : ℕ) (x : A) → map f (replic
 map-replicate f zero x = refl
 map-replicate {B = B} f (suc n) x = ap (λ (l : List B). f x ∷ l) (map-replicate f n x)
 
--- the machine when its domains are made; when the pools are, too; when all place their bytes in `work`; and when the
+-- the machine after its domains are made, after the pools are made, after all default pools are set, and after the
 -- files are named
 abbrev peopled : (slots : List (List ℕ)) → (n : ℕ) → State
 peopled slots n = record (new_state slots) { domains = new_domain ∷ replicate n new_domain }
@@ -80,7 +80,7 @@ module _ (Of : List (List ℕ) → Type 0) where
           ap (λ (k : ℕ). at (holding s slots) (placing_in_work (fds_at k)) (workers_for k ++ replicate s.guests guest)
           (pipes_for k)) e
 
-  -- where they lead
+  -- the state after the calls
   pub record Led (s : Site) (slots : List (List ℕ)) (t : State) : Type 0 where
     pub state : t ≡ state_of s slots
     pub short : (i : ℕ) → i < length s.files.items → IsShort Of (i + 1)
@@ -116,7 +116,7 @@ module _ (Of : List (List ℕ) → Type 0) where
         named = λ i x is. four.named i x is ∙ (let e : 0 + i ≡ i = omega arith in ap (λ (k : ℕ). Some k) e);
       }
 
--- ---- the calls leave the slots
+-- ---- the calls leave the slots unchanged
 
 plain_named : (guest : ℕ) (f : SiteFile) → IsPlain (file_named guest f)
 plain_named guest f =

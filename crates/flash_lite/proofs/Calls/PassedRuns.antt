@@ -21,8 +21,8 @@ use Rattle.flash_lite.specs.Setup.{first_refusal}
 abbrev pub over : (slots : List (List ℕ)) → State → State
 over slots s = record s { slots = slots }
 
--- Each event is tried, none of its refusals holds, and the next one follows. Each finds some bytes in the slots, and
--- leaves those that were there at first: so it is over a store whose bytes are not known.
+-- No event is refused, and the next event follows. Each event sees some possible contents of the slots, and leaves the
+-- slots of the state unchanged: so the run is over a store with unknown contents.
 module _ (Of : List (List ℕ) → Type 0) where
   abbrev pub Passes : State → List Event → State → Type 0
   Passes s [] t = t ≡ s
@@ -34,7 +34,7 @@ module _ (Of : List (List ℕ) → Type 0) where
     pub front : Passes s es mid
     pub back : Passes mid fs t
 
-  -- some events, and then others
+  -- a run of two lists of events is a run of the first, followed by one of the second
   pub parted : (es fs : List Event) (s t : State) → Passes s (es ++ fs) t → Parted s es fs t
   parted [] fs s t all = record { mid = s; front = refl; back = all }
   parted (e ∷ es) fs s t all =
@@ -45,20 +45,20 @@ module _ (Of : List (List ℕ) → Type 0) where
   slots_stay [] s t all = ap (λ (m : State). m.slots) all
   slots_stay (e ∷ es) s t all = slots_stay es (over s.slots (meaning (over all.0 s) e).after) t all.3
 
--- ---- a run in which nothing is refused
+-- ---- a run without a refusal
 
 pub record Passed (m : Meaning Reply) (t : State) (rs : List Reply) : Type 0 where
   pub unrefused : first m.refusals ≡ None
   pub after : t ≡ m.after
   pub rest : first_refusal rs ≡ None
 
--- where no reply refuses, the first does not
+-- if no reply is a refusal, the first event has none
 pub first_passed : (m : Meaning Reply) (s t : State) (r : Reply) (rs : List Reply) → first_refusal (r ∷ rs) ≡ None
     → Step m s (outcome r) t → Passed m t rs
 first_passed m s t (reply.Refused x) rs none step = absurd (cc)
 first_passed m s t r rs none step = record { unrefused = step.0; after = step.2; rest = none }
 
--- an event of those that set a site up: it leaves the slots
+-- an event of those that set up a site: it leaves the slots unchanged
 abbrev pub IsPlain : Event → Type 0
 IsPlain (event.Call by call.DomainNew) = Unit {0}
 IsPlain (event.Call by (call.PoolCreate chunks list)) = Unit {0}

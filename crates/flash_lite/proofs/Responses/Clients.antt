@@ -44,7 +44,7 @@ use Rattle.flash_lite.specs.declared.client.scripts.Found.TheVariants as reports
 abbrev at : List ℕ → Answer → Phase → Conn
 at buffered q d = record { buffered = buffered; request = q; phase = d }
 
--- for it no script runs
+-- a client without a running script
 abbrev pub plain : Conn → List ℕ → Client
 plain c script = record { conn = c; run = None; script = script }
 
@@ -86,7 +86,7 @@ call-plain : (scripts : Bool) (fd : ℕ) (y : Client) → y.run ≡ None
     → conn_call (is_for_script scripts y.conn.request) fd y.conn ≡ next_call scripts fd y
 call-plain scripts fd y none = call-plain-of scripts fd y.conn y.run y.script none
 
--- ---- where no script runs
+-- ---- without a running script
 
 leaves-map : (script : List ℕ) (o : Option Conn) (r : Reply)
     → leaves_off (option_map (λ (c : Conn). plain c script) o) r ≡ policy.leaves_off o r
@@ -139,7 +139,7 @@ leaves_alone x y k r received d none l is = record {
   unchanged = is ∙ ap (λ (c : Conn). record { conn = c; run = x.run; script = x.script }) l.unchanged;
 }
 
--- ---- a reply after which it may go on
+-- ---- a reply after which it may continue
 
 leaves-now : (o : Option Client) (r : Reply) → is_later r ≡ false → leaves_off o r ≡ leaves_off o reply.Done
 leaves-now None r now = refl
@@ -158,7 +158,7 @@ course_reply scripts fd t x r (Leaves l) y now c =
       unchanged = c.unchanged;
     }
 
--- it goes on with this, and no script runs for it
+-- it continues with this call, and no script runs for it
 pub goes_as : (scripts : Bool) (fd : ℕ) (t y : Client) (r : Reply) (k : Call) → Proceeds t r t → t.run ≡ None → y ≡ t
     → k ≡ conn_call (is_for_script scripts y.conn.request) fd y.conn → Proceeds t r y × (k ≡ next_call scripts fd y)
 goes_as scripts fd t y r k goes none is asks = (
@@ -241,7 +241,7 @@ file-found true buffered q (DroppingWhole a Script) run script r received false 
     ap (λ b. record { conn = at buffered q (DroppingWhole a Script); run = after_drop_whole b r; script = script }) e
 file-found true buffered q d run script r received h e is = refl
 
--- one that begins waits for a worker
+-- a client whose run begins waits for a worker
 begun-passes : (x : Client) (r : Reply) → leaves_off (left_over (left_with x Begins)) r ≡ true
 begun-passes x r = by (is_later r)
   where
@@ -249,13 +249,13 @@ begun-passes x r = by (is_later r)
     by true = refl
     by false = refl
 
--- a text that is too long is no script, and not kept
+-- a text that is too long is no script
 pub long_runs : (text : List ℕ) → MAX_SCRIPT_BYTES < length text → can_run text ≡ false
 long_runs text long =
     let e : nat_le (length text) MAX_SCRIPT_BYTES ≡ false = grind (arith, nat_tests, long) in
     ap (λ b. is_some (if b && is_utf8 text then lines_in (slice_split is_line_feed text) else None)) e
 
--- no text is a script without lines
+-- the empty text is a script without lines
 pub empty_runs : (text : List ℕ) → length text ≡ 0 → can_run text ≡ true
 empty_runs [] none = ap (λ b. is_some (if b then lines_in [] else None)) (is_utf8-from_IsUtf8 [] IsUtf8-nil)
 empty_runs (b ∷ text) none = absurd (omega (arith, none))
@@ -435,10 +435,10 @@ ready-plain c (Some y) script ready = refl
 pub ready_alone : (x : Client) → conn.Readies x.conn x.conn → Readies x x
 ready_alone x ready = ready-plain x.conn x.run x.script ready
 
--- a file of which a client was told
+-- rules for a client whose file was read
 
 pub ruleset file_rules = (file_receives, file_runs, file_alone, receives_wants, alone_wants)
 
--- the end of a client whose connection rests
+-- rules for a client whose run is over
 
 pub ruleset rest_rules = (rests_asks, rests_leaves, rests_wants)

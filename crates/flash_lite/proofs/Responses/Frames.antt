@@ -14,7 +14,7 @@ none m e = grind (arith, nat_tests)
 some : (m : ℕ) → (m == 0) ≡ false → 0 < m
 some m e = grind (arith, nat_tests)
 
--- one digit more for each division by 16
+-- one more digit for each division by 16
 length_onto : (fuel k n : ℕ) (acc : List ℕ) → k < fuel → 16 ^ k ≤ n → n < 16 * 16 ^ k
     → length (digits_onto fuel 16 false n acc) ≡ k + 1 + length acc
 length_onto zero k n acc within low high = absurd (omega arith)

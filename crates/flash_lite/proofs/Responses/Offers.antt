@@ -13,7 +13,7 @@ use Rattle.flash_laws.specs.declared.phase.PendingCall.TheVariants.{At}
 use Rattle.flash_laws.proofs.Site.InPlaces.{at-same}
 use Rattle.flash_lite.specs.Offers.{OffersNext}
 
--- whatever is picked
+-- for every pick
 pub offers_next : ClientsAreOfferedTheResponse
     → (workers : ℕ) (clients : List (Option Client)) (t : Server) (made : Turn) → t.workers ≡ workers
     → Picks workers clients t.pending_call made t.clients → OffersNext t made

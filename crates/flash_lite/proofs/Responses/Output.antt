@@ -10,7 +10,7 @@ use Rattle.flash_laws.specs.declared.script_run.Step.TheVariants.{DroppingEnd}
 use Rattle.flash_laws.specs.declared.script_run.Running.TheVariants.{InProgress}
 use Rattle.flash_lite.specs.Runs.{reading}
 
--- ---- what is read
+-- ---- the bytes read
 
 pub receives_read : (w : Wanted) (run : Run) (held : Following) (frame : Option ℕ) (n : ℕ) (received : List ℕ)
     → after_output w run held frame (reply.Agg n) received

@@ -33,7 +33,7 @@ use Rattle.flash_lite.specs.declared.client.Course.{Course}
 use Rattle.flash_lite.specs.declared.client.Left.TheVariants.{Continues, Stays}
 use Rattle.flash_lite.proofs.Responses.Clients.{course_reply}
 
--- ---- where its call is to be made again later, a run is as it was
+-- ---- if its call is to be retried later, a run is unchanged
 
 -- after each of these replies
 abbrev Later : {A : Type 0} → (Reply → A) → A → Type 0
@@ -94,13 +94,13 @@ after-later worker (serve w) y r received going later =
     by-later (λ z. running.after_reply worker w y z received) y r (run-later worker w y received going) later
 after-later worker (refuse status head_only close) y r received going later = refl
 
--- ---- it goes on, or is over
+-- ---- it continues, or is over
 
 text-same : (b : Bool) (text : List ℕ) → text_on b b text ≡ text
 text-same true text = refl
 text-same false text = refl
 
--- one that stands still is as it was
+-- a client whose run is unchanged is unchanged
 stands : (x : Client) (y : Running) → x.run ≡ Some y → proceeds false false x y y ≡ x
 stands x y is =
     ap (λ (l : List ℕ). record { conn = x.conn; run = Some y; script = l }) (text-same (keeps_text y) x.script)
@@ -138,7 +138,7 @@ kept-runs worker (InProgress run s) has = refl
 kept-runs worker (Finishing d) has = refl
 kept-runs worker Finished has = refl
 
--- one that waits after a reply waited before, and is as it was
+-- a run that waits for a worker after a reply is unchanged
 still-waits : (worker : ℕ) (q : Answer) (y : Running) (r : Reply) (received : List ℕ)
     → waits (run_after worker q y r received) ≡ true → run_after worker q y r received ≡ y
 still-waits worker (serve w) AwaitingWorker r received is = by r is
@@ -165,7 +165,7 @@ leaves-run c (Some z) script y r is =
     ∙ ap (λ b. is_later r || (waits y || (b || false))) (answered-is c z script
     ∙ ap (λ (v : Running). has_answered_by c v) same)
 
--- one whose script runs is not forgotten
+-- a client whose script runs is not removed
 runs-on : (c : conn.Conn) (run : Option Running) (script : List ℕ) (y : Running) → run ≡ Some y
     → left_over (record { conn = c; run = run; script = script })
     ≡ Some (record { conn = c; run = run; script = script })
@@ -232,9 +232,9 @@ run_waits worker x y z r received is going z_is waiting =
     stays-as worker x y r received is going still
     (ap (λ b. is_later r || (b || (has_answered_by x.conn y || false))) waited ∙ or-after (is_later r))
 
--- ---- all of its response is taken, and more of the stream is kept
+-- ---- all of its response is taken, and more requests are buffered
 
--- its job was made long before
+-- a run that is finishing keeps no script text
 no-text : (worker : ℕ) (q : Answer) (y : Running) (r : Reply) (received : List ℕ) (d : Phase)
     → run_after worker q y r received ≡ Finishing d → keeps_text y ≡ false
 no-text worker (serve w) AwaitingWorker r received d is = by r is
@@ -249,7 +249,7 @@ no-text worker (serve w) (Finishing e) r received d is = refl
 no-text worker (serve w) Finished r received d is = refl
 no-text worker (refuse status head_only close) y r received d is = ap (λ (v : Running). keeps_text v) is
 
--- what is sent is left of a response
+-- the bytes being sent are the rest of a response
 answered-left : (c : conn.Conn) (d : Phase) → has_answered_by c (Finishing d) ≡ true → is_left d ≡ true
 answered-left c (DroppingSent a taken more) has = refl
 answered-left c d has = absurd (cc (has))

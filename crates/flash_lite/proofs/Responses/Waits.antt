@@ -10,7 +10,7 @@ pub busy_awaits : (buffered : List ℕ) (q : Answer) (d : Phase) → d ≢ Recei
 busy_awaits buffered q Receiving busy = absurd (busy refl)
 busy_awaits buffered q d busy = tt
 
--- a connection that waits for what it reads is ready as it is
+-- a connection that waits is ready unchanged
 pub awaits_ready : (buffered : List ℕ) (q : Answer) (d : Phase)
     → IsAwaiting (record { buffered = buffered; request = q; phase = d })
     → Readies (record { buffered = buffered; request = q; phase = d })

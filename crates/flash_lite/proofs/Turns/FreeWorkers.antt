@@ -33,7 +33,7 @@ use Rattle.flash_lite.specs.declared.site.TheConstants.{MAX_WORKERS}
 abbrev of : Conn → Option Running → List ℕ → Client
 of c run script = record { conn = c; run = run; script = script }
 
--- ---- what holds of some place, or of none
+-- ---- tests of some element, or of none
 
 either : {P : Type 0} (b : Bool) → (b ≡ true → P) → (b ≡ false → P) → P
 either true so not_so = so refl
@@ -78,7 +78,7 @@ free-same : (xs ys : List (Option Client)) (k : ℕ) → ((i : ℕ) → runs_at 
     → is_free xs k ≡ is_free ys k
 free-same xs ys k same = ap (λ b. not b) (any-same (λ o. runs_at k o) (λ o. runs_at k o) xs ys refl refl same)
 
--- where one client changes, and no worker runs another's script with its own
+-- if one client changes, and no worker runs the scripts of two clients
 module _ (workers : ℕ) (clients : List (Option Client)) (own : EachHasItsOwn workers clients) (fd : ℕ)
     (o : Option Client) (k : ℕ) where
   taken-now : runs_at k o ≡ true → is_free (with_at clients fd o) k ≡ false
@@ -130,7 +130,7 @@ module _ (workers : ℕ) (clients : List (Option Client)) (own : EachHasItsOwn w
       (λ was. free-still idle was ∙ sym (ap (λ b. not b && (runs_at k (in_place clients fd) || is_free clients k)) idle
       ∙ ap (λ b. b || is_free clients k) was)))
 
--- ---- the list that tells it
+-- ---- the list of free workers
 
 runs-worker : (c : Conn) (run : Option Running) (script : List ℕ) (k : ℕ)
     → is_run_by (of c run script) k ≡ is_worker (worker_of (of c run script)) k
@@ -144,7 +144,7 @@ runs-in : (o : Option Client) (k : ℕ) → runs_at k o ≡ is_worker (worker_in
 runs-in None k = refl
 runs-in (Some x) k = runs-worker x.conn x.run x.script k
 
--- it goes on telling, once one client has another worker, or none
+-- the list stays correct after one client gets another worker, or none
 pub reports_turned : (workers : ℕ) (clients : List (Option Client)) (free after : List Bool) (fd : ℕ)
     (o : Option Client) (now : Option ℕ) → EachHasItsOwn workers clients
     → ReportsFree free clients → TurnsFree free (worker_at clients fd) now after
@@ -159,7 +159,7 @@ reports_turned workers clients free after fd o now own reports turned runs = rec
       ∙ sym (free-with workers clients own fd o k))));
 }
 
--- what a client has, and has once it is left
+-- a client's script is run by worker k exactly if k is the client's worker
 pub runs-some : (x : Client) (k : ℕ) → runs_at k (Some x) ≡ is_worker (worker_of x) k
 runs-some x k = runs-worker x.conn x.run x.script k
 
@@ -187,7 +187,7 @@ pub left-runs : (l : Left) (t x : Client) (k : ℕ) → t ≡ left_with x l
     → runs_at k (left_over t) ≡ is_worker (worker_left l (worker_of x)) k
 left-runs l t x k is = over-runs t.conn t.run t.script k ∙ (ap (λ (z : Client). is_run_by z k) is ∙ with-left l x k)
 
--- ---- the first that is free
+-- ---- the first free worker
 
 pub first_is : (workers : ℕ) (free : List Bool) (clients : List (Option Client)) → ReportsFree free clients
     → workers ≤ MAX_WORKERS
@@ -221,7 +221,7 @@ pub has_is : (workers : ℕ) (free : List Bool) (clients : List (Option Client))
     → has_in workers free ≡ has_free workers clients
 has_is workers free clients reports few = ap (λ k. nat_lt k workers) (first_is workers free clients reports few)
 
--- ---- a worker is looked at only where one is free
+-- ---- the given worker matters only if the client waits for one, and then one is free
 
 after_reply-same : (scripts : Bool) (a b : ℕ) (c : Conn) (run : Option Running) (script : List ℕ) (r : Reply)
     (received : List ℕ) → awaits (of c run script) ≡ false
@@ -265,7 +265,7 @@ after_reply_by_worker scripts workers a clients fd x r received goes there few i
     (λ none. after_reply-same scripts a (first_free workers clients) x.conn x.run x.script r received
     (not-waits (awaits x) (ap (λ b. b || not (awaits x)) (sym none) ∙ goes x there)))
 
--- ---- whether one that goes on has its turn
+-- ---- a client that continues may take its turn
 
 unready : (c : Conn) (run : Option Running) (script : List ℕ) (y : Client) → Readies (of c run script) y → y.run ≡ run
 unready c None script y ready = ap (λ (z : Client). z.run) ready.2

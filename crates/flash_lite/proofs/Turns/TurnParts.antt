@@ -37,7 +37,7 @@ abbrev pub table : List (Option Client) → PendingCall → (workers : ℕ) → 
 table clients pending_call workers free =
     record { clients = clients; pending_call = pending_call; workers = workers; free = free }
 
--- ---- the next is picked from the clients that are filed
+-- ---- the next client is picked after the reply is processed
 
 picked : (s t : Table) (r : Reply) (received : List ℕ) (from most : ℕ) (made : Turn) (l : List (Option Client))
     → filed_by s r received ≡ l
@@ -55,7 +55,7 @@ picked s t r received from most made l is next same opens picks left hired repor
   reports = reports;
 }
 
--- the clients stay as they are
+-- the clients are unchanged
 stays : (s t : Table) (r : Reply) (received : List ℕ) (from : ℕ) (made : Turn) → IsBetweenTurns s
     → filed_by s r received ≡ s.clients
     → next_pending_call s.workers s.clients s.pending_call r ≡ pending_call_from s.workers s.clients from
@@ -96,7 +96,7 @@ none_turns s t fd r received now made between flies none is picks same =
     MAX_CONNS t.pending_call made) is picks)
     (same ∙ ap (λ (l : List (Option Client)). table l t.pending_call s.workers s.free) is)
 
--- ---- one is accepted
+-- ---- a connection is accepted
 
 accept_step-picks : (workers : ℕ) (l : List (Option Client)) (pending_call : PendingCall) (made : Turn)
     → AtAcceptStep pending_call made → Picks workers l pending_call made l
@@ -148,7 +148,7 @@ over_turns s t r made between flies next stays same yields =
       reports = between.reports;
     })
 
--- of what came nothing is received then
+-- in an accept step no received bytes matter
 pub unheard : (s t : Table) (r : Reply) (received : List ℕ) (made : Turn) → s.pending_call ≡ Accepting
     → Turns s r [] made t → Turns s r received made t
 unheard s t r received made flies turns =
@@ -162,9 +162,9 @@ unheard s t r received made flies turns =
       reports = turns.reports;
     }
 
--- ---- a client goes on
+-- ---- a client continues
 
--- one that is left to others is as it was
+-- a client that is left is unchanged
 pub left_same : (scripts : Bool) (a : ℕ) (clients now : List (Option Client)) (fd : ℕ) (r : Reply) (received : List ℕ)
     (l : Left)
     → CourseAt scripts a clients fd r received (Leaves l) now → now ≡ clients
@@ -181,7 +181,7 @@ module _ (s : Table) (between : IsBetweenTurns s) (fd : ℕ) (flies : s.pending_
   goes-at : PendingCallGoes s.workers s.clients (At fd)
   goes-at = subst (λ (w : PendingCall). PendingCallGoes s.workers s.clients w) flies between.shared.goes
 
-  -- with the worker that the words name
+  -- with the worker that the specification gives
   pub by_words : (a : ℕ) (x : Client) → a ≡ min (first_in s.workers s.free) 7 → in_place s.clients fd ≡ Some x
       → after_reply (runs_scripts s.workers) a x r received ≡ after_reply_by s.workers s.clients x r received
   by_words a x is there =
@@ -196,7 +196,7 @@ module _ (s : Table) (between : IsBetweenTurns s) (fd : ℕ) (flies : s.pending_
   next-is l from is = ap (λ (w : PendingCall). next_pending_call s.workers l w r) flies
       ∙ ap (λ p. pending_call_from s.workers l p) is
 
-  -- one that goes on waits for no worker
+  -- a client that continues waits for no worker
   on-runs : (x : Client) (r : Reply) → leaves_off (Some x) r ≡ false → awaits x ≡ false
   on-runs x r on = by (is_later r) (awaits x) on
     where
@@ -266,9 +266,9 @@ module _ (s : Table) (between : IsBetweenTurns s) (fd : ℕ) (flies : s.pending_
         reports = reports;
       })
 
-  -- ---- or it is left to others
+  -- ---- a client is left
 
-  -- how it is left, by the words
+  -- a client that is left, and the clients afterwards, by the specification
   pub record LeftAt (l : Left) (now : List (Option Client)) : Type 0 where
     pub was : Client
     pub there : in_place s.clients fd ≡ Some was
@@ -360,10 +360,10 @@ module _ (s : Table) (between : IsBetweenTurns s) (fd : ℕ) (flies : s.pending_
       (subst (λ (n : List (Option Client)). ReportsFree t.free n) (sym clients)
       (subst (λ (f : List Bool). ReportsFree f (left_at s.clients fd l)) (sym freed) reports))
 
--- what a client in a place may do with its turn
+-- rules for the turn of a client at a place
 
 pub ruleset place_rules = (none_turns, asks_turns, leaves_turns, left_same, table_same)
 
--- what a turn is for which nothing was received
+-- rules for a turn without received bytes
 
 pub ruleset silent_rules = (nothing_turns, unheard)

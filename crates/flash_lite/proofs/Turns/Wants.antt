@@ -18,7 +18,7 @@ use Rattle.flash_lite.proofs.Turns.FreeWorkers.{has_is}
 use Rattle.flash_lite.proofs.Places.{SameFrom, filed_none, found_in, next-same, same_left}
 use Rattle.flash_lite.proofs.Turns.TurnParts.{by_words, freed_by, left-at, left-reports}
 
--- the first from a place on, where others are the same from there on
+-- the need for memory from an index on is the same in two lists that are equal from there
 wants-same : (free : Bool) (from : ℕ) (l clients : List (Option Client)) → SameFrom from l clients
     → WantsFrom free clients from → WantsFrom free l from
 wants-same free from l clients same wants = by (next_in free clients from) refl wants

@@ -11,8 +11,6 @@ use Rattle.flash_laws.specs.World.Consistency.{Actor, Serving, Working}
 use Rattle.flash_lite.specs.Setup.{AreActors, HasWorkers, IsWorkerAt, workers_used}
 use Rattle.flash_lite.specs.declared.site.Site.{Site}
 
--- ---- how many run scripts
-
 -- ---- one more
 
 module _ {X : Type 0} (P : ℕ → X → Type 0) where

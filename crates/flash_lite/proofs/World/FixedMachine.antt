@@ -23,7 +23,7 @@ use Rattle.flash_lite.specs.declared.site.Site.{Site}
 use Rattle.flash_lite.specs.declared.site.SiteFile.{SiteFile}
 use Rattle.flash_lite.proofs.Calls.FileCalls.{position-cons, slice_get-first, slice_get-later}
 
--- the name's place is that of the site's list
+-- the index of a name is its index in the site's list
 position-named : (name : List ℕ) (xs : List SiteFile)
     → position (λ f. bytes_eq f.name name) (map file_of xs) ≡ position (λ f. bytes_eq f.name.items name) xs
 position-named name [] = refl
@@ -32,7 +32,7 @@ position-named name (x ∷ xs) =
     ∙ (ap (λ (o : Option ℕ). if bytes_eq x.name.items name then Some 0 else option_map (λ i. i + 1) o)
     (position-named name xs) ∙ sym (position-cons (λ f. bytes_eq f.name.items name) x xs))
 
--- ---- who may read
+-- ---- readers
 
 named_first : (n : ℕ) → list_any (λ e. e == 1) (range_with_len 1 (1 + n)) ≡ true
 named_first n = let e : 1 + n ≡ suc n = omega arith in ap (λ (k : ℕ). list_any (λ d. d == 1) (range_with_len 1 k)) e
@@ -63,7 +63,7 @@ later_of : (a b : Bool) → b ≡ true → (a || b) ≡ true
 later_of true b is = refl
 later_of false b is = is
 
--- where a file is private there is a vault
+-- if a file is private, the site has a vault
 pub private_there : (xs : List SiteFile) (i : ℕ) (x : SiteFile) → slice_get xs i ≡ Some x → x.private ≡ true
     → list_any (λ f. f.private) xs ≡ true
 private_there [] i x is private = absurd (cc (is))
@@ -75,7 +75,7 @@ private_there (y ∷ ys) (suc i) x is private =
     let rest = private_there ys i x (sym (slice_get-later y ys i) ∙ is) private in
     later_of y.private (list_any (λ f. f.private) ys) rest
 
--- the file in a place of the site's list
+-- the file at an index of the site's list
 pub record FileAt (s : Site) (i : ℕ) : Type 0 where
   pub file : SiteFile
   pub there : slice_get s.files.items i ≡ Some file
@@ -117,7 +117,7 @@ module _ (s : Site) (slots : List (List ℕ)) where
   may_in d p b is =
       ap (λ (c : Bool). list_any (λ e. e == d) (numbered_or (pools_of c s.workers s.guests) p no_pool).domains) is
 
-  -- the server reads what is not private
+  -- the server may read exactly the files that are not private
   server_reads : (x : SiteFile) → (x.private ≡ true → is_private s ≡ true)
       → may_read (state_of s slots) 1 (file_of x).pool ≡ not x.private
   server_reads x vault = by x.private refl
@@ -126,7 +126,7 @@ module _ (s : Site) (slots : List (List ℕ)) where
       by true is = may_in 1 4 true (vault is) ∙ vault_alone s.workers s.guests
       by false is = site_read s slots
 
-  -- and somebody does
+  -- some domain may read each file
   somebody_reads : (x : SiteFile) → (x.private ≡ true → is_private s ≡ true)
       → (d : ℕ) × (may_read (state_of s slots) d (file_of x).pool ≡ true)
   somebody_reads x vault = by x.private refl
@@ -164,7 +164,7 @@ module _ (s : Site) (slots : List (List ℕ)) where
       by None is = refl
       by (Some i) is = let f = file_at s name i is in found_there i f.file f.there f.within
 
-  -- a file that has a name stands in a place of the list
+  -- a file with a name is at an index of the list
   pub record CalledAt (name : List ℕ) (f : ℕ) : Type 0 where
     pub place : ℕ
     pub number : f ≡ place + 1

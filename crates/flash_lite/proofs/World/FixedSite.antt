@@ -31,7 +31,7 @@ use Rattle.flash_lite.proofs.World.FixedMachine.{may_in, private_there}
 
 -- ---- numbers
 
--- a list of numbers has each of them
+-- a range has each of its numbers
 listed : (a n d : ℕ) → a ≤ d → d < a + n → list_any (λ e. e == d) (range_with_len a n) ≡ true
 listed a zero d le lt = absurd (omega (arith, le, lt))
 listed a (suc n) d le lt =
@@ -42,7 +42,7 @@ listed a (suc n) d le lt =
     by true is later = refl
     by false is later = later is
 
--- one of a list has a place in it
+-- a file number is that of an index of the list
 record Within {A : Type 0} (xs : List A) (f : ℕ) : Type 0 where
   pub place : ℕ
   pub number : f ≡ place + 1
@@ -57,7 +57,7 @@ numbered xs f is =
 same : (a b : ℕ) → (a == b) ≡ true → a ≡ b
 same a b is = grind (arith, nat_tests, is)
 
--- ---- how many run scripts
+-- ---- the number of workers that run scripts
 
 pub used_within : (s : Site) → workers_used s ≤ s.workers
 used_within s = by (has_script s)
@@ -87,7 +87,7 @@ vault_closed : (w g d : ℕ) → d < 2 + w → list_any (λ e. e == d) (numbered
 vault_closed w g d lt = let e : (2 + w == d) ≡ false = grind (arith, nat_tests, lt) in ap (λ (b : Bool). b || false) e
 
 module _ (s : Site) (slots : List (List ℕ)) where
-  -- `site` and `work` are read by all
+  -- all processes may read `site` and `work`
   site_read : (d : ℕ) → 1 ≤ d → d < 2 + s.workers → may_read (state_of s slots) d 1 ≡ true
   unfolding pool
   site_read d le lt = listed 1 (1 + s.workers + s.guests) d le (omega (arith, lt))
@@ -96,7 +96,7 @@ module _ (s : Site) (slots : List (List ℕ)) where
   unfolding pool
   work_read d le lt = listed 1 (1 + s.workers + s.guests) d le (omega (arith, lt))
 
-  -- so the server and each worker read what is not private
+  -- so the server and each worker may read exactly the files that are not private
   reads : (d : ℕ) → 1 ≤ d → d < 2 + s.workers → (x : SiteFile) → (x.private ≡ true → is_private s ≡ true)
       → may_read (state_of s slots) d (file_of x).pool ≡ not x.private
   reads d le lt x vault = by x.private refl
@@ -119,7 +119,7 @@ module _ (s : Site) (slots : List (List ℕ)) where
 
   -- ---- files
 
-  -- a file that has a name is one of the site's
+  -- a file with a name is one of the site's files
   record IsOfSite (f : ℕ) : Type 0 where
     pub one : SiteFile
     pub same : file (state_of s slots) f ≡ file_of one
@@ -157,7 +157,7 @@ module _ (s : Site) (slots : List (List ℕ)) where
         subst (λ (x : File). is_pool (state_of s slots) x.pool ≡ true) (sym of.same) (there of.one of.vault);
   }
 
-  -- what a worker may read of them lies in the pools of what is shown
+  -- the files that a worker may read are in the pools that are shown
   holds : (d : ℕ) → 1 ≤ d → d < 2 + s.workers → HoldFiles is_shown (state_of s slots) d
   holds d le lt = record { files = λ name f called may. held f (of_site name f called) may; pauses = refl }
     where
@@ -172,7 +172,7 @@ module _ (s : Site) (slots : List (List ℕ)) where
           ∙ (ap (λ (x : File). may_read (state_of s slots) d x.pool) (sym of.same) ∙ may) in
           ap (λ (x : File). is_shown x.pool) of.same ∙ shown of.one.private open_to
 
-  -- ---- what a script finds
+  -- ---- the outcomes of a script's files
 
   seen_there : (d : ℕ) → 1 ≤ d → d < 2 + s.workers → (i : ℕ) (x : SiteFile) → slice_get s.files.items i ≡ Some x
       → i < length s.files.items → outcome_of (state_of s slots) d (Some (i + 1)) ≡ seen_at s slots (Some i)
@@ -202,7 +202,7 @@ module _ (s : Site) (slots : List (List ℕ)) where
 
   -- ---- all
 
-  -- worker k of those that run scripts is among the first domains
+  -- the domain of worker k is one of the first
   among : (k : ℕ) → k < workers_used s → k + 2 < 2 + s.workers
   among k lt = (let all = used_within s in omega (arith, lt, all))
 

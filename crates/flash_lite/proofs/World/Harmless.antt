@@ -31,7 +31,7 @@ use Rattle.flash_laws.proofs.Conn.Responses.{some-inj}
 use Rattle.flash_laws.proofs.Site.Pasts.{past-turn, even-more}
 use Rattle.flash_lite.specs.Harmless.{IsHarmless, leaves_site}
 
--- ---- a call that leaves the site
+-- ---- a call that leaves the site unchanged
 
 unset : false ≡ true → ⊥
 unset is = absurd (cc)
@@ -46,7 +46,7 @@ none-admitted : (d : ℕ) (k : Call) (p : ℕ) → leaves_site k ≡ true → ad
 none-admitted d (call.PoolAdmit pool domain) p is = absurd (unset is)
 none-admitted d k p is = refl
 
--- ---- a domain behind those of the processes
+-- ---- a domain after those of the processes
 
 process_slot-there : {W : Type 0} (workers : List (ProcessSlot W)) (i : ℕ) (s : ProcessSlot (Actor W))
     → slice_get (map (λ w. as_actor w) workers) i ≡ Some s
@@ -122,7 +122,7 @@ module _ (site_contents : SiteContents) (worker_set : WorkerSet) where
               (keeps site_contents past ps x r w run.0 run.1 site_preserving parts.0 consistent) parts.1 harmless.1,
         )
 
--- ---- the turns in rounds bring nothing in
+-- ---- turns in rounds add no received bytes
 
 past-rounds : (ds : List ℕ) (i : ℕ) (xs : List Choice) (rs : List Reply) (ts : List Went) → length xs ≡ length rs
     → past_of (xs ++ rounds ds i (length ts)) (rs ++ map (λ t. t.1) ts) ≡ past_of xs rs
@@ -151,7 +151,7 @@ module _ (site_contents : SiteContents) (worker_set : WorkerSet) where
   Whole m p = (c : ℕ) → p.net c ≡ true → (conn_at m c).closed ≡ true → p.gone c ≡ false
       → IsAnswer site_contents (p.came c) (p.sent c ++ bytes_of (conn_at m c).outgoing)
 
-  -- what is right of a run that ends with turns is so of what was before them
+  -- if a run that ends with turns is right, so is the run before them
   pub right-before : (ds : List ℕ) (xs : List Choice) (rs : List Reply) (ts : List Went) (idle : Bool)
       (after : Stage State (Actor worker_set.Worker))
       → length xs ≡ length rs

@@ -13,7 +13,7 @@ use Rattle.flash_lite.proofs.Calls.FileCalls.{IsShort}
 use Rattle.flash_lite.proofs.Calls.Outcome.{Led, led, calls_plain}
 use Rattle.flash_lite.proofs.Calls.PassedRuns.{Passes, run_passes, slots_stay}
 
--- these bytes, and no others
+-- the slots have exactly these contents
 abbrev pub Just : List (List ℕ) → List (List ℕ) → Type 0
 Just slots x = x ≡ slots
 
@@ -30,7 +30,7 @@ led_by s slots old new fits set is =
     (subst (λ (m : State). Passes (Just slots) m (calls s) new) is
     (run_passes (calls s) set.replies slots old new same (calls_plain s) set.run set.passed))
 
--- each file is short, by the bytes that are in its slot
+-- each file is within the limit, by the contents of its slot
 pub shorts : (s : Site) (slots : List (List ℕ)) → ((i : ℕ) → i < length s.files.items → IsShort (Just slots) (i + 1))
     → (i : ℕ) → i < length s.files.items → length (content (state_of s slots) (i + 1)) ≤ MAX_FILE_BYTES
 unfolding content

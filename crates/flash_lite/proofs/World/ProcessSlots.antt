@@ -31,7 +31,7 @@ module _ {X : Type 0} where
   each_in P (y ∷ ys) x all (inl is) = subst P (sym is) all.0
   each_in P (y ∷ ys) x all (inr at) = each_in P ys x all.1 at
 
-  -- what is in one order is in the other
+  -- an element of a list is in each of its permutations
   kept_in : (xs ys : List X) (y : X) → IsPermutation xs ys → IsIn y ys → IsIn y xs
   kept_in xs ys y moved at =
       let P : X → Type 0 = λ x. IsIn x xs in
@@ -39,7 +39,7 @@ module _ {X : Type 0} where
       (recursion_from_All P ys
       (All-permutation P xs ys moved (All-from_recursion P xs (all_in xs xs (λ x in_it. in_it))))) at
 
--- ---- in one order, by rising domains
+-- ---- the order is unique: by ascending domains
 
 module _ {P : Type 0} where
   rest_rises : (s : ProcessSlot P) (ss : List (ProcessSlot P)) → IsStrictlyIncreasing (domains_of (s ∷ ss))

@@ -28,13 +28,13 @@ place_within (y ∷ l) (suc k) x is = (let rest = place_within l k x is in omega
 
 -- ---- process slots
 
--- a new worker of this number sits here
+-- this process slot has a new worker of this number
 pub record SitsNew (k : ℕ) (process_slot : ProcessSlot Worker) : Type 0 where
   pub worker : Worker
   pub new : IsNew worker
   pub here : process_slot ≡ process_slot_of (worker_domain k, worker)
 
--- these actors are workers, which have the numbers `at`, at these process slots
+-- these actors are workers with the numbers `at`, in these process slots
 record AreSitting (at : ℕ → ℕ) (actors : List (ℕ × Actor Worker)) : Type 0 where
   pub process_slots : List (ProcessSlot Worker)
   pub are : map process_slot_of actors ≡ map (λ w. as_actor w) process_slots
@@ -70,7 +70,7 @@ sitting at [] each =
     record { process_slots = []; are = refl; many = refl; each = λ k process_slot is. absurd (cc (is)) }
 sitting at (p ∷ ps) each = one_more at p ps (each 0 p refl) (sitting (λ k. at (suc k)) ps (λ k q is. each (suc k) q is))
 
--- ---- of a site
+-- ---- the workers of a site
 
 -- its workers: as many as are used, each new, in its domain
 pub record HasWorkerSet (s : Site) (process_slots : List (ProcessSlot (Actor Worker))) : Type 0 where

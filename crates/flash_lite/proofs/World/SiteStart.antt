@@ -69,7 +69,7 @@ starts_by config store s begun sys w ps new made leaves procs machine process_sl
   failure_free = failure_free;
 }
 
--- ---- none, since a call of the site was refused
+-- ---- no world starts, since a call of the setup was refused
 
 pub none_of_setup : (config : Config) (store : Disk) (s : Site) (x : Refusal) (begun after : SystemState)
     → IsNewSystem config store begun
@@ -79,7 +79,7 @@ none_of_setup config store s x begun after new why = elim why [
   | inr refused ↦ inr (inr (record { begun = begun; after = after; new = new; refused = refused }))
 ]
 
--- ---- what it does
+-- ---- its run
 
 chain_on : (old mid new : SystemState) (es fs : List Event) (rs ss : List Reply) → Chain old es rs mid
     → Chain mid fs ss new → Chain old (es ++ fs) (rs ++ ss) new

@@ -75,7 +75,8 @@ fn reach(clients: &mut Vec<Option<Client>>, place: u32) -> Result<(), AllocError
     Ok(())
 }
 
-// The turn of a client, if there is one, passes to others. One whose connection is over is removed.
+// The turn of a client, if there is one, passes to others. A client whose connection is over is
+// removed.
 fn leave(place: &mut Option<Client>, left: Left)
     requires { MayRest place.old left }
     ensures { place.new ≡ left_as place.old left }

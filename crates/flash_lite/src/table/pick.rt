@@ -57,8 +57,8 @@ pub(crate) fn ends(left: &Left) -> bool
     }
 }
 
-/// The maximum number of connections to be held before another is accepted: one that is over makes
-/// room for one more.
+/// The maximum number of connections to be held before another is accepted: a connection that is
+/// over makes room for one more.
 pub(crate) fn most_with(left: &Left) -> usize
     ensures { result ≡ most_with left.now }
 {

@@ -3,7 +3,7 @@ use Rattle.std.specs.List.{concat}
 use Rattle.flash_cgi.specs.Script.{is_line_feed}
 use Rattle.flash_cgi.proofs.feeds.line_feeds_in.Given as goal
 
--- what was counted, and what is left to count, is what there is
+-- the count so far plus that of the remaining bytes is the count of all bytes
 abbrev pub invariant-loop-part : goal.invariant-loop-part
 invariant-loop-part l = record {
   can : (goal.iterator-loop-part).can_next l.part-iterator;

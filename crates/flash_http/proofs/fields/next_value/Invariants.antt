@@ -3,7 +3,7 @@ use Rattle.httparse.specs.Spans.{IsHeaderWithin}
 use Rattle.flash_http.specs.Fields.{values_at}
 use Rattle.flash_http.proofs.fields.next_value.Given as goal
 
--- no field that was passed has the name
+-- no field that was skipped has the name
 abbrev pub invariant-loop-spans : goal.invariant-loop-spans
 invariant-loop-spans l = record {
   within : All (IsHeaderWithin (length l.head)) l.spans;

@@ -4,7 +4,7 @@ use Rattle.flash_http.specs.Window.{window_in}
 use Rattle.flash_http.specs.Scan.{window_from}
 use Rattle.flash_http.proofs.scan.window.Given as goal
 
--- what is found in the pieces that are left is what is found in all
+-- a search of the remaining pieces gives the window of all pieces
 abbrev pub invariant-loop-part : goal.invariant-loop-part
 invariant-loop-part l = record {
   can : (goal.iterator-loop-part).can_next l.part-iterator;

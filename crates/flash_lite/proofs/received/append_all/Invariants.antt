@@ -2,7 +2,7 @@ use Rattle.std.proofs.Common.{◌≡◌, ◌++◌, ◌≤◌, length, take}
 use Rattle.std.specs.List.{concat}
 use Rattle.flash_lite.proofs.received.append_all.Given as goal
 
--- what the list has, and then the parts that are left, is all of it; its front is what it had
+-- the list followed by the remaining parts is the old list followed by all parts; the old list is its front
 abbrev pub invariant-loop-part : goal.invariant-loop-part
 invariant-loop-part l = record {
   can : (goal.iterator-loop-part).can_next l.part-iterator;

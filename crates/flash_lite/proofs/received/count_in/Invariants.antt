@@ -3,7 +3,7 @@ use Rattle.std.specs.List.{concat}
 use Rattle.flash_laws.specs.Conn.{count_of}
 use Rattle.flash_lite.proofs.received.count_in.Given as goal
 
--- those that were counted and those in the parts that are left are all
+-- the count so far and the bytes of the remaining parts give the count of all
 abbrev pub invariant-loop-part : goal.invariant-loop-part
 invariant-loop-part l = record {
   can : (goal.iterator-loop-part).can_next l.part-iterator;

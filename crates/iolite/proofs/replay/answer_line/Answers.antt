@@ -5,7 +5,7 @@ use Rattle.iolite.proofs.replay.answer_line.Goals as goal
 pub unreachable-requires : goal.unreachable-requires
 unreachable-requires c = c.in_default.ensures.none refl c.requires.0 c.requires.1
 
--- it was carried out, and its text is the one that was not made
+-- the request was executed, and its answer's text is the one for which memory ran out
 pub returns-clause-lost : goal.returns-clause-lost
 returns-clause-lost c =
     let answer = c.in_ok-answer.answer in

@@ -21,7 +21,7 @@ use Rattle.iolite.proofs.replay.answer_lines.Goals as goal
 abbrev given : List (Bor (List ℕ)) → List (List ℕ)
 given xs = map (λ (x : Bor (List ℕ)). x.now) xs
 
--- the answers to those that came end here, once what is pending is written, or some of it
+-- the answers to the lines so far end here, after all or some of the pending output is written
 ends_written : (all came rest : List (List ℕ)) (start end : SystemState) (old mid new : Option (List ℕ))
     (pending left : List ℕ) → all ≡ came ++ rest → Answering came start end old mid pending
     → WritesTo mid new pending left → EndsWithin all start old new
@@ -46,7 +46,7 @@ returns-in-Err-clause-memory g c = λ wants.
 pub loop-line-init : goal.loop-line-init
 loop-line-init g c = Answering-none c.args.system.now (g.W.Write.contents c.args.output.now) _ c.in-Ok.ensures.items
 
--- the lines before this one, this one, and those behind it
+-- the lines before this one, this line, and those after it
 here : (g : Over) (c : In-Some g) → lines c.args.text.now ≡ given c.loop-line.yielded ++ c.in-Some.line.now
     ∷ drop (length c.loop-line.yielded + 1) (lines c.args.text.now)
 here g c =
@@ -60,7 +60,7 @@ here g c =
     c.in-Some.line c.in-Some.is c.next.ensures.steps in
     split_at_turn all (given c.loop-line.yielded) c.in-Some.line.now n so_far turn.0 turn.1
 
--- once none comes all came
+-- at the end of the iteration, all lines were given
 every : (g : Over) (c : In-None g) → given c.loop-line.yielded ≡ lines c.args.text.now
 every g c =
     let parts = YieldsList-from_str_split {s = c.split-line-items.result} 10 c.args.text.now (lit< tt)
@@ -74,7 +74,7 @@ answer_line-requires g c =
     asks_at (lines c.args.text.now) (given c.loop-line.yielded) _ c.in-Some.line.now
     (here g (goal.at.answer_line-requires g c).In-Some) asks c.requires
 
--- ---- A line found no memory
+-- ---- Memory ran out at a line
 
 pub returns-in_err-finish-clause-within : goal.returns-in_err-finish-clause-within
 returns-in_err-finish-clause-within g c =
@@ -113,7 +113,7 @@ returns-in-Err-answer_line-clause-memory g c = λ wants.
     (Answering-written came start c.loop-line.system old mid new pending [] c.loop-line.invariant writes)
     c.in-Err-answer_line.ensures.lost
 
--- ---- It was answered
+-- ---- The line was answered
 
 pub loop-line-preserved : goal.loop-line-preserved
 loop-line-preserved g c =
@@ -156,7 +156,7 @@ returns-in_err-gather-clause-within g c =
     (subst (λ (bytes : List ℕ). WritesTo mid new (pending ++ bytes) some.0) c.as_slice-in-loop-line.ensures.value
     some.1)
 
--- ---- All were
+-- ---- All lines were answered
 
 pub returns-clause-within : goal.returns-clause-within
 returns-clause-within g c =

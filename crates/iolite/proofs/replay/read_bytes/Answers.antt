@@ -2,7 +2,7 @@ use Rattle.std.proofs.Common.{arith}
 use Rattle.iolite.proofs.ScriptText.{IsWholeOrTooLong-take}
 use Rattle.iolite.proofs.replay.read_bytes.Goals as goal
 
--- the reader's bytes, as far as they were asked for
+-- the reader's bytes, up to the limit
 pub returns-in-Ok-clause-bytes : goal.returns-in-Ok-clause-bytes
 returns-in-Ok-clause-bytes g c =
     let found = rw (c.take.ensures.inner) at c.in-Ok.ensures.bytes in

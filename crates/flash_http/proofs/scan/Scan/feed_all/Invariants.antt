@@ -2,7 +2,7 @@ use Rattle.std.proofs.Common.{◌≡◌, ◌<◌, ◌+◌, ◌++◌, List, ℕ, 
 use Rattle.flash_http.specs.Scan.{window_from}
 use Rattle.flash_http.proofs.scan.Scan.feed_all.Given as goal
 
--- what is found in the bytes that are left is what is found in all
+-- a search of the remaining bytes gives the window of all bytes
 abbrev pub invariant-loop-rest : goal.invariant-loop-rest
 invariant-loop-rest l = record {
   room : l.self.skip + l.self.len < 8192;

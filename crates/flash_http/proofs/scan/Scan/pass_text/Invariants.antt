@@ -3,7 +3,7 @@ use Rattle.flash_http.specs.declared.scan.Line.TheVariants.{Text}
 use Rattle.flash_http.specs.Scan.{window_from}
 use Rattle.flash_http.proofs.scan.Scan.pass_text.Given as goal
 
--- what is found in the bytes that are left is what is found in all
+-- a search of the remaining bytes gives the window of all bytes
 abbrev pub invariant-loop-rest : goal.invariant-loop-rest
 invariant-loop-rest l = record {
   room : l.self.skip + l.self.len < 8192;

@@ -2,7 +2,7 @@ use Rattle.std.proofs.Common.{◌≡◌, ◌++◌, ◌≤◌, length}
 use Rattle.std.specs.List.{concat}
 use Rattle.flash_lite.proofs.client.scripts.gather_all.Given as goal
 
--- what is gathered, and then the parts that are left, is all of it
+-- the bytes gathered so far, followed by the remaining parts, are all of the bytes
 abbrev pub invariant-loop-part : goal.invariant-loop-part
 invariant-loop-part l = record {
   can : (goal.iterator-loop-part).can_next l.part-iterator;

@@ -2,7 +2,7 @@ use Rattle.std.proofs.Common.{◌≡◌, ◌≤◌, ◌+◌, ◌-◌, ◌++◌, 
 use Rattle.flash_laws.specs.Client.{Client}
 use Rattle.flash_lite.proofs.table.held.reach.Given as goal
 
--- so many places were added, and there is room for the others
+-- `counter` places were added, and there is room for the others
 abbrev pub invariant-loop : goal.invariant-loop
 invariant-loop l = record {
   items : l.clients.items ≡ l.initial.clients.items ++ replicate {A = Option Client} l.counter None;
