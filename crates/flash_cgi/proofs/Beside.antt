@@ -94,8 +94,7 @@ module _ (m n : State) (d : ℕ) (left : LeavesWorker m d n) where
   rest_stays x h = record {
     piece = piece_stays (length x.text) x h.piece;
     no_text = h.no_text;
-    no_places =
-        h.no_places;
+    no_places = h.no_places;
   }
 
   is_readable_stay : (a : ℕ) → IsReadable (readable_at m d) a → IsReadable (readable_at n d) a

@@ -43,8 +43,7 @@ begins : (m : State) (j p fd : ℕ) (process_slot : ProcessSlot Worker) (query s
     → IsExpected m j p process_slot (record {
       before = bytes_of (pipe_at m p).queue;
       query = query;
-      lines =
-          lines;
+      lines = lines;
       outcomes = outcomes_in m process_slot.by lines;
     })
     (bytes_of (pipe_at m p).queue ++ output query lines (outcomes_in m process_slot.by lines))
@@ -59,8 +58,7 @@ begins m j p fd process_slot query script lines free has writing = record {
         lines = lines;
         free = free;
         has = has;
-        is =
-            λ os. refl;
+        is = λ os. refl;
       });
   reads = tt;
   is = refl;

@@ -256,8 +256,7 @@ nothing_is x is =
       text = empty_is x.text all.0;
       places = empty_is x.places all.1;
       held = none_is x.held all.2;
-      next =
-          none_is x.next all.3;
+      next = none_is x.next all.3;
     }
 
 pub nothing_collected : (readable : ℕ → Option (List ℕ)) (x : Collected) → IsNothing x → collected readable x ≡ []

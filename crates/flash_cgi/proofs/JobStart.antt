@@ -54,8 +54,7 @@ awaits_still m n p process_slot next was is h free has unseen =
       lines = h.lines;
       free = free;
       has = has;
-      is =
-          unseen;
+      is = unseen;
     }
 
 -- the bytes of its job pipe parse as its job
@@ -95,8 +94,7 @@ nothing_left : (readable : ℕ → Option (List ℕ)) → IsRest readable nothin
 nothing_left readable = record {
   piece = record { files = refl; within = tt; next = tt };
   no_text = refl;
-  no_places =
-      refl;
+  no_places = refl;
 }
 
 pub job_is_taken : EachStepLeavesTheRest → JobsAreTaken

@@ -90,8 +90,7 @@ module _ (steps : EachStepLeavesTheRest) (own : CallsServeTheirDomain) (files : 
           (call.AggDrop a) r f step refl refl refl next.0 (
             record {
               piece = record { files = rest.piece.files; within = rest.piece.within; next = tt };
-              no_text =
-                  rest.no_text;
+              no_text = rest.no_text;
               no_places = rest.no_places;
             },
             (next.1, λ e. absurd (cc (e))),
@@ -213,8 +212,7 @@ module _ (steps : EachStepLeavesTheRest) (own : CallsServeTheirDomain) (files : 
           (record {
             files = gathers.piece.files;
             within = gathers.piece.within;
-            next =
-                ((f.needs.1.0, now), f.holds.1.0);
+            next = ((f.needs.1.0, now), f.holds.1.0);
           })
           (λ os. append_assoc (interleaved x.text x.places (bytes_of_one (readable_at n d) x.held))
           (bytes_at (readable_at n d) a) (rest_of job begun os)

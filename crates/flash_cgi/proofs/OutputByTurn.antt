@@ -89,8 +89,7 @@ module _ (feeds_on : FeedsOn) (taken : JobsAreTaken) (true_to : OutcomesAreTrue)
         (inr
         (record {
           not_over = goes;
-          feeds =
-              subst (λ (s : Step). Feeds n d p v.job s (λ os. unseen (resolves ++ os))) (sym is) f;
+          feeds = subst (λ (s : Step). Feeds n d p v.job s (λ os. unseen (resolves ++ os))) (sym is) f;
         }));
     truly = λ placed good reads.
         let t = truly placed good reads in (
@@ -123,8 +122,7 @@ module _ (feeds_on : FeedsOn) (taken : JobsAreTaken) (true_to : OutcomesAreTrue)
           why = t.why;
           answer = t.answer;
           resource_failure = t.resource_failure;
-          instead =
-              t.instead;
+          instead = t.instead;
           was = t.was;
           is = t.resolves;
         }),

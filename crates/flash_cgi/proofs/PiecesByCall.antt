@@ -81,12 +81,10 @@ module _ (steps : EachStepLeavesTheRest) (own : CallsServeTheirDomain) where
                 piece =
                     record {
                       files = piece.files;
-                      within =
-                          subst (λ (l : List Place). AreWithin (length x.text) l) (sym none) tt;
+                      within = subst (λ (l : List Place). AreWithin (length x.text) l) (sym none) tt;
                       next = piece.next;
                     };
-                no_text =
-                    no_text;
+                no_text = no_text;
                 no_places = none;
               },
               apart,
@@ -101,8 +99,7 @@ module _ (steps : EachStepLeavesTheRest) (own : CallsServeTheirDomain) where
             (
               record {
                 piece = record { files = refl; within = tt; next = no_next x.held x.next piece.next };
-                no_text =
-                    no_text;
+                no_text = no_text;
                 no_places = refl;
               },
               (λ e. absurd (cc (e)), apart_next held a x.next next_is),
@@ -411,8 +408,7 @@ module _ (steps : EachStepLeavesTheRest) (own : CallsServeTheirDomain) where
         is_readable = now.0;
         piece = now.1;
         no_text = f.holds.drops.no_text;
-        part_apart =
-            f.holds.drops.part_apart;
+        part_apart = f.holds.drops.part_apart;
         made_apart = f.holds.drops.made_apart;
         differ = f.holds.drops.differ;
       }) now.2)

@@ -152,8 +152,7 @@ pub rest_still : (m n : State) (d : ℕ) (x : Collected) → IsStillReadable (re
 rest_still m n d x stays h =
     record {
       piece = piece_kept (readable_at m d) (readable_at n d) (length x.text) x stays h.piece;
-      no_text =
-          h.no_text;
+      no_text = h.no_text;
       no_places = h.no_places;
     }
 

@@ -302,8 +302,7 @@ module _ (steps : EachStepLeavesTheRest) (files : FileCallsServeTheirDomain) whe
       inl (record {
         same = ap (λ (ls : List Line). outcomes_in m d ls) (rest-nil job.lines begun is)
             ∙ sym (ap (λ (os : List Outcome). os ++ []) (used_by job x begun (readable_at n d) None r is expected));
-        reads =
-            tt;
+        reads = tt;
       })
   begins m n d p job begun x r unseen (Some (line.Emit text)) good f is expected step = passes m n d job begun x _ r
       (line_named m d job begun (line.Emit text) (drop (begun + 1) job.lines)

@@ -248,14 +248,12 @@ module _ (own : CallsServeTheirDomain) (why : RefusalsTellWhy) (come : Aggregate
           by (Some job) is v_is =
               makes (with_job w (Some job) a) v_is is asked (record {
                 no_fd = λ f given un. h.no_fd f given refl;
-                no_agg =
-                    λ c given un. h.no_agg c given (first (a == c) (false || false) un);
+                no_agg = λ c given un. h.no_agg c given (first (a == c) (false || false) un);
               })
           by None is v_is =
               makes (with_job w None a) v_is is asked (record {
                 no_fd = λ f given un. h.no_fd f given un;
-                no_agg =
-                    λ c given un. h.no_agg c given un;
+                no_agg = λ c given un. h.no_agg c given un;
               })
 
       filed : (w : Worker) (x : Phase) (l : Reply) → w.step.phase ≡ x → w.standing ≡ standing.Asked

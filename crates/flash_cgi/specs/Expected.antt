@@ -125,8 +125,7 @@ pub record ScriptsPutOut : Type 0 where
         before = bytes_of (pipe_at m p).queue;
         query = query;
         lines = lines;
-        outcomes =
-            outcomes_in m process_slot.by lines;
+        outcomes = outcomes_in m process_slot.by lines;
       })
       (bytes_of (pipe_at m p).queue ++ output query lines (outcomes_in m process_slot.by lines))
   -- a turn of the worker keeps it expected, until all is written, or the pipe has no reader, whatever its reply

@@ -111,8 +111,7 @@ left_with x (Ends d) = ended x d
 left_with x Begins = record {
   conn = record x.conn { phase = MakingHead Script };
   run = Some AwaitingWorker;
-  script =
-      x.script;
+  script = x.script;
 }
 left_with x (Continues d) = with_run x (Parts d) x.script
 left_with x Stays = x

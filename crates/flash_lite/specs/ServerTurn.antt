@@ -176,8 +176,7 @@ pub record PicksNext {E : Type 0} (from : ℕ) (s : Table) (result : Result Turn
   pub same : IfOk result (λ made. t ≡ record {
     clients = s.clients;
     pending_call = t.pending_call;
-    workers =
-        s.workers;
+    workers = s.workers;
     free = s.free;
   })
   pub err : OnErr result (t ≡ s)
@@ -197,8 +196,7 @@ pub record LeavesPlace {E : Type 0} (fd : ℕ) (l : Left) (free : List Bool) (s 
         clients = left_at s.clients fd l;
         pending_call = t.pending_call;
         workers = s.workers;
-        free =
-            free;
+        free = free;
       })
   pub err : OnErr result (t ≡ s)
   pub wants : OnErr result (WantsFrom (has_in s.workers free) s.clients (fd + 1))

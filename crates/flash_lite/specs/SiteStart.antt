@@ -55,5 +55,4 @@ pub record IsRefusedNew (config : Config) (store : Disk) (s : Site) (x : Refusal
 -- the reason for which there is no world: something is outside its limits, memory ran out, or a call of the site is
 -- refused
 abbrev pub WhyNone : Config → (store : Disk) → Site → Refusal → Type 0
-WhyNone config store s x =
-    ((x ≡ BadRange) × IsOutOfRange config s) ⊎ (x ≡ Memory) ⊎ IsRefusedNew config store s x
+WhyNone config store s x = ((x ≡ BadRange) × IsOutOfRange config s) ⊎ (x ≡ Memory) ⊎ IsRefusedNew config store s x

@@ -16,8 +16,7 @@ E =
     record {
       row = Home.the_row;
       laws = home.the_row_laws;
-      al =
-          record { row = Heap.the_row; laws = heap.the_row_laws; g = ghosts; d = dict; drops = impl [] tnil dnil };
+      al = record { row = Heap.the_row; laws = heap.the_row_laws; g = ghosts; d = dict; drops = impl [] tnil dnil };
     }
 
 abbrev pub FromRaw : Slot 0

@@ -87,8 +87,7 @@ answered old new e r p =
     record {
       before = with_slots p.beside.before old.kernel;
       after = with_slots p.beside.after new.kernel;
-      step =
-          p.beside.step;
+      step = p.beside.step;
     }
 
 no_such : (why : Refusal) → number_of why ≡ 101 → ⊥

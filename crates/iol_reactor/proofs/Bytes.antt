@@ -61,8 +61,7 @@ pub same_input_then : (a b d : Input) → IsSameInput a b → IsSameInput b d �
 same_input_then a b d first next = record {
   bytes = next.bytes ∙ first.bytes;
   asked = next.asked ∙ first.asked;
-  given =
-      next.given ∙ first.given;
+  given = next.given ∙ first.given;
 }
 
 pub rest_whole : (bytes : List ℕ) → IsRestOf bytes bytes

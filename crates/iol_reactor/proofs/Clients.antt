@@ -45,8 +45,7 @@ bytes_move = record {
       accepted more h;
   flushed = λ pc ps came sent waiting left supplied accepted more h. record {
     received = h.received;
-    produced =
-        h.produced ∙ sym (append_assoc accepted more left);
+    produced = h.produced ∙ sym (append_assoc accepted more left);
   };
   handed = λ pc ps came sent waiting unsent supplied accepted more h. record {
     received = h.received ∙ ap (λ (l : List ℕ). pc ++ l) (sym (append_assoc came more waiting));
@@ -191,8 +190,7 @@ module _ {P : Type 0} (turns : TransitionRelation P) (starts : Stage SystemState
     first = λ s l v. record { visited = v; whole = record { requests = []; kept = tt; are = refl } };
     open_stays = λ s after l came sent up stay o. record {
       visited = stay l came sent false up o.visited;
-      whole =
-          o.whole;
+      whole = o.whole;
     };
     asking_stays = λ s after l is_last input came sent up stay a. record {
       visited = stay l came sent false up a.visited;

@@ -208,8 +208,7 @@ module _ {P : Type 0} (turns : TransitionRelation P) (starts : Stage SystemState
   pub link_same : (s : Serving P) (d : Link) → LinkProceeds turns starts pool d [] [] false s s
   link_same s d = record {
     own = λ came sent gone v. keeps_visit s d came sent gone v;
-    others =
-        λ l came sent gone apart v. v;
+    others = λ l came sent gone apart v. v;
   }
 
 -- ---- the connection of a client that may have none

@@ -121,8 +121,7 @@ module _ {P : Type 0} (turns : TransitionRelation P) where
         begun = w;
         started = started;
         honest = record { same = refl };
-        continues =
-            λ honest. continues_none pool (copied w);
+        continues = λ honest. continues_none pool (copied w);
       }
 
   served_next : (starts : Stage SystemState P → Type 0) (pool : ℕ) (w after : Stage SystemState P)

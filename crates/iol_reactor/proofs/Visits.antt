@@ -96,8 +96,7 @@ module _ {P : Type 0} (turns : TransitionRelation P) where
   unfolding stream_over sent_over
   carries_none pool c w = record {
     continues = record { choices = []; replies = []; run = refl; serving = tt };
-    comes =
-        refl;
+    comes = refl;
     goes = refl;
     reports = refl;
   }
@@ -135,8 +134,7 @@ module _ {P : Type 0} (turns : TransitionRelation P) where
           choices = g.choices;
           replies = g.replies;
           run = g.run;
-          serving =
-              serving_all pool c g.choices g.alone;
+          serving = serving_all pool c g.choices g.alone;
         };
         comes = g.comes;
         goes = g.goes;
@@ -150,8 +148,7 @@ module _ {P : Type 0} (turns : TransitionRelation P) where
       choices = g.choices;
       replies = g.replies;
       run = g.run;
-      serving =
-          serving_all pool d g.choices g.alone;
+      serving = serving_all pool d g.choices g.alone;
     };
     comes = streams_other d c g.choices g.replies apart g.alone;
     goes = sents_other d c g.choices g.replies apart g.alone;
@@ -166,8 +163,7 @@ module _ {P : Type 0} (turns : TransitionRelation P) where
         continues = record {
           choices = choice.Outside (event.ConnNew pool) ∷ [];
           replies = r ∷ [];
-          run =
-              (after, step, refl);
+          run = (after, step, refl);
           serving = (refl, tt);
         };
         comes = refl;
@@ -204,8 +200,7 @@ module _ {P : Type 0} (turns : TransitionRelation P) where
       past = past;
       first = after;
       made = made;
-      since =
-          carries_none pool c after;
+      since = carries_none pool c after;
     };
     own = λ pool c came sent more next gone last begun w after v g. visits_then pool c came sent more next gone last
         begun w after v (carries_own pool c more next last w after g);

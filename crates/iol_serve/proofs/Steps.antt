@@ -106,8 +106,7 @@ module _ {P : Type 0} (turns : TransitionRelation P) where
     run = same;
     alone = tt;
     comes = refl;
-    goes =
-        refl;
+    goes = refl;
     reports = refl;
   }
 
@@ -229,8 +228,7 @@ module _ {P : Type 0} (turns : TransitionRelation P) where
         sent = [];
         given = t.given;
         taken = kept;
-        proceeds =
-            goes_arrived c n t.bytes w after t.count t.arrives;
+        proceeds = goes_arrived c n t.bytes w after t.count t.arrives;
       }
 
   pub serves_refused : (c : ℕ) (left rest held now : Option (List ℕ)) (w after : Stage State P) → rest ≡ left

@@ -64,8 +64,7 @@ WritesTo-before old new bytes more left so =
     record {
       front = so.front;
       all = ap (λ ys. ys ++ more) so.all ∙ append_assoc so.front left more;
-      written =
-          so.written;
+      written = so.written;
     }
 
 -- all bytes are written, and some of those that follow

@@ -15,8 +15,7 @@ reads_second None lacks reads =
     record {
       some = reads.some;
       can = reads.can;
-      none =
-          λ e y is. elim is [ inl p ↦ lacks y p | inr q ↦ reads.none e y q ];
+      none = λ e y is. elim is [ inl p ↦ lacks y p | inr q ↦ reads.none e y q ];
     }
 
 -- a result for one predicate is a result for an equivalent one

@@ -163,8 +163,7 @@ Replayed-from text setup start end old new judged is_new so = record {
     all = judged.all;
     start = judged.start;
     default = judged.default;
-    set_up =
-        judged.set_up;
+    set_up = judged.set_up;
     asks = so.asks;
   };
   answered = record { start = start; end = end; new = is_new; each = so.each };

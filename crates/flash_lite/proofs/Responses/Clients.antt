@@ -215,8 +215,7 @@ run-found true buffered q (DroppingWhole a Script) run script reply.Done receive
           ap (λ b. record {
             conn = at buffered q (MakingHead Script);
             run = after_drop_whole b reply.Done;
-            script =
-                script;
+            script = script;
           }) e;
     }
 run-found true buffered q (DroppingWhole a Script) run script r received h e is = absurd (cc (is))
@@ -420,8 +419,7 @@ over_leaves x = record {
   passed = refl;
   after_reply_is = refl;
   remains_is = refl;
-  can_rest =
-      record { small = omega arith; awaits = tt };
+  can_rest = record { small = omega arith; awaits = tt };
   unchanged = refl;
 }
 

@@ -8,6 +8,5 @@ returns c = record {
   has_fds = refl;
   has_lens = refl;
   unfailed = c.requires.unfailed;
-  creates =
-      c.start_in.ensures;
+  creates = c.start_in.ensures;
 }

@@ -14,8 +14,7 @@ same_disk d slots n h reported a b c e =
       slots = l;
       failures = d.failures;
       honest = d.honest;
-      reported =
-          d.reported;
+      reported = d.reported;
     } in
     let two : ℕ → Disk = λ k. record { slots = slots; failures = k; honest = d.honest; reported = d.reported } in
     let three : Bool → Disk = λ z. record { slots = slots; failures = n; honest = z; reported = d.reported } in

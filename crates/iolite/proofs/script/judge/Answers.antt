@@ -13,8 +13,7 @@ loop-place-init c =
     Judging-none c.new.result (record {
       config = c.new.ensures.config;
       fault = c.new.ensures.fault;
-      slots =
-          c.new.ensures.slots;
+      slots = c.new.ensures.slots;
     })
 
 pub loop-place-preserved : goal.loop-place-preserved
