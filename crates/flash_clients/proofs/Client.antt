@@ -19,7 +19,7 @@ clash : (b : Bool) → b ≡ true → b ≡ false → ⊥
 clash true yes_is no_is = absurd (cc (no_is))
 clash false yes_is no_is = absurd (cc (yes_is))
 
--- all but the first of a list of requests that has one that closes
+-- if one of the requests closes the connection, and the first does not, one of the others does
 closed_later : (q : Answer) (qs : List Answer) → keeps q ≡ true → list_all (λ p. keeps p) (q ∷ qs) ≡ false
     → list_all (λ p. keeps p) qs ≡ false
 closed_later q qs keep close = by (list_all (λ p. keeps p) qs) refl
@@ -70,13 +70,13 @@ module _ (one : OneAnswer) where
       (subst (λ (l : List ℕ). Reads l (t ∷ ps) last) (sym same.1) b.2) ends in
       ap (λ (x : Answer). x ∷ t ∷ ps) (sym same.0) ∙ ap (λ (l : List Answer). q ∷ l) rest
 
-  -- no request is left where the window waits
+  -- a stream whose window waits has no request that closes the connection
   none_closes : (s : List ℕ) (qs : List Answer) (rest : List ℕ) → window_in s ≡ Wait → Reads s qs rest
       → list_all (λ q. keeps q) qs ≡ false → ⊥
   none_closes s [] rest waits is close = absurd (cc (close))
   none_closes s (q ∷ qs) rest waits is close = waits_not s q is.0 waits is.1
 
-  -- the requests of an answer to a stream of which one closes the connection end with that one
+  -- if a request of the stream closes the connection, the requests of its answer end with one that closes it
   closes_last : (s : List ℕ) (qs ps : List Answer) (rest last : List ℕ) → Reads s qs rest
       → list_all (λ q. keeps q) qs ≡ false → Reads s ps last
       → last_may_close ps ≡ true → (window_in last ≡ Wait) ⊎ (last_closes ps ≡ true) → last_closes ps ≡ true
@@ -127,7 +127,7 @@ module _ (laws : WindowLaws) (one : OneAnswer) (follow : StreamsFollow) where
         left.answered.responds;
   }
 
-  -- whatever waits after a request that closed the connection
+  -- after a request that closed the connection, further bytes do not change the answer
   closed_answer : (v : Visit) (waiting : List ℕ) → IsClosed v → IsAnswer v.site_contents (v.came ++ waiting) v.sent
   closed_answer v waiting closed =
       let a = closed.answered in record {

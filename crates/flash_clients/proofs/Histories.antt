@@ -34,7 +34,7 @@ sent-both c (x ∷ xs) ys (r ∷ rs) qs even =
 sent-both c [] ys (r ∷ rs) qs even = absurd (omega (arith, even))
 sent-both c (x ∷ xs) ys [] qs even = absurd (omega (arith, even))
 
--- what was told before is told
+-- disjunctions, for the reports of a run and of its continuation
 or-none : (b c : Bool) → b ≡ false → c ≡ false → (b || c) ≡ false
 or-none false c one two = two
 or-none true c one two = absurd (cc (one))
@@ -69,7 +69,7 @@ reports-none p (x ∷ xs) ys (r ∷ rs) qs even none more =
 reports-none p [] ys (r ∷ rs) qs even none more = absurd (omega (arith, even))
 reports-none p (x ∷ xs) ys [] qs even none more = absurd (omega (arith, even))
 
--- a peer that was told to be gone would have been told so by a choice
+-- a choice that does not drop a connection does not report that its peer is gone
 after_reply-drops : (c : ℕ) (x : Choice) (r : Reply) → drops_with x c ≡ false
     → reports_with (λ e s. gone_by c e s) x r ≡ false
 after_reply-drops c (choice.Turn by) r none = refl

@@ -14,7 +14,7 @@ use Rattle.flash_laws.proofs.Conn.Responses.{WindowLaws, all-more, reads-append,
 use Rattle.flash_clients.specs.Requests.{AreKept, Closes, IsFirst, RequestsAreKept}
 use Rattle.flash_clients.proofs.Truncated.{head_is_there}
 
--- a list of requests of which the last closes
+-- if the last request closes the connection, not all requests keep it
 closed-more : (qs : List Answer) (q : Answer) → list_all (λ p. keeps p) qs ≡ true → keeps q ≡ false
     → list_all (λ p. keeps p) (qs ++ q ∷ []) ≡ false
 closed-more qs q keep close = list_all-append (λ p. keeps p) qs (q ∷ [])
@@ -26,7 +26,7 @@ module _ (laws : WindowLaws) where
   first_window s size other = sym (laws.stay (take size s) (drop size s) other)
       ∙ ap (λ (l : List ℕ). window_in l) (take-append-drop size s)
 
-  -- the first request by itself, and what is left after it
+  -- the first request by itself, and the rest after it
   first_next : (s : List ℕ) (size : ℕ) (q : Answer) (w : Window) → window_in s ≡ w → IsFirst w s size q
       → (rest : List ℕ) × Next (take size s) q rest × (keeps q ≡ true → rest ≡ [])
   first_next s size q Wait is first = absurd first
@@ -74,7 +74,7 @@ module _ (laws : WindowLaws) where
       closes : keeps q ≡ true → ⊥
       closes keep = let bad = ap (λ (a : Answer). keeps a) (sym first.0) ∙ keep in absurd (cc (bad))
 
-  -- one more
+  -- one more request
   module _ (came waiting : List ℕ) (size : ℕ) (q : Answer) (kept : AreKept came)
       (first : IsFirst (window_in waiting) waiting size q) where
     reads_one : (rest : List ℕ) → Next (take size waiting) q rest

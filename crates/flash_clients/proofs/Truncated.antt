@@ -57,7 +57,7 @@ found_whole None r m n skip len agree whole is waits = let past = head_ends r n 
 found_whole (Some p) r m n skip len agree whole is waits =
     no_wait p m n skip len (nat_le (p.0 + p.1) 8192) (ap (λ o. window_at o n) (sym agree) ∙ is) waits
 
--- ---- the search for a head, byte by byte, by what is known of it
+-- ---- the search for a head, byte by byte
 
 -- A search that has found `begun`, skip and len bytes, and a part of a line (`line`) continues with a byte.
 module _ {L : Type 0} (found : (begun : Bool) → (skip len : ℕ) → L → List ℕ → Option (ℕ × ℕ)) (fresh : L) (next : L → ℕ

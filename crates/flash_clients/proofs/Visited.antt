@@ -27,7 +27,7 @@ use Rattle.flash_laws.proofs.World.Responses.{begins-less}
 use Rattle.flash_clients.specs.Visits.{IsVisit, IsVisitAnswered, VisitsAreAnswered}
 use Rattle.flash_clients.proofs.Histories.{none-after_reply, sent-both, stream-both, reports-first, reports-none}
 
--- ---- a connection that is not there any more
+-- ---- a removed connection
 
 none-found : (found : Option Connection) → is_none found ≡ true → found ≡ None
 none-found None lacks = refl

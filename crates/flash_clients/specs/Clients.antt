@@ -31,8 +31,8 @@ AreVisits [] = ⊤
 AreVisits (v ∷ []) = Begins v.site_contents v.came v.sent
 AreVisits (v ∷ w ∷ vs) = IsLeft v × AreVisits (w ∷ vs)
 
--- The socket of a client with these connections supplied and accepted these bytes: what it supplied was received on
--- them, in order, except for bytes that wait, and what it accepted was sent on them, in order, and some bytes are not
+-- The socket of a client with these connections supplied and accepted these bytes: the bytes supplied were received on
+-- them, in order, except for bytes that wait; the bytes accepted were sent on them, in order, and some bytes are not
 -- accepted yet.
 pub record IsServed (vs : List Visit) (supplied accepted : List ℕ) : Type 0 where
   pub visits : AreVisits vs

@@ -22,7 +22,7 @@ pub record Closes (s : List ℕ) : Type 0 where
   pub close : IsFalse (list_all (λ q. keeps q) qs)
 
 -- By the window of these bytes, their first request is the first `size` bytes, with the empty lines before it, and this
--- is its answer. Of a head that is too long it is the bytes of a whole window.
+-- is its answer. If the head is too long, the request is the bytes of a whole window.
 abbrev pub IsFirst : Window → List ℕ → (size : ℕ) → Answer → Type 0
 IsFirst Wait s size q = ⊥
 IsFirst (Head skip len) s size q = IsAnswerTo (take len (drop skip s)) q × (size ≡ skip + len)

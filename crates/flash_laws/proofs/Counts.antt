@@ -26,7 +26,7 @@ when-false : (x : Refusal) (b : Bool) → (x when b) ≡ None → b ≡ false
 when-false x true is = absurd (cc)
 when-false x false is = refl
 
--- an aggregate that is made is short
+-- an aggregate that is made has at most `MAX_AGGREGATE_BYTES` bytes
 pub made-short : (s t : State) (d n : ℕ) (bytes : List ℕ)
     → StepsTo s (event.Call d (call.AggMake bytes)) (reply.Agg n) t → length bytes ≤ 16777216
 made-short s t d n bytes step =

@@ -18,7 +18,7 @@ use Rattle.flash_laws.specs.declared.script_run.Step.TheVariants.{FillingFrame, 
 use Rattle.flash_laws.specs.declared.script_run.Step.TheVariants.{DiscardingJob, Failing}
 use Rattle.flash_laws.specs.declared.script_run.Running.TheVariants.{InProgress}
 
--- the first of what begins alike is the same
+-- two lists with a common prefix have the same first k bytes, if the prefix has that many
 alike : (k : ℕ) (before a b x y : List ℕ) → k ≤ length before → a ≡ before ++ x → b ≡ before ++ y → take k a ≡ take k b
 alike k before a b x y within is_a is_b =
     ap (λ (l : List ℕ). take k l) is_a
@@ -54,7 +54,7 @@ module _ (w : Wanted) (received past one other : List ℕ) (ended : Bool) where
       none [] e = refl
       none l e = absurd (omega (arith, e))
 
-  -- at each step until the end of the output is seen
+  -- at each step until the end of the output is read
   pub given-same : (job : ℕ → List ℕ) (m : State) (run : Run) (step : Step) → is_stopping (InProgress run step) ≡ false
       → HasStep job m w (Ran received ended past) run step
       → Same (taken_by (InProgress run step))

@@ -97,7 +97,7 @@ take-plus (suc t) k (x ∷ l) =
     (let e : suc t + k ≡ suc (t + k) = omega arith in ap (λ z. take z (x ∷ l)) e
     ∙ ap (λ (w : List ℕ). x ∷ w) (take-plus t k l))
 
--- of what is next the first k bytes, and what comes after them
+-- the first k of the next bytes, and the bytes after them
 pub next-front : (k : ℕ) (bytes after expected : List ℕ) → bytes ++ after ≡ expected → k ≤ length bytes
     → take k expected ≡ take k bytes
 next-front k bytes after expected next within = sym (ap (λ (l : List ℕ). take k l) next)
@@ -108,7 +108,7 @@ pub next-rest : (k taken : ℕ) (bytes after expected : List ℕ) → bytes ++ a
 next-rest k taken bytes after expected next within = sym (drop-append-le k bytes after within)
     ∙ (ap (λ (l : List ℕ). drop k l) next ∙ drop-drop k taken expected)
 
--- where all is taken only what follows is left
+-- if all bytes are taken, only the bytes that follow are left
 pub none-left : (bytes after : List ℕ) (from len : ℕ) → len ≡ length bytes → nat_lt from len ≡ false
     → after ≡ drop from bytes ++ after
 none-left bytes after from len size is = let all : length bytes ≤ from = grind (arith, nat_tests, is, size) in
@@ -117,7 +117,7 @@ none-left bytes after from len size is = let all : length bytes ≤ from = grind
 pub both-long : (xs ys : List ℕ) (size len : ℕ) → size ≡ length xs → len ≡ length ys → size + len ≡ length (xs ++ ys)
 both-long xs ys size len is_x is_y = let e = length-append xs ys in omega (arith, e, is_x, is_y)
 
--- of a list's beginning the first k
+-- the first k elements of a prefix are those of the list
 take-within : (k j : ℕ) (l : List ℕ) → k ≤ length (take j l) → (take k l ≡ take k (take j l)) × (k ≤ length l)
 take-within zero j l le = (refl, omega arith)
 take-within (suc k) zero l le = absurd (omega (arith, le))
@@ -130,7 +130,7 @@ pub take-slice : (k from to : ℕ) (bytes : List ℕ) → k ≤ length (slice_ra
     → take k (drop from bytes) ≡ take k (slice_range bytes from to)
 take-slice k from to bytes within = (take-within k (to - from) (drop from bytes) within).0
 
--- no more is taken of a piece than is left
+-- no more bytes are taken of a piece than are left
 pub few-taken : (k : ℕ) (s : Sending) (bytes : List ℕ) → k ≤ length (slice_range bytes s.from (piece_end s))
     → k ≤ length (drop s.from bytes)
 few-taken k s bytes within = (take-within k (piece_end s - s.from) (drop s.from bytes) within).1
@@ -146,7 +146,7 @@ least-taken k from len bytes size within =
     let few : k ≤ len - from = omega (arith, within, e, size) in
     omega (arith, few)
 
--- of a part of a list the length
+-- the length of a range of a list
 length-range : (bytes : List ℕ) (first last : ℕ) → first ≤ last → last < length bytes
     → last - first + 1 ≡ length (slice_range bytes first (last + 1))
 length-range bytes first last le lt =
@@ -159,7 +159,7 @@ pub length-part : (bytes : List ℕ) (first last : ℕ) → first ≤ last → l
     → last + 1 - first ≡ length (slice_range bytes first (last + 1))
 length-part bytes first last le lt = let e = length-range bytes first last le lt in omega (arith, e, le)
 
--- a part that has as many bytes as its bounds tell, and some, lies within
+-- a range that is not empty, and has as many bytes as its bounds say, is within the list
 pub within-part : (from to : ℕ) (bytes : List ℕ) → from < to → to - from ≡ length (slice_range bytes from to)
     → to ≤ length bytes
 within-part from to bytes some count =

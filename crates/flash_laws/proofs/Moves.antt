@@ -1,5 +1,5 @@
--- After a call that was refused a phase has what it had, since nothing has changed. After another reply the next phase
--- has its data: one lemma for each effect of a call.
+-- If a call is refused, nothing changes, and the phase still has its data. After another reply the next phase has its
+-- data: one lemma for each effect of a call.
 use Rattle.std.proofs.Common.{◌≡◌, ℕ, List, ◌∙◌, refl, sym, Some, None, true, false, Bool, if◌then◌else◌}
 use Rattle.std.specs.Prelude.{nat_lt}
 use Rattle.iol_core.specs.State.{State}
@@ -50,7 +50,7 @@ module _ (m n : State) {A : Type 0} (P : A → Type 0) where
   made-received bytes received (reply.Refused y) did names same new = same did
   made-received bytes received r did names same new = absurd did
 
-  -- what nobody takes is not offered again
+  -- a write to a connection; if its peer is gone, the bytes are not offered again
   pub written : {d e : A} {to : ℕ → A} (c : ℕ) (bytes : List ℕ) (r : Reply) → o.WritesConn m c bytes r n → (n ≡ m → P d)
       → (n ≡ m → P e)
       → ((k : ℕ) → o.Puts m c bytes k n → P (to k))
@@ -60,7 +60,7 @@ module _ (m n : State) {A : Type 0} (P : A → Type 0) where
   written c bytes (reply.Refused y) did same broken puts = same did
   written c bytes r did same broken puts = absurd did
 
--- ---- what holds of a phase, and of each phase to which a reply moves it
+-- ---- a property of a phase, and of each phase to which a reply moves it
 
 pub either-way : {A : Type 0} (P : A → Type 0) (b : Bool) {d e : A} → P d → P e → P (if b then d else e)
 either-way P true one two = one

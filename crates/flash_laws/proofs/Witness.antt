@@ -44,19 +44,19 @@ use Rattle.flash_laws.specs.World.Consistency.{reports_over, made_over, Actor, S
 use Rattle.flash_laws.specs.World.{IsNew, ARunIsUndisturbed}
 use Rattle.flash_laws.proofs.Lists.{not-equal}
 
--- what a call leads to, where it is not refused
+-- the state after an event
 abbrev then_on : State → Event → State
 then_on s e = (meaning s e).after
 
--- two texts, and room for more
+-- two slots with texts, and empty slots
 abbrev slots : List (List ℕ)
 slots = codes "hello" ∷ codes "secret" ∷ replicate MAX_FILES []
 
 enough : MAX_FILES ≤ length slots
 enough = omega (arith, length-replicate {A = List ℕ} MAX_FILES [])
 
--- Domain 1 is the server and 2 a guest; pool 1 is for both, 2 the net, 4 the guest's own; a file lies in 1, and another
--- in 4.
+-- Domain 1 is the server and 2 a guest. Both may read pool 1; pool 2 is the net, and pool 4 is the guest's own. Pool 1
+-- has a file, and so has pool 4.
 abbrev begun : State
 begun = new_state slots
 
@@ -87,13 +87,13 @@ site_pools : (with_vault.pools)
 unfolding domain pool file content with_domain with_content
 site_pools = refl
 
--- a file is found, one is hidden from the server, and one is unknown
+-- the outcomes of a file, of a file that the server may not read, and of an unknown name
 site_outcomes : (outcome_in site (codes "a.txt") ≡ Found (codes "hello"))
     × (outcome_in site (codes "b.txt") ≡ Failed 403) × (outcome_in site (codes "c.txt") ≡ Failed 404)
 unfolding domain pool file content with_domain with_content
 site_outcomes = (refl, refl, refl)
 
--- the net is the server's alone
+-- only the server may read the net
 site_net : (d : ℕ) → d ≢ server → may_read site d 2 ≡ false
 unfolding domain pool file content with_domain with_content
 site_net d differ = ap (λ b. b || false) (not-equal 1 d (λ same. differ (same_turned same)))
@@ -101,7 +101,7 @@ site_net d differ = ap (λ b. b || false) (not-equal 1 d (λ same. differ (same_
     same_turned : 1 ≡ d → d ≡ 1
     same_turned e = cc
 
--- what each step keeps, and a new state has, the site has
+-- a property of the new state that each step keeps holds of the site
 over_steps : (Q : State → Type 0) → ((s t : State) (e : Event) (r : Reply) → Q s → StepsTo s e r t → Q t) → Q begun
     → Q site
 unfolding domain pool file content with_domain with_content
@@ -115,7 +115,7 @@ over_steps Q step first =
     (step begun with_guest (event.Call 1 call.DomainNew) (reply.Domain 2) first (refl, refl, refl)) (refl, refl, refl))
     (refl, refl, refl)) (refl, refl, refl)) (refl, refl, refl)) (refl, refl, refl)) (refl, refl, refl)
 
--- the file that has a name is one of these
+-- a file that has a name is 1 or 2
 one_of_two : (a b : Bool) (f : ℕ)
     → option_map (λ i. i + 1) (position (λ (x : Bool). x) (a ∷ b ∷ [])) ≡ Some f → (f ≡ 1) ⊎ (f ≡ 2)
 one_of_two true b f is = inl (cc)
@@ -144,7 +144,7 @@ site_fixed = record {
   net_alone = site_net;
 }
 
--- the files that there are
+-- each file is 1 or 2
 of_two : {A : Type 0} (a b : A) (f : ℕ) → is_numbered (a ∷ b ∷ []) f ≡ true → (f ≡ 1) ⊎ (f ≡ 2)
 of_two a b f is = by f (grind (arith, nat_tests, common_steps, is)) (grind (arith, nat_tests, common_steps, is))
   where
@@ -186,13 +186,13 @@ site_contents = record {
   refuses = no_refusal;
 }
 
--- A world with the server alone: it is new. A connection comes, and is accepted: this run is undisturbed, and the
--- connection is the net's.
+-- A new world with only the server. A connection arrives and is accepted: this run is undisturbed, and the
+-- connection is one of the net.
 module _ (orders : EachStepKeepsOrder) (descriptors : DescriptorsComeByReplies) {W : Type 0}
     (works : TransitionRelation W) (quiescent : Claim W)
     (free : (ℕ → Bool) → State → ℕ → ProcessSlot W → Type 0) (expected : (ℕ → Bool) → State → ℕ → ℕ → ProcessSlot W
     → Made → List ℕ → Type 0) where
-  -- no workers, and so no job queues, and no pools of theirs
+  -- no workers, so no job queues, and no pools of workers
   abbrev alone : WorkerSet
   alone = worker_set_with works quiescent free expected 0 (λ k. 0) (λ q. false) (λ q. true)
 

@@ -41,7 +41,7 @@ pub record Client : Type 0 where
 abbrev pub new_client : Client
 new_client = record { conn = new_connection; run = None; script = [] }
 
--- ---- what it uses
+-- ---- the objects that it uses
 
 abbrev pub uses_agg : Client → (a : ℕ) → Bool
 uses_agg x a = by x.run

@@ -215,7 +215,7 @@ after_taking s count = record s {
 abbrev pub next_piece : Sending → Phase
 next_piece s = if nat_lt s.from s.len then CuttingPiece s else DroppingSent s.agg s.taken s.more
 
--- what is not taken of an aggregate that was offered whole is sent in pieces
+-- the remaining bytes of an aggregate that was offered whole are sent in pieces
 abbrev pub after_send : Sending → Reply → Phase
 after_send s r = or_stay (SendingWhole s)
     (or_else (on_count r (λ n. next_piece (after_taking s n))) (on_refused r (if_broken (Aborting s.agg s.more))))
@@ -257,7 +257,7 @@ after_disconnect r = or_stay Disconnecting (on_done r Closed)
 
 -- ---- the phases
 
--- What a phase is. A new phase is one more row of `phase_of`.
+-- The definition of a phase. A new phase is one more row of `phase_of`.
 pub record PhaseOf : Type 0 where
   -- its call: `fd` is the descriptor of the connection
   pub call : (fd : ℕ) → Conn → Call

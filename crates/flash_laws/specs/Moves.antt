@@ -1,4 +1,4 @@
--- The replies that move a phase. Any other reply leaves it as it is.
+-- The replies that move a phase. Any other reply leaves it unchanged.
 use Rattle.std.specs.Prelude.{ℕ, Option, Some, None}
 use Rattle.iol_core.specs.declared.refusals.Refusal.{Refusal}
 use Rattle.iol_core.specs.declared.refusals.Refusal.TheVariants as no

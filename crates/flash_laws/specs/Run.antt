@@ -1,4 +1,4 @@
--- The run of a script by itself: what it uses, its next call, and its state after the reply.
+-- The run of a script by itself: the objects that it uses, its next call, and its state after the reply.
 --
 -- It begins once the text of the script is read, and answers a request that is served and is not HEAD. `job` is the
 -- text of the job, which names the worker's descriptor of the pipe's write end.
@@ -38,7 +38,7 @@ use Rattle.flash_laws.specs.declared.script_run.Running.{Running}
 use Rattle.flash_laws.specs.declared.script_run.Running.TheVariants.{AwaitingWorker, InProgress, Finishing}
 use Rattle.flash_laws.specs.declared.script_run.Running.TheVariants.{Disconnecting}
 
--- ---- what it uses
+-- ---- the objects that it uses
 
 -- Worker k, counted from 0, is domain k + 2, and the write end of its job pipe is the server's descriptor k + 1.
 abbrev pub worker_domain : (worker : ℕ) → ℕ
@@ -148,7 +148,7 @@ hearing false false held frame a len = SendingPart (sends_part a len) frame
 hearing false true None frame a len = holding a len frame
 hearing false true (Some x) frame a len = JoiningOutput x.0 x.1 a len frame
 
--- the output may not be read
+-- the server may not read the output
 abbrev pub unread : Following → (frame : Option ℕ) → Step
 unread None frame = ClosingOutput None frame
 unread (Some x) frame = DiscardingHeld x.0 frame
@@ -242,7 +242,7 @@ after_fail run r = or_stay (InProgress run Failing) (on_done r (Finishing (phase
 
 -- ---- the steps
 
--- What a step is. A new step is one more row of `step_of`.
+-- The definition of a step. A new step is one more row of `step_of`.
 pub record StepOf : Type 0 where
   -- its call: `job` is the text of the job, and `fd` the descriptor of the connection
   pub call : (job : ℕ → List ℕ) → (fd : ℕ) → Wanted → Run → Call
@@ -441,7 +441,7 @@ is_reading s = (step_of s).is_reading
 abbrev pub after_step : Wanted → Run → Step → Reply → (received : List ℕ) → Running
 after_step w run s = (step_of s).after w run
 
--- ---- a run: what it uses, its next call, and its state after the reply
+-- ---- a run: the objects that it uses, its next call, and its state after the reply
 
 -- the pipe ends that the server has
 abbrev pub ends_of : Run → Step → (g : ℕ) → Bool

@@ -27,8 +27,8 @@ pub fn offers_law()
 
 /// The server keeps nothing of a finished response: the result of a call belongs to the connection
 /// for which it was made, and aggregates and file descriptors that the connection no longer uses
-/// are dropped or closed. Its calls touch only what it has. The law is about each call of the
-/// server, undisturbed or not, and not about what other domains give to the server.
+/// are dropped or closed. Its calls touch only its own objects. The law is about each call of the
+/// server, undisturbed or not, and not about objects that other domains give to the server.
 pub fn keeping_law()
     ensures { KeepsNothing }
 {

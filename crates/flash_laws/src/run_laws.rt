@@ -9,14 +9,14 @@ use iol_laws::laws;
 
 /// The bytes that the server offers for a script are the next bytes of the response, for every
 /// further output; once the end of the output was read, of the response to that output. The law is
-/// about single steps of a run, undisturbed or not, during which no call consumes or moves what the
-/// run uses: it holds when a run begins, and after the reply to its own call the machine has what
-/// the next step needs. The bytes that the connection took count as taken, until the response is
-/// aborted, which happens only if the peer is gone or the output may not be read. A script is given
-/// up before it runs only if its worker's domain has ended or its job pipe has no reader. The
-/// worker gets the pipe that the server reads, and then the job that names it. No output is read
-/// while the bytes of a whole chunk are buffered. Each reply reduces the rank, unless more output
-/// was read, or the call is retried later.
+/// about single steps of a run, undisturbed or not, during which no call consumes or moves an
+/// object that the run uses: it holds when a run begins, and after the reply to its own call the
+/// machine has the data for the next step. The bytes that the connection took count as taken, until
+/// the response is aborted, which happens only if the peer is gone or the server may not read the
+/// output. A script is given up before it runs only if its worker's domain has ended or its job
+/// pipe has no reader. The worker gets the pipe that the server reads, and then the job that names
+/// it. No output is read while the bytes of a whole chunk are buffered. Each reply reduces the
+/// rank, unless more output was read, or the call is retried later.
 pub fn runs_law()
     ensures { RunsOfferTheResponse }
 {
@@ -28,9 +28,9 @@ pub fn runs_law()
 
 /// A run keeps only what it uses: the result of a call belongs to the run for which it was made,
 /// and aggregates and pipe ends that the run no longer uses are dropped or closed. Its calls
-/// consume and move only what it has, and touch only its own connection and pipe. The law is about
-/// each call of the server, undisturbed or not, and not about what other domains give to the
-/// server.
+/// consume and move only its own objects, and touch only its own connection and pipe. The law is
+/// about each call of the server, undisturbed or not, and not about objects that other domains give
+/// to the server.
 pub fn run_keeping_law()
     ensures { RunsKeepNothing }
 {
@@ -58,8 +58,8 @@ pub fn clients_law()
 /// The server keeps nothing of a finished response, of a file or of a script: the result of a call
 /// belongs to the client for which it was made, and aggregates, file descriptors and pipe ends that
 /// the client no longer uses are dropped or closed. Only a client that will run a script holds its
-/// text. The law is about each call of the server, undisturbed or not, and not about what other
-/// domains give to the server.
+/// text. The law is about each call of the server, undisturbed or not, and not about objects that
+/// other domains give to the server.
 pub fn client_keeping_law()
     ensures { ClientsLeaveNothing }
 {

@@ -93,7 +93,7 @@ ahead-short m q expected longest Closed has short = omega arith
 
 -- ---- a connection
 
--- of one connection, in the terms of the bound
+-- the measure of one connection is at most its part of the bound
 within : (longest unread buffered ahead buffered_now : ℕ) → ahead ≤ 3 * longest + 21
     → buffered_now ≤ request_turns longest * buffered
     → ahead + (buffered_now + (request_turns longest + 2) * unread) ≤ (3 * longest + 22) * (buffered + unread + 1)
@@ -154,7 +154,7 @@ module _ (site_contents : SiteContents) (worker_set : WorkerSet) (files : site_c
           + (3 * longest + 22) = grind (arith) in
           omega (arith, split)
 
-  -- The measure of all is at most what the bound counts.
+  -- The measure of all is at most the bound.
   pub left-within : (conns : ℕ)
       → all_left longest MAX_OPEN conns m clients ≤ sum_to MAX_OPEN (turns_at longest m clients) + sum_to conns
       (turns_of_waiting longest m)

@@ -33,7 +33,7 @@ pub record Decreases {P : Type 0} (turns : TransitionRelation P) (Holds : Stage 
   -- in a round at most `round` calls are made
   pub most : (w : Stage State P) → Holds w → polls w ≤ round
 
--- Turns in rounds, each with an allowed reply, end where all is idle, if their number suffices.
+-- Turns in rounds, each with an allowed reply, end with all idle, if their number suffices.
 abbrev pub IdleComes : {P : Type 0} → TransitionRelation P → (Stage State P → Type 0) → (Reply → Type 0)
     → (left : Stage State P → ℕ) → (round : ℕ) → Type 0
 IdleComes {P} turns Holds Allows left round = (w after : Stage State P) (most : ℕ) (idle : Bool) → Holds w

@@ -66,17 +66,17 @@ not-later r failure_free on opened = refl
 blocks-among : (refuses : Refusal → Bool) → IsAmong refuses (reply.Refused no.WouldBlock)
 blocks-among refuses resource_failure = absurd (cc (resource_failure))
 
--- the replies that the turns may have: none lacks a resource, and each is as the site contents says
+-- the allowed replies: none lacks a resource, and the site contents permit each
 abbrev pub Allowed : SiteContents → Reply → Type 0
 Allowed site_contents r = (lacks_resource r ≡ false) × IsAmong site_contents.refuses.of_server r
 
--- the number of polls that are left in this round, by which is next
+-- the number of polls left in this round, by the next poll
 abbrev asks : (places : ℕ) → PendingCall → ℕ
 asks places Nothing = 0
 asks places Accepting = 1
 asks places (At fd) = places - fd + 2
 
--- from a later place fewer polls are left
+-- at most the polls from an index on are left, if the next poll is searched from there
 asks-on : (places from : ℕ) (free : Bool) (clients : List (Option Client)) (workers : ℕ) → from ≤ places
     → asks places (pending_call_from workers clients from) ≤ places - from + 2
 asks-on places from free clients workers low =
@@ -117,7 +117,7 @@ module _ (site_contents : SiteContents) (worker_set : WorkerSet) (laws : AllLaws
   first_of f m [] = 0
   first_of f m (process_slot ∷ process_slots) = f m process_slot.process process_slot.last
 
-  -- the measure, and the polls that are left in this round
+  -- the measure, and the number of polls left in this round
   abbrev pub left : Stage State (Actor worker_set.Worker) → ℕ
   left w = first_of turns_left_by w.machine w.process_slots
 
@@ -222,7 +222,7 @@ module _ (site_contents : SiteContents) (worker_set : WorkerSet) (laws : AllLaws
     workers-is : q.consistent.in_slots.state.workers ≡ worker_set.count
     workers-is = q.consistent.in_slots.serves.count
 
-    -- the measure after it
+    -- the measure after the turn
     after-left : (after : Stage State (Actor worker_set.Worker)) (yields : Bool) (r : Reply) (d : Turned after yields r)
         → left after ≡ all_left longest MAX_OPEN conns after.machine
         (filed d.state.workers d.state.clients d.state.pending_call r
@@ -230,7 +230,7 @@ module _ (site_contents : SiteContents) (worker_set : WorkerSet) (laws : AllLaws
     after-left after yields r d =
         ap (λ (l : List (ProcessSlot (Actor worker_set.Worker))). first_of turns_left_by after.machine l) d.now
 
-    -- a call that is answered
+    -- a call that returns another reply than WouldBlock
     falls : (after : Stage State (Actor worker_set.Worker)) (r : Reply)
         → PlaceTurn copying (actor_turns in_rounds worker_set.turns) w 0 false r after → Allowed site_contents r
         → is_would_block r ≡ false
@@ -321,7 +321,7 @@ module _ (site_contents : SiteContents) (worker_set : WorkerSet) (laws : AllLaws
         d : Turned after false (reply.Refused no.WouldBlock)
         d = turned after false (reply.Refused no.WouldBlock) place refl
 
-        -- the next poll is of a later place
+        -- the next poll is of a later index
         fewer : (f : PendingCall) → d.state.pending_call ≡ f → (k : Call)
             → Picks q.consistent.in_slots.state.workers clients f (turn.Make k) d.state.clients
             → (l : List (Option Client))
@@ -468,21 +468,21 @@ module _ (site_contents : SiteContents) (worker_set : WorkerSet) (laws : AllLaws
     most = λ w q. most w q;
   }
 
-  -- Turns in rounds with allowed replies end where all is idle, if their number suffices for the measure.
+  -- Turns in rounds with allowed replies end with all idle, if their number suffices for the measure.
   pub file_server_becomes_idle : IdleComes (actor_turns in_rounds worker_set.turns) Quiet (Allowed site_contents) left
       (MAX_OPEN + 2)
   file_server_becomes_idle =
       idle_comes (actor_turns in_rounds worker_set.turns) Quiet (Allowed site_contents) left polls (MAX_OPEN + 2)
       decreases
 
-  -- The invariant holds there.
+  -- The invariant holds afterwards.
   pub quiet_after : (w after : Stage State (Actor worker_set.Worker)) (i : ℕ) (ts : List Went) → Quiet w
       → RoundRun copying (actor_turns in_rounds worker_set.turns) w i ts after
       → AllByRecursion (λ t. Allowed site_contents t.1) ts → Quiet after
   quiet_after = holds-after (actor_turns in_rounds worker_set.turns) Quiet (Allowed site_contents) left polls
       (MAX_OPEN + 2) decreases
 
-  -- The measure is at most what the bound counts.
+  -- The measure is at most the bound.
   pub left-most-of : (w : Stage State (Actor worker_set.Worker)) → Quiet w
       → left w ≤ sum_to MAX_OPEN (turns_at longest w.machine (clients_in w)) + sum_to conns
       (turns_of_waiting longest w.machine)

@@ -1,4 +1,4 @@
--- Heads are short: each names a file that the server reads at once, or an error status of this server.
+-- Heads are short: each is for a file within the limit of one read, or has an error status of this server.
 use Rattle.std.proofs.Common.{◌≡◌, ℕ, ◌+◌, ◌^◌, ◌<◌, ◌≤◌, ◌==◌, ◌||◌, List, [], ◌∷◌, ◌++◌, length, ap, refl, subst}
 use Rattle.std.proofs.Common.{arith, Option, Some, true, false, Bool, length-append, if◌then◌else◌}
 use Rattle.std.specs.Prelude.{codes, decimal, unwrap_or, not}
@@ -26,7 +26,7 @@ use Rattle.flash_laws.specs.Conn.ShortHeads.{is_error_status}
 
 -- ---- statuses
 
--- a test that holds of each of these numbers
+-- a property of each of these numbers
 abbrev OfAll : (ℕ → Type 0) → List ℕ → Type 0
 OfAll P [] = Unit {0}
 OfAll P (x ∷ xs) = P x × OfAll P xs
@@ -105,7 +105,7 @@ part-short =
 
 -- ---- lines
 
--- a number of a file has eight digits at most
+-- a number of at most 2^24 has at most eight digits
 eight : (n : ℕ) → n ≤ 16777216 → length (decimal n) ≤ 8
 eight n low =
     let most : 10 ^ 8 ≡ 100000000 = refl in
@@ -226,7 +226,7 @@ pub unsatisfiable-short : length unsatisfiable ≤ 36
 unfolding unsatisfiable
 unsatisfiable-short = body-short 416 refl
 
--- what is or is not sent with HEAD
+-- the body, or none for HEAD, is no longer than the body
 pub unless-short : (head_only : Bool) (body : List ℕ) → length (body_unless head_only body) ≤ length body
 unless-short true body = omega arith
 unless-short false body = omega arith
@@ -267,7 +267,7 @@ error-text-short status head_only close is =
     let all = length-append (head_text (refusal_head status close)) (body_unless head_only (error_body status)) in
     omega (arith, body, sent, head, all)
 
--- the head of what a script outputs
+-- the head of a script's response
 pub script-text-short : (w : Wanted) → length (script_text w) ≤ 153
 unfolding script_text
 script-text-short w = by w.chunked

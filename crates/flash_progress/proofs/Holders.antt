@@ -40,17 +40,17 @@ use Rattle.iol_laws.proofs.Streams.WaitingConn.{waiting-is, opened-conn}
 use Rattle.flash_progress.specs.Served.{MayReadConns}
 use Rattle.flash_progress.proofs.Pools.{pool-stays}
 
--- ---- what a domain may have open, by what it may read in a state
+-- ---- descriptors that a domain may have, by the pools that it may read
 
--- the pool of this connection, if it is one
+-- the domain may read the pool of this descriptor's connection, if it has one
 abbrev May : State → (d : ℕ) → Descriptor → Type 0
 May s d x = (c : ℕ) → x ≡ on.Connection c → may_read s d (conn_at s c).pool ≡ true
 
--- of each in a list
+-- likewise for each descriptor in a list
 abbrev AllMay : State → (d : ℕ) → List (Option Descriptor) → Type 0
 AllMay s d xs = (fd : ℕ) (x : Descriptor) → in_place xs fd ≡ Some x → May s d x
 
--- of each that a domain has open in another state
+-- likewise for the descriptors of each domain in the state u, by the pools that it may read in s
 abbrev EachMay : (s u : State) → Type 0
 EachMay s u = (d : ℕ) → AllMay s d (domain u d).fds
 
@@ -78,7 +78,7 @@ may-set s d n xs x all one fd y is =
 may-freed : (s u : State) (d f : ℕ) → AllMay s d (domain u d).fds → AllMay s d (fds.freed u d f)
 may-freed s u d f all fd y is = all fd y (place-freed (domain u d).fds f fd y is)
 
--- ---- where domains change
+-- ---- changes of domains
 
 each-same : (s u v : State) → v.domains ≡ u.domains → EachMay s u → EachMay s v
 each-same s u v same each d fd x is =
@@ -274,7 +274,7 @@ outside-domains s (event.Transmit e max) outside = domains-with_conn s e _
 outside-domains s event.Flush outside = refl
 outside-domains s event.DropClean outside = refl
 
--- what each may have open in the new state, by what it may read in the old one
+-- `MayReadConns`, for lists of descriptors
 each-now : (s : State) → MayReadConns s → EachMay s s
 each-now s holds d fd x is c same = holds d fd c (is ∙ ap (λ (z : Descriptor). Some z) same)
 

@@ -35,7 +35,7 @@ use Rattle.flash_progress.specs.Served.{CanRead, RunsLongEnough}
 use Rattle.flash_progress.proofs.Invariant.{MoreLaws, read-step}
 use Rattle.flash_progress.proofs.Served.{becomes_idle, serves_all}
 
--- ---- what came can be read, from a new world on
+-- ---- arrivals can be read, from a new world on
 
 -- without connections there are no unread bytes
 none-at-home : (es : List (ℕ × Connection)) → Once es → ((c : ℕ) → unwrap_or (lookup es c) no_conn ≡ no_conn)
@@ -74,7 +74,7 @@ new-reads m order none = record {
 }
 
 module _ {P : Type 0} (turns : TransitionRelation P) where
-  -- a step of a world leaves the machine, or is one event of it
+  -- a step of a world leaves the machine unchanged, or is one event of it
   abbrev Moved : State → State → Type 0
   Moved m n = (n ≡ m) ⊎ ((e : Event) × (r : Reply) × StepsTo m e r n)
 

@@ -14,14 +14,13 @@ use Rattle.iol_proc.specs.Turns.{TransitionRelation, is_would_block}
 use Rattle.iol_proc.specs.World.{Stage, copying, PlaceTurn}
 use Rattle.flash_progress.proofs.Decrease.{Decreases, IdleComes}
 
--- the most turns that a process has before it has yielded twice, after this number of yields, if none of them does
--- anything
+-- the maximum number of turns before a process has yielded twice, after this number of yields, if no turn has an effect
 abbrev own_turns : (round yields polls : ℕ) → ℕ
 own_turns round zero polls = polls + (round + 2)
 own_turns round (suc zero) polls = polls + 1
 own_turns round (suc (suc n)) polls = 0
 
--- the same, where turns may decrease the measure
+-- the same, if turns may decrease the measure
 abbrev all_turns : (round left yields polls : ℕ) → ℕ
 all_turns round left n polls = (2 * round + 3) * left + own_turns round n polls
 
@@ -41,11 +40,11 @@ no_more_left k a b c e le few =
     let step : k * a ≤ k * b = mul-le-mul_left k le in
     omega (arith, step, few)
 
--- one that has yielded twice is idle
+-- a process that has yielded twice is idle
 idle_two : (n : ℕ) → is_idle (suc (suc n) ∷ []) ≡ true
 idle_two n = grind (arith, nat_tests)
 
--- the only place
+-- the only process slot
 first_place : (i : ℕ) → i % 1 ≡ 0
 first_place i = omega arith
 
@@ -55,11 +54,11 @@ module _ {P : Type 0} (turns : TransitionRelation P) (Holds : Stage State P → 
   abbrev bound : (n : ℕ) → Stage State P → ℕ
   bound n w = all_turns round (left w) n (polls w)
 
-  -- no moment of these turns was idle, up to the last
+  -- no moment before the end of these turns was idle
   abbrev NeverIdle : (n i : ℕ) → List Went → Type 0
   NeverIdle n i ts = (j : ℕ) → j < length ts → is_idle (counted_over (n ∷ []) i (take j ts)) ≡ false
 
-  -- turns of a place are turns of the only one
+  -- a turn of a process slot is a turn of the only one
   at_first : (w mid : Stage State P) (i : ℕ) (yields : Bool) (r : Reply) → Holds w
       → PlaceTurn copying turns w (i % length w.process_slots) yields r mid
       → PlaceTurn copying turns w 0 yields r mid
@@ -67,7 +66,7 @@ module _ {P : Type 0} (turns : TransitionRelation P) (Holds : Stage State P → 
       subst (λ (k : ℕ). PlaceTurn copying turns w k yields r mid) (ap (λ (k : ℕ). i % k) (d.one w holds)
       ∙ first_place i) turn
 
-  -- each turn lowers the bound, as long as it has not yielded twice
+  -- each turn lowers the bound, as long as the process has not yielded twice
   lowers : (w mid : Stage State P) (n : ℕ) (t : Went) → Holds w → PlaceTurn copying turns w 0 t.0 t.1 mid → Allows t.1
       → is_idle (n ∷ []) ≡ false → (k : ℕ) × (counted (n ∷ []) 0 t ≡ k ∷ []) × (bound k mid < bound n w)
   lowers w mid n (true, r) holds turn allowed busy = by n busy
@@ -151,7 +150,7 @@ module _ {P : Type 0} (turns : TransitionRelation P) (Holds : Stage State P → 
           let split : (2 * round + 3) * (left w + 1) ≡ (2 * round + 3) * left w + (2 * round + 3) = grind (arith) in
           absurd (omega (arith, all, few, asked, split, enough_turns))
 
-  -- The invariant holds where they end.
+  -- The invariant holds at their end.
   pub holds-after : (w after : Stage State P) (i : ℕ) (ts : List Went) → Holds w → RoundRun copying turns w i ts after
       → AllByRecursion (λ u. Allows u.1) ts → Holds after
   holds-after w after i [] holds ran none = subst (λ (v : Stage State P). Holds v) (sym ran) holds

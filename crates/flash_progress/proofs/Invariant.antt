@@ -52,7 +52,7 @@ few-now m order c waits = by (nat_lt c m.next_conn) refl
         let le : m.next_conn ≤ c = grind (arith, nat_tests, is) in
         absurd (let none = ap (λ (k : Connection). k.accepted) (conn-unmade m c (order.conns c le)) in cc (none, waits))
 
--- ---- what is known
+-- ---- consequences
 
 -- a call adds no unread bytes
 none-come : HistoriesAddUp → (m n : State) (k : Call) (r : Reply) (c : ℕ) → IsOrderly m

@@ -1,4 +1,4 @@
--- No response of a site of files is longer than its longest file, and a head.
+-- No response of a site of files is longer than its longest file and a head.
 use Rattle.std.proofs.Common.{inl, inr, ◌≡◌, ℕ, zero, suc, ◌+◌, ◌-◌, ◌≤◌, List, [], ◌∷◌, length, drop, ap, ◌∙◌, refl}
 use Rattle.std.proofs.Common.{sym, subst, arith, Option, Some, None, true, false, Bool, length-append, length-drop}
 use Rattle.std.proofs.Common.{if◌then◌else◌}
@@ -47,7 +47,7 @@ content-short : (m : State) (f : ℕ) → length (content m f) ≤ longest_of m.
 unfolding content
 content-short m f = numbered-short m.slots f
 
--- ---- what is sent of one
+-- ---- the part of a file that is sent
 
 chosen-short : (sel : Selection) (bytes : List ℕ) → length (chosen sel bytes) ≤ length bytes + 36
 chosen-short Whole bytes = omega arith
@@ -57,7 +57,7 @@ chosen-short (Bytes first last) bytes =
     omega (arith, part, rest)
 chosen-short Unsatisfiable bytes = let error = unsatisfiable-short in omega (arith, error)
 
--- ---- texts that are made
+-- ---- heads
 
 pub text-fits : (q : Answer) (k : Payload) → IsProper q → ContentIsShort k → length (text_of q k) ≤ most_head
 text-fits (serve w) (Body a size len) proper short = let text = file-text-short w len short in omega (arith, text)
@@ -85,7 +85,7 @@ module _ (site_contents : SiteContents) (m : State) (fixed : IsFixed site_conten
   bytes_in (Found bytes) = bytes
   bytes_in (Failed status) = []
 
-  -- what is found is a file
+  -- the bytes of a found file are those of a slot, and fit one read
   found-short : (name bytes : List ℕ) → site_contents.finds name ≡ Found bytes → (length bytes ≤ longest_of m.slots)
       × (length bytes ≤ most_read)
   found-short name bytes is = by (file_called m name) refl
@@ -105,7 +105,7 @@ module _ (site_contents : SiteContents) (m : State) (fixed : IsFixed site_conten
               )
           which false e = absurd (cc (e))
 
-  -- what is not found fails with an error of this server
+  -- the status of a failed outcome is an error status of this server
   failed-status : (name : List ℕ) (status : ℕ) → site_contents.finds name ≡ Failed status
       → is_error_status status ≡ true
   failed-status name status is = by (file_called m name) refl

@@ -1,5 +1,5 @@
--- The measure of a connection of files, in turns, where no response has more than `longest` bytes: for the request in
--- progress, for the kept bytes, for the unread bytes of the stream, and for the end of the connection.
+-- The measure of a connection of files, in turns, if no response has more than `longest` bytes: for the request in
+-- progress, for the buffered bytes, for the unread bytes of the stream, and for the end of the connection.
 use Rattle.std.specs.Prelude.{ℕ, ◌+◌, ◌*◌, Bool, true, false, List, length, if◌then◌else◌}
 use Rattle.flash_http.specs.Request.{Answer}
 use Rattle.flash_laws.specs.Answers.{keeps}
@@ -35,11 +35,11 @@ reads_on q Disconnecting = false
 reads_on q Closed = false
 reads_on q d = keeps q
 
--- for the requests that are kept: each has at least one byte
+-- for the buffered requests: each has at least one byte
 abbrev pub buffered_turns : (longest : ℕ) → (on : Bool) → (buffered : List ℕ) → ℕ
 buffered_turns longest on buffered = if on then request_turns longest * length buffered else 0
 
--- for the unread bytes: each is read, and then kept
+-- for the unread bytes: each is read, and then buffered
 abbrev pub unread_turns : (longest unread : ℕ) → ℕ
 unread_turns longest unread = (request_turns longest + 2) * unread
 

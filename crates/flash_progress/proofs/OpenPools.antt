@@ -30,7 +30,7 @@ use Rattle.flash_laws.proofs.World.AllLaws.{AllLaws}
 module _ (site_contents : SiteContents) (worker_set : WorkerSet) (laws : AllLaws worker_set) (m n : State) (fd c : ℕ)
     (buffered script expected : List ℕ) (order : IsOrderly m) (lives : is_live m server ≡ true)
     (open_on : descriptor m server fd ≡ Some (on.Connection c)) (p : ℕ) where
-  -- its call is refused by a closed pool
+  -- its call is refused since a pool is closed
   abbrev Refuses : Answer → Phase → Type 0
   Refuses q d = StepsTo m (event.Call server (next_call fd (at buffered q d))) (reply.Refused (no.PoolClosed p)) n
 

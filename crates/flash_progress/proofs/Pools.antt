@@ -12,7 +12,7 @@ use Rattle.iol_laws.proofs.ConnChanges.{Change, Reads, Writes, Closes, Takes, al
 use Rattle.iol_laws.proofs.ConnChanges.{conns_turned, once_turned, turned}
 use Rattle.iol_laws.proofs.Connections.{after-with_conn, conns_conn, conns_same}
 
--- it is closed, or of this pool
+-- the connection is closed, or in this pool
 abbrev HasPool : (pool : ℕ) → Connection → Type 0
 HasPool pool k = (k.closed ≡ true) ⊎ (k.pool ≡ pool)
 
@@ -49,7 +49,7 @@ pool-called s d k c once =
     refl))
     (pool-all (conn_at s c).pool s (changes s d k) c once (inr refl))
 
--- One that is not closed has the pool that it had.
+-- A connection that is not closed is in the same pool as before.
 pub pool-stays : (s t : State) (d : ℕ) (k : Call) (r : Reply) (c : ℕ) → Once s.conns → StepsTo s (event.Call d k) r t
     → (conn_at t c).closed ≡ false
     → (conn_at t c).pool ≡ (conn_at s c).pool

@@ -55,7 +55,7 @@ use Rattle.std.proofs.lemmas.List.{length-map}
 use Rattle.flash_progress.proofs.Measure.{request_turns, ahead, reads_on, buffered_turns, unread_turns, turns_left}
 use Rattle.flash_laws.proofs.Moves.{either-way, either-next}
 
--- ---- what is made is no longer than the response
+-- ---- texts that are made are no longer than the response
 
 -- whether a response is about to be made
 abbrev is_made : Phase → Bool
@@ -106,7 +106,7 @@ is_early (Reading f) = true
 is_early (ClosingFile f k) = true
 is_early d = false
 
--- whether it is being answered: what is expected is known, and not broken off; or what was read of the stream is let go
+-- whether a response is being made or sent and is not aborted, or received input is being dropped
 abbrev is_answering : Phase → Bool
 is_answering Receiving = false
 is_answering Opening = false
@@ -145,9 +145,9 @@ ahead-is longest q Disconnecting is = absurd (cc (is))
 ahead-is longest q Closed is = absurd (cc (is))
 ahead-is longest q d is = (refl, refl)
 
--- ---- what it is after the reply
+-- ---- the phase after the reply
 
--- it is past the file, and the stream is read on only where it was
+-- the next phase is past the file, and the stream is read on only if it was before
 abbrev Goes : Answer → (d e : Phase) → Type 0
 Goes q d e = (is_early e ≡ false) × (reads_on q d ≡ false → reads_on q e ≡ false)
 
@@ -193,7 +193,7 @@ goes buffered q (DroppingSent a taken more) reply.Done received is = ends-goes q
 goes buffered q (DroppingSent a taken more) r received is = (refl, λ no. no)
 goes buffered q d r received is = absurd (cc (is))
 
--- one that is as it was is to be made again later
+-- if the phase is unchanged, its call is retried later
 not-same : (q : Answer) (d : Phase) (r : Reply) → Nears (rank q) d r d → is_later r ≡ false → ⊥
 not-same q d r (inl (inl less)) on = omega (arith, less)
 not-same q d r (inl (inr fewer)) on = let less = fewer.1 in omega (arith, less)
@@ -208,7 +208,7 @@ made-on q d is = absurd (cc (is))
 module _ (n : State) (longest : ℕ) (buffered : List ℕ) (q : Answer) (expected : List ℕ)
     (short : length expected ≤ longest)
   where
-    -- less is left of the request, and the stream is read on only where it was
+    -- fewer turns are left for the request, and the stream is read on only if it was before
     abbrev Falls : (d e : Phase) → Type 0
     Falls d e = (ahead longest q e < ahead longest q d) × (reads_on q d ≡ false → reads_on q e ≡ false)
 
@@ -291,7 +291,7 @@ module _ (n : State) (longest : ℕ) (buffered : List ℕ) (q : Answer) (expecte
     busy-falls (Aborting a more) r received busy near on has = drops a more r near on
     busy-falls d r received busy near on has = answering d r received refl near on
 
--- ---- with what is kept and unread
+-- ---- with the buffered and the unread bytes
 
 buffered-less : (longest : ℕ) (b c : Bool) (buffered : List ℕ) → (b ≡ false → c ≡ false)
     → buffered_turns longest c buffered ≤ buffered_turns longest b buffered
@@ -300,7 +300,7 @@ buffered-less longest true false buffered only = omega arith
 buffered-less longest false c buffered only =
     subst (λ (x : Bool). buffered_turns longest x buffered ≤ 0) (sym (only refl)) (omega arith)
 
--- Of a request in progress: each reply, but where its call is to be made again later.
+-- Each reply to a request in progress decreases the measure, unless its call is retried later.
 pub progress-falls : (n : State) (longest unread : ℕ) (buffered : List ℕ) (q : Answer) (d : Phase) (expected : List ℕ)
     (r : Reply) (received : List ℕ) → length expected ≤ longest
     → is_busy d ≡ true → Nears (rank q) d r (after_reply (at buffered q d) r received).phase → is_later r ≡ false
@@ -315,12 +315,12 @@ progress-falls n longest unread buffered q d expected r received short busy near
     falls.1 in
     omega (arith, less, keeps_less)
 
--- The end of a connection.
+-- The end of a connection decreases it.
 pub closes-falls : (longest unread : ℕ) (buffered : List ℕ) (q : Answer)
     → turns_left longest unread buffered q Closed < turns_left longest unread buffered q Disconnecting
 closes-falls longest unread buffered q = omega arith
 
--- What is read of the stream.
+-- Reading bytes of the stream decreases it.
 pub reads-falls : (longest unread later : ℕ) (buffered : List ℕ) (q : Answer) (a : ℕ) (received : List ℕ)
     → unread ≡ length received + later
     → turns_left longest later (after_receive buffered q (reply.Agg a) received).buffered q
@@ -377,7 +377,7 @@ begins-short m longest (refuse status head_only close) short =
     let few = made-short m (refuse status head_only close) (text_of (refuse status head_only close) (Error status))
     longest (MakingHead (Error status)) refl refl (short status head_only close refl) in omega (arith, few)
 
--- Where the first request that is kept begins, less is left, too.
+-- Beginning the first buffered request decreases it.
 pub begins-falls : (laws : WindowLaws) (m : State) (longest unread : ℕ) (buffered : List ℕ) (was q : Answer)
     (rest : List ℕ)
     → Next buffered q rest
@@ -413,7 +413,7 @@ begins-falls laws m longest unread buffered was q rest next short = by (keeps q)
 
 -- ---- a whole turn for a connection of files
 
--- less is left where no more is unread
+-- fewer unread bytes do not increase the measure
 unread-less : (longest few many : ℕ) → few ≤ many → unread_turns longest few ≤ unread_turns longest many
 unread-less longest few many le = mul-le-mul_left (request_turns longest + 2) le
 
@@ -421,7 +421,7 @@ fewer-unread : (longest few many : ℕ) (buffered : List ℕ) (q : Answer) (d : 
     → turns_left longest few buffered q d ≤ turns_left longest many buffered q d
 fewer-unread longest few many buffered q d le = let less = unread-less longest few many le in omega (arith, less)
 
--- the turns that are left for a connection as the server keeps it, where so much of its stream is unread
+-- the turns left for a connection of the server, with this number of unread bytes
 abbrev pub conn_turns : (longest unread : ℕ) → Conn → ℕ
 conn_turns longest unread x = turns_left longest unread x.buffered x.request x.phase
 
@@ -439,7 +439,7 @@ module _ (own : CallsServeTheirDomain) (may : RefusalsThatAreLeft) (why : Refusa
     abbrev now : ℕ
     now = length (conn_at n c).incoming
 
-    -- to be made ready leaves no more
+    -- making a connection ready does not increase them
     pub readies-falls : (was ready : Conn) → IsShort longest → Readies was ready
         → conn_turns longest before ready ≤ conn_turns longest before was
     readies-falls was ready short readies = by was.phase refl readies
@@ -463,7 +463,7 @@ module _ (own : CallsServeTheirDomain) (may : RefusalsThatAreLeft) (why : Refusa
             readies-same : (d : Phase) → was.phase ≡ d → ready ≡ record was { phase = d } → ready ≡ was
             readies-same d is same = same ∙ ap (λ (d : Phase). record was { phase = d }) (sym is)
 
-    -- what is read is no longer unread
+    -- the bytes received are no longer unread
     rests : (buffered : List ℕ) (q : Answer) (r : Reply) (received : List ℕ)
         → ((p : ℕ) → IsHidden m server p (conn_at m c).incoming → ⊥)
         → StepsTo m (event.Call server (call.IolRead fd (most_buffered - length buffered))) r n → Names n r received
@@ -520,7 +520,7 @@ module _ (own : CallsServeTheirDomain) (may : RefusalsThatAreLeft) (why : Refusa
             refused z left step sure = left
         by r did step names sure = absurd did
 
-    -- it is closed
+    -- the connection is closed
     closes : (buffered : List ℕ) (q : Answer) (r : Reply) → now ≤ before
         → StepsTo m (event.Call server (call.Close fd)) r n
         → is_later r ≡ false
@@ -534,7 +534,7 @@ module _ (own : CallsServeTheirDomain) (may : RefusalsThatAreLeft) (why : Refusa
         by (reply.Refused z) did step = absurd (may.closes m n server fd (on.Connection c) z lives open_on step)
         by r did step = absurd did
 
-    -- Its call is answered, and is not to be made again later: less is left for it.
+    -- A reply to its call decreases them, unless the call is retried later.
     pub turn-falls : (buffered : List ℕ) (q : Answer) (d : Phase) (was expected : List ℕ) (r : Reply)
         (received : List ℕ)
         → length expected ≤ longest → now ≤ before

@@ -44,7 +44,7 @@ use Rattle.flash_progress.proofs.Holders.{holds-new}
 use Rattle.flash_progress.proofs.Invariant.{MoreLaws, few-now, read-step}
 use Rattle.flash_progress.proofs.FileServer.{Allowed, Quiet, alone, file_server_becomes_idle, left, left-most-of}
 
--- ---- what came can be read
+-- ---- arrivals can be read
 
 -- In each reachable state.
 pub arrivals_can_be_read : ArrivalsLieInTheirPool → EachStepLeavesTheRest → EachStepKeepsOrder → ArrivalsCanBeRead
@@ -67,7 +67,7 @@ arrivals_can_be_read homes steps orders = record {
 
 -- ---- the theorem
 
--- Turns of the server, none of which lacks a resource, that are fair have allowed replies.
+-- Fair turns of the server have allowed replies, if none lacks a resource.
 allowed-all : (site_contents : SiteContents) (ds : List ℕ) → ds ≡ server ∷ [] → (i : ℕ) (ts : List Went)
     → NoneLacksResource ts
     → AreFair site_contents.refuses (rounds ds i (length ts)) (map (λ t. t.1) ts)

@@ -56,8 +56,8 @@ use Rattle.flash_laws.proofs.World.Calls.{is_client_call, calls-alone}
 use Rattle.flash_laws.proofs.World.ServerTurn.{client-awaits}
 use Rattle.flash_laws.proofs.Moves.{either-way}
 
--- What is known of the machine: heads can be made, the server may read the unread bytes of its connections, numbers are
--- low, and a call adds no unread bytes.
+-- Premises about the machine: heads can be made, the server may read the unread bytes of its connections, the numbers
+-- of descriptors and of waiting connections are bounded, and a call adds no unread bytes.
 pub record IsKnown (places conns : ℕ) (m : State) : Type 0 where
   pub room : HasRoom m
   pub seen : (fd c q : ℕ) → descriptor m server fd ≡ Some (on.Connection c) → IsHidden m server q (conn_at m c).incoming
@@ -87,7 +87,7 @@ module _ (site_contents : SiteContents) (worker_set : WorkerSet) (laws : AllLaws
     (fit : AllFit site_contents worker_set m p clients process_slots)
     (known : IsKnown places conns m) (among : IsAmong site_contents.refuses.of_server r)
     (did : Made m (turn.Make k) r n) where
-  -- what is left once the reply is filed
+  -- the measure is less once the reply is filed
   abbrev Falls : (received : List ℕ) → Type 0
   Falls received = all_left longest places conns n (filed worker_set.count after next r received) < all_left longest
       places conns m clients
@@ -244,7 +244,7 @@ module _ (site_contents : SiteContents) (worker_set : WorkerSet) (laws : AllLaws
         (ap (λ (b : Bool). client.conn_call b fd ready.0) (no-script site_contents.scripts ready.0.request files))
         step))
 
-    -- where it would block as much is left
+    -- if a call would block, its connection is unchanged
     after_reply-blocked : (buffered : List ℕ) (q : Answer) (d : Phase) (l : List ℕ)
         → conn.after_reply (conn-at buffered q d) (reply.Refused no.WouldBlock) l ≡ conn-at buffered q d
     after_reply-blocked buffered q phase.Receiving l = refl
@@ -308,7 +308,7 @@ module _ (site_contents : SiteContents) (worker_set : WorkerSet) (laws : AllLaws
             picks.ready process_slots order fixed fit there ready short in
             omega (arith, sums, most)
 
-  -- Where it would block no more is left.
+  -- If the call would block, the measure does not increase.
   pub server-waits : r ≡ reply.Refused no.WouldBlock → n ≡ m → Picks worker_set.count clients next (turn.Make k) after
       → (received : List ℕ) → Names n r received
       → all_left longest places conns n (filed worker_set.count after next r received) ≤ all_left longest places conns m
@@ -356,7 +356,7 @@ module _ (site_contents : SiteContents) (worker_set : WorkerSet) (laws : AllLaws
           × ((q : ℕ) → closes_pool (event.Call server (made-call z)) q ≡ false)) (sym picks.1) (refl, λ q. refl)
       by (At fd) is picks = kind-at fd picks is received names
 
-  -- Whoever is picked.
+  -- The call of each pick decreases the measure, if it is not retried later.
   pub server-falls : is_later r ≡ false → Picks worker_set.count clients next (turn.Make k) after → (received : List ℕ)
       → Names n r received → Falls received
   server-falls sure picks received names = by next refl picks

@@ -59,7 +59,7 @@ unfolding sum_to
 no_more zero f g each = omega arith
 no_more (suc k) f g each = let here = each k in let rest = no_more k f g each in omega (arith, here, rest)
 
--- where one is less by so much, and none is more
+-- if one term is less by this number, and none is more, the sum is less by it
 pub less_at : (most j by : ℕ) (f g : ℕ → ℕ) → j < most → g j + by ≤ f j → ((i : ℕ) → g i ≤ f i)
     → sum_to most g + by ≤ sum_to most f
 unfolding sum_to
@@ -73,14 +73,14 @@ less_at (suc k) j by f g lt less each = elim (cases_eq j k) [
       let rest = less_at k j by f g (omega (arith, lt, differ)) less each in omega (arith, here, rest))
 ]
 
--- where none below is more
+-- if no term except the k-th is more, the sum of the terms before it is not more
 below-less : (b k : ℕ) (f g : ℕ → ℕ) → b ≤ k → ((i : ℕ) → k ≢ i → g i ≤ f i) → sum_to b g ≤ sum_to b f
 unfolding sum_to
 below-less zero k f g le each = omega arith
 below-less (suc b) k f g le each = let here = each b (λ is. omega (arith, is, le)) in let rest =
     below-less b k f g (omega (arith, le)) each in omega (arith, here, rest)
 
--- where one may be more by so much
+-- if one term is more by at most this number, and no other is more, the sum is more by at most this number
 pub more_at : (most j by : ℕ) (f g : ℕ → ℕ) → g j ≤ f j + by → ((i : ℕ) → j ≢ i → g i ≤ f i)
     → sum_to most g ≤ sum_to most f + by
 unfolding sum_to
@@ -93,28 +93,28 @@ more_at (suc k) j by f g more each = elim (cases_eq j k) [
   | inr differ ↦ (let here = each k differ in let rest = more_at k j by f g more each in omega (arith, here, rest))
 ]
 
--- ---- what is left
+-- ---- the turns left
 
--- of whoever stands in a place
+-- for a client, if there is one
 abbrev pub of_place : (longest unread : ℕ) → Option Client → ℕ
 of_place longest unread None = 0
 of_place longest unread (Some x) = conn_turns longest unread x.conn
 
--- the turns that are left for whoever stands in a place
+-- for the client at an index
 abbrev pub place_turns : (longest : ℕ) → State → List (Option Client) → (fd : ℕ) → ℕ
 place_turns longest m clients fd = of_place longest (unread_at m fd) (in_place clients fd)
 
--- and for a connection that waits
+-- for a connection that waits to be accepted
 abbrev pub accept_step_turns : (longest : ℕ) → State → (c : ℕ) → ℕ
 accept_step_turns longest m c =
     if (conn_at m c).accepted then 0 else unread_turns longest (length (conn_at m c).incoming) + 7
 
--- for all places and connections below these numbers
+-- for all indices and connections below these numbers
 abbrev pub all_left : (longest places conns : ℕ) → State → List (Option Client) → ℕ
 all_left longest places conns m clients =
     sum_to places (place_turns longest m clients) + sum_to conns (accept_step_turns longest m)
 
--- ---- of files alone
+-- ---- sites of files
 
 pub no-script : (scripts : Bool) (q : Answer) → scripts ≡ false → is_for_script scripts q ≡ false
 no-script false (serve w) is = refl
@@ -149,7 +149,7 @@ expected-short site_contents longest q expected d fine short may = by (is_read d
     by true = short.heads q fine
     by false = short.short q expected fine may
 
--- the request stays
+-- the request is unchanged
 same-request : (buffered : List ℕ) (q : Answer) (d : Phase) (r : Reply) (received : List ℕ)
     → (conn.after_reply (at buffered q d) r received).request ≡ q
 same-request buffered q phase.Receiving (reply.Agg a) [] = refl
@@ -157,7 +157,7 @@ same-request buffered q phase.Receiving (reply.Agg a) (b ∷ received) = refl
 same-request buffered q phase.Receiving r received = refl
 same-request buffered q d r received = refl
 
--- one that is over is forgotten
+-- a closed client is removed, and no turns are left for it
 pub left-most : (longest unread : ℕ) (d : Phase) (x : Client)
     → of_place longest unread (left_by d x) ≤ conn_turns longest unread x.conn
 left-most longest unread phase.Closed x = omega arith
@@ -212,7 +212,7 @@ module _ (site_contents : SiteContents) (worker_set : WorkerSet) (laws : AllLaws
   abbrev later : List (Option Client)
   later = with_at clients fd (left_over after)
 
-  -- where its connection is closed nothing is left there
+  -- the call that closes its connection moves it to the phase `Closed`
   closed : cn.phase ≡ phase.Disconnecting → (conn.after_reply cn r received).phase ≡ phase.Closed
   closed is = ap (λ (d : Phase). (conn.after_reply (record cn { phase = d }) r received).phase) is
       ∙ by r (laws.the.own.closes_conn m n server fd c r order open_on did) did
@@ -258,7 +258,7 @@ module _ (site_contents : SiteContents) (worker_set : WorkerSet) (laws : AllLaws
 
   module _ (sure : is_later r ≡ false)
       (short : AreShort site_contents longest) (room : HasRoom m) (low : fd < places)
-      -- of the machine: nothing comes in by a call; what came in the server may read
+      -- premises about the machine: a call adds no unread bytes, and the server may read those of the connection
       (none_come : (c : ℕ) → length (conn_at n c).incoming ≤ length (conn_at m c).incoming)
       (seen : (c q : ℕ) → descriptor m server fd ≡ Some (on.Connection c) → IsHidden m server q (conn_at m c).incoming
       → ⊥) where
@@ -288,7 +288,7 @@ module _ (site_contents : SiteContents) (worker_set : WorkerSet) (laws : AllLaws
     abbrev now : ℕ
     now = length (conn_at n c).incoming
 
-    -- less is left for it
+    -- fewer turns are left for the connection
     falls : conn_turns longest now (conn.after_reply cn r received) < conn_turns longest before cn
     falls =
         let expected = expected-after (is_closing cn.phase) refl in
@@ -299,7 +299,7 @@ module _ (site_contents : SiteContents) (worker_set : WorkerSet) (laws : AllLaws
         (λ q. seen c q open_on) f.has expected.2
         (can-make site_contents m fd cn.buffered cn.request script cn.phase f.proper f.finds room) step_is names sure
 
-    -- in its place
+    -- those at its index, before the call
     here-before : place_turns longest m clients fd ≡ conn_turns longest before cn
     here-before = ap (λ (x : Option Client). of_place longest (unread_at m fd) x) there
         ∙ ap (λ (x : Option Descriptor). conn_turns longest (length (conn_at m (conn_of x)).incoming) cn) open_on
@@ -336,7 +336,7 @@ module _ (site_contents : SiteContents) (worker_set : WorkerSet) (laws : AllLaws
             (conn.after_reply cn r received)) (sym open_still)
             (left-most longest now (conn.after_reply cn r received).phase after)
 
-    -- in the others as much as before
+    -- at another index no more are left
     elsewhere : (gd : ℕ) → fd ≢ gd → place_turns longest n later gd ≤ place_turns longest m clients gd
     elsewhere gd differ =
         subst (λ (x : Option Client). of_place longest (unread_at n gd) x ≤ place_turns longest m clients gd)
@@ -379,7 +379,7 @@ module _ (site_contents : SiteContents) (worker_set : WorkerSet) (laws : AllLaws
       | inr differ ↦ elsewhere gd differ
     ]
 
-    -- no more waits at the accept step
+    -- for waiting connections no more are left
     each-accept_step : (k : ℕ) → accept_step_turns longest n k ≤ accept_step_turns longest m k
     each-accept_step k = elim (cases_eq c k) [
       | inl same ↦ subst (λ (z : ℕ). accept_step_turns longest n z ≤ accept_step_turns longest m z) same
@@ -398,7 +398,7 @@ module _ (site_contents : SiteContents) (worker_set : WorkerSet) (laws : AllLaws
           omega (arith, e))
     ]
 
-    -- So less is left of all.
+    -- So fewer turns are left in all.
     pub call-falls : (worker : ℕ)
         → all_left longest places conns n
         (with_at clients fd (left_over (after_reply site_contents.scripts worker (of cn None script) r received)))
@@ -438,7 +438,7 @@ module _ (site_contents : SiteContents) (worker_set : WorkerSet) (laws : AllLaws
       ∙ ap (λ (z : Client). Some z) ready.2) ∙ ap (λ (u : ℕ). conn_turns longest u ready.0) reads in
       omega (arith, less, was, now_is)
 
-  -- that leaves no more of all
+  -- this leaves no more turns in all
   pub ready-left : all_left longest places conns m (with_at clients fd (Some y)) ≤ all_left longest places conns m
       clients
   ready-left =
@@ -457,7 +457,7 @@ module _ (site_contents : SiteContents) (worker_set : WorkerSet) (laws : AllLaws
             omega (arith, e))
       ]
 
--- ---- one more is accepted
+-- ---- a connection is accepted
 
 module _ (site_contents : SiteContents) (worker_set : WorkerSet) (laws : AllLaws worker_set) (longest places conns : ℕ)
     (m n : State) (p : Past) (clients : List (Option Client)) (fd : ℕ)
@@ -474,7 +474,7 @@ module _ (site_contents : SiteContents) (worker_set : WorkerSet) (laws : AllLaws
   abbrev entered : List (Option Client)
   entered = with_at clients fd (Some new_client)
 
-  -- in its place, for what came on it
+  -- those at its index, by the bytes received on it
   here-entered : place_turns longest n entered fd ≡ conn_turns longest came conn.new_connection
   here-entered = ap (λ (x : Option Client). of_place longest (unread_at n fd) x) (at-same clients fd (Some new_client))
       ∙ (ap (λ (x : Option Descriptor). conn_turns longest (length (conn_at n (conn_of x)).incoming)
@@ -510,7 +510,7 @@ module _ (site_contents : SiteContents) (worker_set : WorkerSet) (laws : AllLaws
           let now_is = ap (λ (u : ℕ). of_place longest u (Some y)) e in
           omega (arith, was, now_is)
 
-  -- it waits no more
+  -- no more are left for waiting connections
   each-accept_step-then : (k : ℕ) → accept_step_turns longest n k ≤ accept_step_turns longest m k
   each-accept_step-then k = elim (cases_eq takes.conn k) [
     | inl same ↦ subst (λ (z : ℕ). accept_step_turns longest n z ≤ accept_step_turns longest m z) same (let e =
@@ -524,7 +524,7 @@ module _ (site_contents : SiteContents) (worker_set : WorkerSet) (laws : AllLaws
       entered-accept_step =
           ap (λ (z : Connection). if z.accepted then 0 else unread_turns longest (length z.incoming) + 7) takes.conn_is
 
-  -- So less is left of all.
+  -- So fewer turns are left in all.
   pub accept-falls : all_left longest places conns n (with_at clients fd (Some new_client)) < all_left longest places
       conns m clients
   accept-falls =

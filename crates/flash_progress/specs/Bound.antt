@@ -26,7 +26,7 @@ longest_response m = longest_of m.slots + most_head
 
 -- ---- the turns of one connection
 
--- for this number of unanswered bytes of its stream, where no response is longer than `longest`
+-- for this number of unanswered bytes of its stream, if no response is longer than `longest`
 abbrev pub turns_for : (longest bytes : ℕ) → ℕ
 turns_for longest bytes = (3 * longest + 22) * (bytes + 1)
 

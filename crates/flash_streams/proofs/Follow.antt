@@ -27,7 +27,7 @@ order_then (q ∷ r ∷ qs) ps keep order =
     let both = and_parts (keeps q) (list_all (λ p. keeps p) (r ∷ qs)) keep in
     and_from (keeps q) (last_may_close (r ∷ (qs ++ ps))) both.0 (order_then (r ∷ qs) ps both.1 order)
 
--- the last request is that of what follows, if this has one
+-- if the following stream has a request, its last request is the last of all
 closes_then : (qs : List Answer) (p : Answer) (ps : List Answer) → last_closes (p ∷ ps) ≡ true
     → last_closes (qs ++ p ∷ ps) ≡ true
 closes_then [] p ps last = last

@@ -1,4 +1,4 @@
--- After the reply to its call, a client without running script has the data for its next step, with the known results.
+-- After a reply to its call, a client without a running script has the data for its next step, with the known results.
 use Rattle.std.proofs.Common.{◌≡◌, ℕ, ◌+◌, List, [], ◌∷◌, length, take, drop, refl, sym, subst, Some, None, true, false}
 use Rattle.std.proofs.Common.{Bool, if◌then◌else◌}
 use Rattle.iol_core.specs.Access.{HasAccess}
@@ -48,7 +48,7 @@ untrue : (b : Bool) → (b ≡ true → ⊥) → b ≡ false
 untrue true never = absurd (never refl)
 untrue false never = refl
 
--- with nothing being sent, nothing begins to be sent
+-- if nothing is being sent, and no script is to run, the next phase sends nothing
 silent-after_reply : (buffered : List ℕ) (q : Answer) (d : Phase) (r : Reply) (received : List ℕ) → is_silent d ≡ true
     → is_read d ≡ false → is_closing d ≡ false
     → is_silent (conn.after_reply (at buffered q d) r received).phase ≡ true
@@ -67,7 +67,7 @@ silent-after_reply buffered q (DroppingWhole a Script) r received silent unread 
 silent-after_reply buffered q Disconnecting r received silent unread busy = absurd (cc (busy))
 silent-after_reply buffered q d r received silent unread busy = absurd (cc (silent))
 
--- after a run nothing more is taken of its response
+-- the condition on the phase after a run (`IsAfter`) holds of the next phase, too
 after-after_reply : (w : Wanted) (o : Progress) (buffered : List ℕ) (d : Phase) (r : Reply) (received : List ℕ)
     → is_silent d ≡ true → is_read d ≡ false → is_closing d ≡ false
     → IsAfter w o d → IsAfter w o (conn.after_reply (at buffered (serve w) d) r received).phase
@@ -87,7 +87,7 @@ after-after_reply w o buffered (DroppingWhole a Script) r received silent unread
 after-after_reply w o buffered Disconnecting r received silent unread busy after = absurd (cc (busy))
 after-after_reply w o buffered d r received silent unread busy after = absurd (cc (silent))
 
--- the text of a script has run
+-- if no text of a script is to run, `ReadsOn` is `IsAfter`
 pub no-text : (b : Bool) (w : Wanted) (x : Client) (text : List ℕ) (o : Progress) → b ≡ false → IsAfter w o x.conn.phase
     → ReadsOn b w x text o
 no-text true w x text o is after = absurd (cc (is))
@@ -105,12 +105,12 @@ module _ (steps : EachStepLeavesTheRest) (own : CallsServeTheirDomain) (files : 
   abbrev of_phase : Answer → Phase → Client
   of_phase q d = client (at buffered q d) None script
 
-  -- what is known after a reply, with which the machine has what is needed
+  -- the known part of the response after a reply, for which the machine has the data of the next step
   abbrev AfterReply : (b : Bool) → Answer → Phase → Reply → (received : List ℕ) → Known → Type 0
   AfterReply b q d r received before = (after : Known) × ConnLearns b d r received before after
       × HasKnown scripts n (file_after_reply b (of_phase q d) r received) after
 
-  -- ---- of a file
+  -- ---- a request for a file
 
   abbrev AfterReplyOfFile : Answer → Phase → Reply → (received : List ℕ) → Outcome → Type 0
   AfterReplyOfFile q d r received before = (after : Outcome) × single.Learns d r received before after
@@ -201,7 +201,7 @@ module _ (steps : EachStepLeavesTheRest) (own : CallsServeTheirDomain) (files : 
       )
       by r did names = absurd did
 
-  -- a request for a script, of which no text that runs is read
+  -- a request for a script: no text that can run was read
   script-on : (q : Answer) (d : Phase) (r : Reply) (received : List ℕ) (before : Outcome)
       → is_for_script scripts q ≡ true → is_closing d ≡ false
       → HasFile m (of_phase q d) before → StepsTo m (event.Call server (conn_call true fd (at buffered q d))) r n
@@ -228,7 +228,7 @@ module _ (steps : EachStepLeavesTheRest) (own : CallsServeTheirDomain) (files : 
   of-file q d r received before false for_script busy has step names =
       (let got = file-on q d r received before busy has step names in (OfFile got.0, (got.0, got.1, refl), got.2))
 
-  -- ---- of a script that can run
+  -- ---- a script that can run
 
   module _ (w : Wanted) (text : List ℕ) (o : Progress) (r : Reply) (received : List ℕ) where
     abbrev Was : Phase → Type 0
@@ -245,7 +245,7 @@ module _ (steps : EachStepLeavesTheRest) (own : CallsServeTheirDomain) (files : 
         has.has
         step names
 
-    -- with no text that is still to run
+    -- a phase without a text that is to run
     plain-on : (d : Phase) → Was d → is_read d ≡ false → is_closing d ≡ false
         → StepsTo m (event.Call server (conn.next_call fd (at buffered (serve w) d))) r n
         → Names n r received → Goes d

@@ -42,7 +42,7 @@ module _ (m n : State) (fd : ℕ) (buffered : List ℕ) (q : Answer) (script : L
       moving.moved m n fd buffered q (DroppingWhole b Script) r received going step same
   moved other d r received going step same = moving.moved m n fd buffered q d r received going step same
 
-  -- a descriptor comes by opening the file
+  -- the next phase has a descriptor that the call returned
   opened : (b : Bool) (d : Phase) (f : ℕ) (received : List ℕ)
       → StepsTo m (event.Call server (conn_call b fd (at buffered q d))) (reply.Fd f) n
       → has_fd (file_after_reply b (client (at buffered q d) None script) (reply.Fd f) received) f ≡ true
@@ -51,7 +51,7 @@ module _ (m n : State) (fd : ℕ) (buffered : List ℕ) (q : Answer) (script : L
   opened true (DroppingWhole b Script) f received step = (let e = step.1 in absurd (cc (e)))
   opened true d f received step = (let e = step.1 in absurd (cc (e)))
 
--- a run that goes on as it was has not moved
+-- if the client still has the run y, the reply left y unchanged
 stood : (over : Bool) (x : Client) (y z : Running) → (proceeds false over x y z).run ≡ Some y → z ≡ y
 stood true x y z same = absurd (cc (same))
 stood false x y z same = some-inj z y same

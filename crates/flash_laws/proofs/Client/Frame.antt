@@ -1,4 +1,5 @@
--- Replies leave a client's request unchanged, and extend its buffered stream; and the script whose text it holds.
+-- Replies leave a client's request unchanged, and extend its buffered stream. A client holds no text except that of a
+-- script that will run.
 use Rattle.std.proofs.Common.{◌≡◌, ℕ, List, [], ◌∷◌, ap, ◌∙◌, refl, sym, subst, Option, Some, None, true, false, Bool}
 use Rattle.std.proofs.Common.{append-nil}
 use Rattle.std.specs.Prelude.{◌&&◌, not}
@@ -33,9 +34,9 @@ client-whole scripts fd f buffered q d None script none for_script reads =
     ∙ ap (λ (e : Phase). conn_call true fd (at buffered q e)) reads
 client-whole scripts fd f buffered q d (Some y) script none for_script reads = absurd (cc (none))
 
--- ---- the request, and what is kept of the stream
+-- ---- the request, and the buffered input
 
--- as one was, but for what is received of the stream
+-- the request is unchanged, and the buffered input is extended by the bytes received
 abbrev Keeps : Client → Reply → (received : List ℕ) → Client → Type 0
 Keeps x r received y = (y.conn.request ≡ x.conn.request) × (y.conn.buffered ≡ buffered_after x r received)
 
@@ -51,7 +52,7 @@ file-keeps buffered q (DroppingWhole a (Body b size len)) script r received true
 file-keeps buffered q d script r received false = (refl, refl)
 file-keeps buffered q d script r received true = (refl, refl)
 
--- a run leaves both as they are
+-- a run changes neither
 run-keeps : (x : Client) (y z : Running) (was over : Bool) → ((proceeds was over x y z).conn.request ≡ x.conn.request)
     × ((proceeds was over x y z).conn.buffered ≡ x.conn.buffered)
 run-keeps x y z false true = (refl, refl)
@@ -71,9 +72,9 @@ client-keeps scripts worker buffered (serve w) d (Some y) script r received =
     (is_over (running.after_reply worker w y r received))
 client-keeps scripts worker buffered (refuse status head_only close) d (Some y) script r received = (refl, refl)
 
--- ---- of what script it holds the text
+-- ---- the text that it holds
 
--- a test of three, where the last is false, or the second
+-- a conjunction whose last part is false
 last-false : (a b : Bool) → (a && (b && false)) ≡ false
 last-false false b = refl
 last-false true false = refl
@@ -87,13 +88,13 @@ module _ (scripts : Bool) (buffered : List ℕ) (q : Answer) (script : List ℕ)
   abbrev plain : Phase → Client
   plain d = client (at buffered q d) None script
 
-  -- where no script's text was read none is held
+  -- if no script's text was read, the client holds none
   unheld : (d : Phase) → is_read d ≡ false → HoldsNoOther scripts (plain d) → script ≡ []
   unheld d unread holds =
       holds (ap (λ b. is_for_script scripts q && (not (is_head_only q) && b)) unread
       ∙ last-false (is_for_script scripts q) (not (is_head_only q)))
 
-  -- the text is kept that is to run
+  -- a text that will not run is not held
   read-holds : (f n : ℕ) (received : List ℕ) (b h runs : Bool) → b ≡ true
       → (b && (not h && is_read (ClosingFile f (TextOf n runs)))) ≡ false → buffered_if h runs received ≡ []
   read-holds f n received b true runs is none = refl
@@ -132,7 +133,7 @@ module _ (scripts : Bool) (buffered : List ℕ) (q : Answer) (script : List ℕ)
       by (serve w) holds = holds
       by (refuse status head_only close) holds = holds
 
-  -- for a request that is not for a script none is held
+  -- after a reply to a client without a run, no other text is held
   file-holds : (d : Phase) (r : Reply) (received : List ℕ) (b : Bool) → is_for_script scripts q ≡ b
       → HoldsNoOther scripts (plain d)
       → HoldsNoOther scripts (file_after_reply b (plain d) r received)
@@ -148,7 +149,7 @@ module _ (scripts : Bool) (buffered : List ℕ) (q : Answer) (script : List ℕ)
   stays-ready d y ready holds same is =
       subst (λ (x : Client). HoldsNoOther scripts x) (sym (is ∙ ap (λ (c : Conn). client c None script) same)) holds
 
-  -- a request begins with no text held
+  -- a client that was made ready holds no other text
   begun-holds : (d : Phase) (y : Client) (b : Bool) → is_read d ≡ b → HoldsNoOther scripts (plain d)
       → Readies (plain d) y → HoldsNoOther scripts y
   begun-holds d y false unread holds begun = λ none. ap (λ (z : Client). z.script) begun.2 ∙ unheld d unread holds
@@ -158,7 +159,7 @@ module _ (scripts : Bool) (buffered : List ℕ) (q : Answer) (script : List ℕ)
       stays-ready (DroppingWhole a Script) y begun.0 holds begun.1 begun.2
   begun-holds d y true read holds begun = absurd (cc (read))
 
--- what a run's job is made of is held until it is made
+-- a run that no longer needs the text does not hold it
 text-holds : (script : List ℕ) (was now : Bool) → (was ≡ false → script ≡ []) → now ≡ false
     → text_on was now script ≡ []
 text-holds script true false holds none = refl

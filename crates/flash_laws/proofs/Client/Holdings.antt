@@ -44,10 +44,10 @@ use Rattle.flash_laws.proofs.Lists.{clash}
 use Rattle.flash_laws.proofs.Run.ReplyUse.{runs_keep}
 use Rattle.flash_laws.proofs.Run.Ends.{call-text}
 
--- ---- what it uses is what its connection uses, where no run has begun
+-- ---- before a run begins: the objects of the connection
 
--- told of a client is what is told of its connection, where it is so of the text of a script, and of one that is
--- dropped
+-- After a reply to a client without a run, `client_has` of it is `conn_has` of its connection's phase, if this holds
+-- after the text of a script was read, and after it was dropped.
 script-as : {A : Type 0} (client_has : Client → A) (conn_has : Phase → A) (buffered : List ℕ) (q : Answer) (d : Phase)
     (script : List ℕ) (r : Reply) (received : List ℕ) (b : Bool)
     → ((c : Conn) (text : List ℕ) → client_has (client c None text) ≡ conn_has c.phase)
@@ -108,7 +108,7 @@ script-opens buffered q d script r received g b =
     text f (reply.Agg n) = refl
     text f r = refl
 
--- ---- what a run uses it uses until it is over, and its connection nothing then
+-- ---- the objects of a run, until it is over
 
 pub on-uses : (x : Client) (y z : Running) (a : ℕ) (was over : Bool) → is_over z ≡ over
     → uses_agg (proceeds was over x y z) a ≡ running.uses_agg z a
@@ -129,7 +129,7 @@ on-ends x y z g false true is unused = refl
 
 module _ (come : AggregatesComeAndGo) (own : CallsServeTheirDomain) (files : FileCallsServeTheirDomain) (m n : State)
     (order : IsOrderly m) where
-  -- ---- what comes
+  -- ---- new aggregates
 
   pub conn-brought : (fd c : ℕ) (buffered : List ℕ) (q : Answer) (d : Phase) (expected : List ℕ) (r : Reply)
       (received bytes : List ℕ) (a : ℕ) (b : Bool)
@@ -196,7 +196,7 @@ module _ (come : AggregatesComeAndGo) (own : CallsServeTheirDomain) (files : Fil
       step
       before after
 
-  -- ---- what is used no more
+  -- ---- aggregates no longer used
 
   gone : (fd : ℕ) (buffered : List ℕ) (q : Answer) (d : Phase) (r : Reply) (received : List ℕ) (a : ℕ)
       → StepsTo m (event.Call server (conn.next_call fd (at buffered q d))) r n → conn.uses_agg d a ≡ true

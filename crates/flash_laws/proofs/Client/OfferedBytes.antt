@@ -70,7 +70,7 @@ starts scripts m fd buffered (refuse status head_only close) o =
 
 -- ---- a reply to a run
 
--- a run that is over leaves the connection at rest, or to be closed
+-- once a run is over, the machine has the data of a client without a run
 end-has : (scripts : Bool) (n : State) (w : Wanted) (buffered text : List ℕ) (o : Progress) (d : Phase)
     → w.head_only ≡ false → IsEnd d × IsAfter w o d
     → HasNoRun scripts n w (client (at buffered (serve w) d) None []) text o
@@ -192,7 +192,7 @@ replied steps own files scripts m n fd c worker buffered (serve w) d (Some y) sc
     run-on steps own scripts m n order fd c open_on buffered d script worker w y r received text o hired going has step
     names
 
--- ---- what others do
+-- ---- calls and events of others
 
 stays : EachStepLeavesTheRest
     → (scripts : Bool) (m n : State) (buffered : List ℕ) (q : Answer) (d : Phase) (run : Option Running)
@@ -228,12 +228,12 @@ stays steps scripts m n buffered (serve w) d (Some y) script e r (OfScript text 
   buffered = has.buffered;
 }
 
--- ---- what is offered
+-- ---- offered bytes
 
 abbrev Writes : (scripts : Bool) → State → (fd g a : ℕ) → Client → Known → Type 0
 Writes scripts m fd g a x known = ((g ≡ fd) × IsNextOf m x.conn.request known a (taken_by x)) ⊎ HandsJob x g a
 
--- with what is known the response is one
+-- if only one response is possible, its next bytes are the next of each possible response
 one-next : (m : State) (q : Answer) (k : Known) (expected : List ℕ) (a taken : ℕ) → known.taken_before k ≡ 0
     → ((r : List ℕ) → known.MayAnswer q k r → r ≡ expected)
     → Next m expected a taken → IsNextOf m q k a taken
@@ -250,7 +250,7 @@ one-next m q k expected a taken none may next = record {
       );
 }
 
--- while nothing is sent nothing is written
+-- a phase that sends nothing makes no call that writes
 silent-writes : (fd g a : ℕ) (buffered : List ℕ) (q : Answer) (d : Phase) → is_silent d ≡ true
     → conn.next_call fd (at buffered q d) ≡ call.IolWrite g a → ⊥
 silent-writes fd g a buffered q (SendingWhole s) silent is = cc (silent)
@@ -258,7 +258,7 @@ silent-writes fd g a buffered q (SendingPiece s piece) silent is = cc (silent)
 silent-writes fd g a buffered q (Reading f) silent is = cc (silent)
 silent-writes fd g a buffered q d silent is = cc (is)
 
--- the phases of any response write to their connection
+-- a phase that sends writes to its own connection
 own-fd : (fd g a : ℕ) (w : Wanted) (d : Phase) → conn.next_call fd (in_phase w d) ≡ call.IolWrite g a → g ≡ fd
 own-fd fd g a w (SendingWhole s) is = sym (ap (λ k. written_fd k fd) is)
 own-fd fd g a w (SendingPiece s piece) is = sym (ap (λ k. written_fd k fd) is)
@@ -269,7 +269,7 @@ own-fd fd g a w (Reading f) is = absurd (by w.head_only is)
     by false is = cc (is)
 own-fd fd g a w d is = absurd (cc (is))
 
--- what is next of what a script puts out is next of the response
+-- the next bytes of the run's response are the next bytes of the response to the request
 known-next : (m : State) (w : Wanted) (d : Phase) (buffered text : List ℕ) (o : Progress) (a taken : ℕ)
     → w.head_only ≡ false → IsNextOfRun m w o a taken
     → IsNextOf m (serve w) (OfScript text o) a taken
@@ -331,7 +331,7 @@ offers scripts m fd g a buffered (serve w) d None script (OfScript text o) has i
 offers scripts m fd g a buffered (serve w) d (Some y) script (OfScript text o) has is =
     run-writes scripts m fd g a buffered w d y script text o has is
 
--- ---- a client for whose request no script is run
+-- ---- a client whose request is not for a script
 
 as-its-conn : (scripts : Bool) (m : State) (buffered : List ℕ) (q : Answer) (d : Phase) (script : List ℕ) (o : Outcome)
     → is_for_script scripts q ≡ false

@@ -39,13 +39,13 @@ use Rattle.flash_laws.specs.Site.{server}
 use Rattle.flash_laws.proofs.Forms.{at}
 use Rattle.flash_laws.proofs.Moves.{after-done, after-agg, after-write, after-open, after-read, either-way, either-next}
 
--- ---- what is offered
+-- ---- offered bytes
 
 abbrev pub Next : State → (expected : List ℕ) → (a taken : ℕ) → Type 0
 Next m expected a taken = (bytes : List ℕ) × (after : List ℕ) × (readable_at m server a ≡ Some bytes)
     × (bytes ++ after ≡ drop taken expected)
 
--- the descriptor, and the aggregate, that a call writes
+-- the descriptor that a call writes to, and the aggregate that it writes
 abbrev pub written_fd : Call → (other : ℕ) → ℕ
 written_fd (call.IolWrite fd a) other = fd
 written_fd k other = other
@@ -90,16 +90,16 @@ next-expected m fd g a buffered q (SendingPiece s piece) expected has is =
 next-expected m fd g a buffered q (Reading f) expected has is = absurd (reads-none (is_head_only q) f g a is)
 next-expected m fd g a buffered q d expected has is = absurd (cc (is))
 
--- what is written for a script's request is what would be written for a file's
+-- a write for a script's request is also the write for a file's request
 pub script-writes : (fd g a : ℕ) (buffered : List ℕ) (q : Answer) (d : Phase) (b : Bool)
     → conn_call b fd (at buffered q d) ≡ call.IolWrite g a → next_call fd (at buffered q d) ≡ call.IolWrite g a
 script-writes fd g a buffered q d false is = is
 script-writes fd g a buffered q (Reading f) true is = absurd (cc (is))
 script-writes fd g a buffered q d true is = is
 
--- ---- once all is read nothing is opened or read any more
+-- ---- once the file is read, no file is opened or read
 
--- whether nothing of a file, or of a script, is opened, read, told or dropped
+-- whether the phase does not open, read or close a file, or drop its aggregate
 abbrev is_apart : Phase → Bool
 is_apart Opening = false
 is_apart (Reading f) = false
@@ -107,7 +107,7 @@ is_apart (ClosingFile f k) = false
 is_apart (DroppingWhole a k) = false
 is_apart d = true
 
--- whether a file, or a script, is still to be opened or read, or its text is there
+-- whether a file, or a script, is still to be opened or read, or the text of a script is to run
 abbrev is_reading : Phase → Bool
 is_reading d = is_read d || is_opening d
 
@@ -170,7 +170,7 @@ resolved-read q k = refl
 abbrev NotRead : Phase → Type 0
 NotRead d = is_read d ≡ false
 
--- no script's text is read by a call for a file
+-- a call for a file reads no text of a script
 pub unread-after_reply : (buffered : List ℕ) (q : Answer) (d : Phase) (r : Reply) (received : List ℕ)
     → is_read d ≡ false
     → is_read (after_reply (at buffered q d) r received).phase ≡ false
@@ -182,7 +182,7 @@ unread-after_reply buffered q d r received was =
     (neither-true (is_read (after_reply (at buffered q d) r received).phase)
     (is_opening (after_reply (at buffered q d) r received).phase) (apart-unread buffered q d r received refl)).0
 
--- and what is read is not read again
+-- once the file is read, no file is opened or read
 pub read-after_reply : (buffered : List ℕ) (q : Answer) (d : Phase) (r : Reply) (received : List ℕ)
     → is_opening d ≡ false
     → is_opening (after_reply (at buffered q d) r received).phase ≡ false
@@ -195,7 +195,7 @@ read-after_reply buffered q d r received was =
     (neither-true (is_read (after_reply (at buffered q d) r received).phase)
     (is_opening (after_reply (at buffered q d) r received).phase) (apart-unread buffered q d r received refl)).1
 
--- the request stays the same
+-- the request is unchanged
 pub asks-after_reply : (buffered : List ℕ) (q : Answer) (d : Phase) (r : Reply) (received : List ℕ)
     → (after_reply (at buffered q d) r received).request ≡ q
 asks-after_reply buffered q Receiving (reply.Agg n) [] = refl

@@ -48,9 +48,9 @@ use Rattle.flash_laws.proofs.Run.Ends.{IsEnd, run-ends, call-text}
 use Rattle.flash_laws.proofs.Run.Progress.{run_calls, rank as run_rank, nears as run_nears}
 use Rattle.flash_laws.proofs.Run.OfferedBytes as running_on
 
--- ---- how far it is
+-- ---- the rank
 
--- the calls of a run that is to begin
+-- the calls of a run that will begin
 abbrev to_run : Answer → ℕ
 to_run (serve w) = run_calls w AwaitingWorker
 to_run (refuse status head_only close) = 0
@@ -72,7 +72,7 @@ rank x = by x.run
 none-more : (q : Answer) (d : Phase) → is_read d ≡ false → more_left q d ≡ 0
 none-more q d is = ap (λ b. if b then to_run q else 0) is
 
--- what is said of a file's phase is so of the client
+-- `Nears` of the phase of a connection implies `Nears` of the client
 lift : (buffered : List ℕ) (q : Answer) (script : List ℕ) (d e : Phase) (r : Reply) → is_read d ≡ false
     → is_read e ≡ false
     → Nears (file.rank q) d r e
@@ -85,7 +85,7 @@ lift buffered q script d e r was now (inl (inr fewer)) =
     inl (inr (fewer.0, omega (arith, less, one, two)))
 lift buffered q script d e r was now (inr same) = inr (ap (λ z. client (at buffered q z) None script) same.0, same.1)
 
--- ---- phases in which a request for a script goes as one for a file
+-- ---- phases in which the calls for a script may differ from those for a file
 
 abbrev pub is_scripts : Phase → Bool
 is_scripts (Reading f) = true
@@ -105,7 +105,7 @@ after_reply-plain buffered q script (Reading f) r received plain = absurd (cc (p
 after_reply-plain buffered q script (DroppingWhole a Script) r received plain = absurd (cc (plain))
 after_reply-plain buffered q script d r received plain = refl
 
--- a busy connection keeps what it has kept, and its request
+-- a busy connection keeps its buffered input and its request
 conn-at : (buffered : List ℕ) (q : Answer) (d : Phase) (r : Reply) (received : List ℕ) → is_busy d ≡ true
     → conn.after_reply (at buffered q d) r received
     ≡ at buffered q (conn.after_reply (at buffered q d) r received).phase
@@ -140,7 +140,7 @@ module _ (own : CallsServeTheirDomain) (may : RefusalsThatAreLeft) (m n : State)
   text-near q f (reply.Refused z) received step = inl (inl (omega arith))
   text-near q f r received step = let e = step.1 in absurd (cc (e))
 
-  -- a request for a file, or for a script of which no text that runs is read
+  -- a request for a file, or for a script if no text that can run was read
   of-file : (b : Bool) (q : Answer) (d : Phase) (expected : List ℕ) (r : Reply) (received : List ℕ) → is_busy d ≡ true
       → is_read d ≡ false → Has m q expected d
       → CanMake m (conn_call b fd (at buffered q d))
@@ -178,7 +178,7 @@ module _ (own : CallsServeTheirDomain) (may : RefusalsThatAreLeft) (m n : State)
 
   -- ---- a script that can run
 
-  -- its text is let go, and then it runs, but for HEAD
+  -- its aggregate is dropped, and then it runs, except for HEAD
   spared-near : (w : Wanted) (a : ℕ) (bytes : List ℕ) (r : Reply) (received : List ℕ)
       → StepsTo m (event.Call server (call.AggDrop a)) r n
       → readable_at m server a ≡ Some bytes
@@ -243,7 +243,7 @@ text-same : (b : Bool) (script : List ℕ) → text_on b b script ≡ script
 text-same true script = refl
 text-same false script = refl
 
--- a run that is as it was leaves the client so
+-- if its run is unchanged, the client is unchanged
 stands : (c : Conn) (script : List ℕ) (y z : Running) → z ≡ y
     → proceeds false false (client c (Some y) script) y z ≡ client c (Some y) script
 stands c script y z same =
@@ -259,7 +259,7 @@ end-below buffered w e k ends some = elim ends [
       (inr (refl, some))
 ]
 
--- the client with its run gone on from y to z
+-- `Nears` of a client whose run moves from y to z
 abbrev Goes : (buffered : List ℕ) → Phase → (script : List ℕ) → Wanted → (y z : Running) → Reply → (was over : Bool)
     → Type 0
 Goes buffered d script w y z r was over =
@@ -269,7 +269,7 @@ Goes buffered d script w y z r was over =
 module _ (steps : EachStepLeavesTheRest) (own : CallsServeTheirDomain) (may : RefusalsThatAreLeft) (m n : State)
     (order : IsOrderly m) (lives : is_live m server ≡ true)
     (fd c : ℕ) (open_on : descriptor m server fd ≡ Some (on.Connection c)) where
-  -- one that is over leaves the connection at rest, or to be closed
+  -- after a run is over, the connection is idle, or is to be closed
   over-ends : (job : ℕ → List ℕ) (worker : ℕ) (w : Wanted) (y : Running) (r : Reply) (received : List ℕ) (o : Progress)
       → is_over y ≡ false → HasRun job m w o y
       → StepsTo m (event.Call server (running.next_call job fd w y)) r n → Names n r received

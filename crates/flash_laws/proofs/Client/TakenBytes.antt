@@ -40,7 +40,7 @@ use Rattle.flash_laws.proofs.Run.Ends.{call-text}
 use Rattle.flash_laws.proofs.Run.Takes as run_takes
 use Rattle.flash_laws.proofs.Conn.TakenBytes as file
 
--- ---- what was taken before
+-- ---- the bytes taken before
 
 text-none : (text : List ℕ) → taken_before (of_text text) ≡ 0
 text-none text = by (can_run text)
@@ -61,7 +61,7 @@ script-learns : (b : Bool) (d : Phase) (r : Reply) (received text : List ℕ) (o
 script-learns true (Reading f) (reply.Agg n) received text o after read l = absurd (cc (read))
 script-learns b d r received text o after read l = ap (λ (k : Known). taken_before k) l
 
--- ---- where no script runs
+-- ---- without a run
 
 reading-none : (f : ℕ) (r : Reply) (received : List ℕ) → taken_of (after_text f r received) ≡ 0
 reading-none f (reply.Agg n) received = refl
@@ -120,7 +120,7 @@ module _ (own : CallsServeTheirDomain) (m n : State) (order : IsOrderly m) (fd c
           (ap (λ (z : Client). drops_rest z) (sym same) ∙ on) (ap (λ (z : Client). is_working z) (sym same) ∙ busy)
           ∙ ap (λ (k : Call). taken_of d + newly_taken fd k r) (sym asks))
 
--- ---- where one runs
+-- ---- with a run
 
 end-taken : (z : Running) → is_over z ≡ true → taken_of (after_run z) ≡ run_taken z
 end-taken (Finishing d) over = refl

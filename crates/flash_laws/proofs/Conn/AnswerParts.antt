@@ -72,7 +72,7 @@ module _ (steps : EachStepLeavesTheRest) (own : CallsServeTheirDomain) (m n : St
   unchanged : (q : Answer) (d : Phase) (expected : List ℕ) → Has m q expected d → n ≡ m → Has n q expected d
   unchanged q d expected has same = subst (λ (s : State). Has s q expected d) (sym same) has
 
-  -- the whole of what is sent of a file
+  -- the response for a file: its head, and the selected bytes
   sent-whole : (w : Wanted) (a len : ℕ) (expected : List ℕ) (h : HasFile m w expected a len) (sel : Selection)
       → selected w.range len ≡ sel → expected ≡ file_text w len ++ chosen sel h.bytes
   sent-whole w a len expected h sel is =
@@ -159,7 +159,7 @@ module _ (steps : EachStepLeavesTheRest) (own : CallsServeTheirDomain) (m n : St
       (not-equal a b (λ e. let p = ap (λ z. content_agg k z) e in let not_a = has.1 in absurd (cc (p, not_a, u)))))
       has.2)
 
-  -- what is headed: the head, and what follows it
+  -- after the head is made: the head, and the aggregate that follows it
   headed-keeps : (q : Answer) (a size : ℕ) (more : Following) (expected : List ℕ)
       → HoldsRestFrom n expected (whole a size 0 more) → Has n q expected (headed a size more)
   headed-keeps q a size None expected has = (has, refl)
@@ -224,13 +224,13 @@ module _ (steps : EachStepLeavesTheRest) (own : CallsServeTheirDomain) (m n : St
         refl,
       ))
 
-  -- what is left of an answer that is being sent stays, unless the call gives it up
+  -- the rest of a response that is being sent stays, unless the call gives up its aggregates
   abbrev rest-stays : (k : Call) (r : Reply) → StepsTo m (event.Call server k) r n → (expected : List ℕ) (s : Sending)
       → ((a : ℕ) → ((s.agg == a) || has_followed s.more a) ≡ true → gives_up (event.Call server k) server a ≡ false)
       → HoldsRestFrom m expected s → HoldsRestFrom n expected s
   rest-stays k r step expected s un h = rest-on m n expected s (λ a l u is. stays k r step a l is (un a u)) h
 
-  -- the first of the bytes that are left are taken
+  -- the first k of the remaining bytes are taken
   taken-on : (expected : List ℕ) (s : Sending) (k : ℕ) (h : HoldsRestFrom n expected s)
       → k ≤ length (drop s.from h.bytes) → HoldsRestFrom n expected (after_taking s k)
   taken-on expected s k h within = record {
@@ -247,7 +247,7 @@ module _ (steps : EachStepLeavesTheRest) (own : CallsServeTheirDomain) (m n : St
     apart = h.apart;
   }
 
-  -- if none are left, all is taken
+  -- the next phase cuts a piece, or drops the aggregate if no bytes of it are left
   next-has : (q : Answer) (expected : List ℕ) (s : Sending) → HoldsRestFrom n expected s
       → Has n q expected (next_piece s)
   next-has q expected s h = cases (nat_lt s.from s.len) refl
@@ -399,7 +399,7 @@ module _ (steps : EachStepLeavesTheRest) (own : CallsServeTheirDomain) (m n : St
   rests buffered q expected (reply.Agg a) (b ∷ l) names = (b ∷ l, names)
   rests buffered q expected r received names = tt
 
-  -- any phase but those that open, read or close
+  -- every phase except those that open or read a file, or close the connection
   pub phase : (buffered : List ℕ) (fd c : ℕ) (q : Answer) (d : Phase) (expected : List ℕ) (r : Reply)
       (received : List ℕ)
       → descriptor m server fd ≡ Some (on.Connection c)

@@ -128,7 +128,7 @@ module _ (m n : State) (fd : ℕ) (buffered : List ℕ) (q : Answer) where
       drops m n (Aborting b more) (λ z. after_drop b more z) b r step (drops_next-not b more) same
   moved x r received going step same = absurd (cc (going))
 
-  -- a descriptor comes by opening a file alone
+  -- reading a file returns no descriptor
   came : (f : ℕ) (b : Bool) (g : ℕ)
       → StepsTo m (event.Call server (if b then call.Length f else call.IolRead f most_read)) (reply.Fd g) n → ⊥
   came f true g step = let e = step.1 in cc (e)

@@ -53,7 +53,7 @@ use Rattle.flash_laws.proofs.Conn.DoneCalls.{conn-opened}
 use Rattle.flash_laws.proofs.Conn.Touches.{fds-call, conns-call, pipes-call, files-call, admits-call}
 use Rattle.flash_laws.proofs.Conn.Uses.{same-number, gives-call, next-uses}
 
--- ---- what is used no more is given up
+-- ---- aggregates no longer used are given up
 
 abbrev Leaves : (fd : ℕ) → Conn → Reply → Phase → (a : ℕ) → Type 0
 Leaves fd x r after a = uses_agg x.phase a ≡ true → uses_agg after a ≡ false
@@ -141,7 +141,7 @@ leaves-after_reply fd buffered q (Aborting b more) reply.Done received a u unuse
     (former_by (b == a) (has_followed more a) u (drops-more more a unused), refl)
 leaves-after_reply fd buffered q d r received a u unused = absurd (clash (uses_agg d a) u unused)
 
--- ---- the descriptor of a file that is used no more is closed
+-- ---- the descriptor of a file no longer used is closed
 
 pub shuts : (own : CallsServeTheirDomain) (m n : State) (fd : ℕ) (buffered : List ℕ) (q : Answer) (d : Phase)
     (r : Reply)
@@ -169,7 +169,7 @@ shuts own m n fd buffered q (ClosingFile f k) r received g step u unused = by r 
     by r did unused = absurd did
 shuts own m n fd buffered q d r received g step u unused = absurd (cc (u))
 
--- ---- what comes is used
+-- ---- new aggregates are used
 
 pub headed-first : (n size : ℕ) (more : Following) (a : ℕ) → (n == a) ≡ true → uses_agg (headed n size more) a ≡ true
 headed-first n size None a is = former_of (n == a) false is
@@ -188,7 +188,7 @@ names_some r = false
 module _ (come : AggregatesComeAndGo) (own : CallsServeTheirDomain) (m n : State) (order : IsOrderly m)
     (a : ℕ) (bytes : List ℕ) (before : readable_at m server a ≡ None) (after : readable_at n server a ≡ Some bytes)
   where
-    -- the reply names what comes
+    -- the reply names the new aggregate
     pub named : (e : Event) (r : Reply) → StepsTo m e r n → brings e r server a ≡ true
     named e r step = by (brings e r server a) refl
       where
@@ -196,7 +196,7 @@ module _ (come : AggregatesComeAndGo) (own : CallsServeTheirDomain) (m n : State
         by true is = is
         by false is = (let none = come.none m n e r server a step before is in absurd (cc (none, after)))
 
-    -- nothing comes by a reply that names no aggregate
+    -- a call whose replies name no aggregate brings none
     pub unnamed : (k : Call) (Word : Reply → Type 0) (r : Reply) → StepsTo m (event.Call server k) r n → Word r
         → ((x : ℕ) → Word (reply.Agg x) → ⊥) → ((x y : ℕ) → Word (reply.Aggs x y) → ⊥) → ⊥
     unnamed k Word r step did no_agg no_aggs = by r did (named-so k r (named (event.Call server k) r step))
@@ -212,7 +212,7 @@ module _ (come : AggregatesComeAndGo) (own : CallsServeTheirDomain) (m n : State
         by (reply.Aggs x y) did is = no_aggs x y did
         by r did is = cc (is)
 
-    -- so to drop an aggregate brings none, nor does it to close, or to write
+    -- so dropping an aggregate, closing and writing bring none
     pub dropped : (b : ℕ) (r : Reply) → StepsTo m (event.Call server (call.AggDrop b)) r n → ⊥
     dropped b r step =
         unnamed (call.AggDrop b) (λ x. o.Drops m server b x n) r step (own.drops m n server b r order step)
@@ -228,7 +228,7 @@ module _ (come : AggregatesComeAndGo) (own : CallsServeTheirDomain) (m n : State
         unnamed (call.IolWrite fd b) (λ x. o.WritesConn m c sent x n) r step
         (own.write_conn m n server fd c b sent r order open_on is_readable step) (λ x bad. bad) (λ x y bad. bad)
 
-    -- what is made is named by the reply
+    -- the reply names the aggregate that is made
     pub made : (k : Call) (it : List ℕ) (uses : Reply → Bool) (r : Reply) → StepsTo m (event.Call server k) r n
         → o.Makes m server it r n
         → ((x : ℕ) → brings (event.Call server k) (reply.Agg x) server a ≡ true → (x == a) ≡ true)

@@ -83,7 +83,7 @@ next-of m fd a buffered q d o has is = absurd (cc (is))
 
 module _ (steps : EachStepLeavesTheRest) (own : CallsServeTheirDomain) (files : FileCallsServeTheirDomain)
     (m n : State) (order : IsOrderly m) (lives : is_live m server ≡ true) (buffered : List ℕ) where
-  -- the outcome after a reply, with which the machine has what is needed
+  -- the outcome after a reply, for which the machine has the data of the next phase
   abbrev AfterReply : Answer → Phase → Reply → (received : List ℕ) → Outcome → Type 0
   AfterReply q d r received before = (after : Outcome) × Learns d r received before after
       × HasAnswer n (after_reply (at buffered q d) r received) after
@@ -160,14 +160,14 @@ module _ (steps : EachStepLeavesTheRest) (own : CallsServeTheirDomain) (files : 
       which false is step =
           whole r is (files.reads_file m n server g i pos most_read modes.Read r order lives may refl opened step) names
 
-  -- what is read of the stream is there to be dropped
+  -- the bytes received are in an aggregate that is to be dropped
   rests : (q : Answer) (r : Reply) (received : List ℕ) (o : Outcome) → Names n r received
       → HasAnswer n (after_receive buffered q r received) o
   rests q (reply.Agg a) [] o names = record { after = []; readable = ([], names); follows = refl; apart = refl }
   rests q (reply.Agg a) (b ∷ l) o names = (b ∷ l, names)
   rests q r received o names = tt
 
-  -- any call of a connection but its last
+  -- any call of a connection except its last
   pub replied : (fd c : ℕ) (q : Answer) (d : Phase) (r : Reply) (received : List ℕ) (before : Outcome)
       → HasAccess m → descriptor m server fd ≡ Some (on.Connection c) → is_closing d ≡ false
       → Has m q (response q before) d → StepsTo m (event.Call server (next_call fd (at buffered q d))) r n
@@ -188,7 +188,7 @@ module _ (steps : EachStepLeavesTheRest) (own : CallsServeTheirDomain) (files : 
         has step names,
   )
 
--- where the response is sent all of it is taken
+-- when a response is sent, all of it is taken
 whole : (m : State) (q : Answer) (expected : List ℕ) (d : Phase) (a taken : ℕ) → d ≡ DroppingSent a taken None
     → Has m q expected d → drop taken expected ≡ []
 whole m q expected d a taken is has =

@@ -58,9 +58,9 @@ use Rattle.flash_laws.proofs.Conn.ReadableBytes.{text-same}
 use Rattle.flash_laws.proofs.Lists.{turned, differ, within-part}
 use Rattle.flash_laws.proofs.Moves.{either-way, either-next}
 
--- ---- how far it is
+-- ---- the rank
 
--- the calls that are left once an aggregate is sent, with what follows it
+-- the number of calls left after an aggregate is sent, with the aggregate that follows it
 abbrev pub sent_after : Following → ℕ
 sent_after None = 1
 sent_after (Some x) = 3 * x.1 + 4
@@ -76,7 +76,7 @@ size_of k = 0
 abbrev pub head_calls : Answer → Payload → ℕ
 head_calls q k = 3 * length (text_of q k) + (3 * size_of k + 7)
 
--- Each byte that is to be sent takes three calls at most: a piece that begins with it is cut, offered and dropped.
+-- Each byte takes at most three calls: a piece that begins with it is cut, offered and dropped.
 abbrev pub ready : Answer → Phase → ℕ
 ready q (DroppingInput a) = 1
 ready q (Slicing a from to len) = head_calls q (Body a (to - from) len) + 2
@@ -96,7 +96,7 @@ abbrev pub calls_left : Answer → Phase → ℕ
 calls_left q (ClosingFile f k) = ready q (resolved q k) + 1
 calls_left q d = ready q d
 
--- before a file is read it is not known how long the answer will be
+-- before a file is read, the length of the response is unknown
 abbrev pub stage : Phase → ℕ
 stage Opening = 2
 stage (Reading f) = 1
@@ -105,7 +105,7 @@ stage d = 0
 abbrev pub rank : Answer → Phase → Rank
 rank q d = (stage d, calls_left q d)
 
--- ---- refusals that are to come later
+-- ---- refused calls that are retried later
 
 pub lacks-later : (z : Refusal) → LacksNumbers z → is_later (reply.Refused z) ≡ true
 lacks-later no.TooMany has = refl
@@ -118,7 +118,7 @@ lacks-room-later p (no.NoRoom q) has = refl
 lacks-room-later p no.Memory has = refl
 lacks-room-later p z has = absurd has
 
--- ---- each call that a request makes
+-- ---- each call of a request
 
 module _ (own : CallsServeTheirDomain) (may : RefusalsThatAreLeft) (m n : State) (order : IsOrderly m)
     (lives : is_live m server ≡ true)
@@ -191,7 +191,7 @@ module _ (own : CallsServeTheirDomain) (may : RefusalsThatAreLeft) (m n : State)
           inr (same z, lacks-later z (may.join m n server a b xs ys z lives readable_a readable_b apart short step))
       by r did step = absurd did
 
-  -- to a connection; what nobody takes is not offered again
+  -- a write to a connection; if its peer is gone, the bytes are not offered again
   pub writes : (fd c a : ℕ) (bytes : List ℕ) (r : Reply) → descriptor m server fd ≡ Some (on.Connection c)
       → readable_at m server a ≡ Some bytes
       → StepsTo m (event.Call server (call.IolWrite fd a)) r n
@@ -214,7 +214,7 @@ module _ (own : CallsServeTheirDomain) (may : RefusalsThatAreLeft) (m n : State)
           refused z (may.writes_queue m n server fd a (on.Connection c) bytes z lives open_on refl refl readable step)
       by r did step = absurd did
 
--- ---- some bytes are taken of what has some
+-- ---- a write of some bytes that is not refused takes at least one
 
 text-long : (m : State) (a : ℕ) (bytes : List ℕ) → readable_at m server a ≡ Some bytes
     → length (text m server a) ≡ length bytes
@@ -244,7 +244,7 @@ some-taken m n fd a k bytes readable some step =
     (when-none no.WouldBlock (takes_none m to (length (text m server a)))
     (passed (meaning m (event.Call server (call.IolWrite fd a))).refusals 6 step.0)) some
 
--- a piece has some bytes, where some are left
+-- if bytes are left, the next piece has at least one
 some-piece : (s : Sending) (bytes : List ℕ) → s.from < s.len → s.len ≡ length bytes
     → 0 < length (slice_range bytes s.from (piece_end s))
 some-piece s bytes some size =
@@ -253,7 +253,7 @@ some-piece s bytes some size =
     let long = length-take-le (piece_end s - s.from) (drop s.from bytes) within in
     omega (arith, long, some)
 
--- ---- how near each phase is
+-- ---- the rank of each phase
 
 falls : (q : Answer) (e d : Phase) → stage e ≡ stage d → calls_left q e < calls_left q d → IsBelow (rank q e) (rank q d)
 falls q e d same fewer = inr (same, fewer)
@@ -291,7 +291,7 @@ drops-near : (q : Answer) (s : Sending) → IsBelow (rank q (Aborting s.agg s.mo
 drops-near q s =
     let few = few-sent s.more in falls q (Aborting s.agg s.more) (SendingWhole s) refl (omega (arith, few))
 
--- the next piece is cut, or the aggregate is dropped, before one is offered that has as many bytes left
+-- the rank of the next phase, which cuts a piece or drops the aggregate, by the number of calls left
 next-near : (q : Answer) (s : Sending) (left : ℕ) → 3 * (s.len - s.from) + (sent_after s.more + 1) < left
     → IsBelow (rank q (next_piece s)) (0, left)
 next-near q s left fewer =
@@ -438,7 +438,7 @@ module _ (own : CallsServeTheirDomain) (may : RefusalsThatAreLeft) (m n : State)
       step (drop-near q a more)
   near fd c buffered q d expected r received open_on busy has can step names = absurd (cc (busy))
 
--- ---- of a connection
+-- ---- a connection
 
 after_reply-at : (buffered : List ℕ) (q : Answer) (d : Phase) (r : Reply) (received : List ℕ) → is_busy d ≡ true
     → after_reply (at buffered q d) r received ≡ at buffered q (after_reply (at buffered q d) r received).phase
@@ -464,7 +464,7 @@ conn-nears own may m n fd c buffered q d expected r received order lives open_on
     (lift buffered q d (after_reply (at buffered q d) r received).phase r
     (near own may m n order lives fd c buffered q d expected r received open_on busy has can step names))
 
--- what is read of the stream is read again only later, or where it is hidden
+-- if a read of the stream changes nothing, it is retried later, or the server may not read the unread bytes
 pub conn-reads : RefusalsTellWhy → RefusalsThatAreLeft
     → (m n : State) (fd c : ℕ) (buffered : List ℕ) (q : Answer) (d : Phase) (r : Reply) (received : List ℕ)
     → is_live m server ≡ true

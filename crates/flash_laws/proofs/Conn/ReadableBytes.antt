@@ -34,7 +34,7 @@ use Rattle.flash_laws.specs.Conn.Fits.{HasContent, Has}
 use Rattle.flash_laws.specs.Site.{server}
 use Rattle.flash_laws.proofs.Lists.{not-equal, self, first_of, later_of}
 
--- the text of the head does not tell where the body lies
+-- the head depends on the length of the file, not on the aggregate of the body
 pub text-same : (q : Answer) (a b s t len : ℕ) → text_of q (Body a s len) ≡ text_of q (Body b t len)
 text-same (serve w) a b s t len = refl
 text-same (refuse status head_only close) a b s t len = refl
@@ -47,7 +47,7 @@ pub content-same : (m n : State) (f : ℕ) → n.slots ≡ m.slots → content n
 unfolding content
 content-same m n f same = ap (λ (ss : List (List ℕ)). numbered_or ss f []) same
 
--- what the server has under a number that it does not give up
+-- an aggregate that the server does not give up is still readable, with the same bytes
 pub readable-stays : (steps : EachStepLeavesTheRest) (m n : State) (e : Event) (r : Reply) → StepsTo m e r n
     → (a : ℕ) (bytes : List ℕ) → readable_at m server a ≡ Some bytes → gives_up e server a ≡ false
     → readable_at n server a ≡ Some bytes
@@ -59,7 +59,7 @@ readable-stays steps m n e r step a bytes is un = by (aggregate m server a) refl
         ap (λ (y : Option Text). option_map bytes_of y) ((steps.values m n e r step).each server a t some un)
         ∙ (sym (ap (λ (y : Option Text). option_map bytes_of y) some) ∙ is)
 
--- one new number is none of those that were there
+-- the number of a new aggregate differs from that of each readable one
 pub new-other : (m : State) (a x : ℕ) (bytes : List ℕ) → readable_at m server a ≡ Some bytes
     → readable_at m server x ≡ None → (a == x) ≡ false
 new-other m a x bytes is none =
@@ -122,7 +122,7 @@ content-on m n q expected (Body a size len) is_readable h =
     }
 content-on m n q expected k is_readable h = h
 
--- what is kept of an answer that is being sent stays, if its aggregates do
+-- the rest of a response that is being sent stays, if its aggregates do
 abbrev pub rest-on : (m n : State) (expected : List ℕ) (s : Sending) → ((a : ℕ) (bytes : List ℕ)
     → ((s.agg == a) || has_followed s.more a) ≡ true → readable_at m server a ≡ Some bytes
     → readable_at n server a ≡ Some bytes) → HoldsRestFrom m expected s → HoldsRestFrom n expected s

@@ -12,7 +12,7 @@ use Rattle.flash_laws.specs.Conn.OfferedBytes.{may_repeat}
 use Rattle.flash_laws.specs.Site.{server}
 use Rattle.flash_laws.specs.declared.phase.Phase.{Phase}
 
--- one of two, and neither is this
+-- a choice between two phases that both differ from a third
 pub either : (b : Bool) (d e f : Phase) → (d ≡ f → ⊥) → (e ≡ f → ⊥) → (if b then d else e) ≡ f → ⊥
 either true d e f one two same = one same
 either false d e f one two same = two same

@@ -15,12 +15,12 @@ use Rattle.flash_laws.specs.Answers.{keeps, NextIn, Next, Reads, last_may_close,
 pub some-inj : {A : Type 0} (a b : A) → Some a ≡ Some b → a ≡ b
 some-inj a b e = ap (λ o. unwrap_or o a) e
 
--- what flash_http promises of windows
+-- the laws of windows in `flash_http`
 pub record WindowLaws : Type 0 where
   pub stay : WindowsStay
   pub fit : WindowsFit
 
--- Requests.
+-- ---- requests
 
 pub all-more : (qs : List Answer) (q : Answer) → list_all (λ p. keeps p) qs ≡ true → keeps q ≡ true
     → list_all (λ p. keeps p) (qs ++ q ∷ []) ≡ true
@@ -46,7 +46,7 @@ pub reads-more : (s : List ℕ) (qs : List Answer) (mid : List ℕ) (q : Answer)
 reads-more s [] mid q rest is next = (rest, subst (λ (l : List ℕ). Next l q rest) is next, refl)
 reads-more s (p ∷ qs) mid q rest is next = (is.0, is.1, reads-more is.0 qs mid q rest is.2 next)
 
--- what is read first is read whatever comes after
+-- the first request of a stream is unchanged if more bytes follow
 module _ (laws : WindowLaws) where
   pub next-append : (s t : List ℕ) (q : Answer) (rest : List ℕ) → Next s q rest → Next (s ++ t) q (rest ++ t)
   next-append s t q rest next = by (window_in s) refl next

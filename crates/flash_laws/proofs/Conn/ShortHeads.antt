@@ -37,14 +37,14 @@ use Rattle.flash_laws.proofs.Moves.{after-done, after-agg, after-write, either-w
 
 -- ---- statuses
 
--- a refusal has a status of this server
+-- the status of each refusal is an error status of this server
 pub refusal-status : (x : Refusal) → is_error_status (status_of x) ≡ true
 refusal-status no.NoFile = refl
 refusal-status (no.Denied p) = refl
 refusal-status (no.Fault f) = refl
 refusal-status x = refl
 
--- so has each answer that is no file
+-- so has each answer except a file
 abbrev IsListed : Answer → Type 0
 IsListed (serve w) = Unit {0}
 IsListed (refuse status head_only close) = is_error_status status ≡ true
@@ -82,7 +82,7 @@ asks-listed (Some r) a is = by (refusal r) refl is
     by None same is = subst IsListed (sym is.2) (served-listed r is.0)
     by (Some x) same is = subst IsListed (sym is) (refusal-listed r x same)
 
--- Whatever the head, one that is refused has a status of this server.
+-- The status of each refused head is an error status of this server.
 pub refused-status : (head : List ℕ) (status : ℕ) (head_only close : Bool)
     → IsAnswerTo head (refuse status head_only close) → is_error_status status ≡ true
 refused-status head status head_only close is = asks-listed is.0 (refuse status head_only close) is.2
@@ -120,7 +120,7 @@ drops-finds : (site_contents : SiteContents) (n : State) (q : Answer) (script : 
 drops-finds site_contents n q script None = tt
 drops-finds site_contents n q script (Some x) = tt
 
--- After a call that opens and reads nothing what is still to be named is as short.
+-- After a call that opens and reads no file, the head to be made still has lengths and a status within the bounds.
 pub finds-after_reply : (site_contents : SiteContents) (m n : State) (buffered : List ℕ) (q : Answer) (script : List ℕ)
     (d : Phase) (r : Reply) (received : List ℕ)
     → is_opening d ≡ false → is_read d ≡ false → Finds site_contents m q script d

@@ -108,7 +108,7 @@ none-newly fd buffered q (SendingPiece s piece) r is = absurd (cc (is))
 none-newly fd buffered q (Reading f) r is = either-way (λ (k : Call). newly_taken fd k r ≡ 0) (is_head_only q) refl refl
 none-newly fd buffered q d r is = refl
 
--- ---- what counts as taken
+-- ---- the bytes that count as taken
 
 all-newly : (fd k : ℕ) → (if fd == fd then k else 0) ≡ k
 all-newly fd k = ap (λ b. if b then k else 0) (self fd)
@@ -218,7 +218,7 @@ module _ (own : CallsServeTheirDomain) (m n : State) (order : IsOrderly m) (fd c
           sending (Aborting a more) has step at_is on busy is = absurd (cc (at_is))
           sending d has step at_is on busy is = absurd (cc (is))
 
--- ---- where it is broken off
+-- ---- aborted responses
 
 abbrev Kept : Phase → Type 0
 Kept d = is_dropping d ≡ false

@@ -89,7 +89,7 @@ conns-call m fd c buffered q expected Disconnecting k is has t = uses-conn m fd 
 conns-call m fd c buffered q expected Closed k is has t = uses-conn m fd c k is t
 conns-call m fd c buffered q expected d k is has t = absurd (cc)
 
--- and no pipe
+-- it touches no pipe
 no-end : (m : State) (fd c p : ℕ) → descriptor m server fd ≡ Some (on.Connection c)
     → (list_any (is_end p) (descriptor m server fd ∷ []) || false) ≡ false
 no-end m fd c p is = ap (λ (d : Option Descriptor). list_any (is_end p) (d ∷ []) || false) is
@@ -122,7 +122,7 @@ files-call m fd c buffered q (SendingWhole s) is = ap is_file is
 files-call m fd c buffered q (SendingPiece s piece) is = ap is_file is
 files-call m fd c buffered q d is = refl
 
--- it admits nobody to a pool
+-- it admits no domain to a pool
 pub admits-call : (fd : ℕ) (buffered : List ℕ) (q : Answer) (d : Phase) (p : ℕ)
     → admits_to (event.Call server (next_call fd (at buffered q d))) p ≡ false
 admits-call fd buffered q (Reading f) p =

@@ -50,7 +50,7 @@ one-of false b u = inr u
 pub same-number : (a b : ℕ) → (a == b) ≡ true → a ≡ b
 same-number a b is = grind (arith, nat_tests, is)
 
--- a call gives up what is the connection's
+-- a call gives up only aggregates that its connection uses
 pub gives-call : (fd : ℕ) (buffered : List ℕ) (q : Answer) (d : Phase) (a : ℕ)
     → gives_up (event.Call server (next_call fd (at buffered q d))) server a ≡ true → uses_agg d a ≡ true
 gives-call fd buffered q (DroppingInput b) a is = is
@@ -69,13 +69,13 @@ gives-call fd buffered q (AbortingPiece piece b more) a is = grind (arith, is)
 gives-call fd buffered q (Aborting b more) a is = grind (arith, is)
 gives-call fd buffered q d a is = absurd (cc)
 
--- its reply names nothing of another domain
+-- no call gives an object to another domain
 pub no-more : (fd : ℕ) (buffered : List ℕ) (q : Answer) (d : Phase)
     → gives_away (next_call fd (at buffered q d)) ≡ false
 no-more fd buffered q (Reading f) = either-way (λ (k : Call). gives_away k ≡ false) (is_head_only q) refl refl
 no-more fd buffered q d = refl
 
--- What it uses afterwards is what it used, or new.
+-- After the reply a phase uses only aggregates that it used before, or that the reply names.
 
 abbrev Uses : Phase → Reply → Phase → (a : ℕ) → Type 0
 Uses d r after a = uses_agg after a ≡ true → (uses_agg d a ≡ true) ⊎ (is_agg r a ≡ true)
@@ -254,7 +254,7 @@ pub begins-no_fd : (q : Answer) (g : ℕ) → uses_fd (begins q) g ≡ false
 begins-no_fd (serve w) g = refl
 begins-no_fd (refuse status head_only close) g = refl
 
--- What a connection uses is there.
+-- The aggregates that a connection uses are readable.
 
 at-number : (m : State) (b a : ℕ) → (b == a) ≡ true → (bytes : List ℕ) → readable_at m server b ≡ Some bytes
     → IsReadable m a

@@ -1,4 +1,4 @@
--- The calls of a run touch only what it has.
+-- The calls of a run touch only its own objects.
 use Rattle.std.proofs.Common.{◌≡◌, ℕ, ◌-◌, ◌==◌, List, [], ◌∷◌, ap, ◌∙◌, refl, sym, subst, Option, Some, None, true}
 use Rattle.std.proofs.Common.{false, Bool}
 use Rattle.std.specs.Prelude.{◌||◌, ◌&&◌}
@@ -47,7 +47,7 @@ use Rattle.flash_laws.proofs.Run.Rest.{is-rest, part-sends}
 use Rattle.flash_laws.proofs.Run.Parts.{no-position}
 use Rattle.flash_laws.proofs.Conn.Uses.{same-number}
 
--- of a call on one descriptor that is what it touches
+-- a call on one descriptor touches only its connection, or its pipe
 one-conn : (x : Option Descriptor) (y : Descriptor) (d : ℕ) → x ≡ Some y
     → (list_any (is_conn d) (x ∷ []) || false) ≡ true → is_conn d (Some y) ≡ true
 one-conn x y d is u = ap (λ z. is_conn d z) (sym is) ∙ bare (is_conn d x) (bare (is_conn d x || false) u)
@@ -126,7 +126,7 @@ module _ (m : State) (fd c : ℕ) (x : Running) where
     files = refl;
   }
 
-  -- to its connection
+  -- a write to its connection
   offers : (a : ℕ) → descriptor m server fd ≡ Some (on.Connection c) → Keeps (call.IolWrite fd a)
   offers a open_on = record {
     kind = refl;
@@ -140,7 +140,7 @@ module _ (m : State) (fd c : ℕ) (x : Running) where
     files = no-file (descriptor m server fd) (on.Connection c) open_on refl;
   }
 
-  -- a call on an end of a pipe touches that pipe alone
+  -- a call on an end of a pipe touches only that pipe
   on-end : (k : Call) (f p : ℕ) (y : Descriptor) → descriptor m server f ≡ Some y
       → ((d : ℕ) → is_conn d (Some y) ≡ false) → ((q : ℕ) → is_end q (Some y) ≡ (p == q))
       → may_make k ≡ true → ((a : ℕ) → gives_up (event.Call server k) server a ≡ false)
@@ -215,7 +215,7 @@ from-end m f p q open_on same = subst (λ z. descriptor m server f ≡ Some (on.
 
 module _ (job : ℕ → List ℕ) (m : State) (fd c : ℕ) (w : Wanted) (o : Progress) (run : Run)
     (open_on : descriptor m server fd ≡ Some (on.Connection c)) where
-  -- what is read, and closed, is its own
+  -- the read end is one of its descriptors
   reading : (g : ℕ) → (run.from == g) ≡ true → ((run.from == g) || false) ≡ true
   reading g u = former_of (run.from == g) false u
 
@@ -303,9 +303,9 @@ keeps-alone job m fd c w (Finishing d) o open_on going has =
     sends m fd c (Finishing d) w h.expected d open_on (λ a u. u) h.sends
 keeps-alone job m fd c w Disconnecting o open_on going has = absurd (cc (going))
 
--- ---- a pipe that comes is had
+-- ---- a new pipe
 
--- only one call is answered with two descriptors
+-- only `Pipe` returns two descriptors
 only-pipe : (m n : State) (d from write : ℕ) (k : Call) → StepsTo m (event.Call d k) (reply.Fds from write) n
     → k ≡ call.Pipe
 only-pipe m n d from write call.Pipe step = refl

@@ -33,12 +33,12 @@ use Rattle.flash_laws.specs.declared.script_run.Running.TheVariants.{Disconnecti
 use Rattle.flash_laws.proofs.Lists.{clash, not-true}
 use Rattle.flash_laws.proofs.Moves.{either-way}
 
--- ---- it ends where the connection rests, or is to be closed
+-- ---- at its end the connection is idle, or is to be closed
 
 abbrev pub IsEnd : Phase → Type 0
 IsEnd d = (d ≡ phase.Receiving) ⊎ (d ≡ phase.Disconnecting)
 
--- what is left is sent, until nothing of it is
+-- a phase that has no more to send is an end
 left-ends : (m : State) (w : Wanted) (o : Progress) (d : Phase) → HasLeft m w o d → is_left d ≡ false → IsEnd d
 left-ends m w o phase.Receiving has over = inl refl
 left-ends m w o phase.Disconnecting has over = inr refl
@@ -58,7 +58,7 @@ run-ends job m w o (Finishing d) has over = left-ends m w o d has (not-true (is_
 run-ends job m w o Disconnecting has over = inr refl
 run-ends job m w o x has over = absurd (cc (over))
 
--- ---- and all of the response was taken, or it was broken off
+-- ---- at its end all of the response was taken, or it was aborted
 
 pub all-taken : (w : Wanted) (o : Progress) → IsLeft w o [] → IsTaken w o
 all-taken w Broken left = absurd left
@@ -82,7 +82,7 @@ run-after job m w o (Finishing d) has over = left-after m w o d has (left-ends m
 run-after job m w o Disconnecting has over = none-taken w o has
 run-after job m w o x has over = absurd (cc (over))
 
--- ---- the text is kept until the job is made
+-- ---- the text is held until the job is made
 
 abbrev Forgets : Running → Type 0
 Forgets z = keeps_text z ≡ false
@@ -146,7 +146,7 @@ step-forgets w run (DiscardingJob j) reply.Done received was = refl
 step-forgets w run Failing reply.Done received was = refl
 step-forgets w run s r received was = refl
 
--- what keeps it kept it before
+-- a run that holds the text after a reply held it before
 pub keeps-back : (worker : ℕ) (w : Wanted) (y : Running) (r : Reply) (received : List ℕ)
     → keeps_text (after_reply worker w y r received) ≡ true → keeps_text y ≡ true
 keeps-back worker w AwaitingWorker r received buffered = refl
@@ -158,7 +158,7 @@ keeps-back worker w (InProgress run s) r received buffered = by (keeps_text (InP
         absurd (clash (keeps_text (after_step w run s r received)) buffered (step-forgets w run s r received is))
 keeps-back worker w x r received buffered = absurd (cc (buffered))
 
--- no call but that for the job tells its text
+-- only the call that makes the job depends on the text
 pub call-text : (fd : ℕ) (w : Wanted) (y : Running) (script text : List ℕ) → (keeps_text y ≡ true → script ≡ text)
     → next_call (job_of w script) fd w y ≡ next_call (job_of w text) fd w y
 call-text fd w (InProgress run (MakingJob f)) script text buffered =

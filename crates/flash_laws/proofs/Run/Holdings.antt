@@ -59,7 +59,7 @@ plain : (a b : Bool) → ((a || false) || b) ≡ false → (a || b) ≡ false
 plain true b is = is
 plain false b is = is
 
--- nothing is held where nobody takes it, or where chunks are not made
+-- no aggregate is held if no bytes are, or if the body is not chunked
 held-none : (m : State) (w : Wanted) (held : Following) (bytes : List ℕ) → IsHeld m w held bytes → bytes ≡ []
     → held ≡ None
 held-none m w None bytes has none = refl
@@ -74,7 +74,7 @@ held-plain m w (Some x) bytes has plain = let c = has.chunked in absurd (cc (c, 
 unheld : (held : Following) (a : ℕ) → held ≡ None → has_followed held a ≡ false
 unheld held a none = ap (λ (h : Following). has_followed h a) none
 
--- ---- what is used no more is given up
+-- ---- aggregates no longer used are given up
 
 abbrev Gone : Call → Reply → (a : ℕ) → Type 0
 Gone k r a = (gives_up (event.Call server k) server a ≡ true) × (is_refusal r ≡ false)
@@ -102,7 +102,7 @@ holding-new n size frame a u = by (nat_lt size CHUNK_BYTES)
     by true = former_of (n == a) (has_frame frame a) u
     by false = set frame
 
--- what was used when output is read is used then
+-- the held output and the frame are used after output was read, too
 hearing-uses : (m : State) (w : Wanted) (o : Progress) (c d : Bool) (held : Following) (frame : Option ℕ) (n len : ℕ)
     (bytes : List ℕ) (a : ℕ)
     → IsHeld m w held bytes → Goes c w o bytes → w.chunked ≡ d → (has_followed held a || has_frame frame a) ≡ true
@@ -120,7 +120,7 @@ hearing-uses m w o false true (Some x) frame n len bytes a holds goes is u = by 
     by true u = refl
     by false u = later_of (n == a) (has_frame frame a) u
 
--- and so is what is read
+-- so is the output that was read
 pub hearing-new : (c d : Bool) (held : Following) (frame : Option ℕ) (n len a : ℕ) → (n == a) ≡ true
     → step_agg (hearing c d held frame n len) a ≡ true
 hearing-new true d held frame n len a u = former_of (n == a) (has_frame frame a) u
@@ -135,7 +135,7 @@ unread-uses : (held : Following) (frame : Option ℕ) (a : ℕ) → (has_followe
 unread-uses None frame a u = u
 unread-uses (Some x) frame a u = u
 
--- what is held is used to the end
+-- at the end of the output the held output is still used
 finishing-uses : (m : State) (w : Wanted) (o : Progress) (run : Run) (b c : Bool) (held : Following) (bytes : List ℕ)
     (a : ℕ) → IsHeld m w held bytes
     → Ends b w o bytes → w.chunked ≡ c → uses_agg (finishing b c run held) a ≡ false → has_followed held a ≡ false
@@ -145,7 +145,7 @@ finishing-uses m w o run false false held bytes a holds ends is unused =
 finishing-uses m w o run true c held bytes a holds ends is unused =
     unheld held a (held-none m w held bytes holds ends.1)
 
--- of two that are used, the frame stays
+-- an aggregate that is used before, and not after, is not the frame, which is used both times
 apart : {A : Type 0} (x y f : Bool) → (x || f) ≡ true → (y || f) ≡ false → (x ≡ true → y ≡ false → A) → A
 apart x y true u unused leaves = absurd (clash (y || true) (later_of y true refl) unused)
 apart x y false u unused leaves = leaves (former_by x false u refl) (bare-none y unused)
@@ -303,7 +303,7 @@ left come job m n fd worker w (Finishing d) o r received a order has step u unus
     come.gone m n (event.Call server (next_call job fd w (Finishing d))) r server a order step gives.0 gives.1
 left come job m n fd worker w x o r received a order has step u unused = absurd (cc (u))
 
--- ---- an end of the pipe that it has no more is closed, or given away
+-- ---- an end of the pipe that the run no longer has is closed, or given away
 
 module _ (own : CallsServeTheirDomain) (job : ℕ → List ℕ) (m n : State) (fd : ℕ) (w : Wanted) (o : Progress) (run : Run)
     (g : ℕ) where
@@ -311,7 +311,7 @@ module _ (own : CallsServeTheirDomain) (job : ℕ → List ℕ) (m n : State) (f
   ShutsAt s r y = StepsTo m (event.Call server (step_call job fd w run s)) r n → ends_of run s g ≡ true
       → has_end y g ≡ false → descriptor n server g ≡ None
 
-  -- one that is closed
+  -- an end that the run closes
   closed : (f : ℕ) (s : Step) (r : Reply) (y : Reply → Running) → StepsTo m (event.Call server (call.Close f)) r n
       → ((x : Refusal) → has_end (y (reply.Refused x)) g ≡ ends_of run s g)
       → (has_end (y reply.Done) g ≡ false → (f == g) ≡ true)
@@ -389,7 +389,7 @@ module _ (own : CallsServeTheirDomain) (job : ℕ → List ℕ) (m n : State) (f
       either-way (λ (s : Step). has_end (InProgress run s) g ≡ ((run.from == g) || false)) (is_again x) refl refl
   hands-ends j f r received = refl
 
-  -- the read end stays, and the write end is not there
+  -- of the ends of the pipe, a run in this step has only the read end
   abbrev Stays : Step → Type 0
   Stays t = has_end (InProgress run t) g ≡ ((run.from == g) || false)
 

@@ -42,13 +42,13 @@ use Rattle.flash_laws.proofs.Conn.Repeats.{drops, closes, makes, joins, replaces
 use Rattle.flash_laws.proofs.Run.Rest.{is-rest}
 use Rattle.flash_laws.proofs.Lists.{not-false}
 
--- the phase of what is sent
+-- the phase of a run that sends
 abbrev phase_of : Running → Phase
 phase_of (InProgress run (SendingPart d frame)) = d
 phase_of (Finishing d) = d
 phase_of x = phase.Closed
 
--- ---- a part, or what is left
+-- ---- a part, or the rest
 
 sent_phase : (m n : State) (w : Wanted) (fd : ℕ) (expected : List ℕ) (d : Phase) (r : Reply) (received : List ℕ)
     → IsSending m expected d

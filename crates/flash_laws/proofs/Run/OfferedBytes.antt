@@ -80,7 +80,7 @@ module _ (steps : EachStepLeavesTheRest) (own : CallsServeTheirDomain) (m n : St
     written a r step =
         still-hired (call.IolWrite fd a) r step (no-position m fd (job_pipe run.worker) (on.Connection c) open_on refl)
 
-    -- the part is sent whole
+    -- all of the part is sent
     sent : (a taken : ℕ) (r : Reply) (received : List ℕ) (o : Progress)
         → HasPart m w o run (phase.DroppingSent a taken None) frame
         → StepsTo m (event.Call server (call.AggDrop a)) r n
@@ -110,7 +110,7 @@ module _ (steps : EachStepLeavesTheRest) (own : CallsServeTheirDomain) (m n : St
         )
         by r did step = absurd did
 
-    -- nobody takes it
+    -- the part is aborted
     unsent : (a : ℕ) (r : Reply) (received : List ℕ) (o : Progress) → HasPart m w o run (phase.Aborting a None) frame
         → StepsTo m (event.Call server (call.AggDrop a)) r n
         → AfterReply (InProgress run (SendingPart (phase.Aborting a None) frame))
@@ -170,7 +170,7 @@ module _ (steps : EachStepLeavesTheRest) (own : CallsServeTheirDomain) (m n : St
     sending (phase.Aborting a None) r received o h step = unsent a r received o h step
     sending d r received o h step = absurd h.is_part
 
-  -- what is left goes on as a file's response does
+  -- the rest is sent by the phases of a file's response
   rest : (fd c : ℕ) (o : Progress) (d : Phase) (r : Reply) (received : List ℕ)
       → descriptor m server fd ≡ Some (on.Connection c)
       → HasRest m w o d → StepsTo m (event.Call server (conn.next_call fd (in_phase w d))) r n → Names n r received
@@ -274,7 +274,7 @@ module _ (steps : EachStepLeavesTheRest) (own : CallsServeTheirDomain) (m n : St
   replied fd c worker (InProgress run Failing) r received o open_on free going has step names =
       stopping.fails steps own m n order job w run has.0 r received o has.1 step
 
--- ---- what is offered
+-- ---- offered bytes
 
 drop_past : (past xs : List ℕ) (t : ℕ) → drop (length past + t) (past ++ xs) ≡ drop t xs
 drop_past [] xs t = ap (λ (k : ℕ). drop k xs) (zero-add t)
@@ -282,7 +282,7 @@ drop_past (p ∷ ps) xs t =
     let e : length (p ∷ ps) + t ≡ suc (length ps + t) = omega arith in
     ap (λ (k : ℕ). drop k (p ∷ (ps ++ xs))) e ∙ drop_past ps xs t
 
--- of what begins with a part its next bytes are next
+-- the next bytes of the part that is sent are the next bytes of each possible response
 next-in : (m : State) (w : Wanted) (o : Progress) (a taken : ℕ) (part bytes after : List ℕ) → Continues w o part []
     → taken ≤ length part → bytes ++ after ≡ drop taken part → readable_at m server a ≡ Some bytes
     → IsNextOf m w o a taken
@@ -301,7 +301,7 @@ next-in m w (Ran received ended past) a taken part bytes after goes within next 
 }
 next-in m w x a taken part bytes after goes within next is_readable = absurd goes
 
--- what a phase of any response offers comes next in what is expected
+-- the bytes that a phase offers are the next bytes of the expected response
 offered : (m : State) (fd a : ℕ) (w : Wanted) (expected : List ℕ) (d : Phase) → Has m (serve w) expected d
     → conn.next_call fd (in_phase w d) ≡ call.IolWrite fd a → Next m expected a (taken_of d)
 offered m fd a w expected d has is = (next-expected m fd fd a [] (serve w) d expected has is).1
@@ -313,7 +313,7 @@ part-next m fd a w o run d frame h is =
     let p = offered m fd a w h.part d h.has is in
     next-in m w o a (taken_of d) h.part p.0 p.1 h.continues h.within p.3 p.2
 
--- what may be the response, once all of it is known
+-- once all of the response is known, each possible response has the same rest
 is-whole : (w : Wanted) (o : Progress) (expected r : List ℕ) → IsLeft w o expected → MayAnswer w o r → (taken : ℕ)
     → drop taken expected ≡ drop (past_of o + taken) r
 is-whole w (Ran received ended past) expected r left may taken =
@@ -363,7 +363,7 @@ few-held : (job : ℕ → List ℕ) (m : State) (w : Wanted) (o : Progress) (run
 few-held job m w o run None frame has = omega arith
 few-held job m w o run (Some x) frame has = has.1.has.holds.few
 
--- ---- once it is broken off
+-- ---- an aborted response offers no bytes
 
 none-of : (job : ℕ → List ℕ) (m : State) (fd a : ℕ) (w : Wanted) (x : Running) → HasRun job m w Broken x
     → next_call job fd w x ≡ call.IolWrite fd a → ⊥

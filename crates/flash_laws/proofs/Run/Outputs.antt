@@ -1,4 +1,4 @@
--- The output that was read, and the part of the response that it makes.
+-- The output that was read, and its part of the response.
 use Rattle.std.proofs.Common.{◌≡◌, ◌≤◌, ◌<◌, ◌/◌, ◌%◌, ◌==◌, ℕ, zero, suc, ◌+◌, Bool, true, false, cond, List, [], ◌∷◌}
 use Rattle.std.proofs.Common.{◌++◌, length, take, ap, ◌∙◌, refl, sym, subst, arith, append_assoc, append-nil}
 use Rattle.std.proofs.Common.{length-append}
@@ -25,7 +25,7 @@ short-prefix (suc j) zero t = omega arith
 short-prefix (suc j) (suc k) [] = omega arith
 short-prefix (suc j) (suc k) (x ∷ t) = let e = short-prefix j k t in omega (arith, e)
 
--- no more is read than is asked for
+-- a read returns at most k bytes
 pub short-output : (may : ℕ → Bool) (k : ℕ) (queue text : Text) (received : List ℕ) → text ≡ admitted may (take k queue)
     → received ≡ bytes_of text → length received ≤ k
 short-output may k queue text received is same =
@@ -50,7 +50,7 @@ pub short-digits : (size : ℕ) → length (digits 16 false size) ≤ 64
 unfolding digits
 short-digits size = length-onto 64 size []
 
--- a chunk is short, and so is the end of a body
+-- a chunk with an end fits an aggregate
 pub short-chunk : (size : ℕ) (bytes end : List ℕ) → length bytes ≤ CHUNK_BYTES → length end ≤ 7
     → length (chunk_head size ++ (bytes ++ end)) ≤ 16777216
 short-chunk size bytes end few short =
@@ -60,9 +60,9 @@ short-chunk size bytes end few short =
     let d = short-digits size in
     omega (arith, a, b, c, d, few, short)
 
--- ---- what the response is made of
+-- ---- the parts of the response
 
--- more output is held back
+-- more output was read, and is held back
 pub receives-more : (w : Wanted) (o : Progress) (held : List ℕ) (b : ℕ) (new : List ℕ) → HoldsBack w o held
     → HoldsBack w (receives_on o (b ∷ new)) (held ++ (b ∷ new))
 receives-more w (Ran received ended past) held b new back = λ more.
@@ -70,7 +70,7 @@ receives-more w (Ran received ended past) held b new back = λ more.
     ∙ ap (λ (l : List ℕ). past ++ script_body w.chunked l) (sym (append_assoc held (b ∷ new) more))))
 receives-more w x held b new back = absurd back
 
--- the end was seen: only what is held is left
+-- the end of the output was read: only the held output is left
 pub receives-end : (b : Bool) (w : Wanted) (o : Progress) (held : List ℕ) → Goes b w o held
     → Ends b w (receives_on o []) held
 receives-end true w o held is = (subst (λ (z : Progress). receives_on z [] ≡ Broken) (sym is.0) refl, is.1)
@@ -81,7 +81,7 @@ receives-end false w (Ran received ended past) held back = (
 )
 receives-end false w x held back = absurd back
 
--- what is held makes a part of the response
+-- the held output is a part of the response
 part-of : (w : Wanted) (o : Progress) (part held : List ℕ)
     → ((more : List ℕ) → script_body w.chunked (held ++ more) ≡ part ++ script_body w.chunked more)
     → HoldsBack w o held → Continues w o part []
@@ -91,14 +91,14 @@ part-of w (Ran received ended past) part held makes back =
     ∙ (ap (λ (l : List ℕ). past ++ l) (makes more) ∙ sym (append_assoc past part (script_body w.chunked more))))
 part-of w x part held makes back = absurd back
 
--- without chunks its own bytes
+-- without chunks the part is the held output
 pub plain-part : (w : Wanted) (o : Progress) (held : List ℕ) → w.chunked ≡ false → HoldsBack w o held
     → Continues w o held []
 plain-part w o held is back =
     part-of w o held held (λ more. subst (λ c. script_body c (held ++ more) ≡ held ++ script_body c more) (sym is) refl)
     back
 
--- a whole chunk
+-- with chunks the part is a whole chunk
 pub chunk-part : (w : Wanted) (o : Progress) (held : List ℕ) → w.chunked ≡ true → length held ≡ CHUNK_BYTES
     → HoldsBack w o held
     → Continues w o (chunk held) []
@@ -106,7 +106,7 @@ chunk-part w o held is count back =
     part-of w o (chunk held) held (λ more. subst (λ c. script_body c (held ++ more) ≡ chunk held ++ script_body c more)
     (sym is) (chunk_more held more count)) back
 
--- the last bytes, in a chunk, and the end
+-- the last bytes are left, in a chunk, and the end of the body
 pub last-left : (w : Wanted) (o : Progress) (held : List ℕ) (size : ℕ) → size ≡ length held → 0 < size
     → size < CHUNK_BYTES
     → IsLeft w o (script_body true held) → IsLeft w o (chunk_head size ++ (held ++ (chunk_end ++ last_chunk)))

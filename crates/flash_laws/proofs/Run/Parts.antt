@@ -39,7 +39,7 @@ use Rattle.flash_laws.proofs.Run.Rest.{SendsAll}
 use Rattle.flash_laws.proofs.Run.Stays.{frame-on, reading-on}
 use Rattle.flash_laws.proofs.Moves.{made, after-done, after-write, either-next}
 
--- another number than one that is used is not used
+-- a number that is not used differs from one that is used
 pub other : (uses : ℕ → Bool) (b a : ℕ) → uses b ≡ false → uses a ≡ true → (b == a) ≡ false
 other uses b a not_b is_a = not-equal b a (λ e. let p = ap uses e in absurd (cc (p, not_b, is_a)))
 
@@ -47,7 +47,7 @@ pub and-false : (b c : Bool) → c ≡ false → (b && c) ≡ false
 and-false true c is = is
 and-false false c is = refl
 
--- a call on a descriptor that is no file's moves none
+-- a call on a descriptor without a file moves no position
 pub no-position : (m : State) (f g : ℕ) (x : Descriptor) → descriptor m server f ≡ Some x → is_file (Some x) ≡ false
     → ((f == g) && is_file (descriptor m server f)) ≡ false
 no-position m f g x is no_file = and-false (f == g) (is_file (descriptor m server f)) (ap (λ d. is_file d) is ∙ no_file)
@@ -63,7 +63,7 @@ sends-none : (d e : Phase) (frame : Option ℕ) → ((f : ℕ) → conn.uses_agg
 sends-none d e None fewer apart = refl
 sends-none d e (Some f) fewer apart = fewer f apart
 
--- of the piece too
+-- likewise if the phase e also uses the piece
 with-piece : (m : State) (piece : ℕ) (d e : Phase) (frame : Option ℕ)
     → ((f : ℕ) → (piece == f) ≡ false → conn.uses_agg d f ≡ false → conn.uses_agg e f ≡ false)
     → has_frame frame piece ≡ false → sends_frame d frame ≡ false → sends_frame e frame ≡ false
@@ -153,7 +153,7 @@ module _ (steps : EachStepLeavesTheRest) (own : CallsServeTheirDomain) (m n : St
           → Apart e
       fewer e of = sends-none (phase.SendingPiece s piece) e frame of h.apart
 
-  -- what is dropped is not the frame
+  -- the aggregate that is dropped is not the frame
   not-frame : (b : ℕ) (d : Phase) → ((f : ℕ) → conn.uses_agg d f ≡ false → (b == f) ≡ false)
       → sends_frame d frame ≡ false
       → (f : ℕ) → has_frame frame f ≡ true → (b == f) ≡ false
@@ -198,7 +198,7 @@ module _ (steps : EachStepLeavesTheRest) (own : CallsServeTheirDomain) (m n : St
       (λ f is. (or_parts (piece == f) ((a == f) || false) is).1)
       h.apart))
 
-  -- the frame stays where the part is dropped, and output is read
+  -- the part is dropped, output is read next, and the frame stays
   pub receives-again : (a : ℕ) (d : Phase) (after : Progress) (next : Run)
       → StepsTo m (event.Call server (call.AggDrop a)) reply.Done n
       → ((f : ℕ) → conn.uses_agg d f ≡ false → (a == f) ≡ false) → next.from ≡ run.from → Goes next.broken w after []

@@ -22,7 +22,7 @@ enough (suc n) (suc m) (x ∷ xs) l k =
     ap (λ (ps : List (List ℕ)). take CHUNK_BYTES (x ∷ xs) ∷ ps)
     (enough n m (drop CHUNK_BYTES (x ∷ xs)) (fewer n x xs l) (fewer m x xs k))
 
--- a whole piece in front
+-- a whole piece at the front is the first piece
 pieces_more : (held more : List ℕ) → length held ≡ CHUNK_BYTES → pieces (held ++ more) ≡ held ∷ pieces more
 pieces_more [] more e = absurd (omega (arith, e))
 pieces_more (h ∷ hs) more e =
@@ -38,7 +38,7 @@ pieces_more (h ∷ hs) more e =
     ∙ (ap (λ (z : List ℕ). (h ∷ hs) ∷ pieces_by n z) d
     ∙ ap (λ (z : List (List ℕ)). (h ∷ hs) ∷ z) (enough n (length more) more le same))
 
--- fewer bytes than a chunk has are one piece
+-- fewer bytes than a chunk has, and at least one, are one piece
 one_piece : (held : List ℕ) → 0 < length held → length held < CHUNK_BYTES → pieces held ≡ held ∷ []
 one_piece [] some few = absurd (omega (arith, some))
 one_piece (h ∷ hs) some few =
@@ -59,7 +59,7 @@ pub chunk_more : (held more : List ℕ) → length held ≡ CHUNK_BYTES
 chunk_more held more count = ap (λ (ps : List (List ℕ)). flat_map chunk ps ++ last_chunk) (pieces_more held more count)
     ∙ append_assoc (chunk held) (flat_map chunk (pieces more)) last_chunk
 
--- the last bytes, in a chunk, and the end
+-- the last bytes are in a chunk, followed by the end of the body
 pub last_body : (held : List ℕ) → 0 < length held → length held < CHUNK_BYTES
     → script_body true held ≡ chunk_head (length held) ++ (held ++ (chunk_end ++ last_chunk))
 last_body held some few =
@@ -68,7 +68,7 @@ last_body held some few =
     ∙ (append_assoc (chunk_head (length held)) (held ++ chunk_end) last_chunk
     ∙ ap (λ (l : List ℕ). chunk_head (length held) ++ l) (append_assoc held chunk_end last_chunk)))
 
--- bytes that are set between two parts
+-- bytes inserted between two parts
 pub set_between : (front back held : List ℕ) → take (length front) (front ++ back) ++ held
     ++ drop (length front) (front ++ back) ≡ front ++ (held ++ back)
 set_between front back held =

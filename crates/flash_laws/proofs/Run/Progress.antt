@@ -61,21 +61,21 @@ use Rattle.flash_laws.proofs.Conn.Progress as file
 use Rattle.flash_laws.proofs.Run.Outputs.{short-digits}
 use Rattle.flash_laws.proofs.Run.Rest.{is-rest}
 
--- ---- how far it is: the calls that are left, if no more output comes
+-- ---- the rank: the number of calls left, if the worker outputs no more
 
--- from the moment that the end of the body is made
+-- when the end of the body is to be made
 abbrev end_calls : Following → ℕ
 end_calls held = 3 * (length (end_around held) + held_size held) + 7
 
--- from the moment that the head is made
+-- when the head is to be made
 abbrev body_calls : Wanted → ℕ
 body_calls w = 3 * length (script_text w) + (end_calls None + 8)
 
--- of a script that is not run
+-- for a script that is not run
 abbrev error_calls : Wanted → ℕ
 error_calls w = head_calls (serve w) (Error 503)
 
--- from the moment that a whole chunk is set into its frame
+-- when a whole chunk is to be inserted into its frame
 abbrev chunk_calls : ℕ
 chunk_calls = 3 * (length (frame_of CHUNK_BYTES) + CHUNK_BYTES) + (end_calls None + 9)
 
@@ -131,7 +131,7 @@ around-more x =
 frame-place : (size : ℕ) (rest : List ℕ) → length (chunk_head size) ≤ length (chunk_head size ++ rest)
 frame-place size rest = let e = length-append (chunk_head size) rest in omega (arith, e)
 
--- in the place of nothing
+-- the length after an insertion
 set-long : (at : ℕ) (xs ys : List ℕ) → at ≤ length xs → length (take at xs ++ ys ++ drop at xs) ≡ length xs + length ys
 set-long at xs ys within =
     let a = length-append (take at xs ++ ys) (drop at xs) in
@@ -143,7 +143,7 @@ set-long at xs ys within =
 counts-short : (received : List ℕ) → count_of received ≤ length received
 counts-short received = omega arith
 
--- ---- what is made again later
+-- ---- calls that are retried later
 
 again-later : (z : Refusal) → is_again z ≡ true → is_later (reply.Refused z) ≡ true
 again-later no.WouldBlock is = refl
@@ -187,7 +187,7 @@ unread-near w run (Some x) frame =
     falls w (InProgress (broken run) (DiscardingHeld x.0 frame)) (InProgress run (ReadingOutput (Some x) frame))
     (omega (arith, more))
 
--- so many bytes are held
+-- read output is joined to the held output
 holding-near : (w : Wanted) (run : Run) (held size piece len a : ℕ) (frame : Option ℕ) → size + len ≤ CHUNK_BYTES
     → IsBelow (rank w (InProgress run (holding a (both size len) frame)))
     (rank w (InProgress run (JoiningOutput held size piece len frame)))
@@ -219,7 +219,7 @@ module _ (own : CallsServeTheirDomain) (may : RefusalsThatAreLeft) (m n : State)
   abbrev Near : Running → Reply → Running → Type 0
   Near x r y = Nears (rank w) x r y
 
-  -- bytes are set into others
+  -- bytes are inserted into others
   sets : (a at b : ℕ) (xs ys received : List ℕ) (x : Running) (y : Reply → Running) (r : Reply)
       → readable_at m server a ≡ Some xs → readable_at m server b ≡ Some ys
       → at ≤ length xs → length xs + length ys ≤ MAX_AGGREGATE_BYTES
@@ -281,7 +281,7 @@ module _ (own : CallsServeTheirDomain) (may : RefusalsThatAreLeft) (m n : State)
         by false is = inl (falls w (InProgress run (DiscardingJob j)) (InProgress run (WritingJob j f)) (omega arith))
     hands j f r step = let e = step.1 in absurd (cc (e))
 
-    -- a part goes on as a file's response does
+    -- a part is sent by the phases of a file's response
     part : (d e : Phase) (frame : Option ℕ) (r : Reply) → stage d ≡ 0 → Nears (file.rank (serve w)) d r e
         → Near (InProgress run (SendingPart d frame)) r (InProgress run (SendingPart e frame))
     part d e frame r one (inl (inl falls_first)) = absurd (omega (arith, one, falls_first))
@@ -357,7 +357,7 @@ module _ (own : CallsServeTheirDomain) (may : RefusalsThatAreLeft) (m n : State)
         refused z lacks = absurd lacks
     receives held frame p r received opened step = let e = step.1 in absurd (cc (e))
 
-    -- an aggregate is dropped, and this step is next
+    -- an aggregate is dropped, and the step t is next
     dropping : (s t : Step) (a : ℕ) (bytes : List ℕ) (r : Reply) (received : List ℕ)
         → readable_at m server a ≡ Some bytes → StepsTo m (event.Call server (call.AggDrop a)) r n
         → after_step w run s reply.Done received ≡ InProgress run t → step_calls w t < step_calls w s
@@ -475,7 +475,7 @@ module _ (own : CallsServeTheirDomain) (may : RefusalsThatAreLeft) (m n : State)
         (on.ReadEnd has.1.0.0) r has.1.0.1 step
         (falls w (Finishing (phase.MakingHead (Error 503))) (InProgress run Failing) (omega arith)))
 
-  -- ---- what is left goes on as a file's response does
+  -- ---- the rest is sent by the phases of a file's response
 
   rest : (d e : Phase) (r : Reply) → stage d ≡ 0 → Nears (file.rank (serve w)) d r e
       → Near (Finishing d) r (Finishing e)

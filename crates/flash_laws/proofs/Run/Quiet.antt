@@ -39,13 +39,13 @@ may_fail (DiscardingJob j) = true
 may_fail Failing = true
 may_fail s = false
 
--- the output may not be read
+-- the server may not read the output
 abbrev pub Bars : Step → Reply → Type 0
 Bars (ReadingOutput held frame) (reply.Refused (no.Denied p)) = Unit {0}
 Bars s r = ⊥
 
--- from a step by a reply to y nothing is taken; it breaks off only where it was broken, or the output may not be read;
--- it gives the script up only where it may; and it hands over in turn
+-- A reply r to the step s, with y as the next state, takes no bytes. It aborts only if the run was broken or the server
+-- may not read the output. It gives the script up only if the step may, and it hands the job over in order.
 abbrev pub Quiet : Run → Step → Reply → Running → Type 0
 Quiet run s r y = (taken_by y ≡ 0)
     × (breaks_off y ≡ true → (run.broken ≡ true) ⊎ Bars s r)
@@ -83,7 +83,7 @@ module _ (w : Wanted) (run : Run) where
   lets j reply.Done = (refl, λ b. inl b, λ z. absurd (cc (z)), inr (j, refl, refl))
   lets j r = (refl, λ b. inl b, λ z. absurd (cc (z)), inl refl)
 
-  -- as it stays
+  -- the step is unchanged
   stays : (s : Step) (r : Reply) → is_part s ≡ false → Quiet run s r (InProgress run s)
   stays (SendingPart d frame) r plain = absurd (cc (plain))
   stays s r plain = (refl, λ b. inl b, λ z. cc (z), inl refl)

@@ -51,11 +51,11 @@ use Rattle.flash_laws.proofs.Run.Holdings.{holding-new, hearing-new, left, shut}
 module _ (come : AggregatesComeAndGo) (own : CallsServeTheirDomain) (m n : State) (order : IsOrderly m)
     (a : ℕ) (bytes : List ℕ) (before : readable_at m server a ≡ None) (after : readable_at n server a ≡ Some bytes)
     (w : Wanted) where
-  -- the reply names what comes
+  -- the reply names the new aggregate
   named : (e : Event) (r : Reply) → StepsTo m e r n → brings e r server a ≡ true
   named = keeping.named come own m n order a bytes before after
 
-  -- to drop an aggregate brings none, nor does it to close, to write, to make a pipe or to give its end away
+  -- dropping an aggregate, closing, writing, making a pipe and giving its end away bring no aggregate
   dropped : (b : ℕ) (r : Reply) → StepsTo m (event.Call server (call.AggDrop b)) r n → ⊥
   dropped = keeping.dropped come own m n order a bytes before after
 
@@ -84,7 +84,7 @@ module _ (come : AggregatesComeAndGo) (own : CallsServeTheirDomain) (m n : State
       (λ x. caller.GivesFd m server g to (on.WriteEnd p) x n) r step
       (own.gives_fd m n server g to (on.WriteEnd p) r open_on step) (λ x bad. bad) (λ x y bad. bad)
 
-  -- what is made is named by the reply
+  -- the reply names the aggregate that is made
   made : (k : Call) (it : List ℕ) (y : Reply → Running) (r : Reply) → StepsTo m (event.Call server k) r n
       → caller.Makes m server it r n
       → ((x : ℕ) → brings (event.Call server k) (reply.Agg x) server a ≡ true → (x == a) ≡ true)

@@ -41,7 +41,7 @@ use Rattle.flash_laws.proofs.Run.Stays.{last-on}
 use Rattle.flash_laws.proofs.Moves.{written, after-done, after-agg, after-write, either-next}
 use Rattle.flash_laws.proofs.Conn.TakenBytes.{takes}
 
--- what a phase that sends all that is expected has
+-- the data of a phase that sends all of the expected bytes
 abbrev pub SendsAll : State → Wanted → (expected : List ℕ) → Phase → Type 0
 SendsAll s w expected d = Has s (serve w) expected d × IsPart s (sent_agg d) expected × (taken_of d ≤ length expected)
 
@@ -49,7 +49,7 @@ abbrev pub is_sent : Phase → Bool
 is_sent (phase.DroppingSent a taken more) = true
 is_sent d = false
 
--- no more of a part is taken than there is
+-- at most the length of a part is taken
 most-left : (xs after part : List ℕ) (taken : ℕ) → xs ++ after ≡ drop taken part → taken ≤ length part
     → taken + length xs ≤ length part
 most-left xs after part taken next within =
@@ -58,14 +58,14 @@ most-left xs after part taken next within =
     let g = ap (λ (l : List ℕ). length l) next in
     omega (arith, e, f, g, within)
 
--- all of a part is taken where nothing follows
+-- if no bytes are left, all of the part is taken
 pub whole-taken : (part : List ℕ) (taken : ℕ) → [] ≡ drop taken part → taken ≤ length part → length part ≡ taken
 whole-taken part taken none within =
     let e = ap (λ (l : List ℕ). length l) none in
     let f = length-drop taken part in
     omega (arith, e, f, within)
 
--- of what is left these bytes are taken whole
+-- if all of the rest is taken, nothing is left
 left-none : (w : Wanted) (o : Progress) (expected : List ℕ) → IsLeft w o expected → IsLeft w (takes_on o expected) []
 left-none w (Ran received ended past) expected left = (left.0, left.1 ∙ sym (append-nil (past ++ expected)))
 left-none w Broken expected left = absurd left
@@ -75,7 +75,7 @@ none-left : (w : Wanted) (o : Progress) → w.keep ≡ false → IsLeft w o [] �
 none-left w Broken closes left = absurd left
 none-left w x closes left = (left, inl closes)
 
--- a part is sent as what is left is
+-- a phase whose aggregate has the expected bytes sends them
 pub part-sends : (m : State) (expected : List ℕ) (d : Phase) → IsPart m (sent_agg d) expected
     → taken_of d ≤ length expected → IsSending m expected d
 part-sends m expected (phase.MakingHead (Error status)) is within = tt
@@ -87,7 +87,7 @@ busy m expected phase.Disconnecting is = absurd is.0
 busy m expected phase.Closed is = absurd is.0
 busy m expected d is = refl
 
--- what is to be sent yet is the rest
+-- a phase that still sends has the rest
 pub is-rest : (m : State) (w : Wanted) (o : Progress) (d : Phase) → is_left d ≡ true → HasLeft m w o d → HasRest m w o d
 is-rest m w o phase.Receiving is has = absurd (cc (is))
 is-rest m w o phase.Disconnecting is has = absurd (cc (is))
@@ -104,9 +104,9 @@ module _ (steps : EachStepLeavesTheRest) (own : CallsServeTheirDomain) (m n : St
   is_readable k r step a more un is =
       last-on m n a more expected (λ is. readable-stays steps m n (event.Call server k) r step a expected is un) is
 
-  -- ---- how much is taken
+  -- ---- the number of bytes taken
 
-  -- a part that is not sent whole is sent on
+  -- if the part is not yet sent whole, the next phase is busy
   abbrev IsBusy : Phase → Type 0
   IsBusy e = is_busy e ≡ true
 
@@ -123,7 +123,7 @@ module _ (steps : EachStepLeavesTheRest) (own : CallsServeTheirDomain) (m n : St
   stays-busy (phase.Aborting a None) r received has unsent at = absurd (cc (at))
   stays-busy d r received has unsent at = absurd has.1
 
-  -- a part that is sent, of which nothing is dropped
+  -- while a part is sent and not dropped, the bytes that the connection took are counted
   pub counts : (fd c : ℕ) (d : Phase) (r : Reply) (received : List ℕ) → descriptor m server fd ≡ Some (on.Connection c)
       → Sends m d
       → StepsTo m (event.Call server (conn.next_call fd (in_phase w d))) r n → is_sent d ≡ false → is_dropping d ≡ false
@@ -134,7 +134,7 @@ module _ (steps : EachStepLeavesTheRest) (own : CallsServeTheirDomain) (m n : St
       takes own m n order fd c open_on (serve w) expected [] d r received has.0 step at on
       (stays-busy d r received has unsent at)
 
-  -- ---- what a phase has after the reply to its call
+  -- ---- the data of a phase after the reply to its call
 
   abbrev Goes : Phase → Type 0
   Goes e = IsPart n (sent_agg e) expected × (taken_of e ≤ length expected)
@@ -142,7 +142,7 @@ module _ (steps : EachStepLeavesTheRest) (own : CallsServeTheirDomain) (m n : St
   both : (d : Phase) → Has n (serve w) expected d → Goes d → Sends n d
   both d has goes = (has, goes.0, goes.1)
 
-  -- the first of the bytes that are left are taken
+  -- the first k of the remaining bytes are taken
   taking : (s : Sending) (k : ℕ) (h : HoldsRestFrom m expected s) → s.taken ≤ length expected
       → k ≤ length (drop s.from h.bytes) → (after_taking s k).taken ≤ length expected
   taking s k h within few =
@@ -198,9 +198,9 @@ module _ (steps : EachStepLeavesTheRest) (own : CallsServeTheirDomain) (m n : St
       (having.breaks steps own m n order (serve w) piece a None expected r has.0 step)
       (after-done Goes r (here, has.2) (here, omega arith))
 
-  -- ---- what is left
+  -- ---- the rest
 
-  -- after the reply more is known, or what was, and the rest is there
+  -- the known part of the response after the reply, and the rest that is left
   abbrev AfterReply : Phase → Phase → Reply → Progress → Type 0
   AfterReply d e r before = (after : Progress) × PartLearns m d r before after × HasLeft n w after e
 
@@ -227,7 +227,7 @@ module _ (steps : EachStepLeavesTheRest) (own : CallsServeTheirDomain) (m n : St
       by (reply.Refused y) did next = record { expected = expected; left = left; has = next; sends = tt }
       by r did next = absurd did
 
-  -- all of it is sent
+  -- all of the rest is sent
   sent : (a taken : ℕ) (r : Reply) (o : Progress) → IsLeft w o expected → Sends m (phase.DroppingSent a taken None)
       → StepsTo m (event.Call server (call.AggDrop a)) r n
       → AfterReply (phase.DroppingSent a taken None) (conn.after_taken (serve w) a taken None r) r o
@@ -249,7 +249,7 @@ module _ (steps : EachStepLeavesTheRest) (own : CallsServeTheirDomain) (m n : St
       )
       by r did = absurd did
 
-  -- nobody takes it
+  -- the rest is aborted
   drops : (a : ℕ) (r : Reply) (o : Progress) → IsLeft w o expected → Sends m (phase.Aborting a None)
       → StepsTo m (event.Call server (call.AggDrop a)) r n
       → AfterReply (phase.Aborting a None) (conn.after_drop a None r) r o
@@ -265,7 +265,7 @@ module _ (steps : EachStepLeavesTheRest) (own : CallsServeTheirDomain) (m n : St
       )
       by r did = absurd did
 
-  -- a phase that goes on sending
+  -- a phase that continues to send
   proceeds-on : (o : Progress) → IsLeft w o expected → (e : Phase) → Sends n e → HasLeft n w o e
   proceeds-on o left phase.Receiving has = absurd has.1
   proceeds-on o left phase.Disconnecting has = absurd has.1

@@ -4,7 +4,7 @@ use Rattle.std.specs.Prelude.{codes, replicate}
 use Rattle.std.specs.Fmt.{digits}
 use Rattle.flash_laws.specs.Answers.Scripts.{script_body}
 
--- so many bytes
+-- n bytes
 abbrev some : ℕ → List ℕ
 some n = replicate n 97
 
@@ -20,6 +20,6 @@ a_chunk_and_more : script_body true (some 5000) ≡ codes "1000\r\n"
 unfolding digits
 a_chunk_and_more = refl
 
--- without chunks the bytes alone
+-- without chunks only the bytes
 plain : script_body false (some 5000) ≡ some 5000
 plain = refl

@@ -1,4 +1,4 @@
--- Once its worker has the job a run does not start again.
+-- Once its worker has the job, a run does not start again.
 use Rattle.std.proofs.Common.{◌≡◌, ℕ, List, [], ◌∷◌, refl, Option, Some, None, true, false, Bool, if◌then◌else◌}
 use Rattle.std.specs.Prelude.{nat_lt}
 use Rattle.iol_core.specs.declared.refusals.Refusal.TheVariants as no
@@ -84,7 +84,7 @@ step-started w run (DiscardingJob j) reply.Done received was = refl
 step-started w run Failing reply.Done received was = refl
 step-started w run s r received was = refl
 
--- what is starting was so before
+-- a run that is starting after a reply was starting before
 pub starts-back : (worker : ℕ) (w : Wanted) (y : Running) (r : Reply) (received : List ℕ)
     → is_starting (after_reply worker w y r received) ≡ true → is_starting y ≡ true
 starts-back worker w AwaitingWorker r received starts = refl

@@ -40,7 +40,7 @@ use Rattle.flash_laws.proofs.Conn.Responses.{some-inj}
 use Rattle.flash_laws.proofs.Conn.ReadableBytes.{readable-stays, readable-on, has-stays}
 use Rattle.flash_laws.proofs.Lists.{not-equal, turned, self, first_of, later_of, amid, bare, former_of, swapped}
 
--- two descriptors that are open on different things
+-- descriptors that are open on different objects differ
 fds-differ : (m : State) (g h : ℕ) (x y : Descriptor) → descriptor m server g ≡ Some x → descriptor m server h ≡ Some y
     → (x ≡ y → ⊥) → (g == h) ≡ false
 fds-differ m g h x y is_x is_y differ =
@@ -50,7 +50,7 @@ pub ends-differ : (m : State) (g h p q : ℕ) → descriptor m server g ≡ Some
     → descriptor m server h ≡ Some (on.WriteEnd q) → (g == h) ≡ false
 ends-differ m g h p q reads writes = fds-differ m g h (on.ReadEnd p) (on.WriteEnd q) reads writes (λ e. absurd (cc (e)))
 
--- where the write end is, the read end is not
+-- the write end and the read end have different descriptors
 pub write-elsewhere : (m : State) (run : Run) (write : ℕ) → HasPipe m run write → (write == run.from) ≡ false
 write-elsewhere m run write h =
     turned run.from write (ends-differ m run.from write h.pipe h.pipe h.read_end h.write_end)
@@ -65,14 +65,14 @@ after-piece : (piece a : ℕ) (more : Following) → ((piece == a) || ((a == a) 
 after-piece piece a more =
     later_of (piece == a) ((a == a) || has_followed more a) (first_of a (has_followed more a))
 
--- where its aggregate stays, a part stays
+-- if its aggregate stays, a part stays
 pub last-on : (m n : State) (a : ℕ) (more : Following) (part : List ℕ)
     → (readable_at m server a ≡ Some part → readable_at n server a ≡ Some part) → IsPart m (last_agg a more) part
     → IsPart n (last_agg a more) part
 last-on m n a None part stays is = stays is
 last-on m n a (Some x) part stays is = absurd is
 
--- the part that is sent is used
+-- if the aggregates of its phase stay, a part that is being sent stays
 part-used : (m : State) (d : Phase) (part : List ℕ) (n : State) → ((a : ℕ) (bytes : List ℕ) → conn.uses_agg d a ≡ true
     → readable_at m server a ≡ Some bytes → readable_at n server a ≡ Some bytes) → IsPart m (sent_agg d) part
     → IsPart n (sent_agg d) part
@@ -98,7 +98,7 @@ module _ (m n : State) where
   OpensOn uses = (g : ℕ) (x : Descriptor) → uses g ≡ true → descriptor m server g ≡ Some x
       → descriptor n server g ≡ Some x
 
-  -- of two that are used each
+  -- if the aggregates of two sets stay, those of each set stay
   fore : (u v : ℕ → Bool) → IsReadableOn (λ a. u a || v a) → IsReadableOn u
   fore u v is_readable a bytes is has = is_readable a bytes (former_of (u a) (v a) is) has
 
@@ -187,7 +187,7 @@ module _ (m n : State) where
       → IsReading m run → IsReading n run
   reading-on run opens is = (is.0, opens (on.ReadEnd is.0) is.1)
 
-  -- the read end is used
+  -- a run that reads uses its read end
   from-used : (run : Run) (step : Step) → is_reading step ≡ true → uses_fd (InProgress run step) run.from ≡ true
   from-used run step open_yet =
       later_of (job_pipe run.worker == run.from) ((is_reading step && (run.from == run.from)) || step_fd step run.from)
@@ -198,7 +198,7 @@ module _ (m n : State) where
       → IsReading m run → IsReading n run
   reads run step open_yet opens is = reading-on run (λ x e. opens run.from x (from-used run step open_yet) e) is
 
-  -- so is the write end
+  -- if the descriptors of the run stay, its pipe stays
   pipe-on : (run : Run) (step : Step) (write : ℕ) → is_reading step ≡ true → step_fd step write ≡ true
       → OpensOn (λ g. uses_fd (InProgress run step) g)
       → HasPipe m run write → HasPipe n run write

@@ -54,7 +54,7 @@ use Rattle.flash_laws.proofs.Run.Pieces.{set_between}
 use Rattle.flash_laws.proofs.Run.Parts.{other, no-position, new-frame, proceeds-on}
 use Rattle.flash_laws.proofs.Run.Stays.{run_stays, frame-on, hired-on, reading-on, write-elsewhere}
 
--- a part that is not yet sent
+-- a part of which nothing is sent yet
 pub begun : (n : State) (w : Wanted) (a len : ℕ) (part : List ℕ) → readable_at n server a ≡ Some part
     → len ≡ length part → Has n (serve w) part (sends_part a len)
 begun n w a len part is_readable size = (
@@ -119,7 +119,7 @@ module _ (steps : EachStepLeavesTheRest) (own : CallsServeTheirDomain) (m n : St
       by r did step = absurd did
 
   module _ (run : Run) (hired : HasJobPipe m run.worker) where
-    -- where it gives up nothing that the step uses, and moves no descriptor of it
+    -- a call that gives up no aggregate of the step, and touches no descriptor of it
     pub stay : (k : Call) (r : Reply) (o : Progress) (s : Step) → StepsTo m (event.Call server k) r n
         → ((a : ℕ) → step_agg s a ≡ true → gives_up (event.Call server k) server a ≡ false)
         → ((g : ℕ) → uses_fd (InProgress run s) g ≡ true → touches_fd m (event.Call server k) server g ≡ false)
@@ -138,7 +138,7 @@ module _ (steps : EachStepLeavesTheRest) (own : CallsServeTheirDomain) (m n : St
     still-reading k r step still is =
         reading-on m n run (λ x e. (steps.leaves m n (event.Call server k) r step).fds server run.from x e still) is
 
-    -- after an aggregate is dropped that the next step does not use, or was not
+    -- an aggregate that the next step does not use is dropped, or the call is refused
     pub drops : (a : ℕ) (s t : Step) (r : Reply) (o : Progress) → HasRun job m w o (InProgress run s)
         → step_agg t a ≡ false
         → HasStep job m w o run t
@@ -236,13 +236,13 @@ module _ (steps : EachStepLeavesTheRest) (own : CallsServeTheirDomain) (m n : St
 
     -- ---- output is read
 
-    -- what is held is not a new aggregate
+    -- a new aggregate is not that of the held output
     pub new-held : (held : Following) (bytes : List ℕ) (x : ℕ) → IsHeld m w held bytes → readable_at m server x ≡ None
         → has_followed held x ≡ false
     new-held None bytes x has new = refl
     new-held (Some y) bytes x has new = new-other m y.0 x bytes has.is_readable new
 
-    -- so many bytes are held, at most a chunk's
+    -- the held output has at most the bytes of a chunk
     held-now : (a size : ℕ) (bytes : List ℕ) (frame : Option ℕ) (o : Progress) → readable_at n server a ≡ Some bytes
         → size ≡ length bytes → 0 < size
         → size ≤ CHUNK_BYTES → w.chunked ≡ true → run.broken ≡ false → IsReading n run → HasFrame n frame
@@ -291,7 +291,7 @@ module _ (steps : EachStepLeavesTheRest) (own : CallsServeTheirDomain) (m n : St
         }
         by false is = set frame frames apart is
 
-    -- nothing is held where chunks are not made
+    -- if the body is not chunked, no output is held
     pub none-held : (s : State) (held : Following) (bytes : List ℕ) → IsHeld s w held bytes → w.chunked ≡ false
         → bytes ≡ []
     none-held s None bytes has plain = has
@@ -364,7 +364,7 @@ module _ (steps : EachStepLeavesTheRest) (own : CallsServeTheirDomain) (m n : St
           goes = receives-more w o h.bytes b new goes;
         }
 
-    -- the output may not be read: nothing more is sent
+    -- the server may not read the output: no more of the response is sent
     barred : (held : Following) (frame : Option ℕ) → IsReading m run → (bytes : List ℕ) → HasOutput m w held frame bytes
         → HasStep job m w Broken (broken run) (unread held frame)
     barred None frame reads bytes has = (
@@ -393,7 +393,7 @@ module _ (steps : EachStepLeavesTheRest) (own : CallsServeTheirDomain) (m n : St
         count : ℕ
         count = CHUNK_BYTES - held_size held
 
-        -- more, or the end
+        -- more output, or its end
         more : (x : ℕ) (received : List ℕ) → HasJobPipe n run.worker → HasReceived n w o run held frame
             → readable_at n server x ≡ Some received → length received ≤ count
             → has_followed held x ≡ false → has_frame frame x ≡ false

@@ -53,7 +53,7 @@ module _ (steps : EachStepLeavesTheRest) (own : CallsServeTheirDomain) (m n : St
   abbrev AfterReply : Running → Running → Reply → List ℕ → Progress → Type 0
   AfterReply x y r received before = (after : Progress) × Learns m x r received before after × HasRun job n w after y
 
-  -- ---- what the steps rest on, of these states
+  -- ---- lemmas about these states
 
   is_readable : (k : Call) (r : Reply) → StepsTo m (event.Call server k) r n → (a : ℕ) (bytes : List ℕ)
       → gives_up (event.Call server k) server a ≡ false → readable_at m server a ≡ Some bytes
@@ -87,7 +87,7 @@ module _ (steps : EachStepLeavesTheRest) (own : CallsServeTheirDomain) (m n : St
 
     -- ---- the end
 
-    -- without chunks nothing is left; with them the end of the body is
+    -- without chunks nothing is left; with chunks the end of the body is left
     finishes : (b c : Bool) (held : Following) (bytes : List ℕ) (o : Progress) → HasJobPipe n run.worker
         → run.broken ≡ b → w.chunked ≡ c
         → IsHeld n w held bytes → Ends run.broken w o bytes → HasRun job n w o (finishing b c run held)
@@ -153,7 +153,7 @@ module _ (steps : EachStepLeavesTheRest) (own : CallsServeTheirDomain) (m n : St
         off None is a u = absurd (cc (u))
         off (Some x) is a u = let e : x.0 ≡ a = grind (arith, nat_tests, u) in subst (λ z. (f == z) ≡ false) e is
 
-    -- of a run that is not broken the end is left
+    -- the end of the body is made
     pub lasts : (held : Following) (r : Reply) (received : List ℕ) (o : Progress)
         → HasStep job m w o run (MakingEnd held)
         → StepsTo m (event.Call server (call.AggMake (end_around held))) r n → Names n r received

@@ -51,7 +51,7 @@ use Rattle.flash_laws.proofs.Run.Rest.{SendsAll, is_sent, is-rest, whole-taken}
 use Rattle.flash_laws.proofs.Run.Quiet.{is_part, Bars, quiet}
 use Rattle.flash_laws.proofs.Conn.TakenBytes.{breaks as conn-breaks}
 
--- ---- how much was taken before
+-- ---- the number of bytes taken before
 
 past-receives : (o : Progress) (received : List ℕ) → past_of (receives_on o received) ≡ past_of o
 past-receives (Ran was ended past) [] = refl
@@ -71,7 +71,7 @@ broken-plain : (run : Run) (s : Step) → is_part s ≡ false → breaks_off (In
 broken-plain run (SendingPart d frame) plain = absurd (cc (plain))
 broken-plain run s plain = refl
 
--- a response that goes on is not broken
+-- a response that continues is not aborted
 goes-whole : (w : Wanted) (o : Progress) (part : List ℕ) → Continues w o part [] → o ≡ Broken → ⊥
 goes-whole w (Ran was ended past) part goes is = cc (is)
 goes-whole w x part goes is = goes
@@ -80,7 +80,7 @@ left-whole : (w : Wanted) (o : Progress) (expected : List ℕ) → IsLeft w o ex
 left-whole w Broken expected left is = left
 left-whole w x expected left is = cc (is)
 
--- the output may not be read: it is broken off
+-- if the server may not read the output, the response is aborted
 bars-breaks : (w : Wanted) (run : Run) (s : Step) (r : Reply) (received : List ℕ) → Bars s r
     → breaks_off (after_step w run s r received) ≡ true
 bars-breaks w run (ReadingOutput None frame) (reply.Refused (no.Denied p)) received bars = refl
@@ -124,10 +124,10 @@ taken-over : (b : Bool) → taken_of (if b then phase.Receiving else phase.Disco
 taken-over true = refl
 taken-over false = refl
 
--- how much counts as taken once a reply came
+-- the number of bytes that count as taken after a reply
 module _ (steps : EachStepLeavesTheRest) (own : CallsServeTheirDomain) (m n : State) (order : IsOrderly m) (w : Wanted)
     (fd c : ℕ) (open_on : descriptor m server fd ≡ Some (on.Connection c)) where
-  -- all of a part
+  -- all of a part is taken
   whole : (expected : List ℕ) (a taken : ℕ) (before after : Progress)
       → SendsAll m w expected (phase.DroppingSent a taken None)
       → (before ≡ Broken → ⊥)
@@ -139,7 +139,7 @@ module _ (steps : EachStepLeavesTheRest) (own : CallsServeTheirDomain) (m n : St
       let is = ap (λ (o : Progress). past_of o) (learns.2 ∙ ap (λ (l : List ℕ). takes_on before l) part) in
       omega (arith, grows, all, is)
 
-  -- a part that is sent on
+  -- a part is still being sent
   part : (expected : List ℕ) (d : Phase) (r : Reply) (received : List ℕ) (before after : Progress)
       → SendsAll m w expected d
       → StepsTo m (event.Call server (conn.next_call fd (in_phase w d))) r n → is_sent d ≡ false → is_dropping d ≡ false
@@ -151,7 +151,7 @@ module _ (steps : EachStepLeavesTheRest) (own : CallsServeTheirDomain) (m n : St
       let is = ap (λ (o : Progress). past_of o) learns in
       omega (arith, counts, is)
 
-  -- what is left
+  -- the rest is being sent
   rest : (d : Phase) (r : Reply) (received : List ℕ) (before after : Progress) (h : HasRest m w before d)
       → StepsTo m (event.Call server (conn.next_call fd (in_phase w d))) r n → PartLearns m d r before after
       → is_dropping d ≡ false
@@ -181,7 +181,7 @@ module _ (steps : EachStepLeavesTheRest) (own : CallsServeTheirDomain) (m n : St
   rest d r received before after h step learns at on =
       part h.expected d r received before after (h.has, h.sends.0, h.sends.1) step refl at on learns
 
-  -- a part
+  -- a step that sends a part
   sending : (run : Run) (d : Phase) (frame : Option ℕ) (r : Reply) (before after : Progress)
       (h : HasPart m w before run d frame)
       → StepsTo m (event.Call server (conn.next_call fd (in_phase w d))) r n → PartLearns m d r before after
@@ -261,7 +261,7 @@ takes steps own job m n fd c worker w (InProgress run s) r received before after
     on =
     plain-takes job m w run fd c s r received before after refl open_on has learns on
 
--- ---- why it is broken off
+-- ---- the reasons for aborting a response
 
 barred : (why : RefusalsTellWhy) (job : ℕ → List ℕ) (m n : State) (fd c : ℕ) (w : Wanted) (o : Progress) (run : Run)
     (s : Step) (r : Reply) → Bars s r
@@ -277,10 +277,10 @@ barred why job m n fd c w o run (ReadingOutput held frame) (reply.Refused (no.De
     )
 barred why job m n fd c w o run s r bars has step = absurd bars
 
--- a part is dropped only where nobody takes it
+-- a part is aborted only if the peer is gone
 module _ (why : RefusalsTellWhy) (m n : State) (fd c : ℕ) (open_on : descriptor m server fd ≡ Some (on.Connection c))
   where
-    -- any phase of a response: as that of a file
+    -- any phase of a response, as for a file
     aborts : (w : Wanted) (d : Phase) (r : Reply) (received : List ℕ) → is_busy d ≡ true
         → StepsTo m (event.Call server (conn.next_call fd (in_phase w d))) r n
         → is_dropping d ≡ false → is_dropping (conn.after_reply (in_phase w d) r received).phase ≡ true
@@ -341,9 +341,9 @@ breaks why job m n fd c worker w (InProgress run (SendingPart d frame)) r receiv
 breaks why job m n fd c worker w (InProgress run s) r received o open_on going has step at off =
     plain-breaks why job m n fd c w o run s r received refl has.1 step at off
 
--- ---- why a script is given up
+-- ---- the reasons for giving up a script
 
--- an end of a pipe is given to a domain that lives, but for want of numbers or of memory
+-- if giving away a pipe end is refused, and is not to be retried, the receiver is not live
 not-given : (m n : State) (write to p : ℕ) (y : Refusal) → is_live m server ≡ true
     → descriptor m server write ≡ Some (on.WriteEnd p)
     → StepsTo m (event.Call server (call.GiveFd write to)) (reply.Refused y) n → is_again y ≡ false
@@ -418,7 +418,7 @@ hands-up j f run (reply.Refused y) off = by (is_again y) refl off
 hands-up j f run (reply.Count k) off = absurd (cc (off))
 hands-up j f run r off = absurd (cc (off))
 
--- a job that is not written though it is no want of memory, and need not wait, is one that nobody reads
+-- if a write of a job fails neither for lack of memory nor since it would block, the pipe has no reader
 not-written : (why : RefusalsTellWhy) (m n : State) (fd p a : ℕ) (y : Refusal)
     → descriptor m server fd ≡ Some (on.WriteEnd p)
     → StepsTo m (event.Call server (call.IolWrite fd a)) (reply.Refused y) n → CannotPut y → is_again y ≡ false
@@ -475,7 +475,7 @@ fails may why job m n fd worker w AwaitingWorker r received o lives has step at 
     by r off = cc (off)
 fails may why job m n fd worker w x r received o lives has step at off = absurd (cc (off))
 
--- ---- in which order
+-- ---- the order of the steps
 
 pub in_turn : (worker : ℕ) (w : Wanted) (x : Running) (r : Reply) (received : List ℕ)
     → (after_reply worker w x r received ≡ x) ⊎ ComesAfter x r (after_reply worker w x r received)

@@ -1,8 +1,8 @@
 -- The bytes that the server offers a client for a request, of a file or of a script, are the next bytes of the
 -- response.
 --
--- The laws are about single steps, undisturbed or not: what the machine has of a response remains, unless a call
--- consumes or moves what the client uses. That this holds over a whole run is not stated here.
+-- The laws are about single steps, undisturbed or not: the machine's data of a response remains, unless a call consumes
+-- or moves an object that the client uses. That this holds over a whole run is not stated here.
 use Rattle.std.specs.Prelude.{◌≡◌, ◌⊎◌, ℕ, ◌+◌, Bool, true, not, List, [], ◌++◌, Option, Some, None, IsTrue}
 use Rattle.std.specs.Prelude.{IsFalse}
 use Rattle.iol_core.specs.Access.{HasAccess}
@@ -166,7 +166,7 @@ pub record ClientOffersTheResponse (scripts : Bool) : Type 0 where
       → HasKnown scripts m x before → StepsTo m (event.Call server (next_call scripts fd x)) r n → Names n r received
       → (after : Known) × Learns scripts m x r received before after
       × HasKnown scripts n (after_reply scripts worker x r received) after
-  -- the same for any other event that neither consumes nor moves what the client uses
+  -- the same for any other event that consumes and moves no object that the client uses
   pub stays : (m n : State) (x : Client) (e : Event) (r : Reply) (known : Known) → StepsTo m e r n
       → ((a : ℕ) → IsTrue (uses_agg x a) → IsFalse (gives_up e server a))
       → ((g : ℕ) → IsTrue (uses_fd x g) → IsFalse (touches_fd m e server g)) → HasKnown scripts m x known

@@ -1,4 +1,4 @@
--- The known part of the response to a request, of a file or of a script, and what the machine has of it.
+-- The known part of the response to a request, of a file or of a script, and the machine's data of it.
 use Rattle.std.specs.Prelude.{◌≡◌, ℕ, ◌+◌, Bool, true, false, List, [], ◌++◌, drop, Option, Some, None, if◌then◌else◌}
 use Rattle.std.specs.Prelude.{IsTrue, IsFalse, ⊤}
 use Rattle.iol_core.specs.State.{State}
@@ -54,7 +54,7 @@ pub record IsNextOf (m : State) (q : Answer) (known : Known) (a taken : ℕ) : T
   pub next : (r : List ℕ) → MayAnswer q known r
       → (after : List ℕ) × (bytes ++ after ≡ drop (taken_before known + taken) r)
 
--- ---- what the machine has of it
+-- ---- the machine's data of it
 
 -- whether the text of a script is read but has not begun to run
 abbrev pub is_read : Phase → Bool
@@ -129,7 +129,7 @@ pub record HasFile (m : State) (x : Client) (o : Outcome) : Type 0 where
   pub unread : IsFalse (is_read x.conn.phase)
   pub has : Has m x.conn.request (response x.conn.request o) x.conn.phase
 
--- The machine has what the response needs, with the known results.
+-- The machine has the data that the response needs, with the known results.
 abbrev pub HasKnown : (scripts : Bool) → State → Client → Known → Type 0
 HasKnown scripts m x (OfFile o) = HasFile m x o
 HasKnown scripts m x (OfScript text o) = HasScript scripts m x x.conn.request text o

@@ -24,7 +24,7 @@ use Rattle.flash_laws.specs.declared.phase.Phase.TheVariants.{MakingHead, Joinin
 use Rattle.flash_laws.specs.declared.phase.Phase.TheVariants.{SendingPiece, DroppingPiece, DroppingSent, AbortingPiece}
 use Rattle.flash_laws.specs.declared.phase.Phase.TheVariants.{Aborting, Disconnecting, Closed}
 
--- ---- what the machine has of a response: the server offers the next bytes of the expected response
+-- ---- the machine's data of a response: the server offers the next bytes of the expected response
 
 abbrev pub IsReadable : State → (a : ℕ) → Type 0
 IsReadable m a = (bytes : List ℕ) × (readable_at m server a ≡ Some bytes)
@@ -114,7 +114,7 @@ abbrev pub IsServed : Answer → Type 0
 IsServed (serve w) = ⊤
 IsServed (refuse status head_only close) = ⊥
 
--- The machine has what a phase needs; `expected` is the response to the request in progress.
+-- The machine has the data that a phase needs; `expected` is the response to the request in progress.
 abbrev pub Has : State → Answer → (expected : List ℕ) → Phase → Type 0
 Has m q expected Receiving = ⊤
 Has m q expected (DroppingInput a) = IsReadable m a

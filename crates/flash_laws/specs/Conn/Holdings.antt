@@ -21,7 +21,7 @@ use Rattle.flash_laws.specs.declared.phase.Phase.{Phase}
 use Rattle.flash_laws.specs.Conn.OfferedBytes.{HasAnswer}
 use Rattle.flash_laws.specs.Site.{server}
 
--- A call that touches only what a connection has: `fd` is its descriptor, on connection c.
+-- A call that touches only the objects of a connection: `fd` is its descriptor, on connection c.
 pub record TouchesItsOwn (m : State) (fd c : ℕ) (d : Phase) (k : Call) : Type 0 where
   -- it consumes only an aggregate that it uses
   pub aggs : (a : ℕ) → IsTrue (gives_up (event.Call server k) server a) → IsTrue (uses_agg d a)
@@ -52,7 +52,7 @@ pub record KeepsNothing : Type 0 where
   pub shut : (m n : State) (fd : ℕ) (x : Conn) (r : Reply) (received : List ℕ) (g : ℕ)
       → StepsTo m (event.Call server (next_call fd x)) r n
       → IsTrue (uses_fd x.phase g) → IsFalse (uses_fd (after_reply x r received).phase g) → descriptor n server g ≡ None
-  -- its calls touch only what it has, including the last, which closes it
+  -- its calls touch only its own objects, including the last, which closes it
   pub alone : (m : State) (fd c : ℕ) (x : Conn) (o : Outcome) → descriptor m server fd ≡ Some (on.Connection c)
       → HasAnswer m x o
       → TouchesItsOwn m fd c x.phase (next_call fd x)

@@ -1,8 +1,8 @@
 -- The bytes that the server offers for a request are the next bytes of the response to it, for the outcome of the calls
 -- made for it.
 --
--- The laws are about single steps, undisturbed or not: what the machine has of a response remains, unless a call
--- consumes or moves what the connection uses. That this holds over a whole run is not stated here.
+-- The laws are about single steps, undisturbed or not: the machine's data of a response remains, unless a call consumes
+-- or moves an object that the connection uses. That this holds over a whole run is not stated here.
 use Rattle.std.specs.Prelude.{◌≡◌, ◌⊎◌, ℕ, ◌+◌, ◌==◌, Bool, true, false, if◌then◌else◌, List, [], ◌++◌, length, drop}
 use Rattle.std.specs.Prelude.{Some, None, IsTrue, IsFalse}
 use Rattle.iol_core.specs.Access.{HasAccess}
@@ -34,7 +34,7 @@ use Rattle.flash_laws.specs.Conn.Progress.{Rank, Nears, CanMake, is_busy}
 use Rattle.flash_laws.specs.Conn.Policy.{is_later}
 use Rattle.flash_laws.specs.Site.{server}
 
--- the machine has what the response with this outcome needs; before an outcome is known it needs nothing
+-- the machine has the data that the response with this outcome needs; before an outcome is known it needs none
 abbrev pub HasAnswer : State → Conn → Outcome → Type 0
 HasAnswer m x o = Has m x.request (response x.request o) x.phase
 
@@ -99,7 +99,7 @@ pub record OffersTheResponse : Type 0 where
       → IsFalse (is_closing x.phase)
       → HasAnswer m x before → StepsTo m (event.Call server (next_call fd x)) r n → Names n r received
       → (after : Outcome) × Learns x.phase r received before after × HasAnswer n (after_reply x r received) after
-  -- the same for any other event that neither consumes nor moves what the connection uses
+  -- the same for any other event that consumes and moves no object that the connection uses
   pub stays : (m n : State) (x : Conn) (e : Event) (r : Reply) (o : Outcome) → StepsTo m e r n
       → ((a : ℕ) → IsTrue (uses_agg x.phase a) → IsFalse (gives_up e server a))
       → ((g : ℕ) → IsTrue (uses_fd x.phase g) → IsFalse (touches_fd m e server g)) → HasAnswer m x o

@@ -1,4 +1,4 @@
--- The invariant of the run of a script, by the machine and the output that was read: what it has of the response.
+-- The invariant of the run of a script: the machine's data of the response, by the output that was read.
 use Rattle.std.specs.Prelude.{◌≡◌, ◌≤◌, ◌<◌, ℕ, ◌+◌, ◌==◌, ◌⊎◌, not, Bool, true, false, List, [], ◌++◌, length, Option}
 use Rattle.std.specs.Prelude.{Some, None, IsTrue, IsFalse, ⊤}
 use Rattle.iol_core.specs.State.{State, descriptor}
@@ -38,7 +38,7 @@ pub data Progress : Type 0 where
   -- the output that was read, whether its end was read, and the bytes of the response in aggregates that were taken
   -- whole
   Ran : (received : List ℕ) → (ended : Bool) → (past : List ℕ) → Progress
-  -- the response is aborted, or the output may not be read: no more of it is sent
+  -- the response is aborted, or the server may not read the output: no more of the response is sent
   Broken : Progress
   -- the script could not be run; these bytes of the error response were taken
   NotRun : (status : ℕ) → (past : List ℕ) → Progress
@@ -85,7 +85,7 @@ abbrev pub Ends : (broken : Bool) → Wanted → Progress → (held : List ℕ) 
 Ends true w o held = (o ≡ Broken) × (held ≡ [])
 Ends false w o held = IsLeft w o (script_body w.chunked held)
 
--- ---- what the machine has
+-- ---- the machine's data
 
 -- the write end of a worker's job pipe
 abbrev pub HasJobPipe : State → (worker : ℕ) → Type 0
@@ -285,7 +285,7 @@ module _ (job : (fd : ℕ) → List ℕ) where
   HasStep m w o run (DiscardingJob j) = IsReading m run × IsReadable m j × IsFresh run o
   HasStep m w o run Failing = IsReading m run × IsFresh run o
 
-  -- The machine has what a run needs, with these results of its calls.
+  -- The machine has the data that a run needs, with these results of its calls.
   abbrev pub HasRun : State → Wanted → Progress → Running → Type 0
   HasRun m w o AwaitingWorker = o ≡ nothing_yet
   HasRun m w o (InProgress run step) = HasJobPipe m run.worker × HasStep m w o run step

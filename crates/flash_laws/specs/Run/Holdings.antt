@@ -1,5 +1,5 @@
 -- A run keeps only what it uses: the results of its calls belong to it, and are given up when it no longer uses them.
--- Its calls touch only what it has.
+-- Its calls touch only its own objects.
 --
 -- As in `Run/OfferedBytes`, the laws are about each call of the server, undisturbed or not.
 use Rattle.std.specs.Prelude.{◌≡◌, ℕ, ◌==◌, ◌||◌, Bool, true, false, List, Some, None, IsTrue, IsFalse}
@@ -51,7 +51,7 @@ MayTouch m (InProgress run (ClosingPipe write)) p = descriptor m server write �
 MayTouch m (InProgress run step) p = descriptor m server run.from ≡ Some (on.ReadEnd p)
 MayTouch m x p = ⊥
 
--- a call that touches only what a run has
+-- a call that touches only the objects of a run
 pub record KeepsToItself (m : State) (fd c : ℕ) (x : Running) (k : Call) : Type 0 where
   pub kind : IsTrue (may_make k)
   -- it consumes only an aggregate that it uses
@@ -88,7 +88,7 @@ pub record RunKeepsNothing (job : ℕ → List ℕ) : Type 0 where
       (g : ℕ)
       → HasRun job m w o x → StepsTo m (event.Call server (next_call job fd w x)) r n
       → IsTrue (has_end x g) → IsFalse (has_end (after_reply worker w x r received) g) → descriptor n server g ≡ None
-  -- its calls touch only what it has
+  -- its calls touch only its own objects
   pub alone : (m : State) (fd c : ℕ) (w : Wanted) (x : Running) (o : Progress)
       → descriptor m server fd ≡ Some (on.Connection c)
       → IsFalse (is_over x) → HasRun job m w o x → KeepsToItself m fd c x (next_call job fd w x)

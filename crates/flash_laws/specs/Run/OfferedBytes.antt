@@ -1,8 +1,8 @@
 -- The bytes that the server offers for a script are the next bytes of the response, for every further output; once the
 -- end of the output was read, of the response to that output.
 --
--- The laws are about single steps, undisturbed or not: what a run has remains, unless a call consumes or moves what it
--- uses. That this holds over a whole run is not stated here, and neither is what a worker writes.
+-- The laws are about single steps, undisturbed or not: the data of a run remains, unless a call consumes or moves an
+-- object that it uses. That this holds over a whole run is not stated here, and neither is the output of a worker.
 use Rattle.std.specs.Prelude.{◌≡◌, ◌<◌, ℕ, ◌+◌, ◌-◌, ◌⊎◌, Bool, true, false, List, [], ◌∷◌, ◌++◌, length, drop, Option}
 use Rattle.std.specs.Prelude.{Some, None, IsTrue, IsFalse, ◌≢◌, ⊤}
 use Rattle.iol_core.specs.State.{State, descriptor, is_live, pipe_at, conn_at, new_pipe, is_gone}
@@ -178,7 +178,7 @@ ComesAfter x r y = ⊤
 pub record RunOffersTheResponse (job : ℕ → List ℕ) : Type 0 where
   -- the beginning of a run
   pub starts : (m : State) (w : Wanted) → HasRun job m w nothing_yet AwaitingWorker
-  -- after the reply to its call the machine has what is needed next; the worker that it gets is one with a job pipe
+  -- after the reply to its call the machine has the data for the next step; the free worker is one with a job pipe
   pub replied : (m n : State) (fd c worker : ℕ) (w : Wanted) (x : Running) (r : Reply) (received : List ℕ)
       (before : Progress)
       → IsOrderly m → descriptor m server fd ≡ Some (on.Connection c) → (x ≡ AwaitingWorker → HasJobPipe m worker)
@@ -186,7 +186,7 @@ pub record RunOffersTheResponse (job : ℕ → List ℕ) : Type 0 where
       → StepsTo m (event.Call server (next_call job fd w x)) r n → Names n r received
       → (after : Progress) × Learns m x r received before after
       × HasRun job n w after (after_reply worker w x r received)
-  -- the same for any other event that neither consumes nor moves what the run uses
+  -- the same for any other event that consumes and moves no object that the run uses
   pub stays : (m n : State) (w : Wanted) (x : Running) (e : Event) (r : Reply) (o : Progress) → StepsTo m e r n
       → ((a : ℕ) → IsTrue (uses_agg x a) → IsFalse (gives_up e server a))
       → ((g : ℕ) → IsTrue (uses_fd x g) → IsFalse (touches_fd m e server g)) → HasRun job m w o x
@@ -236,7 +236,7 @@ pub record RunOffersTheResponse (job : ℕ → List ℕ) : Type 0 where
       → StepsTo m (event.Call server (next_call job fd w (InProgress run (ReadingOutput held frame)))) r n
       → (p : ℕ) × (descriptor m server run.from ≡ Some (on.ReadEnd p))
       × ReadsPipe m server p (CHUNK_BYTES - held_size held) r n
-  -- it reads until the end of the output, or until it may not read, also after the response is aborted
+  -- it reads until the end of the output, or until the server may not read it, also after the response is aborted
   pub reads_on : (worker : ℕ) (w : Wanted) (x : Running) (r : Reply) (received : List ℕ) → IsFalse (is_stopping x)
       → IsTrue (is_stopping (after_reply worker w x r received)) → StopsBy x r received
   -- a run begins with a new pipe, which is empty, and with its worker

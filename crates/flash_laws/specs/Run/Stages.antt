@@ -1,4 +1,4 @@
--- The progress of a client's script: what its worker has of it, and how much of its output was read.
+-- The progress of a client's script: the state of its worker, and the output that was read.
 use Rattle.std.specs.Prelude.{◌≡◌, ◌≢◌, ◌<◌, ℕ, Bool, true, false, List, ◌++◌, Some, slice_get, IsTrue, IsFalse, ⊤}
 use Rattle.iol_core.specs.State.{State, descriptor, text, pipe_at, new_pipe}
 use Rattle.iol_core.specs.declared.descriptors.Descriptor.TheVariants as on
@@ -75,8 +75,8 @@ module _ (worker_set : WorkerSet) where
   OutputFrom true m process_slot run made o = HasPutOut m process_slot run made o
   OutputFrom false m process_slot run made o = IsPuttingOut m process_slot run made o
 
-  -- What the worker in this process slot has of a run. It is impossible that the pipe or the job could not be handed
-  -- over.
+  -- The state of the worker in this process slot at a step of a run. The steps after a failed handover of the pipe or
+  -- the job are impossible.
   abbrev pub Stage : State → ProcessSlot worker_set.Worker → Run → (made : Made) → Progress → Step → Type 0
   Stage m process_slot run made o (GivingPipe write) = IsReadyFor m process_slot run
   Stage m process_slot run made o (MakingJob f) = IsGiven m process_slot run f
@@ -87,7 +87,7 @@ module _ (worker_set : WorkerSet) where
   Stage m process_slot run made o Failing = ⊥
   Stage m process_slot run made o step = OutputFrom (is_stopping (InProgress run step)) m process_slot run made o
 
-  -- the worker of a run, and what it has of it
+  -- the worker of a run, and its state
   pub record AtJobQueue (m : State) (process_slots : List (ProcessSlot worker_set.Worker)) (run : Run) (made : Made)
       (o : Progress)
       (step : Step) : Type 0 where
