@@ -110,8 +110,7 @@ waits_answer site_contents s waits =
       reads = refl;
       order = refl;
       responds = responds-none site_contents;
-      no_more =
-          inl waits;
+      no_more = inl waits;
     }
 
 module _ (laws : WindowLaws) (one : OneAnswer) (follow : StreamsFollow) where

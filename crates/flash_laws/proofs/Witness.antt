@@ -181,8 +181,7 @@ abbrev site_contents : SiteContents
 site_contents = record {
   finds = outcome_in site;
   shows = λ name. script.Failed refusal.NoFile;
-  scripts =
-      false;
+  scripts = false;
   refuses = no_refusal;
 }
 
@@ -248,8 +247,7 @@ module _ (orders : EachStepKeepsOrder) (descriptors : DescriptorsComeByReplies) 
         record {
           by = server;
           process = Serving (record { clients = []; pending_call = Accepting; workers = 0 });
-          last =
-              reply.Fd 0;
+          last = reply.Fd 0;
         } ∷ [];
     resource_failure = false;
   }
@@ -282,8 +280,7 @@ module _ (orders : EachStepKeepsOrder) (descriptors : DescriptorsComeByReplies) 
             next =
                 record {
                   by = server;
-                  process =
-                      Serving (record { clients = []; pending_call = Accepting; workers = 0 });
+                  process = Serving (record { clients = []; pending_call = Accepting; workers = 0 });
                   last = reply.Fd 0;
                 };
             sits = refl;
@@ -291,8 +288,7 @@ module _ (orders : EachStepKeepsOrder) (descriptors : DescriptorsComeByReplies) 
                 inr (record {
                   turn = turn.Make call.Accept;
                   proceeds = (refl, (refl, refl), refl);
-                  comes =
-                      (refl, (refl, refl, refl));
+                  comes = (refl, (refl, refl, refl));
                   reported = refl;
                   domain_stays = refl;
                 });

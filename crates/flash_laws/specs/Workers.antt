@@ -97,8 +97,7 @@ module _ {W : Type 0} (works : TransitionRelation W) (quiescent : Claim W) (pool
           before = bytes_of (pipe_at n p).queue;
           query = query;
           lines = lines;
-          outcomes =
-              outcomes_in n process_slot.by lines;
+          outcomes = outcomes_in n process_slot.by lines;
         })
         (bytes_of (pipe_at n p).queue ++ output query lines (outcomes_in n process_slot.by lines))
     -- its turn keeps a text expected, whatever its reply

@@ -40,8 +40,7 @@ abbrev pub as_actor : {W : Type 0} → ProcessSlot W → ProcessSlot (Actor W)
 as_actor process_slot = record {
   by = process_slot.by;
   process = Working process_slot.process;
-  last =
-      process_slot.last;
+  last = process_slot.last;
 }
 
 -- the server has the first process slot, and each worker one after it

@@ -94,8 +94,7 @@ known-of more conns m order low reads places few = record {
     place = places.place;
     default = places.default;
     open_yet = places.open_yet;
-    fits =
-        (let text = text-fits q k proper short in omega (arith, text));
+    fits = (let text = text-fits q k proper short in omega (arith, text));
   };
   seen = all-seen more.homes m reads;
   low = λ fd c opened. low server fd (on.Connection c) opened;

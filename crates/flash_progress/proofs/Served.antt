@@ -106,8 +106,7 @@ module _ (worker_set : WorkerSet) (laws : AllLaws worker_set) (more : MoreLaws) 
       consistent = has.consistent;
       reads = has.reads;
       places = has.places;
-      few =
-          few-now w.machine has.consistent.order;
+      few = few-now w.machine has.consistent.order;
     }
 
     suffices : turns_in_rounds (left site_contents worker_set laws more plain has.files (longest_response w.machine)

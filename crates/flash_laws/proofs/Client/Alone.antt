@@ -128,8 +128,7 @@ module _ (steps : EachStepLeavesTheRest) (own : CallsServeTheirDomain) (files : 
         record {
           none = refl;
           unread = unread-after_reply buffered q d r received has.unread;
-          has =
-              got.2;
+          has = got.2;
         },
       )
 
@@ -159,8 +158,7 @@ module _ (steps : EachStepLeavesTheRest) (own : CallsServeTheirDomain) (files : 
         record {
           script = λ read. for_script;
           read = refl;
-          has =
-              (is, ((received, is_readable), refl));
+          has = (is, ((received, is_readable), refl));
           sends = sends a w.head_only;
         },
       )
@@ -170,8 +168,7 @@ module _ (steps : EachStepLeavesTheRest) (own : CallsServeTheirDomain) (files : 
         record {
           none = refl;
           unread = refl;
-          has =
-              (is, ((received, is_readable), refl));
+          has = (is, ((received, is_readable), refl));
         },
       )
 
@@ -185,8 +182,7 @@ module _ (steps : EachStepLeavesTheRest) (own : CallsServeTheirDomain) (files : 
         record {
           none = refl;
           unread = refl;
-          has =
-              (tt, still did.1);
+          has = (tt, still did.1);
         },
       )
       by (reply.Refused y) did names = (
@@ -195,8 +191,7 @@ module _ (steps : EachStepLeavesTheRest) (own : CallsServeTheirDomain) (files : 
         record {
           none = refl;
           unread = refl;
-          has =
-              (still did.1, refl);
+          has = (still did.1, refl);
         },
       )
       by r did names = absurd did
@@ -291,8 +286,7 @@ module _ (steps : EachStepLeavesTheRest) (own : CallsServeTheirDomain) (files : 
         → StepsTo m (event.Call server (call.AggDrop a)) r n
         → HasKnown scripts n (record {
           conn = conn.after_reply (at buffered (serve w) (DroppingWhole a Script)) r received;
-          run =
-              after_drop_whole w.head_only r;
+          run = after_drop_whole w.head_only r;
           script = script;
         }) (OfScript text o)
     spared-on a for_script has step = by r (own.drops m n server a r order step) w.head_only refl has.sends

@@ -113,8 +113,7 @@ module _ (scripts : Bool) (buffered : List ℕ) (q : Answer) (script : List ℕ)
       → HoldsNoOther scripts (plain (DroppingWhole a Script))
       → HoldsNoOther scripts (record {
         conn = conn.after_reply (at buffered q (DroppingWhole a Script)) r received;
-        run =
-            after_drop_whole h r;
+        run = after_drop_whole h r;
         script = script;
       })
   spares-hold a r received true is holds =

@@ -70,8 +70,7 @@ script-as client_has conn_has buffered q (DroppingWhole a Script) script r recei
     by : (h : Bool) (r : Reply)
         → client_has (record {
           conn = conn.after_reply (at buffered q (DroppingWhole a Script)) r received;
-          run =
-              after_drop_whole h r;
+          run = after_drop_whole h r;
           script = script;
         })
         ≡ conn_has (conn.after_reply (at buffered q (DroppingWhole a Script)) r received).phase

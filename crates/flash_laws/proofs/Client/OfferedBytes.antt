@@ -81,8 +81,7 @@ end-has scripts n w buffered text o d answers ends = elim ends.0 [
         script = λ read. absurd (cc (read));
         read = refl;
         has = tt;
-        sends =
-            sent Receiving refl refl (subst (λ (e : Phase). IsAfter w o e) rests ends.1);
+        sends = sent Receiving refl refl (subst (λ (e : Phase). IsAfter w o e) rests ends.1);
       })
   | inr closes ↦ subst (λ (e : Phase). HasNoRun scripts n w (client (at buffered (serve w) e) None []) text o)
       (sym closes)
@@ -90,8 +89,7 @@ end-has scripts n w buffered text o d answers ends = elim ends.0 [
         script = λ read. absurd (cc (read));
         read = refl;
         has = tt;
-        sends =
-            sent Disconnecting refl refl (subst (λ (e : Phase). IsAfter w o e) closes ends.1);
+        sends = sent Disconnecting refl refl (subst (λ (e : Phase). IsAfter w o e) closes ends.1);
       })
 ]
   where

@@ -105,8 +105,7 @@ module _ (steps : EachStepLeavesTheRest) (own : CallsServeTheirDomain) (m n : St
           cut Whole is within = record {
             bytes = h.bytes;
             is_readable = is_readable a h.bytes h.is_readable;
-            count =
-                h.count;
+            count = h.count;
             expected_is = sent-whole w a len expected h Whole is;
           }
           cut (Bytes first last) is within =
@@ -114,12 +113,9 @@ module _ (steps : EachStepLeavesTheRest) (own : CallsServeTheirDomain) (m n : St
               record {
                 bytes = h.bytes;
                 is_readable = is_readable a h.bytes h.is_readable;
-                some =
-                    (let le = in_file.0 in omega (arith, le));
-                count =
-                    length-part h.bytes first last in_file.0 (subst (λ z. last < z) h.count in_file.1);
-                expected_is =
-                    sent-whole w a len expected h (Bytes first last) is;
+                some = (let le = in_file.0 in omega (arith, le));
+                count = length-part h.bytes first last in_file.0 (subst (λ z. last < z) h.count in_file.1);
+                expected_is = sent-whole w a len expected h (Bytes first last) is;
               }
           cut Unsatisfiable is within = (
             (h.bytes, is_readable a h.bytes h.is_readable),
@@ -195,13 +191,10 @@ module _ (steps : EachStepLeavesTheRest) (own : CallsServeTheirDomain) (m n : St
             bytes = text_of q k;
             after = p.0;
             is_readable = readable;
-            size =
-                ap (λ (l : List ℕ). count_of l) receives ∙ counted (text_of q k) short;
-            follows =
-                follows (call.AggMake (text_of q k)) r step (following k) p.0 (λ a u. refl) p.1;
+            size = ap (λ (l : List ℕ). count_of l) receives ∙ counted (text_of q k) short;
+            follows = follows (call.AggMake (text_of q k)) r step (following k) p.0 (λ a u. refl) p.1;
             next = p.2;
-            apart =
-                new-follows m (following k) p.0 x p.1 fresh;
+            apart = new-follows m (following k) p.0 x p.1 fresh;
           })
 
   pub joins : (q : Answer) (a size b len : ℕ) (expected : List ℕ) (r : Reply)
@@ -289,8 +282,7 @@ module _ (steps : EachStepLeavesTheRest) (own : CallsServeTheirDomain) (m n : St
       (own.cut m n server s.agg s.from (piece_end s) has.0.bytes r order has.0.is_readable step)
       (unchanged q (CuttingPiece s) expected has)
       (λ x readable new. record {
-        whole =
-            rest-stays (call.AggCut s.agg s.from (piece_end s)) r step expected s (λ a u. refl) has.0;
+        whole = rest-stays (call.AggCut s.agg s.from (piece_end s)) r step expected s (λ a u. refl) has.0;
         some = has.1;
         is_readable = readable;
         other = or_from (s.agg == x) (has_followed s.more x) (new-other m s.agg x has.0.bytes has.0.is_readable new)
@@ -388,8 +380,7 @@ module _ (steps : EachStepLeavesTheRest) (own : CallsServeTheirDomain) (m n : St
         after = [];
         readable = (after, is_readable.0);
         follows = refl;
-        apart =
-            refl;
+        apart = refl;
       }
 
   rests : (buffered : List ℕ) (q : Answer) (expected : List ℕ) (r : Reply) (received : List ℕ) → Names n r received

@@ -100,8 +100,7 @@ file_result-on m n (serve w) expected (File a len) is_readable h =
       bytes = h.bytes;
       is_readable = is_readable a h.bytes (self a) h.is_readable;
       count = h.count;
-      whole =
-          h.whole;
+      whole = h.whole;
       expected_is = h.expected_is;
     }
 file_result-on m n (refuse status head_only close) expected (File a len) is_readable h = h
@@ -117,8 +116,7 @@ content-on m n q expected (Body a size len) is_readable h =
       bytes = h.bytes;
       is_readable = is_readable a h.bytes (self a) h.is_readable;
       count = h.count;
-      expected_is =
-          h.expected_is;
+      expected_is = h.expected_is;
     }
 content-on m n q expected k is_readable h = h
 
@@ -151,8 +149,7 @@ unsent-on m n a more is_readable follows h =
     record {
       after = h.after;
       readable = readable-on m n a is_readable h.readable;
-      follows =
-          follows-stay m n more h.after follows h.follows;
+      follows = follows-stay m n more h.after follows h.follows;
       apart = h.apart;
     }
 
@@ -172,8 +169,7 @@ has-stays m n q expected (Slicing a first last len) is_readable opens has =
       bytes = has.bytes;
       is_readable = is_readable a has.bytes (self a) has.is_readable;
       some = has.some;
-      count =
-          has.count;
+      count = has.count;
       expected_is = has.expected_is;
     }
 has-stays m n q expected (DroppingWhole a k) is_readable opens has = (
@@ -208,8 +204,7 @@ has-stays m n q expected (DroppingSent a taken more) is_readable opens has =
     record {
       bytes = has.bytes;
       after = has.after;
-      is_readable =
-          is_readable a has.bytes (first_of a (has_followed more a)) has.is_readable;
+      is_readable = is_readable a has.bytes (first_of a (has_followed more a)) has.is_readable;
       follows =
           follows-stay m n more has.after (λ b l u is. is_readable b l (later_of (a == b) (has_followed more b) u) is)
           has.follows;

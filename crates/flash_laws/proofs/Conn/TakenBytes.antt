@@ -120,8 +120,7 @@ module _ (own : CallsServeTheirDomain) (m n : State) (order : IsOrderly m) (fd c
     (open_on : descriptor m server fd ≡ Some (on.Connection c)) (q : Answer) (expected : List ℕ) where
   counts : (s : Sending) (k : ℕ) (h : HoldsRestFrom m expected s) → k ≤ length (drop s.from h.bytes)
       → (after_taking s k).taken ≡ s.taken + (if fd == fd then k else 0)
-  counts s k h within =
-      ap (λ z. s.taken + z) (least-taken k s.from s.len h.bytes h.size within ∙ sym (all-newly fd k))
+  counts s k h within = ap (λ z. s.taken + z) (least-taken k s.from s.len h.bytes h.size within ∙ sym (all-newly fd k))
 
   sends : (s : Sending) (r : Reply) → Has m q expected (SendingWhole s)
       → StepsTo m (event.Call server (call.IolWrite fd s.agg)) r n

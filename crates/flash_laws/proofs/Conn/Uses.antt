@@ -132,8 +132,7 @@ uses-drops b (Some x) a u = later_of (b == a) (x.0 == a) (bare (x.0 == a) u)
 uses-drops b None a u = absurd (cc)
 
 pub next-uses : (s : Sending) (a : ℕ) → uses_agg (next_piece s) a ≡ ((s.agg == a) || has_followed s.more a)
-next-uses s a =
-    either-next (λ (e : Phase). uses_agg e a ≡ ((s.agg == a) || has_followed s.more a)) s refl refl
+next-uses s a = either-next (λ (e : Phase). uses_agg e a ≡ ((s.agg == a) || has_followed s.more a)) s refl refl
 
 next-no_fd : (s : Sending) (g : ℕ) → uses_fd (next_piece s) g ≡ false
 next-no_fd s g = either-next (λ (e : Phase). uses_fd e g ≡ false) s refl refl

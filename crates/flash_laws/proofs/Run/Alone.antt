@@ -68,8 +68,7 @@ module _ (m : State) (fd c : ℕ) (x : Running) where
     kind = refl;
     aggs = λ a u. absurd (cc (u));
     fds = λ g u. absurd (cc (u));
-    conns =
-        λ d u. absurd (cc (u));
+    conns = λ d u. absurd (cc (u));
     pipes = λ p u. absurd (cc (u));
     files = refl;
   }
@@ -79,8 +78,7 @@ module _ (m : State) (fd c : ℕ) (x : Running) where
     kind = refl;
     aggs = λ a u. absurd (cc (u));
     fds = λ g u. absurd (cc (u));
-    conns =
-        λ d u. absurd (cc (u));
+    conns = λ d u. absurd (cc (u));
     pipes = λ p u. absurd (cc (u));
     files = refl;
   }
@@ -90,8 +88,7 @@ module _ (m : State) (fd c : ℕ) (x : Running) where
     kind = refl;
     aggs = λ a u. absurd (cc (u));
     fds = λ g u. absurd (cc (u));
-    conns =
-        λ d u. absurd (cc (u));
+    conns = λ d u. absurd (cc (u));
     pipes = λ p u. absurd (cc (u));
     files = refl;
   }

@@ -334,8 +334,7 @@ rest-next m fd a w o d h is =
     record {
       bytes = p.0;
       is_readable = p.2;
-      next =
-          λ r may. (p.1, p.3 ∙ is-whole w o h.expected r h.left may (taken_of d));
+      next = λ r may. (p.1, p.3 ∙ is-whole w o h.expected r h.left may (taken_of d));
     }
 
 pub left-next : (m : State) (fd a : ℕ) (w : Wanted) (o : Progress) (d : Phase) → HasLeft m w o d

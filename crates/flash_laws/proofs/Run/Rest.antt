@@ -221,8 +221,7 @@ module _ (steps : EachStepLeavesTheRest) (own : CallsServeTheirDomain) (m n : St
             expected = expected;
             left = left;
             has = next;
-            sends =
-                (did.0 ∙ ap (λ (l : List ℕ). Some l) (sym has), omega arith);
+            sends = (did.0 ∙ ap (λ (l : List ℕ). Some l) (sym has), omega arith);
           }
       by (reply.Refused y) did next = record { expected = expected; left = left; has = next; sends = tt }
       by r did next = absurd did

@@ -62,8 +62,7 @@ no-file m (phase.ClosingFile f k) part is g u = is
 no-file m d part is g u = absurd (cc (u))
 
 after-piece : (piece a : ℕ) (more : Following) → ((piece == a) || ((a == a) || has_followed more a)) ≡ true
-after-piece piece a more =
-    later_of (piece == a) ((a == a) || has_followed more a) (first_of a (has_followed more a))
+after-piece piece a more = later_of (piece == a) ((a == a) || has_followed more a) (first_of a (has_followed more a))
 
 -- if its aggregate stays, a part stays
 pub last-on : (m n : State) (a : ℕ) (more : Following) (part : List ℕ)
@@ -115,8 +114,7 @@ module _ (m n : State) where
   output-on w a size bytes is_readable h = record {
     is_readable = is_readable h.is_readable;
     count = h.count;
-    some =
-        h.some;
+    some = h.some;
     few = h.few;
     chunked = h.chunked;
   }
@@ -255,23 +253,19 @@ module _ (m n : State) where
       record {
         reads = reads run (MakingFrame held) refl opens h.reads;
         bytes = h.bytes;
-        is_readable =
-            is_readable held h.bytes (self held) h.is_readable;
+        is_readable = is_readable held h.bytes (self held) h.is_readable;
         count = h.count;
         chunked = h.chunked;
         whole = h.whole;
-        goes =
-            h.goes;
+        goes = h.goes;
       }
   step-on job w o run (FillingFrame held frame) is_readable opens has = (
     record {
       reads = reads run (FillingFrame held frame) refl opens has.0.reads;
       bytes = has.0.bytes;
-      is_readable =
-          is_readable held has.0.bytes (first_of held (frame == held)) has.0.is_readable;
+      is_readable = is_readable held has.0.bytes (first_of held (frame == held)) has.0.is_readable;
       count = has.0.count;
-      chunked =
-          has.0.chunked;
+      chunked = has.0.chunked;
       whole = has.0.whole;
       goes = has.0.goes;
     },

@@ -256,10 +256,8 @@ module _ (steps : EachStepLeavesTheRest) (own : CallsServeTheirDomain) (m n : St
           reads = reads;
           bytes = bytes;
           is_readable = readable;
-          count =
-              (let le : CHUNK_BYTES ≤ size = grind (arith, nat_tests, is) in omega (arith, le, most, count));
-          chunked =
-              chunked;
+          count = (let le : CHUNK_BYTES ≤ size = grind (arith, nat_tests, is) in omega (arith, le, most, count));
+          chunked = chunked;
           whole = whole;
           goes = back;
         }
@@ -280,8 +278,7 @@ module _ (steps : EachStepLeavesTheRest) (own : CallsServeTheirDomain) (m n : St
                   is_readable = readable;
                   count = count;
                   some = some;
-                  few =
-                      grind (arith, nat_tests, is);
+                  few = grind (arith, nat_tests, is);
                   chunked = chunked;
                 };
                 frames = frames;
@@ -372,8 +369,7 @@ module _ (steps : EachStepLeavesTheRest) (own : CallsServeTheirDomain) (m n : St
       record {
         bytes = [];
         has = record { holds = refl; frames = has.frames; apart = refl };
-        ends =
-            (refl, refl);
+        ends = (refl, refl);
       },
     )
     barred (Some x) frame reads bytes has = (

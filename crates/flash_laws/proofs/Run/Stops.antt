@@ -99,8 +99,7 @@ module _ (steps : EachStepLeavesTheRest) (own : CallsServeTheirDomain) (m n : St
         record {
           bytes = bytes;
           has = record { holds = holds; frames = tt; apart = none held };
-          ends =
-              ends;
+          ends = ends;
         },
       ),
     )
@@ -196,8 +195,7 @@ module _ (steps : EachStepLeavesTheRest) (own : CallsServeTheirDomain) (m n : St
             holds = holds;
             frames = readable;
             apart = turned y.0 x off;
-            left =
-                left;
+            left = left;
           },
         )
 
@@ -267,8 +265,7 @@ module _ (steps : EachStepLeavesTheRest) (own : CallsServeTheirDomain) (m n : St
               expected = bytes;
               left = left;
               has = begun n w a len bytes readable count;
-              sends =
-                  (readable, omega arith);
+              sends = (readable, omega arith);
             }
 
     -- ---- a script that cannot be run

@@ -118,8 +118,7 @@ stands x y over run_is =
         → proceeds b b x y y ≡ record {
           conn = x.conn;
           run = Some y;
-          script =
-              text_on (keeps_text y) (keeps_text y) x.script;
+          script = text_on (keeps_text y) (keeps_text y) x.script;
         }
     same true = refl
     same false = refl

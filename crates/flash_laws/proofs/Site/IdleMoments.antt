@@ -138,8 +138,7 @@ looks m by s l (inl y) =
     inl (record {
       place = 0;
       known = λ i lt. absurd (omega (arith, lt));
-      is =
-          ap (λ w. next_pending_call s.workers s.clients w l) y.0;
+      is = ap (λ w. next_pending_call s.workers s.clients w l) y.0;
     })
 looks m by s l (inr b) =
     subst (λ (r : Reply). From m by s.workers s.clients (next_pending_call s.workers s.clients s.pending_call r)
@@ -264,8 +263,7 @@ module _ (waits : WaitLaw) (m : State) (by : ℕ) (s t : Server) (l : Reply) (re
                   subst (λ (f : PendingCall). BlockUpTo m by s.workers s.clients f) (sym w)
                       (record {
                         places = all-of k known is;
-                        accept_step =
-                            inr (subst (λ (z : Call). WouldWait m by z) c_is step);
+                        accept_step = inr (subst (λ (z : Call). WouldWait m by z) c_is step);
                       }),
                 )
             past false w = absurd (let did : (t.clients ≡ s.clients) × (turn.Make c ≡ turn.Yield) =

@@ -64,8 +64,7 @@ peer_after_reply p c w =
       came = p.came;
       sent = p.sent;
       net = p.net;
-      gone =
-          λ z. p.gone z || gone_by z (event.PeerClosed c w) reply.Done;
+      gone = λ z. p.gone z || gone_by z (event.PeerClosed c w) reply.Done;
       given = p.given;
     }
 
@@ -84,8 +83,7 @@ call_after_reply p d k r =
       sent = p.sent;
       net = p.net;
       gone = p.gone;
-      given =
-          λ a. p.given a || given_by a (event.Call d k) r;
+      given = λ a. p.given a || given_by a (event.Call d k) r;
     }
 
 pub past-called : (p : Past) (d : ℕ) (k : Call) (r : Reply) → and_then p (event.Call d k) r ≡ call_after_reply p d k r

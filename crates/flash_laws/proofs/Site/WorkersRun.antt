@@ -96,8 +96,7 @@ module _ (stay_free : WorkersStayFree) (put_out : ScriptsPutOut) (receive : Othe
       → Expected n j p process_slot (record {
         before = bytes_of (pipe_at n p).queue;
         query = query;
-        lines =
-            lines;
+        lines = lines;
         outcomes = outcomes_in n process_slot.by lines;
       })
       (bytes_of (pipe_at n p).queue ++ output query lines (outcomes_in n process_slot.by lines))
@@ -137,8 +136,7 @@ module _ (stay_free : WorkersStayFree) (put_out : ScriptsPutOut) (receive : Othe
             all = w.all;
             done = w.done;
             closes = w.closes;
-            free =
-                record { free = w.free; none = w.none; default = shown.default };
+            free = record { free = w.free; none = w.none; default = shown.default };
             lies = shown.output;
           }))
       by (inr (inr gone)) = inr (inr gone)

@@ -173,8 +173,7 @@ module _ (site_contents : SiteContents) (worker_set : WorkerSet) (laws : AllLaws
               fd = fd;
               client = y;
               at = at-same clients fd (Some y);
-              open_on =
-                  subst (λ g. descriptor m server g ≡ Some (on.Connection k)) (sym same) held.open_on;
+              open_on = subst (λ g. descriptor m server g ≡ Some (on.Connection k)) (sym same) held.open_on;
             })
         | inr differ ↦ inl (held-on m m clients fd k (Some y) held differ held.open_on)
       ]
@@ -230,8 +229,7 @@ module _ (site_contents : SiteContents) (worker_set : WorkerSet) (laws : AllLaws
                 open_yet = refl;
                 reads = refl;
                 before = [];
-                responds =
-                    responds-none site_contents;
+                responds = responds-none site_contents;
                 out_is =
                     ap (λ (k : Connection). p.sent takes.conn ++ bytes_of k.outgoing) takes.conn_is ∙ waits.none_sent;
               },
@@ -281,8 +279,7 @@ module _ (site_contents : SiteContents) (worker_set : WorkerSet) (laws : AllLaws
             fd = fd;
             client = new_client;
             at = at-same clients fd (Some new_client);
-            open_on =
-                subst (λ z. descriptor n server fd ≡ Some (on.Connection z)) is takes.open_on;
+            open_on = subst (λ z. descriptor n server fd ≡ Some (on.Connection z)) is takes.open_on;
           })
       | inr differ ↦ inr (inl (subst (λ (z : Connection). Waits p k z) (sym (takes.others k differ)) waits))
     ]
@@ -296,8 +293,7 @@ module _ (site_contents : SiteContents) (worker_set : WorkerSet) (laws : AllLaws
         (inr
         (record {
           other_pool = foreign.other_pool;
-          taken =
-              laws.the.other.accepted m n server call.Accept (reply.Fd fd) k order step foreign.taken;
+          taken = laws.the.other.accepted m n server call.Accept (reply.Fd fd) k order step foreign.taken;
         })))
 
     free-then : (k : ℕ) (process_slot : ProcessSlot worker_set.Worker) → slice_get process_slots k ≡ Some process_slot

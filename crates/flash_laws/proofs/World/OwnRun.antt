@@ -252,8 +252,7 @@ module _ (site_contents : SiteContents) (worker_set : WorkerSet) (laws : AllLaws
                 get = s.get;
                 is_for = s.is_for;
                 text = s.text;
-                found =
-                    s.found;
+                found = s.found;
                 lines = s.lines;
                 is_script = s.is_script;
                 proper = s.proper;

@@ -390,8 +390,7 @@ module _ (site_contents : SiteContents) (worker_set : WorkerSet) (laws : AllLaws
       by None none =
           record {
             became = on (is_closing conn.phase) refl;
-            freed =
-                λ k process_slot sits runs gone. absurd (none-runs none k runs);
+            freed = λ k process_slot sits runs gone. absurd (none-runs none k runs);
           }
         where
           on : (b : Bool) → is_closing conn.phase ≡ b → Became after

@@ -52,8 +52,7 @@ begins-none site_contents s = record {
   reads = refl;
   order = refl;
   whole = [];
-  responds =
-      responds-none site_contents;
+  responds = responds-none site_contents;
   more = [];
   all = refl;
 }
@@ -65,8 +64,7 @@ begins-less site_contents s xs ys b = record {
   rest = b.rest;
   reads = b.reads;
   order = b.order;
-  whole =
-      b.whole;
+  whole = b.whole;
   responds = b.responds;
   more = ys ++ b.more;
   all = b.all ∙ append_assoc xs ys b.more;
@@ -81,8 +79,7 @@ module _ (laws : WindowLaws) where
         qs = b.qs;
         rest = b.rest ++ t;
         reads = reads-append laws s t b.qs b.rest b.reads;
-        order =
-            b.order;
+        order = b.order;
         whole = b.whole;
         responds = b.responds;
         more = b.more;

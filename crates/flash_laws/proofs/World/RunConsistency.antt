@@ -43,8 +43,7 @@ use Rattle.flash_laws.proofs.World.Responses.{responds-more, begins-part}
 abbrev pub past_run : (buffered : List ℕ) → Wanted → Running → Client
 past_run buffered w z = record {
   conn = record { buffered = buffered; request = serve w; phase = after_run z };
-  run =
-      None;
+  run = None;
   script = [];
 }
 

@@ -94,8 +94,7 @@ module _ (site_contents : SiteContents) (worker_set : WorkerSet) (laws : AllLaws
             step = step;
             site = site;
             lives = kind-ends k kind;
-            default =
-                kind-default k kind;
+            default = kind-default k kind;
           })
 
       picked : Picks worker_set.count clients next made after → Flies m n p r process_slots after next

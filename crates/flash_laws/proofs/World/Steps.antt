@@ -212,8 +212,7 @@ module _ (may : Policy) (site_contents : SiteContents) (worker_set : WorkerSet) 
                 count = s.serves.count;
                 received = s.serves.received;
                 names = names came.0;
-                fit =
-                    went.1;
+                fit = went.1;
                 owned = owned went.0;
               };
             },
@@ -271,8 +270,7 @@ module _ (may : Policy) (site_contents : SiteContents) (worker_set : WorkerSet) 
             wanted = starves.wanted;
             no_yield = starves.no_yield;
             answer = starves.answer;
-            machine_stays =
-                starves.machine_stays;
+            machine_stays = starves.machine_stays;
             process_slot_stays = refl;
           }))
           (process_slots
@@ -402,8 +400,7 @@ module _ (may : Policy) (site_contents : SiteContents) (worker_set : WorkerSet) 
                 step = step;
                 site = same;
                 lives = act-ends f act;
-                default =
-                    act-default f act;
+                default = act-default f act;
               }),
               still (and_then p e r) process_slots
                   (names-stay laws.the.steps w.machine after.machine f r s.last s.serves.received step

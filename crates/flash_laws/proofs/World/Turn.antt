@@ -108,8 +108,7 @@ held-on m n clients fd k o held differ open_on =
       fd = held.fd;
       client = held.client;
       at = at-other clients fd held.fd o differ ∙ held.at;
-      open_on =
-          open_on;
+      open_on = open_on;
     }
 
 -- a worker that is free after a change of one place was free before, unless the old client of the place had it

@@ -164,8 +164,7 @@ module _ (site_contents : SiteContents) (worker_set : WorkerSet) (laws : AllLaws
         fit = fit;
         sits = sits;
         did = did;
-        among =
-            among;
+        among = among;
       } in
       let touched = touches site_contents worker_set laws m n p clients process_slots k process_slot next yields r
       turn in (

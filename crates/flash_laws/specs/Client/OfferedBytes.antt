@@ -44,8 +44,7 @@ abbrev pub begun : (buffered : List ℕ) → Answer → Client
 begun buffered q = record {
   conn = record { buffered = buffered; request = q; phase = begins q };
   run = None;
-  script =
-      [];
+  script = [];
 }
 
 -- whether only the close of its connection is left to do

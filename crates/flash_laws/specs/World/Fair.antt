@@ -22,8 +22,7 @@ no_refusal = record { of_server = λ x. false; of_workers = λ x. false }
 abbrev pub any_refusal : Refusals
 any_refusal = record {
   of_server = λ x. is_resource_failure (reply.Refused x);
-  of_workers =
-      λ x. is_resource_failure (reply.Refused x);
+  of_workers = λ x. is_resource_failure (reply.Refused x);
 }
 
 -- whether both are the same of TooMany, NoRoom of a pool, Fault of a file and Memory

@@ -21,8 +21,7 @@ abbrev pub alone : (buffered script : List ℕ) → Answer → Phase → Client
 alone buffered script q d = record {
   conn = record { buffered = buffered; request = q; phase = d };
   run = None;
-  script =
-      script;
+  script = script;
 }
 
 -- the client's invariant in a state of the machine
@@ -107,12 +106,9 @@ module _ (site_contents : SiteContents) (buffered script : List ℕ) where
         qs = o.1.done ++ q ∷ [];
         rest = buffered;
         reads = o.1.reads;
-        order =
-            order-more o.1.done q o.1.open_yet;
-        responds =
-            taken-whole taken o.1.done o.1.before (sent ++ bytes_of k.outgoing) o.1.responds none o.1.out_is;
-        no_more =
-            inl (last-more o.1.done q last);
+        order = order-more o.1.done q o.1.open_yet;
+        responds = taken-whole taken o.1.done o.1.before (sent ++ bytes_of k.outgoing) o.1.responds none o.1.out_is;
+        no_more = inl (last-more o.1.done q last);
       };
       begins = begins-consistency site_contents k took sent (alone buffered script q (DroppingSent a taken None))
           expected

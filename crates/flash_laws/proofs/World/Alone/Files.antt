@@ -357,8 +357,7 @@ module _ (site_contents : SiteContents) (worker_set : WorkerSet) (laws : AllLaws
                 text = received;
                 found = found;
                 runs = is;
-                buffered =
-                    λ get. buffered_whole true w.head_only refl get;
+                buffered = λ get. buffered_whole true w.head_only refl get;
               })
           runs false is =
               moves_to (buffered_if w.head_only false received) (serve w) (Reading g) (ClosingFile g (TextOf a false))

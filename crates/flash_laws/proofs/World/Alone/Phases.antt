@@ -224,8 +224,7 @@ module _ (site_contents : SiteContents) (worker_set : WorkerSet) (laws : AllLaws
       begins : w.head_only ≡ false → StepsTo m (event.Call server (call.AggDrop a)) reply.Done n
           → FitsRun site_contents worker_set n came sent fd c (record {
             conn = at buffered (serve w) (MakingHead Script);
-            run =
-                Some AwaitingWorker;
+            run = Some AwaitingWorker;
             script = script;
           }) AwaitingWorker process_slots
       begins get step =
@@ -246,8 +245,7 @@ module _ (site_contents : SiteContents) (worker_set : WorkerSet) (laws : AllLaws
               get = get;
               is_for = f.finds.asks;
               text = f.finds.text;
-              found =
-                  f.finds.found;
+              found = f.finds.found;
               lines = lines.0;
               is_script = lines.1;
               proper = f.proper;

@@ -314,8 +314,7 @@ module _ (site_contents : SiteContents) (the : TheLaws) (m n : State) (came sent
                     record {
                       done = owes.1.done;
                       open_yet = owes.1.open_yet;
-                      reads =
-                          reads-append the.windows f.took (b ∷ l) (owes.1.done ++ []) buffered owes.1.reads;
+                      reads = reads-append the.windows f.took (b ∷ l) (owes.1.done ++ []) buffered owes.1.reads;
                       before = owes.1.before;
                       responds = owes.1.responds;
                       out_is = owes.1.out_is;

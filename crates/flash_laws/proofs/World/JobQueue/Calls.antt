@@ -151,8 +151,7 @@ module _ (site_contents : SiteContents) (worker_set : WorkerSet) (laws : AllLaws
         has =
             record {
               pipe = given.ready.has.pipe;
-              reads =
-                  stays.fds run.from (on.ReadEnd given.ready.has.pipe) given.ready.has.reads;
+              reads = stays.fds run.from (on.ReadEnd given.ready.has.pipe) given.ready.has.reads;
               apart = given.ready.has.apart;
             };
         new = stays.pipes given.ready.has.pipe ∙ given.ready.new;
@@ -167,8 +166,7 @@ module _ (site_contents : SiteContents) (worker_set : WorkerSet) (laws : AllLaws
       has = record {
         pipe = was.has.pipe;
         reads = stays.fds run.from (on.ReadEnd was.has.pipe) was.has.reads;
-        apart =
-            was.has.apart;
+        apart = was.has.apart;
       };
       more = was.more;
       puts_out = laws.texts.left m n (worker_set.job_queue run.worker) was.has.pipe process_slot (event.Call server k) r

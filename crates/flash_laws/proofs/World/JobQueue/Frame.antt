@@ -145,8 +145,7 @@ module _ (worker_set : WorkerSet) (laws : AllLaws worker_set) (m n : State) (e :
         record {
           pipe = h.pipe;
           reads = leaves.fds server run.from (on.ReadEnd h.pipe) h.reads undisturbed;
-          apart =
-              h.apart;
+          apart = h.apart;
         }
 
     abbrev ready-on : touches_fd m e server run.from ≡ false → SamePipe run → IsReadyFor worker_set m process_slot run

@@ -372,8 +372,7 @@ module _ (site_contents : SiteContents) (worker_set : WorkerSet) (laws : AllLaws
                 before = bytes_of x.queue;
                 query = w.query;
                 lines = s.lines;
-                outcomes =
-                    outcomes_in n process_slot.by s.lines;
+                outcomes = outcomes_in n process_slot.by s.lines;
               })
               (bytes_of x.queue ++ output w.query s.lines (outcomes_in n process_slot.by s.lines))) new expected));
           to_come = (refl, refl);

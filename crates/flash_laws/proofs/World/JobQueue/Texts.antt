@@ -148,8 +148,7 @@ module _ {W : Type 0} (works : TransitionRelation W) (quiescent : Claim W) (pool
         record {
           rest = gave.rest;
           splits = gave.splits ∙ ap (λ (l : List ℕ). l ++ gave.rest) front;
-          puts_out =
-              inl gave.expected;
+          puts_out = inl gave.expected;
         }
     reads made text bytes is_readable (inr there) = record {
       rest = bytes_of takes.rest;

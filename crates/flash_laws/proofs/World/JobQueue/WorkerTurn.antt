@@ -123,8 +123,7 @@ module _ (site_contents : SiteContents) (worker_set : WorkerSet) (laws : AllLaws
                 | inl left ↦
                     record {
                       pipe = worker_set.job_queue k;
-                      leaves =
-                          subst (λ l. LeavesAllBut m process_slot.by (worker_set.job_queue l) n) here left;
+                      leaves = subst (λ l. LeavesAllBut m process_slot.by (worker_set.job_queue l) n) here left;
                       own = own-job_queue;
                     }
                 | inr left ↦
@@ -251,8 +250,7 @@ module _ (site_contents : SiteContents) (worker_set : WorkerSet) (laws : AllLaws
         shown_now = shown;
         may_show = λ there all. all;
         fresh = λ starts. refl;
-        consistency =
-            λ k took sent buffered consistency. consistency;
+        consistency = λ k took sent buffered consistency. consistency;
         stage = stage;
       }
 
@@ -341,8 +339,7 @@ module _ (site_contents : SiteContents) (worker_set : WorkerSet) (laws : AllLaws
                   has = pipe-turn run h.has;
                   more = later;
                   puts_out = puts;
-                  to_come =
-                      come_on o after later x.begins h.to_come;
+                  to_come = come_on o after later x.begins h.to_come;
                 }));
           }
 

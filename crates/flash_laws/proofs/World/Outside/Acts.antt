@@ -108,8 +108,7 @@ module _ (site_contents : SiteContents) (worker_set : WorkerSet) (laws : AllLaws
           inr
           (inr (record {
             other_pool = or-false (p.net c) false refl ∙ w.other_pool;
-            taken =
-                ap (λ (z : Connection). z.accepted) did.conn ∙ w.taken;
+            taken = ap (λ (z : Connection). z.accepted) did.conn ∙ w.taken;
           }))
 
       left : IsAfterReply (p.gone c || false) (conn_at n c)

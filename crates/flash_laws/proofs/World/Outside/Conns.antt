@@ -46,8 +46,7 @@ goes-same m n p q c same came sent = record {
       (inl (record {
         total = ap (λ (l : List ℕ). l ++ bytes_of (conn_at m c).outgoing) (sym sent);
         gone = refl;
-        ended =
-            λ closed. (refl, closed);
+        ended = λ closed. (refl, closed);
       }));
 }
 

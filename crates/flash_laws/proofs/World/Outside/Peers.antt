@@ -54,15 +54,13 @@ changes-closed k how.Done sent =
     inl (record {
       total = refl;
       gone = gone-same (is_gone k.peer);
-      ended =
-          λ some. (refl, one-closed (is_gone k.peer));
+      ended = λ some. (refl, one-closed (is_gone k.peer));
     })
 changes-closed k how.Gone sent =
     inr (record {
       gone = refl;
       dropped = bytes_of k.outgoing;
-      total =
-          ap (λ (l : List ℕ). l ++ bytes_of k.outgoing) (sym (append-nil sent));
+      total = ap (λ (l : List ℕ). l ++ bytes_of k.outgoing) (sym (append-nil sent));
     })
 
 module _ (site_contents : SiteContents) where
@@ -95,8 +93,7 @@ module _ (site_contents : SiteContents) (worker_set : WorkerSet) (laws : AllLaws
         came = λ z differ. refl;
         sent = λ z differ. refl;
         net = λ z differ. refl;
-        gone =
-            λ z differ. or-false (p.gone z) (gone_by z (event.PeerClosed c w) reply.Done) (elsewhere w z differ);
+        gone = λ z differ. or-false (p.gone z) (gone_by z (event.PeerClosed c w) reply.Done) (elsewhere w z differ);
       })
       (λ taken open_yet. goes taken open_yet did) (λ a. aside did a) (left w step) (λ more. let up =
       laws.the.rises m n (event.PeerClosed c w) reply.Done step in all.fresh c (omega (arith, up, more)))
@@ -193,10 +190,8 @@ module _ (site_contents : SiteContents) (worker_set : WorkerSet) (laws : AllLaws
           (inl (subst (λ (z : Connection). Ended site_contents (peer_after_reply p c w) c z) (sym conn)
           (record {
             closed = (same-beside (conn_at m c) w).2 ∙ v.closed;
-            begins =
-                outgoing-less site_contents (conn_at m c) w (p.came c) (p.sent c) v.begins;
-            whole =
-                whole-closed site_contents (conn_at m c) c w (p.came c) (p.sent c) (p.gone c) v.whole;
+            begins = outgoing-less site_contents (conn_at m c) w (p.came c) (p.sent c) v.begins;
+            whole = whole-closed site_contents (conn_at m c) c w (p.came c) (p.sent c) (p.gone c) v.whole;
           })))
       aside (inl conn) (inr (inr v)) =
           inr

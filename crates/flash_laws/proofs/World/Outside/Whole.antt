@@ -105,8 +105,7 @@ module _ (site_contents : SiteContents) (worker_set : WorkerSet) (laws : AllLaws
           (inr
           (record {
             other_pool = foreign.other_pool;
-            taken =
-                laws.the.other.accepted m n d k r c order step foreign.taken;
+            taken = laws.the.other.accepted m n d k r c order step foreign.taken;
           }))
 
   -- external events
