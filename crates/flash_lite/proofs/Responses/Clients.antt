@@ -37,7 +37,7 @@ use Rattle.flash_lite.specs.Course.{whole, found, runs, text_received, ended, le
 use Rattle.flash_lite.specs.Onward as onward
 use Rattle.flash_lite.specs.declared.client.Course.{Course}
 use Rattle.flash_lite.specs.declared.client.Course.TheVariants.{Asks, Leaves}
-use Rattle.flash_lite.specs.declared.client.Left.TheVariants.{Goes, Ends, Begins, Continues, Stays}
+use Rattle.flash_lite.specs.declared.client.Left.TheVariants.{Goes, Ends, Begins}
 use Rattle.flash_lite.specs.declared.conn.Onward.TheVariants as going
 use Rattle.flash_lite.specs.declared.client.scripts.Found.TheVariants as reports
 
